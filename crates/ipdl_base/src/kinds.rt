@@ -1,0 +1,70 @@
+/// How far inside other calls a message may be sent: `not`, `inside_sync` or `inside_cpow`.
+#[derive(Clone, Copy, Debug, PartialEq, Eq)]
+pub enum Level {
+    Not,
+    InsideSync,
+    InsideCpow,
+}
+
+/// Whether the sender of a message waits for its reply.
+#[derive(Clone, Copy, Debug, PartialEq, Eq)]
+pub enum Semantics {
+    Async,
+    Sync,
+}
+
+/// One of the two ends of a channel.
+#[derive(Clone, Copy, Debug, PartialEq, Eq)]
+pub enum Side {
+    Parent,
+    Child,
+}
+
+/// The end that receives a message; under `Both` either end may send it.
+#[derive(Clone, Copy, Debug, PartialEq, Eq)]
+pub enum Direction {
+    Parent,
+    Child,
+    Both,
+}
+
+/// What a message that arrives does to those of its type and route that arrived before it: nothing,
+/// replace the last item, or remove the latest of them (docs/channel.md, "Arrived items").
+#[derive(Clone, Copy, Debug, PartialEq, Eq)]
+pub enum Compress {
+    Plain,
+    Last,
+    All,
+}
+
+/// Why a call or a promise fails.
+#[derive(Clone, Copy, Debug, PartialEq, Eq)]
+pub enum Reason {
+    ChannelClosed,
+    HandlerRejected,
+    ActorDestroyed,
+    ResolverDestroyed,
+}
+
+/// Why an actor falls.
+#[derive(Clone, Copy, Debug, PartialEq, Eq)]
+pub enum Destroy {
+    Deletion,
+    AncestorDeletion,
+    NormalShutdown,
+    AbnormalShutdown,
+}
+
+/// Why an end refuses to send, in the order in which the causes are tested.
+#[derive(Clone, Copy, Debug, PartialEq, Eq)]
+pub enum SendRefusal {
+    Closed,
+    DeadActor,
+    NestedInNormal,
+    InsideCpow,
+    LevelTooLow,
+    TooDeep,
+    TooLarge,
+    InCall,
+    DeadValue,
+}

@@ -1,0 +1,97 @@
+use crate::builtin::Builtin;
+use crate::items::{Items, Name, Numbers};
+use crate::kinds::{Compress, Direction, Level, Semantics};
+
+/// The protocols and types of a program, by number.
+#[derive(Debug, Drop, PartialEq)]
+pub struct Schema {
+    pub protocols: ProtocolRows,
+    pub types: TypeRows,
+}
+
+/// A protocol. Its number is its index in the schema.
+#[derive(Debug, Drop, PartialEq)]
+pub struct ProtocolRow {
+    /// The full name, with its namespaces.
+    pub name: Name,
+    pub semantics: Semantics,
+    pub level: Level,
+    /// The numbers of its managers, in text order.
+    pub managers: Numbers,
+    /// The numbers of the protocols that it manages, in text order.
+    pub manages: Numbers,
+    pub messages: MessageRows,
+}
+
+/// A message of a protocol.
+#[derive(Debug, Drop, PartialEq)]
+pub struct MessageRow {
+    /// The number of its request; that of its reply is the next.
+    pub number: u32,
+    pub name: Name,
+    pub direction: Direction,
+    pub semantics: Semantics,
+    pub level: Level,
+    pub compress: Compress,
+    pub kind: Kind,
+    pub params: ParamRows,
+    pub returns: Option<ParamRows>,
+    /// Whether a channel can carry it: no type of its parameters and returns mentions one that is
+    /// not carried.
+    pub carried: bool,
+    /// Whether it may wait in its sender's outbox.
+    pub lazy: bool,
+}
+
+/// What a message does beside being handled.
+#[derive(Clone, Copy, Debug, PartialEq, Eq)]
+pub enum Kind {
+    Normal,
+    /// It makes an actor of the protocol with this number.
+    Constructor(u32),
+    /// It lets its actor fall.
+    Delete,
+}
+
+/// A parameter, a return or a field.
+#[derive(Debug, Drop, PartialEq)]
+pub struct ParamRow {
+    pub name: Name,
+    pub shape: Shape,
+}
+
+/// A type. The number of `Actor` and `Endpoint` is that of a protocol, with whether it is nullable
+/// or managed; that of `Named` is an index in the schema's types.
+#[derive(Debug, Drop, PartialEq)]
+pub enum Shape {
+    Builtin(Builtin),
+    Using(Name),
+    Actor(u32, bool),
+    Named(u32),
+    Array(Box<Shape>),
+    Maybe(Box<Shape>),
+    Unique(Box<Shape>),
+    Endpoint(u32, bool),
+}
+
+/// A struct or a union, with its full name and its fields or components.
+#[derive(Debug, Drop, PartialEq)]
+pub enum TypeRow {
+    Struct(Name, ParamRows),
+    Union(Name, Shapes),
+}
+
+/// A list of protocols.
+pub type ProtocolRows = Items<ProtocolRow>;
+
+/// A list of messages.
+pub type MessageRows = Items<MessageRow>;
+
+/// A list of parameters.
+pub type ParamRows = Items<ParamRow>;
+
+/// A list of structs and unions.
+pub type TypeRows = Items<TypeRow>;
+
+/// A list of types.
+pub type Shapes = Items<Shape>;
