@@ -1,9 +1,9 @@
-use Rattle.std.specs.Prelude.{ℕ, ℤ, Bool, true, false, not, nat_lt, ◌==◌, if◌then◌else◌, Option, Some, None}
+use Rattle.std.specs.Prelude.{ℕ, ℤ, Bool, true, false, not, nat_lt, if◌then◌else◌, Option, Some, None}
 use Rattle.std.specs.Ordering.{int_eq}
-use Rattle.ipdl_base.specs.declared.Level.{Level}
-use Rattle.ipdl_base.specs.declared.Level.TheVariants.{Not, InsideSync, InsideCpow}
-use Rattle.ipdl_base.specs.declared.Side.{Side}
-use Rattle.ipdl_base.specs.declared.Side.TheVariants.{Parent, Child}
+use Rattle.ipdl_base.specs.declared.kinds.Level.{Level}
+use Rattle.ipdl_base.specs.declared.kinds.Level.TheVariants.{Not, InsideSync, InsideCpow}
+use Rattle.ipdl_base.specs.declared.kinds.Side.{Side}
+use Rattle.ipdl_base.specs.declared.kinds.Side.TheVariants.{Parent, Child}
 
 -- the levels in their order
 abbrev pub rank : Level → ℕ
