@@ -1,1 +1,6 @@
+pub mod Builtins
 pub mod Deferral
+pub mod Memory
+pub mod Outside
+pub mod Sound
+pub mod Words

@@ -1,20 +1,26 @@
 #![tactic(auto)]
 
 mod builtin;
+mod files;
 mod finding;
 mod items;
 mod kinds;
+mod memory;
 mod message;
 mod schema;
+mod sink;
 mod value;
 
 pub use builtin::Builtin;
+pub use files::{Files, ReadAnswer};
 pub use finding::{Finding, Findings, Place, Rule};
 pub use items::{Items, Name, Numbers, Texts};
 pub use kinds::{Compress, Destroy, Direction, Level, Reason, Semantics, SendRefusal, Side};
+pub use memory::{MemoryFiles, MemorySink};
 pub use message::{Body, Message};
 pub use schema::{
     Kind, MessageRow, MessageRows, ParamRow, ParamRows, ProtocolRow, ProtocolRows, Schema, Shape,
     Shapes, TypeRow, TypeRows,
 };
+pub use sink::{Sink, WriteAnswer};
 pub use value::{Value, Values};

@@ -1,3 +1,5 @@
+ghost use Rattle.std.specs.Prelude.{◌≡◌, slice_get, option_map};
+
 use crate::builtin::Builtin;
 use crate::items::{Items, Name, Numbers};
 use crate::kinds::{Compress, Direction, Level, Semantics};
@@ -95,3 +97,26 @@ pub type TypeRows = Items<TypeRow>;
 
 /// A list of types.
 pub type Shapes = Items<Shape>;
+
+impl Schema {
+    ghost use Rattle.ipdl_base.specs.Sound.{IsSound};
+
+    /// The protocol with this number, or nothing where the number is not below the count.
+    pub fn protocol(&self, number: u32) -> Option<&ProtocolRow>
+        requires { IsSound self.now }
+        ensures { option_map (λ row. row.now) result ≡ slice_get self.now.protocols number }
+    {
+        self.protocols.as_slice().get(number as usize)
+    }
+}
+
+impl MessageRow {
+    ghost use Rattle.ipdl_base.specs.Sound.{has_reply};
+
+    /// Whether the message is answered by a reply: it is sync, or it has returns.
+    pub fn has_reply(&self) -> bool
+        ensures { result ≡ has_reply self.now }
+    {
+        self.semantics == Semantics::Sync || self.returns.is_some()
+    }
+}

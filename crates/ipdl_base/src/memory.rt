@@ -1,0 +1,236 @@
+ghost use Rattle.std.specs.Prelude.{◌≡◌, ℕ, ◌+◌, ◌-◌, ◌^◌, ◌<◌, ◌≤◌, ◌++◌, ◌↔◌, IsTrue, IfSome, IfOk, Option, Some, None, List, [], length, min, map, option_map, string_bytes, if◌then◌else◌};
+ghost use Rattle.ipdl_base.specs.Memory as memory;
+ghost use Rattle.ipdl_base.specs.Outside.{Rose};
+
+use crate::files::{Files, ReadAnswer};
+use crate::sink::{Sink, WriteAnswer};
+use std::alloc::{AllocError, Global};
+use std::marker::Model;
+
+/// Whether the next call is one of those that fail, by the numbers of these from 1.
+fn fails_next(fails: &[u64], calls: u64) -> bool
+    ensures { result ≡ memory.is_next fails.now calls }
+{
+    for n in fails {
+        if *n > 0 && *n - 1 == calls {
+            return true;
+        }
+    }
+    false
+}
+
+/// The bytes of the first file of that name.
+fn find<'a>(files: &'a [(String, Vec<u8>)], name: &str) -> Option<&'a [u8]>
+    ensures { option_map (λ bytes. bytes.now) result ≡ memory.file_named (map (λ f. (string_bytes f.0, f.1.items)) files.now) name.now }
+{
+    for (file, bytes) in files {
+        if file.as_str() == name {
+            return Some(bytes.as_slice());
+        }
+    }
+    None
+}
+
+/// Files in memory, for tests: the calls with the given numbers, from 1, fail.
+#[derive(Debug, Drop)]
+pub struct MemoryFiles {
+    files: Vec<(String, Vec<u8>)>,
+    fails: Vec<u64>,
+    calls: u64,
+    faults: u64,
+}
+
+impl Model for MemoryFiles {
+    ghost use Rattle.std.specs.Prelude.{map, string_bytes};
+    ghost use Rattle.ipdl_base.specs.Memory as memory;
+
+    ghost Value = { memory.Files };
+
+    ghost view = { λ m. record {
+      files = map (λ f. (string_bytes f.0, f.1.items)) m.files.items;
+      fails = m.fails.items;
+      calls = m.calls;
+      faults = m.faults;
+    } };
+}
+
+impl MemoryFiles {
+    /// Files with these names and bytes; of two with one name the first counts. The n-th read fails
+    /// where n, from 1, is among `fails`. Takes no memory.
+    pub fn new(files: Vec<(String, Vec<u8>)>, fails: Vec<u64>) -> MemoryFiles
+        ensures { result ≡ record {
+          files = map (λ f. (string_bytes f.0, f.1.items)) files.items;
+          fails = fails.items;
+          calls = 0;
+          faults = 0;
+        } }
+    {
+        MemoryFiles {
+            files,
+            fails,
+            calls: 0,
+            faults: 0,
+        }
+    }
+
+    /// Counts a call, and says whether it fails.
+    fn count(&mut self) -> bool
+        ensures fails { result ≡ memory.is_next self.old.fails self.old.calls }
+        ensures counted { self.new ≡ memory.after_read self.old }
+        ensures rose { IsTrue result → Rose self.old.faults self.new.faults }
+        ensures monotone { self.old.faults ≤ self.new.faults }
+    {
+        let fails = fails_next(self.fails.as_slice(), self.calls);
+        self.calls = self.calls.saturating_add(1);
+        if fails {
+            self.faults = self.faults.saturating_add(1);
+        }
+        fails
+    }
+}
+
+impl Files for MemoryFiles {
+    ghost use Rattle.ipdl_base.specs.Outside.{FileMap, IsRead};
+
+    ghost told = { λ m. Some (memory.file_named m.files) };
+
+    ghost faults = { λ m. m.faults };
+
+    fn read(&mut self, alloc: Global, name: &str, limit: usize) -> ReadAnswer
+        ensures map { Some (memory.file_named self.new.files) ≡ Some (memory.file_named self.old.files) }
+        ensures count { self.old.faults ≤ self.new.faults }
+        ensures failed { result ≡ ReadAnswer.Failed → Rose self.old.faults self.new.faults }
+        ensures answer { IsRead (memory.file_named self.old.files name.now) limit result }
+
+        // Beside what every reader of files does: it fails at the given calls and at no other.
+        ensures fails { (result ≡ ReadAnswer.Failed) ↔ IsTrue (memory.is_next self.old.fails self.old.calls) }
+        ensures counted { self.new ≡ memory.after_read self.old }
+    {
+        if self.count() {
+            return ReadAnswer::Failed;
+        }
+        match find(self.files.as_slice(), name) {
+            None => ReadAnswer::Absent,
+            Some(bytes) if bytes.len() > limit => ReadAnswer::Larger,
+            Some(bytes) => match Vec::from_slice(alloc, bytes) {
+                Ok(bytes) => ReadAnswer::Bytes(bytes),
+                Err(_) => ReadAnswer::NoMemory,
+            },
+        }
+    }
+}
+
+/// A sink in memory, for tests.
+#[derive(Debug, Drop)]
+pub struct MemorySink {
+    written: Vec<u8>,
+    piece: usize,
+    room: usize,
+    fails: Vec<u64>,
+    calls: u64,
+    faults: u64,
+}
+
+impl Model for MemorySink {
+    ghost use Rattle.std.specs.Prelude.{◌≤◌, vec_len};
+    ghost use Rattle.std.specs.Vec.{vec_capacity};
+    ghost use Rattle.ipdl_base.specs.Memory as memory;
+
+    ghost Value = { memory.Sink };
+
+    ghost view = { λ s. record {
+      written = s.written.items;
+      piece = s.piece;
+      room = s.room;
+      fails = s.fails.items;
+      calls = s.calls;
+      faults = s.faults;
+    } };
+
+    ghost invariant = { λ s. (1 ≤ s.piece) × (vec_len s.written ≤ s.room) × (s.room ≤ vec_capacity s.written) };
+}
+
+impl MemorySink {
+    /// A sink that has taken memory for `room` bytes. A write takes at most `piece` bytes, and at
+    /// most the room that is left; one of a piece that is not empty fails where no room is left. The
+    /// n-th write fails where n, from 1, is among `fails`.
+    pub fn new(
+        alloc: Global,
+        piece: usize,
+        room: usize,
+        fails: Vec<u64>,
+    ) -> Result<MemorySink, AllocError>
+        requires { 1 ≤ piece }
+        ensures { IfOk result (λ s. s ≡ record {
+          written = [];
+          piece = piece;
+          room = room;
+          fails = fails.items;
+          calls = 0;
+          faults = 0;
+        }) }
+    {
+        Ok(MemorySink {
+            written: Vec::with_capacity(alloc, room)?,
+            piece,
+            room,
+            fails,
+            calls: 0,
+            faults: 0,
+        })
+    }
+
+    /// The bytes written so far.
+    pub fn written(&self) -> &[u8]
+        ensures { result.now ≡ self.now.written }
+    {
+        self.written.as_slice()
+    }
+
+    /// How many bytes of a piece the next write takes, or nothing where it fails.
+    fn room_for(&self, piece: &[u8]) -> Option<usize>
+        ensures taken { result ≡ memory.room_for self.now piece.now }
+        ensures some { IfSome result (λ n. (n ≤ length piece.now) × (0 < length piece.now → 1 ≤ n)) }
+        ensures fits { IfSome result (λ n. length self.now.written + n ≤ self.now.room) }
+    {
+        let left = self.room - self.written.len();
+        if fails_next(self.fails.as_slice(), self.calls) || (left == 0 && !piece.is_empty()) {
+            None
+        } else {
+            Some(piece.len().min(self.piece).min(left))
+        }
+    }
+}
+
+impl Sink for MemorySink {
+    ghost use Rattle.ipdl_base.specs.Outside.{Appends, TakesSome, taken};
+
+    ghost written = { λ s. Some s.written };
+
+    ghost faults = { λ s. s.faults };
+
+    fn write(&mut self, piece: &[u8]) -> WriteAnswer
+        ensures count { self.old.faults ≤ self.new.faults }
+        ensures failed { result ≡ WriteAnswer.Failed → Rose self.old.faults self.new.faults }
+        ensures took { TakesSome result piece.now }
+        ensures appended { Some self.new.written ≡ Some (self.old.written ++ taken result piece.now) }
+
+        // Beside what every sink does: how much it takes, and that it fails nowhere else.
+        ensures answer { result ≡ memory.answer_to (memory.room_for self.old piece.now) }
+        ensures after { self.new ≡ memory.after_write self.old piece.now }
+    {
+        let room = self.room_for(piece);
+        self.calls = self.calls.saturating_add(1);
+        match room {
+            None => {
+                self.faults = self.faults.saturating_add(1);
+                WriteAnswer::Failed
+            }
+            Some(n) => {
+                let front = &piece[..n];
+                self.written.extend_from_slice(front).unwrap();
+                WriteAnswer::Took(n)
+            }
+        }
+    }
+}
