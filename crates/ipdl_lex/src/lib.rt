@@ -1,0 +1,5 @@
+#![tactic(auto)]
+
+mod token;
+
+pub use token::{LexFault, Lexed, Token, TokenKind, Tokens};
