@@ -1,0 +1,176 @@
+use ipdl_base::{Direction, Items, Name, Place, Semantics};
+
+/// The two kinds of file: a protocol file defines one protocol, and a header none.
+#[derive(Clone, Copy, Debug, PartialEq, Eq)]
+pub enum FileKind {
+    /// A `.ipdl` file.
+    Protocol,
+    /// A `.ipdlh` file.
+    Header,
+}
+
+/// What a file says. Each list is in text order.
+#[derive(Debug, Drop, PartialEq)]
+pub struct Unit {
+    pub includes: Includes,
+    pub usings: Usings,
+    pub structs: StructDecls,
+    pub unions: UnionDecls,
+    /// The protocol, in a protocol file; a header has none.
+    pub protocol: Option<ProtocolDecl>,
+}
+
+/// What an include names.
+#[derive(Clone, Copy, Debug, PartialEq, Eq)]
+pub enum IncludeKind {
+    /// `include protocol NAME;`
+    Protocol,
+    /// `include NAME;`
+    Header,
+    /// `include "TEXT";`, which names no file that is read.
+    Quoted,
+}
+
+/// An include, with the place of the name; a quoted name keeps its quotes.
+#[derive(Debug, Drop, PartialEq)]
+pub struct Include {
+    pub kind: IncludeKind,
+    pub name: Name,
+    pub place: Place,
+}
+
+/// A type that another language declares, with its whole text and the place of that.
+#[derive(Debug, Drop, PartialEq)]
+pub struct Using {
+    pub full: Name,
+    pub place: Place,
+    pub attributes: Attributes,
+}
+
+/// A struct, with its full name and the place of its name.
+#[derive(Debug, Drop, PartialEq)]
+pub struct StructDecl {
+    pub full: Name,
+    pub place: Place,
+    /// The fields, which have no attributes.
+    pub fields: Params,
+    pub attributes: Attributes,
+}
+
+/// A union, with its full name and the place of its name.
+#[derive(Debug, Drop, PartialEq)]
+pub struct UnionDecl {
+    pub full: Name,
+    pub place: Place,
+    pub components: TypeSpecs,
+    pub attributes: Attributes,
+}
+
+/// A protocol, with its full name and the place of its name. Without `sync` it is async.
+#[derive(Debug, Drop, PartialEq)]
+pub struct ProtocolDecl {
+    pub full: Name,
+    pub place: Place,
+    pub semantics: Semantics,
+    pub managers: NamesAt,
+    pub manages: NamesAt,
+    pub messages: MessageDecls,
+    pub attributes: Attributes,
+}
+
+/// A name and its place.
+#[derive(Debug, Drop, PartialEq)]
+pub struct NameAt {
+    pub name: Name,
+    pub place: Place,
+}
+
+/// A message, with the direction of its section and the place of its name.
+#[derive(Debug, Drop, PartialEq)]
+pub struct MessageDecl {
+    pub name: Name,
+    pub place: Place,
+    pub direction: Direction,
+    pub semantics: Semantics,
+    pub params: Params,
+    pub returns: Option<Params>,
+    pub attributes: Attributes,
+}
+
+/// A parameter, a return or a field, with the place of its name.
+#[derive(Debug, Drop, PartialEq)]
+pub struct Param {
+    pub spec: TypeSpec,
+    pub name: Name,
+    pub place: Place,
+    pub attributes: Attributes,
+}
+
+/// A type as it is written. Its place is that of its first token behind `nullable`.
+#[cycle(type_spec)]
+#[derive(Debug, Drop, PartialEq)]
+pub struct TypeSpec {
+    /// Whether `nullable` stands before the base.
+    pub nullable: bool,
+    pub base: Base,
+    /// The suffixes from left to right.
+    pub suffixes: Suffixes,
+    pub place: Place,
+}
+
+/// What the suffixes of a type apply to.
+#[cycle(type_spec)]
+#[derive(Debug, Drop, PartialEq)]
+pub enum Base {
+    /// A name with its namespaces, and the argument in `<` and `>` where it has one.
+    Named(Name, Option<Name>),
+    /// `UniquePtr` of a type.
+    Unique(Box<TypeSpec>),
+}
+
+/// A suffix of a type.
+#[derive(Clone, Copy, Debug, PartialEq, Eq)]
+pub enum Suffix {
+    /// `[]`
+    Array,
+    /// `?`
+    Maybe,
+}
+
+/// An attribute, with the place of its name; a quoted value keeps its quotes.
+#[derive(Debug, Drop, PartialEq)]
+pub struct Attribute {
+    pub name: Name,
+    pub value: Option<Name>,
+    pub place: Place,
+}
+
+/// A list of includes.
+pub type Includes = Items<Include>;
+
+/// A list of usings.
+pub type Usings = Items<Using>;
+
+/// A list of structs.
+pub type StructDecls = Items<StructDecl>;
+
+/// A list of unions.
+pub type UnionDecls = Items<UnionDecl>;
+
+/// A list of names with their places.
+pub type NamesAt = Items<NameAt>;
+
+/// A list of messages.
+pub type MessageDecls = Items<MessageDecl>;
+
+/// A list of parameters.
+pub type Params = Items<Param>;
+
+/// A list of types.
+pub type TypeSpecs = Items<TypeSpec>;
+
+/// A list of suffixes.
+pub type Suffixes = Items<Suffix>;
+
+/// A list of attributes.
+pub type Attributes = Items<Attribute>;
