@@ -1,3 +1,6 @@
+ghost use Rattle.std.specs.Prelude.{◌≡◌, IfSome, IfNone};
+ghost use Rattle.ipdl_base.specs.Builtins.{builtin_name, is_carried};
+
 /// A type that needs no declaration (docs/language.md, "Builtin types"). `Endpoint` and
 /// `ManagedEndpoint`, which take a protocol, are shapes of their own.
 #[derive(Clone, Copy, Debug, PartialEq, Eq)]
@@ -25,4 +28,77 @@ pub enum Builtin {
     ByteBuf,
     Shmem,
     FileDescriptor,
+}
+
+impl Builtin {
+    /// The word by which a type names the builtin.
+    pub fn name(self) -> &'static [u8]
+        ensures { result.now ≡ builtin_name self }
+    {
+        match self {
+            Builtin::Bool => b"bool",
+            Builtin::Char => b"char",
+            Builtin::Int8 => b"int8_t",
+            Builtin::Uint8 => b"uint8_t",
+            Builtin::Short => b"short",
+            Builtin::Int16 => b"int16_t",
+            Builtin::Uint16 => b"uint16_t",
+            Builtin::Int => b"int",
+            Builtin::Int32 => b"int32_t",
+            Builtin::Uint32 => b"uint32_t",
+            Builtin::NsResult => b"nsresult",
+            Builtin::Long => b"long",
+            Builtin::Int64 => b"int64_t",
+            Builtin::IntPtr => b"intptr_t",
+            Builtin::Uint64 => b"uint64_t",
+            Builtin::UintPtr => b"uintptr_t",
+            Builtin::Float => b"float",
+            Builtin::Double => b"double",
+            Builtin::NsString => b"nsString",
+            Builtin::NsCString => b"nsCString",
+            Builtin::ByteBuf => b"ByteBuf",
+            Builtin::Shmem => b"Shmem",
+            Builtin::FileDescriptor => b"FileDescriptor",
+        }
+    }
+
+    /// The builtin with this name, or nothing where no builtin has it.
+    pub fn named(name: &[u8]) -> Option<Builtin>
+        ensures some { IfSome result (λ found. builtin_name found ≡ name.now) }
+        ensures none { IfNone result ((other : Builtin) → ¬ (builtin_name other ≡ name.now)) }
+    {
+        match name {
+            b"bool" => Some(Builtin::Bool),
+            b"char" => Some(Builtin::Char),
+            b"int8_t" => Some(Builtin::Int8),
+            b"uint8_t" => Some(Builtin::Uint8),
+            b"short" => Some(Builtin::Short),
+            b"int16_t" => Some(Builtin::Int16),
+            b"uint16_t" => Some(Builtin::Uint16),
+            b"int" => Some(Builtin::Int),
+            b"int32_t" => Some(Builtin::Int32),
+            b"uint32_t" => Some(Builtin::Uint32),
+            b"nsresult" => Some(Builtin::NsResult),
+            b"long" => Some(Builtin::Long),
+            b"int64_t" => Some(Builtin::Int64),
+            b"intptr_t" => Some(Builtin::IntPtr),
+            b"uint64_t" => Some(Builtin::Uint64),
+            b"uintptr_t" => Some(Builtin::UintPtr),
+            b"float" => Some(Builtin::Float),
+            b"double" => Some(Builtin::Double),
+            b"nsString" => Some(Builtin::NsString),
+            b"nsCString" => Some(Builtin::NsCString),
+            b"ByteBuf" => Some(Builtin::ByteBuf),
+            b"Shmem" => Some(Builtin::Shmem),
+            b"FileDescriptor" => Some(Builtin::FileDescriptor),
+            _ => None,
+        }
+    }
+
+    /// Whether a channel carries values of the type.
+    pub fn is_carried(self) -> bool
+        ensures { result ≡ is_carried self }
+    {
+        !matches!(self, Builtin::Shmem | Builtin::FileDescriptor)
+    }
 }
