@@ -1,11 +1,10 @@
 -- The narrow files, which is what the program reads so far.
-use Rattle.std.specs.Prelude.{◌≡◌, ◌≢◌, ℕ, ◌≤◌, ◌⊎◌, List, [], ◌∷◌, ◌++◌, length, Option, Some, None, IsSomeAnd, Contains, codes, true, false}
+use Rattle.std.specs.Prelude.{◌≡◌, ◌≢◌, ℕ, ◌≤◌, ◌⊎◌, List, [], ◌++◌, length, Some, None, IsSomeAnd, codes, true, false}
 use Rattle.std.specs.List.{AllByRecursion, AllPairs}
 use Rattle.ipdl_base.specs.declared.builtin.Builtin.{Builtin}
 use Rattle.ipdl_base.specs.declared.kinds.Direction.TheVariants.{Both}
 use Rattle.ipdl_base.specs.declared.kinds.Semantics.TheVariants.{Async}
 use Rattle.ipdl_base.specs.Builtins.{builtin_name, is_carried}
-
 use Rattle.ipdl_lex.specs.declared.token.Token.{Token}
 use Rattle.ipdl_syntax.specs.declared.tree.Base.{Base, Named, Unique'}
 use Rattle.ipdl_syntax.specs.declared.tree.MessageDecl.{MessageDecl}

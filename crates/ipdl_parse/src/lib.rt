@@ -1,3 +1,7 @@
 #![tactic(auto)]
 
+mod names;
+mod narrow;
 mod reader;
+
+pub use narrow::read_narrow;

@@ -1,11 +1,11 @@
-ghost use Rattle.std.specs.Prelude.{◌≡◌, ◌↔◌, IfOk, OnOk, IsTrue, []};
+ghost use Rattle.std.specs.Prelude.{◌≡◌, ◌↔◌, ◌≤◌, IfOk, OnOk, OnErr, IsTrue, [], length};
 ghost use Rattle.ipdl_syntax.specs.Parts.{mark, reserved, identifier};
-
-use std::alloc::{AllocError, AllocFailed, Global};
-use std::marker::Model;
+ghost use Rattle.ipdl_parse.specs.declared.reader.Stop.TheVariants.{NoMemory};
 
 use ipdl_lex::{Token, TokenKind};
 use ipdl_syntax::NameAt;
+use std::alloc::{AllocError, AllocFailed, Global};
+use std::marker::Model;
 
 /// Why a file is not read.
 #[derive(Clone, Copy, Debug, PartialEq, Eq)]
@@ -17,12 +17,16 @@ pub enum Stop {
 }
 
 impl From<AllocError> for Stop {
+    ghost from_gives = { λ _ e. e ≡ NoMemory };
+
     fn from(_error: AllocError) -> Stop {
         Stop::NoMemory
     }
 }
 
 impl<T: Drop> From<AllocFailed<T>> for Stop {
+    ghost from_gives = { λ _ e. e ≡ NoMemory };
+
     fn from(_error: AllocFailed<T>) -> Stop {
         Stop::NoMemory
     }
@@ -52,7 +56,9 @@ impl<'a> Reader<'a> {
 
     /// Takes a mark.
     pub fn mark(&mut self, text: &[u8]) -> Result<(), Stop>
-        ensures { OnOk result (mark text.now self.old self.new) }
+        ensures ok { OnOk result (mark text.now self.old self.new) }
+        ensures err { OnErr result (self.new ≡ self.old) }
+        ensures fewer { length self.new ≤ length self.old }
     {
         let (first, rest) = self.rest.split_first().ok_or(Stop::NotNarrow)?;
         if first.kind != TokenKind::Mark || first.text.as_slice() != text {
@@ -64,7 +70,9 @@ impl<'a> Reader<'a> {
 
     /// Takes a reserved word.
     pub fn reserved(&mut self, text: &[u8]) -> Result<(), Stop>
-        ensures { OnOk result (reserved text.now self.old self.new) }
+        ensures ok { OnOk result (reserved text.now self.old self.new) }
+        ensures err { OnErr result (self.new ≡ self.old) }
+        ensures fewer { length self.new ≤ length self.old }
     {
         let (first, rest) = self.rest.split_first().ok_or(Stop::NotNarrow)?;
         if first.kind != TokenKind::Reserved || first.text.as_slice() != text {
@@ -76,7 +84,9 @@ impl<'a> Reader<'a> {
 
     /// Takes a word that is not reserved, and gives it with its place.
     pub fn identifier(&mut self, alloc: Global) -> Result<NameAt, Stop>
-        ensures { IfOk result (λ found. identifier found.name found.place self.old self.new) }
+        ensures ok { IfOk result (λ found. identifier found.name found.place self.old self.new) }
+        ensures err { OnErr result (self.new ≡ self.old) }
+        ensures fewer { length self.new ≤ length self.old }
     {
         let (first, rest) = self.rest.split_first().ok_or(Stop::NotNarrow)?;
         if first.kind != TokenKind::Word {
@@ -94,14 +104,6 @@ impl<'a> Reader<'a> {
     pub fn is_mark(&self, text: &[u8]) -> bool {
         match self.rest.first() {
             Some(first) => first.kind == TokenKind::Mark && first.text.as_slice() == text,
-            None => false,
-        }
-    }
-
-    /// Whether the next token is this reserved word.
-    pub fn is_reserved(&self, text: &[u8]) -> bool {
-        match self.rest.first() {
-            Some(first) => first.kind == TokenKind::Reserved && first.text.as_slice() == text,
             None => false,
         }
     }
