@@ -1,0 +1,4 @@
+pub mod Walk
+pub mod Ids
+pub mod Below
+pub mod Kept
