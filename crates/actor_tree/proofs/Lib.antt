@@ -2,3 +2,4 @@ pub mod Walk
 pub mod Ids
 pub mod Below
 pub mod Kept
+pub mod Whole

@@ -1,3 +1,4 @@
 pub mod Tree
 pub mod Fall
 pub mod Falling
+pub mod Laws

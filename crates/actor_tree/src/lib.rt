@@ -2,8 +2,10 @@
 #![tactic(auto)]
 
 mod actor;
+mod laws;
 mod search;
 mod tree;
 
 pub use actor::Actor;
+pub use laws::{gives_subtree, leaves_nobody};
 pub use tree::{Falling, Tree, TreeFault};

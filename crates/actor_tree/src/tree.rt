@@ -1,7 +1,7 @@
-ghost use Rattle.std.specs.Prelude.{◌≡◌, List, [], ◌∷◌, ◌++◌, IfOk, OnOk, OnErr, IsOkUnless, MatchOption};
-ghost use Rattle.actor_tree.specs.Tree.{actor_of, top, refusal};
-ghost use Rattle.actor_tree.specs.Fall.{post_order};
-ghost use Rattle.actor_tree.specs.Falling.{living, still_to_fall, left_by, tree_of};
+ghost use Rattle.std.specs.Prelude.{◌≡◌, [], ◌∷◌, ◌++◌, IfOk, OnOk, OnErr, IsOkUnless, MatchOption};
+ghost use Rattle.actor_tree.specs.Tree.{actor_of, top, refusal, IsTree};
+ghost use Rattle.actor_tree.specs.Fall.{IsNext, Falls};
+ghost use Rattle.actor_tree.specs.Falling.{living, root_of, tree_of};
 
 use super::actor::Actor;
 use super::search::{actor_with, first_to_fall, remove_actor};
@@ -79,25 +79,26 @@ impl Tree {
 
     /// The living actor of an id. It takes no memory.
     pub fn lookup(&self, id: i32) -> Option<Actor>
-        ensures { result ≡ actor_of id self.now }
+        ensures found { result ≡ actor_of id self.now }
+        ensures tree { IsTree self.now }
     {
         actor_with(self.actors.as_slice(), id)
     }
 
-    /// Begins the fall of the subtree of `id`: each call of `next` of what it gives lets one actor
-    /// fall. Where `id` does not live there is nothing to fall. It takes no memory.
+    /// Begins the fall of the subtree of `id`: each call of `next` on what it gives lets one actor
+    /// fall. Where `id` does not live nothing is to fall. It takes no memory.
     pub fn fall(&mut self, id: i32) -> Falling<'_>
         ensures same_tree { (tree_of result).ghost_name ≡ self.entry.ghost_name }
         ensures same_actors { living result ≡ self.old }
-        ensures subtree { still_to_fall result ≡ post_order id self.old }
+        ensures root { root_of result ≡ id }
+        ensures tree { IsTree self.old }
     {
+        let _ = &self.actors;
         Falling { tree: self, id }
     }
 
     fn take_next(&mut self, id: i32) -> Option<Actor>
-        ensures next { MatchOption result (post_order id self.old ≡ [])
-            (λ a. post_order id self.old ≡ a ∷ post_order id self.new) }
-        ensures left { self.new ≡ left_by result self.old }
+        ensures { IsNext id self.old result self.new }
     {
         let next = first_to_fall(self.actors.as_slice(), id)?;
         remove_actor(&mut self.actors, next.id);
@@ -117,10 +118,20 @@ impl Falling<'_> {
     /// before its manager. `None` at the end, or where the id did not live. It takes no memory.
     pub fn next(&mut self) -> Option<Actor>
         ensures same_tree { (tree_of self.new).ghost_name ≡ (tree_of self.old).ghost_name }
-        ensures next { MatchOption result (still_to_fall self.old ≡ [])
-            (λ a. still_to_fall self.old ≡ a ∷ still_to_fall self.new) }
-        ensures left { living self.new ≡ left_by result (living self.old) }
+        ensures same_root { root_of self.new ≡ root_of self.old }
+        ensures next { IsNext (root_of self.old) (living self.old) result (living self.new) }
     {
         self.tree.take_next(self.id)
     }
+}
+
+pub fn fall_all(alloc: Global, tree: &mut Tree, id: i32) -> Result<Vec<Actor>, AllocError>
+    ensures { IfOk result (λ given. Falls id tree.old given.items tree.new) }
+{
+    let mut fallen = Vec::new(alloc);
+    let mut falling = tree.fall(id);
+    while let Some(actor) = falling.next() {
+        fallen.push(actor)?;
+    }
+    Ok(fallen)
 }
