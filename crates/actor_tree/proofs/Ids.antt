@@ -1,5 +1,5 @@
 -- Which ids a list of actors has.
-use Rattle.std.proofs.Common.{◌≡◌, ◌≢◌, ◌⊎◌, inl, inr, ⊎_elim, ℤ, Bool, true, false, not, cond, List, [], ◌∷◌, ◌++◌, Option, Some, None, refl, sym, ap, ◌∙◌, subst, is_some, int_eq, find, true≢false}
+use Rattle.std.proofs.Common.{◌≡◌, ◌≢◌, ◌⊎◌, inl, inr, ℤ, true, false, not, cond, List, [], ◌∷◌, ◌++◌, Some, refl, sym, ap, ◌∙◌, subst, is_some, int_eq, find, true≢false}
 use Rattle.std.proofs.lemmas.Bool.{cases_Bool}
 use Rattle.std.proofs.lemmas.Bool.Decides.{Decides-int_eq}
 use Rattle.actor_tree.specs.declared.actor.Actor.{Actor}
@@ -35,8 +35,10 @@ has i (a ∷ actors) h =
 pub lives-true : (i : ℤ) (actors : List Actor) → Has i actors → lives i actors ≡ true
 lives-true i [] h = absurd h
 lives-true i (a ∷ actors) h =
-    elim (same_or_other a.id i) [ inl e ↦ lives-same i a actors e
-    | inr n ↦ lives-other i a actors n ∙ lives-true i actors (elim h [ inl e ↦ absurd (n e) | inr k ↦ k ]) ]
+    elim (same_or_other a.id i) [
+      | inl e ↦ lives-same i a actors e
+      | inr n ↦ lives-other i a actors n ∙ lives-true i actors (elim h [ inl e ↦ absurd (n e) | inr k ↦ k ])
+    ]
 
 pub has_not : (i : ℤ) (actors : List Actor) → lives i actors ≡ false → Has i actors → ⊥
 has_not i actors f h = true≢false (sym (lives-true i actors h) ∙ f)
@@ -71,8 +73,9 @@ pub without-append : (i : ℤ) (xs ys : List Actor) → without i (xs ++ ys) ≡
 without-append i [] ys = refl
 without-append i (x ∷ xs) ys =
     elim (same_or_other x.id i) [
-      inl e ↦ without-same i x (xs ++ ys) e ∙ without-append i xs ys ∙ ap (λ v. v ++ without i ys) (sym (without-same i x xs e))
-    | inr n ↦ without-other i x (xs ++ ys) n ∙ ap (λ v. x ∷ v) (without-append i xs ys) ∙ ap (λ v. v ++ without i ys) (sym (without-other i x xs n)) ]
+      | inl e ↦ without-same i x (xs ++ ys) e ∙ without-append i xs ys ∙ ap (λ v. v ++ without i ys) (sym (without-same i x xs e))
+      | inr n ↦ without-other i x (xs ++ ys) n ∙ ap (λ v. x ∷ v) (without-append i xs ys) ∙ ap (λ v. v ++ without i ys) (sym (without-other i x xs n))
+    ]
 
 pub without-none : (i : ℤ) (actors : List Actor) → (Has i actors → ⊥) → without i actors ≡ actors
 without-none i [] n = refl
@@ -84,14 +87,17 @@ pub Has-from_without : (i j : ℤ) (actors : List Actor) → Has i (without j ac
 Has-from_without i j [] h = absurd h
 Has-from_without i j (a ∷ actors) h =
     elim (same_or_other a.id j) [
-      inl e ↦ (let k = Has-from_without i j actors (subst (Has i) (without-same j a actors e) h) in (inr k.0, k.1))
-    | inr n ↦ elim (subst (Has i) (without-other j a actors n) h) [
-        inl e ↦ (inl e, λ f. n (e ∙ f))
-      | inr k ↦ (inr (Has-from_without i j actors k).0, (Has-from_without i j actors k).1) ] ]
+      | inl e ↦ (let k = Has-from_without i j actors (subst (Has i) (without-same j a actors e) h) in (inr k.0, k.1))
+      | inr n ↦ elim (subst (Has i) (without-other j a actors n) h) [
+        | inl e ↦ (inl e, λ f. n (e ∙ f))
+        | inr k ↦ (inr (Has-from_without i j actors k).0, (Has-from_without i j actors k).1)
+      ]
+    ]
 
 pub Has-without : (i j : ℤ) (actors : List Actor) → i ≢ j → Has i actors → Has i (without j actors)
 Has-without i j [] n h = h
 Has-without i j (a ∷ actors) n h =
     elim (same_or_other a.id j) [
-      inl e ↦ subst (Has i) (sym (without-same j a actors e)) (elim h [ inl f ↦ absurd (n (sym f ∙ e)) | inr k ↦ Has-without i j actors n k ])
-    | inr m ↦ subst (Has i) (sym (without-other j a actors m)) (elim h [ inl f ↦ inl f | inr k ↦ inr (Has-without i j actors n k) ]) ]
+      | inl e ↦ subst (Has i) (sym (without-same j a actors e)) (elim h [ inl f ↦ absurd (n (sym f ∙ e)) | inr k ↦ Has-without i j actors n k ])
+      | inr m ↦ subst (Has i) (sym (without-other j a actors m)) (elim h [ inl f ↦ inl f | inr k ↦ inr (Has-without i j actors n k) ])
+    ]

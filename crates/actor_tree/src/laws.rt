@@ -4,11 +4,9 @@ ghost use Rattle.actor_tree.specs.Laws.{GivesSubtree, LeavesNobody};
 /// post-order of the subtree and leave exactly the other actors.
 pub fn gives_subtree()
     ensures { GivesSubtree }
-{
-}
+{}
 
 /// The law of the top actor: its whole fall leaves nobody.
 pub fn leaves_nobody()
     ensures { LeavesNobody }
-{
-}
+{}

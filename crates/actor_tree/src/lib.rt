@@ -4,6 +4,8 @@
 mod actor;
 mod laws;
 mod search;
+#[cfg(test)]
+mod tests;
 mod tree;
 
 pub use actor::Actor;

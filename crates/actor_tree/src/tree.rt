@@ -1,6 +1,6 @@
 ghost use Rattle.std.specs.Prelude.{◌≡◌, [], ◌∷◌, ◌++◌, IfOk, OnOk, OnErr, IsOkUnless, MatchOption};
 ghost use Rattle.actor_tree.specs.Tree.{actor_of, top, refusal, IsTree};
-ghost use Rattle.actor_tree.specs.Fall.{IsNext, Falls};
+ghost use Rattle.actor_tree.specs.Fall.{IsNext};
 ghost use Rattle.actor_tree.specs.Falling.{living, root_of, tree_of};
 
 use super::actor::Actor;
@@ -123,15 +123,4 @@ impl Falling<'_> {
     {
         self.tree.take_next(self.id)
     }
-}
-
-pub fn fall_all(alloc: Global, tree: &mut Tree, id: i32) -> Result<Vec<Actor>, AllocError>
-    ensures { IfOk result (λ given. Falls id tree.old given.items tree.new) }
-{
-    let mut fallen = Vec::new(alloc);
-    let mut falling = tree.fall(id);
-    while let Some(actor) = falling.next() {
-        fallen.push(actor)?;
-    }
-    Ok(fallen)
 }

@@ -1,4 +1,4 @@
-use Rattle.std.proofs.Common.{◌∙◌, ap, int_eq, rules, tests, find, to_z, of_z, w32, to_z-of_z}
+use Rattle.std.proofs.Common.{◌∙◌, int_eq, rules, tests}
 use Rattle.std.proofs.lemmas.Iterator.{YieldsList-from_slice}
 use Rattle.std.proofs.lemmas.Iterator.Search.{find_from_yields_List}
 use Rattle.actor_tree.proofs.search.actor_with.Goals as goal

@@ -10,5 +10,6 @@ invariant_of-self c =
     let free : lives c.args.id items ≡ false = search rules in
     let manager : lives c.args.manager items ≡ true = search rules in
     elim c.match-push.branch [
-      in-Ok w ↦ made items c.push.new.self.items _ c.args.id c.args.manager c.self.invariant free manager (to_z-of_z c.ranges.id) (to_z-of_z c.ranges.manager) w.in-Ok.ensures.items
-    | in-Err w ↦ subst IsTree (sym w.in-Err.ensures.items) c.self.invariant ]
+      | in-Ok w ↦ made items c.push.new.self.items _ c.args.id c.args.manager c.self.invariant free manager (to_z-of_z c.ranges.id) (to_z-of_z c.ranges.manager) w.in-Ok.ensures.items
+      | in-Err w ↦ subst IsTree (sym w.in-Err.ensures.items) c.self.invariant
+    ]

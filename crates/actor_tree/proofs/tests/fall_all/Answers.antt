@@ -1,5 +1,5 @@
 use Rattle.std.proofs.Common.{[], append-nil, rules}
-use Rattle.actor_tree.proofs.tree.fall_all.Goals as goal
+use Rattle.actor_tree.proofs.tests.fall_all.Goals as goal
 
 pub returns : goal.returns
 returns c =
