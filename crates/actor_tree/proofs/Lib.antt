@@ -3,3 +3,4 @@ pub mod Ids
 pub mod Below
 pub mod Kept
 pub mod Whole
+pub mod Order

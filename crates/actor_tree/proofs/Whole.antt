@@ -4,19 +4,13 @@ use Rattle.actor_tree.specs.declared.actor.Actor.{Actor}
 use Rattle.actor_tree.specs.Tree.{lives, without, AreMadeAfter, IsTree}
 use Rattle.actor_tree.specs.Fall.{below, post_order, others, Falls}
 use Rattle.actor_tree.specs.Laws.{GivesSubtree, LeavesNobody}
-use Rattle.actor_tree.proofs.Ids.{same, other, same_or_other, Has, has, lives-true, Has-left, Has-right, Has-append, without-same, without-other}
+use Rattle.actor_tree.proofs.Ids.{same, other, same_or_other, Has, has, lives-same, lives-other, lives-true, Has-left, Has-right, Has-append, without-same, without-other}
 use Rattle.actor_tree.proofs.Below.{below-same, below-other, post_order-same}
 use Rattle.actor_tree.proofs.Kept.{IsTree-without, post_order-rest}
 
 others-nil : (actors : List Actor) → others [] actors ≡ actors
 others-nil [] = refl
 others-nil (a ∷ actors) = ap (λ v. a ∷ v) (others-nil actors)
-
-lives-first : (i : ℤ) (a : Actor) (fallen : List Actor) → a.id ≡ i → lives i (a ∷ fallen) ≡ true
-lives-first i a fallen e = ap (λ v. is_some (cond v (Some a) (find (λ b. int_eq b.id i) fallen))) (same a.id i e)
-
-lives-later : (i : ℤ) (a : Actor) (fallen : List Actor) → a.id ≢ i → lives i (a ∷ fallen) ≡ lives i fallen
-lives-later i a fallen n = ap (λ v. is_some (cond v (Some a) (find (λ b. int_eq b.id i) fallen))) (other a.id i n)
 
 others-falls : (fallen : List Actor) (b : Actor) (actors : List Actor) → lives b.id fallen ≡ true → others fallen (b ∷ actors) ≡ others fallen actors
 others-falls fallen b actors e = ap (λ v. cond (not v) (b ∷ others fallen actors) (others fallen actors)) e
@@ -30,8 +24,8 @@ others-cons : (a : Actor) (fallen actors : List Actor) → others (a ∷ fallen)
 others-cons a fallen [] = refl
 others-cons a fallen (b ∷ actors) =
     elim (same_or_other b.id a.id) [
-      | inl e ↦ others-falls (a ∷ fallen) b actors (lives-first b.id a fallen (sym e)) ∙ others-cons a fallen actors ∙ ap (others fallen) (sym (without-same a.id b actors e))
-      | inr n ↦ others-stays (a ∷ fallen) b actors (lives b.id fallen) (lives-later b.id a fallen (λ e. n (sym e)))
+      | inl e ↦ others-falls (a ∷ fallen) b actors (lives-same b.id a fallen (sym e)) ∙ others-cons a fallen actors ∙ ap (others fallen) (sym (without-same a.id b actors e))
+      | inr n ↦ others-stays (a ∷ fallen) b actors (lives b.id fallen) (lives-other b.id a fallen (λ e. n (sym e)))
           ∙ ap (λ v. cond (not (lives b.id fallen)) (b ∷ v) v) (others-cons a fallen actors)
           ∙ ap (others fallen) (sym (without-other a.id b actors n))
     ]

@@ -9,5 +9,7 @@ mod tests;
 mod tree;
 
 pub use actor::Actor;
-pub use laws::{gives_subtree, leaves_nobody};
+pub use laws::{
+    falls_in_order, falls_later, falls_once, gives_subtree, leaves_nobody, root_falls,
+};
 pub use tree::{Falling, Tree, TreeFault};
