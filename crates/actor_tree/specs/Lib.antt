@@ -2,3 +2,4 @@ pub mod Tree
 pub mod Fall
 pub mod Falling
 pub mod Laws
+pub mod Rows

@@ -9,7 +9,5 @@ mod tests;
 mod tree;
 
 pub use actor::Actor;
-pub use laws::{
-    falls_in_order, falls_later, falls_once, gives_subtree, leaves_nobody, root_falls,
-};
+pub use laws::{falls_in_order, falls_later, falls_once, gives_subtree, leaves_nobody, root_falls};
 pub use tree::{Falling, Tree, TreeFault};

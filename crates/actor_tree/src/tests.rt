@@ -1,7 +1,10 @@
-ghost use Rattle.std.specs.Prelude.{IfOk};
-ghost use Rattle.actor_tree.specs.Fall.{Falls};
+ghost use Rattle.std.specs.Prelude.{◌≡◌, IfOk};
+ghost use Rattle.actor_tree.specs.Fall.{post_order, others};
 
-use super::{Actor, Tree, TreeFault};
+use super::{
+    Actor, Tree, TreeFault, falls_in_order, falls_later, falls_once, gives_subtree, leaves_nobody,
+    root_falls,
+};
 use std::alloc::{AllocError, Global};
 use std::process::Abort;
 use std::test::Fail;
@@ -10,8 +13,10 @@ const TOP: i32 = 2147483647;
 
 /// Lets the whole subtree of an id fall, as a caller does.
 fn fall_all(alloc: Global, tree: &mut Tree, id: i32) -> Result<Vec<Actor>, AllocError>
-    ensures { IfOk result (λ given. Falls id tree.old given.items tree.new) }
+    ensures given { IfOk result (λ given. given.items ≡ post_order id tree.old) }
+    ensures left { IfOk result (λ _. tree.new ≡ others (post_order id tree.old) tree.old) }
 {
+    gives_subtree();
     let mut fallen = Vec::new(alloc);
     let mut falling = tree.fall(id);
     while let Some(actor) = falling.next() {
@@ -64,8 +69,11 @@ fn calls(rt: HostRuntime) -> Result<(), Fail> {
     let mut falling = tree.fall(TOP);
     assert_eq!(rt; falling.next(), Some(four));
     assert_eq!(rt; tree.lookup(TOP), Some(top));
-    super::gives_subtree();
-    super::leaves_nobody();
+    leaves_nobody();
+    falls_in_order();
+    falls_later();
+    falls_once();
+    root_falls();
     Ok(())
 }
 
