@@ -1,0 +1,5 @@
+pub mod Tree
+pub mod Fall
+pub mod Falling
+pub mod Laws
+pub mod Rows
