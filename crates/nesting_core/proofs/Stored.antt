@@ -51,19 +51,19 @@ with_answer-set answer xs i (suc n) lt h waits none =
     let step = inward-suc xs n vacant (omega arith) in
     ⊎_elim
     (λ (e : i ≡ n).
-        let hit = with_answer-hit answer (get_or xs i vacant) (reverse (take i xs)) waits in
-        let here = inward-set xs i y (omega arith) in
-        let there = inward-suc xs i vacant (omega arith) in
-        rw (sym e) (here ∙ sym hit ∙ ap (with_answer answer) (sym there)))
+    let hit = with_answer-hit answer (get_or xs i vacant) (reverse (take i xs)) waits in
+    let here = inward-set xs i y (omega arith) in
+    let there = inward-suc xs i vacant (omega arith) in
+    rw (sym e) (here ∙ sym hit ∙ ap (with_answer answer) (sym there)))
     (⊎_elim
-        (λ (below : i < n).
-            let miss = with_answer-miss answer (get_or xs n vacant) (reverse (take n xs)) (none n vacant (omega arith) (omega arith)) in
-            let rest = with_answer-set answer xs i n below (omega arith) waits (λ k d gt lt2. none k d (omega arith) (omega arith)) in
-            let other : n ≢ i = omega arith in
-            let same = get_or-set_other xs i n y vacant other in
-            let more = inward-suc (set xs i y) n vacant (omega (arith, length-set xs i y)) in
-            more ∙ ap (λ f. f ∷ reverse (take n (set xs i y))) same ∙ ap (λ ys. get_or xs n vacant ∷ ys) rest ∙ sym miss ∙ ap (with_answer answer) (sym step))
-        (λ (above : n < i). absurd (omega arith)))
+    (λ (below : i < n).
+    let miss = with_answer-miss answer (get_or xs n vacant) (reverse (take n xs)) (none n vacant (omega arith) (omega arith)) in
+    let rest = with_answer-set answer xs i n below (omega arith) waits (λ k d gt lt2. none k d (omega arith) (omega arith)) in
+    let other : n ≢ i = omega arith in
+    let same = get_or-set_other xs i n y vacant other in
+    let more = inward-suc (set xs i y) n vacant (omega (arith, length-set xs i y)) in
+    more ∙ ap (λ f. f ∷ reverse (take n (set xs i y))) same ∙ ap (λ ys. get_or xs n vacant ∷ ys) rest ∙ sym miss ∙ ap (with_answer answer) (sym step))
+    (λ (above : n < i). absurd (omega arith)))
     (cases_order i n)
 
 -- the same as the loop knows it, with its reads at any default

@@ -5,6 +5,8 @@ mod innermost;
 mod level;
 mod refusals;
 mod stack;
+#[cfg(test)]
+mod tests;
 
 pub use frame::{Answer, Frame, Head, Popped, SendHead, StackTop};
 pub use stack::Stack;

@@ -31,9 +31,7 @@ fn is_below(level: Level, found: Option<Head>) -> bool
 pub(crate) fn is_nested_in_normal(frames: &[Frame], head: &SendHead) -> bool
     ensures { result ≡ is_nested_in_normal (reverse frames.now) head.now }
 {
-    head.sync
-        && has_level(Level::Not, innermost_sync_dispatch(frames))
-        && head.level != Level::Not
+    head.sync && has_level(Level::Not, innermost_sync_dispatch(frames)) && head.level != Level::Not
 }
 
 pub(crate) fn is_inside_cpow(frames: &[Frame], head: &SendHead) -> bool

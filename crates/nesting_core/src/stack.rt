@@ -191,7 +191,7 @@ impl Stack {
             StackTop::Dispatch(_) | StackTop::Answered(_) => match self.take_top() {
                 Frame::Dispatch(head) => Some(Popped::Dispatch(head)),
                 Frame::Wait(head, Some(answer)) => Some(Popped::Wait(head, answer)),
-                Frame::Wait(_, None) => None,
+                Frame::Wait(_, None) => unreachable!(),
             },
         }
     }
