@@ -1,0 +1,99 @@
+ghost use Rattle.std.specs.Prelude.{◌≡◌};
+ghost use Rattle.nesting_core.specs.Frames.{head_of, is_dispatch, is_inside_sync, is_sync_dispatch, is_unanswered, is_wait};
+
+use ipdl_base::{Level, Reason, Values};
+
+/// What a stack keeps of a message that is handled or whose reply is waited for.
+#[derive(Clone, Copy, Debug, PartialEq, Eq)]
+pub struct Head {
+    /// Whether the sender of the message waits for its reply.
+    pub sync: bool,
+    pub level: Level,
+    /// The number of the request, positive from the parent and negative from the child.
+    pub seq: i32,
+    /// The number of the request that began the chain of calls to which it belongs.
+    pub transaction: i32,
+}
+
+/// What decides whether a message may be sent.
+#[derive(Clone, Copy, Debug, PartialEq, Eq)]
+pub struct SendHead {
+    pub sync: bool,
+    pub level: Level,
+}
+
+/// What ends a wait: the values of the reply, or why there are none.
+#[derive(Debug, Drop, PartialEq)]
+pub enum Answer {
+    Ok(Values),
+    Fault(Reason),
+}
+
+/// A frame of a stack: a message that is handled, or a wait for the reply to one, with its answer
+/// once that has come.
+#[derive(Debug, Drop, PartialEq)]
+pub enum Frame {
+    Dispatch(Head),
+    Wait(Head, Option<Answer>),
+}
+
+/// A frame that came off a stack; a wait comes with its answer.
+#[derive(Debug, Drop, PartialEq)]
+pub enum Popped {
+    Dispatch(Head),
+    Wait(Head, Answer),
+}
+
+/// The frame on top of a stack, by its head.
+#[derive(Clone, Copy, Debug, PartialEq, Eq)]
+pub enum StackTop {
+    Empty,
+    Dispatch(Head),
+    Unanswered(Head),
+    Answered(Head),
+}
+
+impl Frame {
+    pub(crate) fn head(&self) -> Head
+        ensures { result ≡ head_of self.now }
+    {
+        match self {
+            Frame::Dispatch(head) => *head,
+            Frame::Wait(head, _) => *head,
+        }
+    }
+
+    pub(crate) fn is_dispatch(&self) -> bool
+        ensures { result ≡ is_dispatch self.now }
+    {
+        matches!(self, Frame::Dispatch(_))
+    }
+
+    pub(crate) fn is_sync_dispatch(&self) -> bool
+        ensures { result ≡ is_sync_dispatch self.now }
+    {
+        match self {
+            Frame::Dispatch(head) => head.sync,
+            Frame::Wait(_, _) => false,
+        }
+    }
+
+    pub(crate) fn is_wait(&self) -> bool
+        ensures { result ≡ is_wait self.now }
+    {
+        matches!(self, Frame::Wait(_, _))
+    }
+
+    pub(crate) fn is_unanswered(&self) -> bool
+        ensures { result ≡ is_unanswered self.now }
+    {
+        matches!(self, Frame::Wait(_, None))
+    }
+
+    pub(crate) fn is_inside_sync(&self) -> bool
+        ensures { result ≡ is_inside_sync self.now }
+    {
+        let head = self.head();
+        head.sync && head.level == Level::InsideSync
+    }
+}

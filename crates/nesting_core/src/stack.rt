@@ -1,0 +1,250 @@
+ghost use Rattle.std.specs.Prelude.{◌≡◌, ◌↔◌, ◌<◌, ◌≤◌, [], ◌∷◌, length, take, reverse, IsTrue, IfNone};
+ghost use Rattle.std.specs.Bool.{OnTrue, OnFalse};
+ghost use Rattle.nesting_core.specs.Answers.{awaited, with_answer};
+ghost use Rattle.nesting_core.specs.Deferral.{defers, inner_transaction, transaction_of};
+ghost use Rattle.nesting_core.specs.Frames.{has_wait};
+ghost use Rattle.nesting_core.specs.Refusals.{refusal_of};
+ghost use Rattle.nesting_core.specs.Top.{after_pop, popped_of, top_of};
+ghost use Rattle.ipdl_base.specs.declared.kinds.Reason.TheVariants.{ChannelClosed};
+ghost use Rattle.nesting_core.specs.declared.frame.Answer.TheVariants.{Fault};
+ghost use Rattle.nesting_core.specs.declared.frame.Frame.TheVariants.{Dispatch, Wait};
+
+use crate::frame::{Answer, Frame, Head, Popped, SendHead, StackTop};
+use crate::innermost::{has_wait, innermost_inside_sync, innermost_unanswered};
+use crate::level::defers_request;
+use crate::refusals::{is_inside_cpow, is_level_too_low, is_nested_in_normal};
+use ipdl_base::{Level, Reason, SendRefusal, Side};
+use std::marker::Model;
+use std::{array, mem};
+
+/// The number of frames that a stack has room for.
+const ROOM: usize = 64;
+
+/// The number of frames from which on no sync message is sent: its wait leaves room for a dispatch.
+const SEND_LIMIT: usize = 63;
+
+/// What stands in a place of the array that holds no frame of the stack.
+const VACANT: Frame = Frame::Dispatch(Head {
+    sync: false,
+    level: Level::Not,
+    seq: 0,
+    transaction: 0,
+});
+
+/// The frames of an end, which contracts see as their list, the innermost first.
+#[derive(Debug, Drop)]
+pub struct Stack {
+    /// The frames, the outermost first, and vacant places behind them.
+    frames: [Frame; ROOM],
+    len: usize,
+}
+
+impl Model for Stack {
+    ghost use Rattle.std.specs.Prelude.{List, ◌≤◌, take, reverse};
+    ghost use Rattle.std.specs.Coded.{codes};
+    ghost use Rattle.ipdl_base.specs.contracts.value.Values as values;
+    ghost use Rattle.nesting_core.specs.declared.frame.Frame.{Frame};
+
+    ghost Value = { List Frame };
+
+    ghost coded = { Prim.hlevel (codes, values.the_row.coded) };
+
+    ghost view = { λ s. reverse (take s.len s.frames) };
+
+    ghost invariant = { λ s. s.len ≤ 64 };
+}
+
+impl Stack {
+    /// The stack without a frame.
+    pub fn new() -> Stack
+        ensures { result ≡ [] }
+    {
+        let frames = array::from_fn(|_| VACANT);
+        Stack { frames, len: 0 }
+    }
+
+    /// The number of frames, at most 64.
+    pub fn len(&self) -> usize
+        ensures count { result ≡ length self.now }
+        ensures bound { length self.now ≤ 64 }
+    {
+        self.outward().len()
+    }
+
+    /// The frame on top.
+    pub fn top(&self) -> StackTop
+        ensures { result ≡ top_of self.now }
+    {
+        match self.outward().last() {
+            None => StackTop::Empty,
+            Some(Frame::Dispatch(head)) => StackTop::Dispatch(*head),
+            Some(Frame::Wait(head, None)) => StackTop::Unanswered(*head),
+            Some(Frame::Wait(head, Some(_))) => StackTop::Answered(*head),
+        }
+    }
+
+    /// Whether a wait, answered or not, is on the stack.
+    pub fn has_wait(&self) -> bool
+        ensures { result ≡ has_wait self.now }
+    {
+        has_wait(self.outward())
+    }
+
+    /// The number of the innermost wait whose answer has not come; `None` where there is none.
+    pub fn awaited(&self) -> Option<i32>
+        ensures { result ≡ awaited self.now }
+    {
+        innermost_unanswered(self.outward()).map(|head| head.seq)
+    }
+
+    /// The transaction of a sync message that is sent now with this number.
+    pub fn transaction(&self, seq: i32) -> i32
+        ensures { result ≡ transaction_of self.now seq }
+    {
+        self.inner_transaction().unwrap_or(seq)
+    }
+
+    /// Whether an end on this side defers an item that arrived. Only an end with a wait on top whose
+    /// answer has not come defers any.
+    pub fn defers(&self, side: Side, head: &Head) -> bool
+        ensures { result ≡ defers side self.now head.now }
+    {
+        match self.top() {
+            StackTop::Unanswered(wait) => {
+                defers_request(side, wait.level, self.inner_transaction(), head)
+            }
+            _ => false,
+        }
+    }
+
+    /// Why a send is refused: the first of `NestedInNormal`, `InsideCpow`, `LevelTooLow` and
+    /// `TooDeep` that holds. An async send is never refused.
+    pub fn refusal(&self, head: &SendHead) -> Option<SendRefusal>
+        ensures { result ≡ refusal_of self.now head.now }
+    {
+        let frames = self.outward();
+        if is_nested_in_normal(frames, head) {
+            Some(SendRefusal::NestedInNormal)
+        } else if is_inside_cpow(frames, head) {
+            Some(SendRefusal::InsideCpow)
+        } else if is_level_too_low(frames, head) {
+            Some(SendRefusal::LevelTooLow)
+        } else if head.sync && frames.len() >= SEND_LIMIT {
+            Some(SendRefusal::TooDeep)
+        } else {
+            None
+        }
+    }
+
+    /// Puts a dispatch on top.
+    pub fn push_dispatch(&mut self, head: Head)
+        requires { length self.old < 64 }
+        ensures { self.new ≡ Dispatch head ∷ self.old }
+    {
+        self.frames[self.len] = Frame::Dispatch(head);
+        self.len += 1;
+    }
+
+    /// Puts a wait on top, whose answer has not come.
+    pub fn push_wait(&mut self, head: Head)
+        requires { length self.old < 63 }
+        ensures { self.new ≡ Wait head None ∷ self.old }
+    {
+        self.frames[self.len] = Frame::Wait(head, None);
+        self.len += 1;
+    }
+
+    /// Stores an answer in the innermost wait whose answer has not come. False where that wait is not
+    /// there or has another number; then nothing changes.
+    pub fn answer(&mut self, seq: i32, answer: Answer) -> bool
+        ensures found { IsTrue result ↔ (awaited self.old ≡ Some seq) }
+        ensures stored { OnTrue result (self.new ≡ with_answer answer self.old) }
+        ensures unchanged { OnFalse result (self.new ≡ self.old) }
+    {
+        if self.awaited() != Some(seq) {
+            return false;
+        }
+        self.store(answer);
+        true
+    }
+
+    /// Answers the innermost wait whose answer has not come by the fault `ChannelClosed`, and gives
+    /// its number; `None` where there is none, and then nothing changes.
+    pub fn fail_next(&mut self) -> Option<i32>
+        ensures number { result ≡ awaited self.old }
+        ensures failed { self.new ≡ with_answer (Fault ChannelClosed) self.old }
+        ensures unchanged { IfNone result (self.new ≡ self.old) }
+    {
+        let seq = self.awaited();
+        self.store(Answer::Fault(Reason::ChannelClosed));
+        seq
+    }
+
+    /// Takes the top frame off; `None` where there is none or it is a wait whose answer has not come,
+    /// and then nothing changes.
+    pub fn pop(&mut self) -> Option<Popped>
+        ensures popped { result ≡ popped_of self.old }
+        ensures left { self.new ≡ after_pop self.old }
+    {
+        match self.top() {
+            StackTop::Empty | StackTop::Unanswered(_) => None,
+            StackTop::Dispatch(_) | StackTop::Answered(_) => match self.take_top() {
+                Frame::Dispatch(head) => Some(Popped::Dispatch(head)),
+                Frame::Wait(head, Some(answer)) => Some(Popped::Wait(head, answer)),
+                Frame::Wait(_, None) => unreachable!(),
+            },
+        }
+    }
+
+    /// Takes all frames off.
+    pub fn clear(&mut self)
+        ensures { self.new ≡ [] }
+    {
+        *self = Stack::new();
+    }
+
+    /// The frames, the outermost first.
+    fn outward(&self) -> &[Frame]
+        ensures frames { reverse result.now ≡ self.now }
+        ensures bound { length result.now ≤ 64 }
+    {
+        &self.frames[..self.len]
+    }
+
+    fn inner_transaction(&self) -> Option<i32>
+        ensures { result ≡ inner_transaction self.now }
+    {
+        innermost_inside_sync(self.outward()).map(|head| head.transaction)
+    }
+
+    /// Stores an answer in the innermost wait whose answer has not come, if there is one.
+    fn store(&mut self, answer: Answer)
+        ensures { self.new ≡ with_answer answer self.old }
+    {
+        store(&mut self.frames, self.len, answer);
+    }
+
+    /// Takes the top frame off.
+    fn take_top(&mut self) -> Frame
+        requires { 0 < length self.old }
+        ensures { self.old ≡ result ∷ self.new }
+    {
+        self.len -= 1;
+        mem::replace(&mut self.frames[self.len], VACANT)
+    }
+}
+
+/// Stores an answer in the last of the first `len` frames that is a wait whose answer has not come, if
+/// there is one.
+fn store(frames: &mut [Frame], len: usize, answer: Answer)
+    requires { len ≤ length frames.old }
+    ensures { reverse (take len frames.new) ≡ with_answer answer (reverse (take len frames.old)) }
+{
+    for index in (0..len).rev() {
+        if frames[index].is_unanswered() {
+            let head = frames[index].head();
+            frames[index] = Frame::Wait(head, Some(answer));
+            return;
+        }
+    }
+}
