@@ -1,5 +1,6 @@
 #![tactic(auto)]
 
+mod scan;
 mod token;
 
 pub use token::{LexFault, Lexed, Token, TokenKind, Tokens};
