@@ -1,16 +1,16 @@
 -- Which piece begins a text, and where none does.
-use Rattle.std.proofs.Common.{◌≡◌, ◌≢◌, ℕ, ◌+◌, ◌<◌, ◌≤◌, suc, Bool, true, false, not, ◌||◌, ◌==◌, List, [], ◌∷◌, ◌++◌, Option, Some, None, Contains, length, take, drop, get_or, unwrap_or, position, refl, subst, sym, ap, ◌∙◌, ⊎_elim, inl, inr, arith}
+use Rattle.std.proofs.Common.{◌≡◌, ◌≢◌, ℕ, ◌+◌, ◌<◌, ◌≤◌, suc, Bool, true, false, not, ◌||◌, ◌==◌, List, [], ◌∷◌, ◌++◌, Option, Some, None, Contains, length, take, drop, get_or, is_some, unwrap_or, position, refl, subst, sym, ap, ◌∙◌, ⊎_elim, inl, inr, arith}
 use Rattle.std.specs.Prelude.{◌⊎◌, IsTrue, All, codes}
 use Rattle.std.specs.List.{AllByRecursion}
-use Rattle.std.proofs.lemmas.Bool.{false≢true, true≢false, both_ways, cases_lt, not-false, not-true, or_parts, or_cases, eqb-true, eqb-false}
-use Rattle.std.proofs.lemmas.List.{append-nil, append_assoc, append_cancel_left, take_at, drop_at, length-append, get_or_at, get_or_append_left, length_push}
+use Rattle.std.proofs.lemmas.Bool.{false≢true, true≢false, both_ways, cases_lt, not-false, not-true, or_parts, or_cases, eqb-true, eqb-false, ne_eqb, or_from, not_from_false}
+use Rattle.std.proofs.lemmas.List.{append-nil, length-take-le, append_assoc, append_cancel_left, take_at, drop_at, length-append, get_or_at, get_or_append_left, length_push}
 use Rattle.std.proofs.lemmas.List.Elements.{All-from_recursion, recursion_from_All}
 use Rattle.ipdl_lex.specs.declared.token.TokenKind.{TokenKind}
 use Rattle.ipdl_lex.specs.declared.token.TokenKind.TheVariants.{Word, Reserved, Quoted, Mark}
 use Rattle.ipdl_lex.specs.declared.scan.Class.{Class}
 use Rattle.ipdl_lex.specs.declared.scan.Class.TheVariants as class
 use Rattle.ipdl_lex.specs.Pieces.{is_blank, is_letter, is_line_feed, is_mark, is_word_byte, reserved_words, IsWord, IsQuoted, IsMark, IsLineComment, IsBlockComment, Spells, Piece, IsPiece, IsPieceOf}
-use Rattle.ipdl_lex.specs.Tokens.{Begins, BeginsWith, IsStuck, IsOpenComment, IsOpenString, IsBadByte}
+use Rattle.ipdl_lex.specs.Tokens.{Begins, BeginsWith, IsStuck, IsOpenComment, IsOpenString, IsBadByte, IsTooLong, IsShortOf}
 use Rattle.ipdl_lex.specs.Scan.{class_of, ends_quoted, ClosesAt, IsFront}
 use Rattle.ipdl_lex.proofs.Classes.{blank_piece, slash_piece, letter_piece, quote_piece, mark_piece, other_piece, piece_nonempty, is_blank-class, slash-class, quote-class, is_mark-class, is_letter-class, IsWord-from_reserved}
 use Rattle.ipdl_lex.proofs.Runs.{StopsAt, Run, run_up_to, cut_by, closes_at, closes_split}
@@ -387,3 +387,75 @@ bad_byte b rest h = record {
   no_comment = λ opens. let e = opens.1 in let first : b ≡ 47 = cc in let never : class.Other ≡ class.Slash = sym h ∙ ap class_of first in cc;
   no_string = λ opens. let e = opens.1 in let first : b ≡ 34 = cc in let never : class.Other ≡ class.Quote = sym h ∙ ap class_of first in cc;
 }
+
+-- the same at a text of which the code knows the first bytes
+
+first_is : (b : ℕ) (bs : List ℕ) (c : ℕ) (P : List ℕ → Type 0) → b ≡ c → P (c ∷ bs) → P (b ∷ bs)
+first_is b bs c P e h = subst (λ x. P (x ∷ bs)) (sym e) h
+
+second_is : (b d : ℕ) (bs : List ℕ) (c e : ℕ) (P : List ℕ → Type 0) → b ≡ c → d ≡ e → P (c ∷ e ∷ bs) → P (b ∷ d ∷ bs)
+second_is b d bs c e P p q h = subst (λ x. P (x ∷ d ∷ bs)) (sym p) (subst (λ x. P (c ∷ x ∷ bs)) (sym q) h)
+
+pub blank_at : (text : List ℕ) → class_of (get_or text 0 0) ≡ class.Blank → IsFront text None 1
+blank_at [] h = absurd (let never : class.Other ≡ class.Blank = h in cc)
+blank_at (b ∷ bs) h = blank_front b bs h
+
+pub bad_byte_at : (text : List ℕ) → 0 < length text → class_of (get_or text 0 0) ≡ class.Other → IsBadByte text
+bad_byte_at [] l h = absurd (omega arith)
+bad_byte_at (b ∷ bs) l h = bad_byte b bs h
+
+pub line_at : (text inner : List ℕ) (n : ℕ) → inner ≡ drop 2 text → class_of (get_or text 0 0) ≡ class.Slash → get_or text 1 0 ≡ 47 → n ≡ unwrap_or (position is_line_feed inner) (length inner) → IsFront text None (2 + n)
+line_at [] inner n i h k e = absurd (let never : class.Other ≡ class.Slash = h in cc)
+line_at (x ∷ []) inner n i h k e = absurd (omega arith)
+line_at (x ∷ y ∷ ys) inner n i h k e =
+    second_is x y ys 47 47 (λ t. IsFront t None (2 + n)) (slash-class x h) k
+    (line_front ys n (subst (λ l. n ≡ unwrap_or (position is_line_feed l) (length l)) i e))
+
+pub block_at : (text inner : List ℕ) (n : ℕ) → inner ≡ drop 2 text → class_of (get_or text 0 0) ≡ class.Slash → get_or text 1 0 ≡ 42 → ClosesAt inner n → ((k : ℕ) → k < n → ClosesAt inner k → ⊥) → IsFront text None (n + 4)
+block_at [] inner n i h k e f = absurd (let never : class.Other ≡ class.Slash = h in cc)
+block_at (x ∷ []) inner n i h k e f = absurd (omega arith)
+block_at (x ∷ y ∷ ys) inner n i h k e f =
+    second_is x y ys 47 42 (λ t. IsFront t None (n + 4)) (slash-class x h) k
+    (block_front ys n (subst (λ l. ClosesAt l n) i e) (λ j below closes. f j below (subst (λ l. ClosesAt l j) (sym i) closes)))
+
+pub open_comment_at : (text inner : List ℕ) → inner ≡ drop 2 text → class_of (get_or text 0 0) ≡ class.Slash → get_or text 1 0 ≡ 42 → ((k : ℕ) → ClosesAt inner k → ⊥) → IsOpenComment text
+open_comment_at [] inner i h k e = absurd (let never : class.Other ≡ class.Slash = h in cc)
+open_comment_at (x ∷ []) inner i h k e = absurd (omega arith)
+open_comment_at (x ∷ y ∷ ys) inner i h k e =
+    second_is x y ys 47 42 IsOpenComment (slash-class x h) k (open_comment ys (λ j closes. e j (subst (λ l. ClosesAt l j) (sym i) closes)))
+
+pub bad_slash_at : (text : List ℕ) → class_of (get_or text 0 0) ≡ class.Slash → (2 ≤ length text → (get_or text 1 0 ≢ 47) × (get_or text 1 0 ≢ 42)) → IsBadByte text
+bad_slash_at [] h k = absurd (let never : class.Other ≡ class.Slash = h in cc)
+bad_slash_at (x ∷ []) h k = first_is x [] 47 IsBadByte (slash-class x h) (bad_slash [] tt)
+bad_slash_at (x ∷ y ∷ ys) h k =
+    let apart = k (omega arith) in
+    first_is x (y ∷ ys) 47 IsBadByte (slash-class x h) (bad_slash (y ∷ ys) (not_from_false _ (or_from (y == 47) (y == 42) (ne_eqb y 47 apart.0) (ne_eqb y 42 apart.1))))
+
+pub quoted_at : (text inner : List ℕ) (n : ℕ) → inner ≡ drop 1 text → class_of (get_or text 0 0) ≡ class.Quote → Some n ≡ position ends_quoted inner → get_or inner n 0 ≡ 34 → IsFront text (Some Quoted) (n + 2)
+quoted_at [] inner n i h e k = absurd (let never : class.Other ≡ class.Quote = h in cc)
+quoted_at (x ∷ xs) inner n i h e k =
+    first_is x xs 34 (λ t. IsFront t (Some Quoted) (n + 2)) (quote-class x h)
+    (quoted_front xs n (subst (λ l. Some n ≡ position ends_quoted l) i e) (subst (λ l. get_or l n 0 ≡ 34) i k))
+
+pub open_string_at : (text inner : List ℕ) → inner ≡ drop 1 text → class_of (get_or text 0 0) ≡ class.Quote → NoQuote inner → IsOpenString text
+open_string_at [] inner i h k = absurd (let never : class.Other ≡ class.Quote = h in cc)
+open_string_at (x ∷ xs) inner i h k = first_is x xs 34 IsOpenString (quote-class x h) (open_string xs (subst NoQuote i k))
+
+pub double_at : (text rest : List ℕ) → text ≡ 58 ∷ 58 ∷ rest → IsFront text (Some Mark) 2
+double_at text rest e = subst (λ t. IsFront t (Some Mark) 2) (sym e) (double_front rest)
+
+pub mark_at : (text : List ℕ) → class_of (get_or text 0 0) ≡ class.Mark → ((rest : List ℕ) → text ≡ 58 ∷ 58 ∷ rest → ⊥) → IsFront text (Some Mark) 1
+mark_at [] h k = absurd (let never : class.Other ≡ class.Mark = h in cc)
+mark_at (x ∷ xs) h k = mark_front x xs h (λ e after is. k after cc)
+
+-- a token that is too long
+pub too_long : (text : List ℕ) (k : Option TokenKind) (n : ℕ) → IsFront text k n → is_some k ≡ true → 256 < n → IsTooLong text
+too_long text None n front e long = absurd (false≢true e)
+too_long text (Some kind) n front e long =
+    let len = length-take-le n text front.fits in
+    record { kind = kind; bytes = take n text; after = drop n text; begins = front.begins; long = omega arith }
+
+-- one that is short enough
+pub short_enough : (text : List ℕ) (k : Option TokenKind) (n : ℕ) → IsFront text k n → n ≤ 256 → IsShortOf k (take n text)
+short_enough text None n front short = tt
+short_enough text (Some kind) n front short = let len = length-take-le n text front.fits in omega arith

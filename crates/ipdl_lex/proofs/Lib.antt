@@ -2,3 +2,4 @@ pub mod Words
 pub mod Classes
 pub mod Runs
 pub mod Fronts
+pub mod Steps

@@ -1,11 +1,12 @@
-ghost use Rattle.std.specs.Prelude.{◌≡◌, ◌↔◌, ℕ, ◌+◌, ◌<◌, ◌≤◌, ◌^◌, ◌⊎◌, ◌++◌, ◌||◌, Some, None, IsTrue, IfOk, IfErr, OnOk, IfSome, IfNone, Contains, not, length, position};
+ghost use Rattle.std.specs.Prelude.{◌≡◌, ◌↔◌, ℕ, ◌+◌, ◌<◌, ◌≤◌, ◌^◌, ◌-◌, ◌⊎◌, ◌++◌, ◌||◌, Some, None, IsTrue, IfOk, IfErr, OnOk, IfSome, IfNone, Contains, not, length, position, slice_index, take};
 ghost use Rattle.ipdl_lex.specs.Pieces.{is_blank, is_letter, is_line_feed, is_word_byte, is_mark, reserved_words, Spells, IsWord};
-ghost use Rattle.ipdl_lex.specs.Tokens.{FailsAt, IsShortOf, token_at};
+ghost use Rattle.ipdl_lex.specs.Tokens.{FailsAt, IsShortOf, IsTokens, IsFault, token_at};
+ghost use Rattle.ipdl_lex.specs.declared.token.LexFault.TheVariants.{NoMemory};
 ghost use Rattle.ipdl_lex.specs.Scan.{class_of, ends_quoted, ClosesAt, IsFront, behind_byte, behind_bytes};
 
 use crate::token::{LexFault, Lexed, Token, TokenKind};
 use ipdl_base::{Items, Place};
-use std::alloc::{AllocError, AllocFailed, Global};
+use std::alloc::{AllocError, Global};
 
 /// What a piece that begins with a byte may be.
 #[derive(Clone, Copy, Debug, PartialEq, Eq)]
@@ -21,10 +22,13 @@ enum Class {
 /// The piece at the front of a text: the kind of its token, or none for a blank or a comment, and
 /// the number of its bytes.
 #[derive(Clone, Copy, Debug)]
-struct Front {
+struct Found {
     kind: Option<TokenKind>,
     len: usize,
 }
+
+/// The most bytes of a token.
+const MAX_TOKEN_LEN: usize = 256;
 
 /// The words that the language keeps for itself.
 const RESERVED: [&[u8]; 19] = [
@@ -131,4 +135,197 @@ fn close_at(text: &[u8]) -> Option<usize>
         }
     }
     None
+}
+
+/// The kind of a word.
+fn word_kind(word: &[u8]) -> TokenKind
+    requires { IsWord word.now }
+    ensures { Spells result word.now }
+{
+    if is_reserved(word) {
+        TokenKind::Reserved
+    } else {
+        TokenKind::Word
+    }
+}
+
+/// The word at the front.
+fn word(text: &[u8]) -> Found
+    requires { class_of (slice_index text.now 0) ≡ Class.Letter }
+    ensures { IsFront text.now result.kind result.len }
+{
+    let len = word_end(text).unwrap_or(text.len());
+    let kind = word_kind(&text[..len]);
+    Found {
+        kind: Some(kind),
+        len,
+    }
+}
+
+/// The comment at the front.
+fn comment(text: &[u8], here: Place) -> Result<Found, LexFault>
+    requires { class_of (slice_index text.now 0) ≡ Class.Slash }
+    ensures front { IfOk result (λ found. IsFront text.now found.kind found.len) }
+    ensures fault { IfErr result (FailsAt text.now here) }
+{
+    if text.len() < 2 {
+        return Err(LexFault::BadByte(here));
+    }
+    let inner = &text[2..];
+    match text[1] {
+        b'/' => {
+            let len = line_end(inner).unwrap_or(inner.len());
+            Ok(Found {
+                kind: None,
+                len: 2 + len,
+            })
+        }
+        b'*' => {
+            let Some(close) = close_at(inner) else {
+                return Err(LexFault::OpenComment(here));
+            };
+            Ok(Found {
+                kind: None,
+                len: close + 4,
+            })
+        }
+        _ => Err(LexFault::BadByte(here)),
+    }
+}
+
+/// The quoted text at the front.
+fn quoted(text: &[u8], here: Place) -> Result<Found, LexFault>
+    requires { class_of (slice_index text.now 0) ≡ Class.Quote }
+    ensures front { IfOk result (λ found. IsFront text.now found.kind found.len) }
+    ensures fault { IfErr result (FailsAt text.now here) }
+{
+    let inner = &text[1..];
+    let Some(end) = quoted_end(inner) else {
+        return Err(LexFault::OpenString(here));
+    };
+    if inner[end] != b'"' {
+        return Err(LexFault::OpenString(here));
+    }
+    Ok(Found {
+        kind: Some(TokenKind::Quoted),
+        len: end + 2,
+    })
+}
+
+/// The mark at the front.
+fn mark(text: &[u8]) -> Found
+    requires { class_of (slice_index text.now 0) ≡ Class.Mark }
+    ensures { IsFront text.now result.kind result.len }
+{
+    Found {
+        kind: Some(TokenKind::Mark),
+        len: if text.starts_with(b"::") { 2 } else { 1 },
+    }
+}
+
+/// The piece at the front of a text that begins at this place.
+fn front(text: &[u8], here: Place) -> Result<Found, LexFault>
+    requires { 0 < length text.now }
+    ensures front { IfOk result (λ found. IsFront text.now found.kind found.len) }
+    ensures fault { IfErr result (FailsAt text.now here) }
+{
+    match class_of(text[0]) {
+        Class::Blank => Ok(Found { kind: None, len: 1 }),
+        Class::Slash => comment(text, here),
+        Class::Quote => quoted(text, here),
+        Class::Mark => Ok(mark(text)),
+        Class::Letter => Ok(word(text)),
+        Class::Other => Err(LexFault::BadByte(here)),
+    }
+}
+
+/// The piece at the front, whose token, if it is one, has at most 256 bytes.
+fn short_front(text: &[u8], here: Place) -> Result<Found, LexFault>
+    requires { 0 < length text.now }
+    ensures front { IfOk result (λ found. IsFront text.now found.kind found.len) }
+    ensures short { IfOk result (λ found. IsShortOf found.kind (take found.len text.now)) }
+    ensures fault { IfErr result (FailsAt text.now here) }
+{
+    let found = front(text, here)?;
+    if found.kind.is_some() && found.len > MAX_TOKEN_LEN {
+        return Err(LexFault::TooLong(here));
+    }
+    Ok(found)
+}
+
+/// The place of the byte behind this one.
+fn behind_byte(here: Place, b: u8) -> Place
+    requires line { here.line < 2 ^ 32 - 1 }
+    requires column { here.column < 2 ^ 32 - 1 }
+    ensures { result ≡ behind_byte here b }
+{
+    if b == b'\n' {
+        Place {
+            file: here.file,
+            line: here.line + 1,
+            column: 1,
+        }
+    } else {
+        Place {
+            file: here.file,
+            line: here.line,
+            column: here.column + 1,
+        }
+    }
+}
+
+/// The place behind these bytes.
+fn behind_bytes(here: Place, bytes: &[u8]) -> Place
+    requires line { here.line + length bytes.now < 2 ^ 32 }
+    requires column { here.column + length bytes.now < 2 ^ 32 }
+    ensures { result ≡ behind_bytes here bytes.now }
+{
+    let mut place = here;
+    for b in bytes {
+        place = behind_byte(place, *b);
+    }
+    place
+}
+
+/// Adds the token of a piece, if it is one.
+fn keep(
+    alloc: Global,
+    tokens: &mut Vec<Token>,
+    kind: Option<TokenKind>,
+    bytes: &[u8],
+    place: Place,
+) -> Result<(), AllocError>
+    ensures { OnOk result (tokens.new.items ≡ tokens.old.items ++ token_at place kind bytes.now) }
+{
+    if let Some(kind) = kind {
+        let text = Items::from_vec(Vec::from_slice(alloc, bytes)?);
+        tokens.push(Token { kind, text, place })?;
+    }
+    Ok(())
+}
+
+/// The tokens of a text from its first byte on.
+pub fn scan(alloc: Global, text: &[u8], file: u32) -> Result<Lexed, LexFault>
+    requires { length text.now ≤ 1048576 }
+    ensures tokens { IfOk result (IsTokens file text.now) }
+    ensures fault { IfErr result (λ fault. (fault ≡ NoMemory) ⊎ IsFault file text.now fault) }
+{
+    let mut tokens = Vec::new(alloc);
+    let mut rest = text;
+    let mut here = Place {
+        file,
+        line: 1,
+        column: 1,
+    };
+    while !rest.is_empty() {
+        let found = short_front(rest, here)?;
+        let (bytes, after) = rest.split_at(found.len);
+        keep(alloc, &mut tokens, found.kind, bytes, here)?;
+        here = behind_bytes(here, bytes);
+        rest = after;
+    }
+    Ok(Lexed {
+        tokens: Items::from_vec(tokens),
+        end: here,
+    })
 }
