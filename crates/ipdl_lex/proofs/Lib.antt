@@ -3,3 +3,4 @@ pub mod Classes
 pub mod Runs
 pub mod Fronts
 pub mod Steps
+pub mod Unique

@@ -1,6 +1,8 @@
-ghost use Rattle.std.specs.Prelude.{◌≡◌, ◌↔◌, ℕ, ◌+◌, ◌<◌, ◌≤◌, ◌^◌, ◌-◌, ◌⊎◌, ◌++◌, ◌||◌, Some, None, IsTrue, IfOk, IfErr, OnOk, IfSome, IfNone, Contains, not, length, position, slice_index, take};
+ghost use Rattle.std.specs.Prelude.{◌≡◌, ◌↔◌, ℕ, ◌+◌, ◌<◌, ◌≤◌, ◌^◌, ◌-◌, ◌⊎◌, ◌++◌, ◌||◌, Some, None, IsTrue, IfOk, IfErr, OnOk, IfSome, IfNone, Contains, not, length, position, List, Ok, Err, slice_index, take};
 ghost use Rattle.ipdl_lex.specs.Pieces.{is_blank, is_letter, is_line_feed, is_word_byte, is_mark, reserved_words, Spells, IsWord};
-ghost use Rattle.ipdl_lex.specs.Tokens.{FailsAt, IsShortOf, IsTokens, IsFault, token_at};
+ghost use Rattle.ipdl_lex.specs.Tokens.{FailsAt, IsShortOf, IsTokens, IsFault, Gives, token_at};
+ghost use Rattle.ipdl_lex.specs.declared.token.Lexed.{Lexed};
+ghost use Rattle.ipdl_lex.specs.declared.token.LexFault.{LexFault};
 ghost use Rattle.ipdl_lex.specs.declared.token.LexFault.TheVariants.{NoMemory};
 ghost use Rattle.ipdl_lex.specs.Scan.{class_of, ends_quoted, ClosesAt, IsFront, behind_byte, behind_bytes};
 
@@ -304,8 +306,8 @@ fn keep(
     Ok(())
 }
 
-/// The tokens of a text from its first byte on.
-pub fn scan(alloc: Global, text: &[u8], file: u32) -> Result<Lexed, LexFault>
+/// The tokens of a text, or why it has none.
+fn scan(alloc: Global, text: &[u8], file: u32) -> Result<Lexed, LexFault>
     requires { length text.now ≤ 1048576 }
     ensures tokens { IfOk result (IsTokens file text.now) }
     ensures fault { IfErr result (λ fault. (fault ≡ NoMemory) ⊎ IsFault file text.now fault) }
@@ -328,4 +330,27 @@ pub fn scan(alloc: Global, text: &[u8], file: u32) -> Result<Lexed, LexFault>
         tokens: Items::from_vec(tokens),
         end: here,
     })
+}
+
+/// The tokens of the text of the file with this number, and the place behind its last byte
+/// (docs/tokens.md). A fault is the first from the left: the place of the first byte at which
+/// neither a token nor a blank or a comment begins, or of the first token of more than 256 bytes.
+pub fn lex(alloc: Global, text: &[u8], file: u32) -> Result<Lexed, LexFault>
+    requires { length text.now ≤ 1048576 }
+    ensures tokens { IfOk result (IsTokens file text.now) }
+    ensures fault { IfErr result (λ fault. (fault ≡ NoMemory) ⊎ IsFault file text.now fault) }
+
+    // A text that has tokens or a fault gets these, unless memory runs out.
+    ensures only_tokens { (lexed : Lexed) → IsTokens file text.now lexed → Gives result (Ok lexed) }
+    ensures only_fault { (fault : LexFault) → IsFault file text.now fault → Gives result (Err fault) }
+{
+    scan(alloc, text, file)
+}
+
+/// A text has at most one list of tokens, at most one fault, and never both.
+pub fn one_answer()
+    ensures tokens { (file : ℕ) (text : List ℕ) (a b : Lexed) → IsTokens file text a → IsTokens file text b → a ≡ b }
+    ensures fault { (file : ℕ) (text : List ℕ) (a b : LexFault) → IsFault file text a → IsFault file text b → a ≡ b }
+    ensures never_both { (file : ℕ) (text : List ℕ) (lexed : Lexed) (fault : LexFault) → IsTokens file text lexed → ¬ IsFault file text fault }
+{
 }
