@@ -1,10 +1,9 @@
 -- What the first byte of a piece says of it.
-use Rattle.std.proofs.Common.{◌≡◌, ℕ, Bool, true, false, ◌||◌, ◌&&◌, ◌==◌, ◌⊎◌, List, [], ◌∷◌, ◌++◌, Option, Some, None, Contains, cond, not, refl, subst, sym, ap, ◌∙◌, ⊎_elim}
-use Rattle.std.specs.Prelude.{IsTrue, codes, All}
+use Rattle.std.proofs.Common.{◌≡◌, ℕ, Bool, true, false, ◌&&◌, ◌==◌, ◌⊎◌, List, [], ◌∷◌, ◌++◌, Option, Some, None, Contains, cond, not, refl, subst, sym, ap, ◌∙◌, ⊎_elim}
+use Rattle.std.specs.Prelude.{codes}
 use Rattle.std.specs.List.{list_any, list_all, AllByRecursion}
-use Rattle.std.specs.Char.{is_ascii_alphabetic}
 use Rattle.std.proofs.lemmas.Bool.{false≢true, true≢false, eqb-true, or_cases, and_parts, cases_Bool, both_ways, not-true, and_from}
-use Rattle.std.proofs.lemmas.List.Elements.{recursion_from_All, All-contains}
+use Rattle.std.proofs.lemmas.List.Elements.{All-contains}
 use Rattle.std.proofs.lemmas.List.Sums.{AllPass-from_list_all}
 use Rattle.ipdl_lex.specs.declared.token.TokenKind.{TokenKind}
 use Rattle.ipdl_lex.specs.declared.token.TokenKind.TheVariants.{Word, Reserved, Quoted, Mark}
@@ -158,9 +157,9 @@ spacing_allows b bs h =
     ⊎_elim
     (λ blank. allows_at None b blank.0 bs [] blank.2 (ap (allows None) (class_of-blank blank.0 blank.1)))
     (λ comment. ⊎_elim
-        (λ line. allows_at None b 47 bs (47 ∷ line.inner) line.spelled refl)
-        (λ block. allows_at None b 47 bs (42 ∷ block.inner ++ 42 ∷ 47 ∷ []) block.spelled refl)
-        comment)
+    (λ line. allows_at None b 47 bs (47 ∷ line.inner) line.spelled refl)
+    (λ block. allows_at None b 47 bs (42 ∷ block.inner ++ 42 ∷ 47 ∷ []) block.spelled refl)
+    comment)
     h
 
 mark_allows : (b : ℕ) (bs : List ℕ) → IsPieceOf (Some Mark) (b ∷ bs) → allows (Some Mark) (class_of b) ≡ true
@@ -188,9 +187,9 @@ blank_piece None b bs e h =
     ⊎_elim
     (λ blank. let tail : bs ≡ [] = let is = blank.2 in cc in tail)
     (λ comment. ⊎_elim
-        (λ line. let is = line.spelled in let first : b ≡ 47 = cc in let other : class_of b ≡ class.Slash = ap class_of first in cc)
-        (λ block. let is = block.spelled in let first : b ≡ 47 = cc in let other : class_of b ≡ class.Slash = ap class_of first in cc)
-        comment)
+    (λ line. let is = line.spelled in let first : b ≡ 47 = cc in let other : class_of b ≡ class.Slash = ap class_of first in cc)
+    (λ block. let is = block.spelled in let first : b ≡ 47 = cc in let other : class_of b ≡ class.Slash = ap class_of first in cc)
+    comment)
     h
 blank_piece (Some Word) b bs e h = absurd (disallowed (Some Word) b bs class.Blank e refl h)
 blank_piece (Some Reserved) b bs e h = absurd (disallowed (Some Reserved) b bs class.Blank e refl h)

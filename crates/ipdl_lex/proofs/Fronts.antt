@@ -1,18 +1,17 @@
 -- Which piece begins a text, and where none does.
-use Rattle.std.proofs.Common.{◌≡◌, ◌≢◌, ℕ, ◌+◌, ◌<◌, ◌≤◌, suc, Bool, true, false, not, ◌||◌, ◌==◌, List, [], ◌∷◌, ◌++◌, Option, Some, None, Contains, length, take, drop, get_or, is_some, unwrap_or, position, refl, subst, sym, ap, ◌∙◌, ⊎_elim, inl, inr, arith}
-use Rattle.std.specs.Prelude.{◌⊎◌, IsTrue, All, codes}
+use Rattle.std.proofs.Common.{◌≡◌, ◌≢◌, ℕ, ◌+◌, ◌<◌, ◌≤◌, true, false, not, ◌||◌, ◌==◌, List, [], ◌∷◌, ◌++◌, Option, Some, None, length, take, drop, get_or, is_some, unwrap_or, position, refl, subst, sym, ap, ◌∙◌, ⊎_elim, inl, inr, arith}
+use Rattle.std.specs.Prelude.{IsTrue, All}
 use Rattle.std.specs.List.{AllByRecursion}
 use Rattle.std.proofs.lemmas.Bool.{false≢true, true≢false, both_ways, cases_lt, not-false, not-true, or_parts, or_cases, eqb-true, eqb-false, ne_eqb, or_from, not_from_false}
-use Rattle.std.proofs.lemmas.List.{append-nil, length-take-le, append_assoc, append_cancel_left, take_at, drop_at, length-append, get_or_at, get_or_append_left, length_push}
+use Rattle.std.proofs.lemmas.List.{append-nil, length-take-le, append_assoc, take_at, drop_at, length-append, get_or_at}
 use Rattle.std.proofs.lemmas.List.Elements.{All-from_recursion, recursion_from_All}
 use Rattle.ipdl_lex.specs.declared.token.TokenKind.{TokenKind}
-use Rattle.ipdl_lex.specs.declared.token.TokenKind.TheVariants.{Word, Reserved, Quoted, Mark}
-use Rattle.ipdl_lex.specs.declared.scan.Class.{Class}
+use Rattle.ipdl_lex.specs.declared.token.TokenKind.TheVariants.{Quoted, Mark}
 use Rattle.ipdl_lex.specs.declared.scan.Class.TheVariants as class
-use Rattle.ipdl_lex.specs.Pieces.{is_blank, is_letter, is_line_feed, is_mark, is_word_byte, reserved_words, IsWord, IsQuoted, IsMark, IsLineComment, IsBlockComment, Spells, Piece, IsPiece, IsPieceOf}
-use Rattle.ipdl_lex.specs.Tokens.{Begins, BeginsWith, IsStuck, IsOpenComment, IsOpenString, IsBadByte, IsTooLong, IsShortOf}
+use Rattle.ipdl_lex.specs.Pieces.{is_letter, is_line_feed, is_word_byte, IsWord, IsBlockComment, Spells, IsPieceOf}
+use Rattle.ipdl_lex.specs.Tokens.{Begins, IsStuck, IsOpenComment, IsOpenString, IsBadByte, IsTooLong, IsShortOf}
 use Rattle.ipdl_lex.specs.Scan.{class_of, ends_quoted, ClosesAt, IsFront}
-use Rattle.ipdl_lex.proofs.Classes.{blank_piece, slash_piece, letter_piece, quote_piece, mark_piece, other_piece, piece_nonempty, is_blank-class, slash-class, quote-class, is_mark-class, is_letter-class, IsWord-from_reserved}
+use Rattle.ipdl_lex.proofs.Classes.{blank_piece, slash_piece, letter_piece, quote_piece, mark_piece, other_piece, piece_nonempty, is_blank-class, slash-class, quote-class, is_mark-class, is_letter-class}
 use Rattle.ipdl_lex.proofs.Runs.{StopsAt, Run, run_up_to, cut_by, closes_at, closes_split}
 
 -- a fact that follows from another, of each element
@@ -47,8 +46,8 @@ begins_by k bytes rest piece none = record {
   longest = λ other after is e.
       ⊎_elim
       (λ (longer : length bytes < length other.bytes).
-          let g = goes_on bytes rest other.bytes after e longer in
-          absurd (none other.kind g.next g.tail after (subst (IsPieceOf other.kind) g.more_is is) g.rest_is))
+      let g = goes_on bytes rest other.bytes after e longer in
+      absurd (none other.kind g.next g.tail after (subst (IsPieceOf other.kind) g.more_is is) g.rest_is))
       (λ shorter. shorter)
       (cases_lt (length bytes) (length other.bytes));
 }
@@ -62,9 +61,9 @@ front_of text bytes rest k n e len begins =
     record {
       fits = omega arith;
       begins =
-        subst (λ t. Begins t (record { kind = k; bytes = take n text }) (drop n text)) (sym e)
-        (subst (λ b. Begins (bytes ++ rest) (record { kind = k; bytes = b }) (drop n text)) (sym front)
-        (subst (λ r. Begins (bytes ++ rest) (record { kind = k; bytes = bytes }) r) (sym behind) begins));
+          subst (λ t. Begins t (record { kind = k; bytes = take n text }) (drop n text)) (sym e)
+          (subst (λ b. Begins (bytes ++ rest) (record { kind = k; bytes = b }) (drop n text)) (sym front)
+          (subst (λ r. Begins (bytes ++ rest) (record { kind = k; bytes = bytes }) r) (sym behind) begins));
     }
 
 -- a piece at the front of a text has its first byte
@@ -106,10 +105,10 @@ word_begins : (k : TokenKind) (b : ℕ) (bs rest : List ℕ) → class_of b ≡ 
 word_begins k b bs rest h word stops =
     begins_by (Some k) (b ∷ bs) rest word
     (λ l next tail after piece e.
-        let all = recursion_from_All (λ c. IsTrue (is_word_byte c)) (bs ++ next ∷ tail) (letter_piece l b (bs ++ next ∷ tail) h piece).1 in
-        let goes : is_word_byte next ≡ true = last_of (λ c. IsTrue (is_word_byte c)) bs next tail all in
-        let ends : not (is_word_byte next) ≡ true = subst (StopsAt (λ c. not (is_word_byte c))) e stops in
-        both_ways (is_word_byte next) (not-true _ ends) goes)
+    let all = recursion_from_All (λ c. IsTrue (is_word_byte c)) (bs ++ next ∷ tail) (letter_piece l b (bs ++ next ∷ tail) h piece).1 in
+    let goes : is_word_byte next ≡ true = last_of (λ c. IsTrue (is_word_byte c)) bs next tail all in
+    let ends : not (is_word_byte next) ≡ true = subst (StopsAt (λ c. not (is_word_byte c))) e stops in
+    both_ways (is_word_byte next) (not-true _ ends) goes)
 
 -- what the bytes up to the first that is no word byte are
 word_parts : (b : ℕ) (bs front rest : List ℕ) → class_of b ≡ class.Letter → Run (λ c. not (is_word_byte c)) (b ∷ bs) front rest → (more : List ℕ) × (front ≡ b ∷ more) × IsWord (b ∷ more)
@@ -119,14 +118,13 @@ word_parts b bs [] rest h run =
     absurd (true≢false (sym letter ∙ (or_parts (is_letter b) _ (not-true _ starts)).0))
 word_parts b bs (y ∷ ys) rest h run =
     let split = run.split in
-    let same : y ≡ b = cc in
-    (
+    let same : y ≡ b = cc in (
       ys,
       ap (λ x. x ∷ ys) same,
       (
         is_letter-class b h,
         All-from_recursion (λ c. IsTrue (is_word_byte c)) ys
-        (all_weaker (λ c. not (is_word_byte c) ≡ false) (λ c. is_word_byte c ≡ true) (λ c e. not-false _ e) ys run.fails.1),
+            (all_weaker (λ c. not (is_word_byte c) ≡ false) (λ c. is_word_byte c ≡ true) (λ c e. not-false _ e) ys run.fails.1),
       ),
     )
 
@@ -178,8 +176,8 @@ line_begins inner rest none stops =
       within_line = All-from_recursion (λ c. c ≢ 10) inner (all_weaker (λ c. is_line_feed c ≡ false) (λ c. c ≢ 10) (λ c e. eqb-false c 10 e) inner none);
     })))
     (λ l next tail after piece e.
-        let ends : is_line_feed next ≡ true = subst (StopsAt is_line_feed) e stops in
-        last_of (λ c. c ≢ 10) inner next tail (line_piece l (inner ++ next ∷ tail) piece) (eqb-true next 10 ends))
+    let ends : is_line_feed next ≡ true = subst (StopsAt is_line_feed) e stops in
+    last_of (λ c. c ≢ 10) inner next tail (line_piece l (inner ++ next ∷ tail) piece) (eqb-true next 10 ends))
 
 pub line_front : (inner : List ℕ) (n : ℕ) → n ≡ unwrap_or (position is_line_feed inner) (length inner) → IsFront (47 ∷ 47 ∷ inner) None (2 + n)
 line_front inner n e =
@@ -203,7 +201,7 @@ closes_first text inner rest e none before (a ∷ more) same =
     let left = length-append inner (42 ∷ 47 ∷ []) in
     let right = length-append before (42 ∷ 47 ∷ a ∷ more) in
     let is : text ≡ before ++ 42 ∷ 47 ∷ ((a ∷ more) ++ rest) =
-        e ∙ closed inner rest ∙ ap (λ l. l ++ rest) same ∙ append_assoc before (42 ∷ 47 ∷ a ∷ more) rest in
+    e ∙ closed inner rest ∙ ap (λ l. l ++ rest) same ∙ append_assoc before (42 ∷ 47 ∷ a ∷ more) rest in
     absurd (none (length before) (omega arith) (subst (λ t. ClosesAt t (length before)) (sym is) (closes_at before ((a ∷ more) ++ rest))))
 
 block_begins : (inner rest : List ℕ) → ClosesFirst inner
@@ -212,11 +210,11 @@ block_begins inner rest first =
     begins_by None (47 ∷ 42 ∷ (inner ++ 42 ∷ 47 ∷ [])) rest
     (inr (inr (record { inner = inner; spelled = refl; first = first })))
     (λ l next tail after piece e.
-        let block = block_piece l ((inner ++ 42 ∷ 47 ∷ []) ++ next ∷ tail) piece in
-        let is = block.spelled in
-        let same : (inner ++ 42 ∷ 47 ∷ []) ++ next ∷ tail ≡ block.inner ++ 42 ∷ 47 ∷ [] = cc in
-        let ends = block.first inner (next ∷ tail) (sym same ∙ append_assoc inner (42 ∷ 47 ∷ []) (next ∷ tail)) in
-        cc)
+    let block = block_piece l ((inner ++ 42 ∷ 47 ∷ []) ++ next ∷ tail) piece in
+    let is = block.spelled in
+    let same : (inner ++ 42 ∷ 47 ∷ []) ++ next ∷ tail ≡ block.inner ++ 42 ∷ 47 ∷ [] = cc in
+    let ends = block.first inner (next ∷ tail) (sym same ∙ append_assoc inner (42 ∷ 47 ∷ []) (next ∷ tail)) in
+    cc)
 
 pub block_front : (text : List ℕ) (n : ℕ) → ClosesAt text n → ((k : ℕ) → k < n → ClosesAt text k → ⊥) → IsFront (47 ∷ 42 ∷ text) None (n + 4)
 block_front text n closes none =
@@ -229,8 +227,8 @@ block_front text n closes none =
 pub open_comment : (text : List ℕ) → ((k : ℕ) → ClosesAt text k → ⊥) → IsOpenComment (47 ∷ 42 ∷ text)
 open_comment text none = record {
   stuck =
-    stuck_by 47 (42 ∷ text)
-    (λ k more after piece e. open_more k more after piece e);
+      stuck_by 47 (42 ∷ text)
+      (λ k more after piece e. open_more k more after piece e);
   opens = (text, refl);
 }
   where
@@ -242,7 +240,7 @@ open_comment text none = record {
         let is = block.spelled in
         let inner : ys ≡ block.inner ++ 42 ∷ 47 ∷ [] = cc in
         let whole : text ≡ block.inner ++ 42 ∷ 47 ∷ after =
-            (let tails : text ≡ ys ++ after = cc in tails ∙ ap (λ l. l ++ after) inner ∙ sym (closed block.inner after)) in
+        (let tails : text ≡ ys ++ after = cc in tails ∙ ap (λ l. l ++ after) inner ∙ sym (closed block.inner after)) in
         none (length block.inner) (subst (λ t. ClosesAt t (length block.inner)) (sym whole) (closes_at block.inner after))
 
 -- a slash with neither behind it
@@ -265,7 +263,7 @@ bad_slash bs stops = record {
         ⊎_elim
         (λ line. let is = line.spelled in let tail : more ≡ 47 ∷ line.inner = cc in no_slash bs stops (line.inner ++ after) (e ∙ ap (λ l. l ++ after) tail))
         (λ block. let is = block.spelled in let tail : more ≡ 42 ∷ (block.inner ++ 42 ∷ 47 ∷ []) = cc in
-            no_star bs stops ((block.inner ++ 42 ∷ 47 ∷ []) ++ after) (e ∙ ap (λ l. l ++ after) tail))
+        no_star bs stops ((block.inner ++ 42 ∷ 47 ∷ []) ++ after) (e ∙ ap (λ l. l ++ after) tail))
         (slash_piece k 47 more refl piece)
 
 -- a quoted text
@@ -300,9 +298,9 @@ quoted_begins inner rest none =
     begins_by (Some Quoted) (34 ∷ (inner ++ 34 ∷ [])) rest
     (record { inner = inner; spelled = refl; within_line = within_line inner none })
     (λ l next tail after piece e.
-        let q = quoted_piece l ((inner ++ 34 ∷ []) ++ next ∷ tail) piece in
-        let ends = quote_first q.0 inner (next ∷ tail) q.2 (sym q.1 ∙ append_assoc inner (34 ∷ []) (next ∷ tail)) in
-        cc)
+    let q = quoted_piece l ((inner ++ 34 ∷ []) ++ next ∷ tail) piece in
+    let ends = quote_first q.0 inner (next ∷ tail) q.2 (sym q.1 ∙ append_assoc inner (34 ∷ []) (next ∷ tail)) in
+    cc)
 
 pub quoted_front : (text : List ℕ) (n : ℕ) → Some n ≡ position ends_quoted text → get_or text n 0 ≡ 34 → IsFront (34 ∷ text) (Some Quoted) (n + 2)
 quoted_front text n e h =
@@ -353,10 +351,10 @@ unquoted (y ∷ ys) rest (x ∷ xs) after none stops all e = unquoted ys rest xs
 pub open_string : (text : List ℕ) → NoQuote text → IsOpenString (34 ∷ text)
 open_string text h = record {
   stuck =
-    stuck_by 34 text
-    (λ k more after piece e.
-        let q = quoted_piece k more piece in
-        unquoted h.front h.rest q.0 after h.none h.stops q.2 (sym h.split ∙ e ∙ ap (λ l. l ++ after) q.1));
+      stuck_by 34 text
+      (λ k more after piece e.
+      let q = quoted_piece k more piece in
+      unquoted h.front h.rest q.0 after h.none h.stops q.2 (sym h.split ∙ e ∙ ap (λ l. l ++ after) q.1));
   opens = (text, refl);
 }
 
@@ -373,10 +371,10 @@ mark_front b rest h single =
     front_of (b ∷ rest) (b ∷ []) rest (Some Mark) 1 refl refl
     (begins_by (Some Mark) (b ∷ []) rest (inr (b, is_mark-class b h, refl))
     (λ l next tail after piece e.
-        ⊎_elim
-        (λ double. let first : b ≡ 58 = cc in let second : next ≡ 58 = cc in single first (tail ++ after) (e ∙ ap (λ x. x ∷ (tail ++ after)) second))
-        (λ one. let is = one.2 in cc)
-        (mark_piece l b (next ∷ tail) h piece)))
+    ⊎_elim
+    (λ double. let first : b ≡ 58 = cc in let second : next ≡ 58 = cc in single first (tail ++ after) (e ∙ ap (λ x. x ∷ (tail ++ after)) second))
+    (λ one. let is = one.2 in cc)
+    (mark_piece l b (next ∷ tail) h piece)))
 
 -- any other byte
 

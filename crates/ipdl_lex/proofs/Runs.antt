@@ -1,9 +1,8 @@
 -- A list up to the first element that passes a test, and up to the first `*/`.
-use Rattle.std.proofs.Common.{◌≡◌, ℕ, ◌+◌, ◌<◌, ◌≤◌, ◌-◌, suc, Bool, true, false, not, cond, ltb, List, [], ◌∷◌, ◌++◌, Option, Some, None, length, take, drop, get_or, unwrap_or, position, refl, subst, sym, ap, ◌∙◌, ⊎_elim, arith}
-use Rattle.std.specs.Prelude.{◌⊎◌}
+use Rattle.std.proofs.Common.{◌≡◌, ℕ, ◌+◌, ◌<◌, ◌≤◌, Bool, true, false, List, [], ◌∷◌, ◌++◌, Option, Some, None, length, take, drop, unwrap_or, position, refl, subst, sym, ap, ◌∙◌, ⊎_elim, arith}
 use Rattle.std.specs.List.{AllByRecursion, position_or_len}
 use Rattle.std.proofs.lemmas.Bool.{cases_Bool, cases_lt, cond-true, cond-false, lt-ltb, le-ltb}
-use Rattle.std.proofs.lemmas.List.{append-nil, drop_more, get_or_past, get_or_at, get_or-append-add, take-append-drop, length-take-le, length-append, append_assoc}
+use Rattle.std.proofs.lemmas.List.{append-nil, drop_more, get_or_past, get_or_at, get_or-append-add, take-append-drop, length-take-le, length-append}
 use Rattle.ipdl_lex.specs.Scan.{ClosesAt}
 
 -- the list is empty or passes the test with its first element
@@ -25,10 +24,10 @@ run_of test (x ∷ xs) =
     ⊎_elim
     (λ (passes : test x ≡ true). ([], x ∷ xs, record { split = refl; fails = tt; stops = passes }, rw passes refl))
     (λ (fails : test x ≡ false). (
-        x ∷ r.0,
-        r.1,
-        record { split = ap (λ l. x ∷ l) r.2.split; fails = (fails, r.2.fails); stops = r.2.stops },
-        rw fails (omega (arith, r.3)),
+      x ∷ r.0,
+      r.1,
+      record { split = ap (λ l. x ∷ l) r.2.split; fails = (fails, r.2.fails); stops = r.2.stops },
+      rw fails (omega (arith, r.3)),
     ))
     (cases_Bool (test x))
 
@@ -47,10 +46,10 @@ run_up_to test text n e =
     let r = run_of test text in
     let sum = run_short test text r.0 r.1 r.2 in
     let same : unwrap_or (position test text) (length text) ≡ position_or_len test text =
-        ⊎_elim
-        (λ (inside : position_or_len test text < length text). ap (λ o. unwrap_or o (length text)) (position-at test text inside))
-        (λ (past : length text ≤ position_or_len test text). ap (λ o. unwrap_or o (length text)) (position-past test text past) ∙ (let r3 = r.3 in omega arith))
-        (cases_lt (position_or_len test text) (length text)) in
+    ⊎_elim
+    (λ (inside : position_or_len test text < length text). ap (λ o. unwrap_or o (length text)) (position-at test text inside))
+    (λ (past : length text ≤ position_or_len test text). ap (λ o. unwrap_or o (length text)) (position-past test text past) ∙ (let r3 = r.3 in omega arith))
+    (cases_lt (position_or_len test text) (length text)) in
     (r.0, r.1, r.2, r.3 ∙ sym same ∙ sym e)
 
 -- what `position` says of a list: no element passes the test, or it is cut at the first that does
@@ -92,8 +91,7 @@ closes_split text k h =
     let second = drop_more text (k + 1) 0 inside in
     let star = h.star in
     let slash = h.slash in
-    let behind : drop k text ≡ 42 ∷ 47 ∷ drop (k + 1 + 1) text = cc in
-    (
+    let behind : drop k text ≡ 42 ∷ 47 ∷ drop (k + 1 + 1) text = cc in (
       take k text,
       drop (k + 1 + 1) text,
       sym (take-append-drop k text) ∙ ap (λ l. take k text ++ l) behind,

@@ -1,17 +1,16 @@
 -- What the loop of the scan has found so far.
-use Rattle.std.proofs.Common.{◌≡◌, ℕ, zero, suc, ◌+◌, ◌<◌, ◌≤◌, ◌==◌, Bool, true, false, not, cond, List, [], ◌∷◌, ◌++◌, Option, Some, None, length, take, drop, count_by, reverse, refl, subst, sym, ap, ◌∙◌, ⊎_elim, arith}
+use Rattle.std.proofs.Common.{◌≡◌, ℕ, zero, suc, ◌+◌, ◌<◌, ◌≤◌, ◌==◌, true, false, not, cond, List, [], ◌∷◌, ◌++◌, Option, length, take, drop, count_by, reverse, refl, subst, sym, ap, ◌∙◌, ⊎_elim, arith}
 use Rattle.std.specs.Prelude.{All}
 use Rattle.std.specs.List.{flat_map, suffix_len, prefix_len}
 use Rattle.std.proofs.lemmas.Bool.{cases_Bool, eqb-true}
-use Rattle.std.proofs.lemmas.List.{append-nil, append_assoc, nil_from_length, reverse-append, length-append, length-take-le, length-drop, flat_map_more}
+use Rattle.std.proofs.lemmas.List.{append-nil, append_assoc, nil_from_length, reverse-append, length-append, length-drop, flat_map_more}
 use Rattle.std.proofs.lemmas.List.Sums.{sum_by_push, count_by-le-length, suffix_len-le-length}
 use Rattle.std.proofs.lemmas.List.Elements.{All-push, All-nil}
 use Rattle.ipdl_base.specs.declared.finding.Place.{Place}
 use Rattle.ipdl_lex.specs.declared.token.TokenKind.{TokenKind}
 use Rattle.ipdl_lex.specs.declared.token.Token.{Token}
-use Rattle.ipdl_lex.specs.declared.token.Lexed.{Lexed}
 use Rattle.ipdl_lex.specs.declared.token.LexFault.{LexFault}
-use Rattle.ipdl_lex.specs.Pieces.{is_line_feed, Piece, IsPieceOf}
+use Rattle.ipdl_lex.specs.Pieces.{is_line_feed, Piece}
 use Rattle.ipdl_lex.specs.Places.{place_behind}
 use Rattle.ipdl_lex.specs.Tokens.{Begins, Cuts, IsShort, IsShortOf, token_at, tokens_of, IsTokens, FailsAt, IsFault}
 use Rattle.ipdl_lex.specs.Scan.{IsFront, behind_byte, behind_bytes}
@@ -95,11 +94,11 @@ Reaches-step file text tokens here rest kind len reached front short =
       cut = Cuts-push text reached.pieces rest piece (drop len rest) reached.cut front.begins;
       short = All-push IsShort reached.pieces piece reached.short short;
       tokens_are =
-        (λ i. reached.tokens_are i ++ token_at (reached.here_is i) kind (take len rest)) ∙ sym (tokens_of-push file [] reached.pieces piece);
+          (λ i. reached.tokens_are i ++ token_at (reached.here_is i) kind (take len rest)) ∙ sym (tokens_of-push file [] reached.pieces piece);
       here_is =
-        ap (λ p. behind_bytes p (take len rest)) reached.here_is
-        ∙ place_behind-append file (spelling reached.pieces) (take len rest)
-        ∙ ap (place_behind file) (sym spelled);
+          ap (λ p. behind_bytes p (take len rest)) reached.here_is
+          ∙ place_behind-append file (spelling reached.pieces) (take len rest)
+          ∙ ap (place_behind file) (sym spelled);
     }
 
 -- the same for values that are equal to these

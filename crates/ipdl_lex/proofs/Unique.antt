@@ -1,6 +1,6 @@
 -- A text has one answer: one list of tokens, or one fault.
-use Rattle.std.proofs.Common.{◌≡◌, ℕ, suc, ◌+◌, ◌<◌, ◌≤◌, List, [], ◌∷◌, ◌++◌, Option, Some, None, Result, Ok, Err, length, refl, subst, sym, ap, ◌∙◌, ⊎_elim, inl, inr, arith}
-use Rattle.std.specs.Prelude.{◌⊎◌, All, IfOk, IfErr}
+use Rattle.std.proofs.Common.{◌≡◌, ℕ, ◌≤◌, List, [], ◌∷◌, ◌++◌, Option, Some, Result, Ok, Err, length, refl, subst, sym, ap, ◌∙◌, ⊎_elim, inl, inr, arith}
+use Rattle.std.specs.Prelude.{◌⊎◌, IfOk, IfErr}
 use Rattle.std.specs.List.{AllByRecursion}
 use Rattle.std.proofs.lemmas.List.{append_cancel_right}
 use Rattle.std.proofs.lemmas.List.Elements.{recursion_from_All}
@@ -9,9 +9,9 @@ use Rattle.ipdl_lex.specs.declared.token.TokenKind.{TokenKind}
 use Rattle.ipdl_lex.specs.declared.token.Lexed.{Lexed}
 use Rattle.ipdl_lex.specs.declared.token.LexFault.{LexFault}
 use Rattle.ipdl_lex.specs.declared.token.LexFault.TheVariants.{BadByte, OpenComment, OpenString, TooLong, NoMemory}
-use Rattle.ipdl_lex.specs.Pieces.{Piece, IsPiece, IsPieceOf}
+use Rattle.ipdl_lex.specs.Pieces.{Piece, IsPieceOf}
 use Rattle.ipdl_lex.specs.Places.{place_behind}
-use Rattle.ipdl_lex.specs.Tokens.{Begins, BeginsWith, Cuts, IsShort, IsShortOf, tokens_of, IsTokens, IsStuck, IsBadByte, IsOpenComment, IsOpenString, IsTooLong, FailsAt, IsFault, Gives}
+use Rattle.ipdl_lex.specs.Tokens.{Begins, Cuts, IsShort, tokens_of, IsTokens, IsStuck, IsOpenComment, IsOpenString, IsTooLong, FailsAt, IsFault, Gives}
 use Rattle.ipdl_lex.proofs.Classes.{kind_unique, piece_nonempty}
 
 -- two fronts of one list that are equally long are equal, and so are the rests

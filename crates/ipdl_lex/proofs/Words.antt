@@ -1,5 +1,5 @@
 -- The test that finds a word among the reserved ones.
-use Rattle.std.proofs.Common.{◌≡◌, ℕ, List, Bool, true, Contains, refl}
+use Rattle.std.proofs.Common.{◌≡◌, ℕ, List, Bool, Contains, refl}
 use Rattle.std.specs.List.{list_any}
 use Rattle.std.specs.Str.{bytes_eq}
 use Rattle.std.specs.Bool.{Decides}

@@ -5,3 +5,6 @@ mod token;
 
 pub use scan::{lex, one_answer};
 pub use token::{LexFault, Lexed, Token, TokenKind, Tokens};
+
+#[cfg(test)]
+mod tests;

@@ -1,4 +1,4 @@
-ghost use Rattle.std.specs.Prelude.{◌≡◌, ◌↔◌, ℕ, ◌+◌, ◌<◌, ◌≤◌, ◌^◌, ◌-◌, ◌⊎◌, ◌++◌, ◌||◌, Some, None, IsTrue, IfOk, IfErr, OnOk, IfSome, IfNone, Contains, not, length, position, List, Ok, Err, slice_index, take};
+ghost use Rattle.std.specs.Prelude.{◌≡◌, ◌↔◌, ℕ, ◌+◌, ◌<◌, ◌≤◌, ◌^◌, ◌-◌, ◌⊎◌, ◌++◌, Some, None, IsTrue, IfOk, IfErr, OnOk, IfSome, IfNone, Contains, not, length, position, List, Ok, Err, slice_index, take};
 ghost use Rattle.ipdl_lex.specs.Pieces.{is_blank, is_letter, is_line_feed, is_word_byte, is_mark, reserved_words, Spells, IsWord};
 ghost use Rattle.ipdl_lex.specs.Tokens.{FailsAt, IsShortOf, IsTokens, IsFault, Gives, token_at};
 ghost use Rattle.ipdl_lex.specs.declared.token.Lexed.{Lexed};
@@ -31,6 +31,9 @@ struct Found {
 
 /// The most bytes of a token.
 const MAX_TOKEN_LEN: usize = 256;
+
+/// The number of the first line of a file, and of the first column of a line.
+const FIRST: u32 = 1;
 
 /// The words that the language keeps for itself.
 const RESERVED: [&[u8]; 19] = [
@@ -265,7 +268,7 @@ fn behind_byte(here: Place, b: u8) -> Place
         Place {
             file: here.file,
             line: here.line + 1,
-            column: 1,
+            column: FIRST,
         }
     } else {
         Place {
@@ -316,8 +319,8 @@ fn scan(alloc: Global, text: &[u8], file: u32) -> Result<Lexed, LexFault>
     let mut rest = text;
     let mut here = Place {
         file,
-        line: 1,
-        column: 1,
+        line: FIRST,
+        column: FIRST,
     };
     while !rest.is_empty() {
         let found = short_front(rest, here)?;
@@ -352,5 +355,4 @@ pub fn one_answer()
     ensures tokens { (file : ℕ) (text : List ℕ) (a b : Lexed) → IsTokens file text a → IsTokens file text b → a ≡ b }
     ensures fault { (file : ℕ) (text : List ℕ) (a b : LexFault) → IsFault file text a → IsFault file text b → a ≡ b }
     ensures never_both { (file : ℕ) (text : List ℕ) (lexed : Lexed) (fault : LexFault) → IsTokens file text lexed → ¬ IsFault file text fault }
-{
-}
+{}

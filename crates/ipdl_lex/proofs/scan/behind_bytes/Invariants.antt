@@ -6,5 +6,5 @@ abbrev pub invariant-loop-b : goal.invariant-loop-b
 invariant-loop-b l = record {
   place : l.place ≡ behind_bytes l.fn.here (take l.b-index l.bytes);
   line : l.place.line ≤ l.fn.here.line + l.b-index;
-  column : l.place.column ≤ l.fn.here.column + l.b-index
+  column : l.place.column ≤ l.fn.here.column + l.b-index;
 }

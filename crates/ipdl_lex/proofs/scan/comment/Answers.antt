@@ -1,4 +1,4 @@
-use Rattle.std.proofs.Common.{refl, sym}
+use Rattle.std.proofs.Common.{refl}
 use Rattle.std.proofs.lemmas.List.{take_rest}
 use Rattle.ipdl_lex.proofs.Fronts.{line_at, block_at, open_comment_at}
 use Rattle.ipdl_lex.proofs.scan.comment.Goals as goal

@@ -1,4 +1,4 @@
-use Rattle.std.proofs.Common.{refl, sym}
+use Rattle.std.proofs.Common.{refl}
 use Rattle.std.proofs.lemmas.List.{take_rest}
 use Rattle.ipdl_lex.proofs.Fronts.{quoted_at, open_string_at, no_quote-end, no_quote-line}
 use Rattle.ipdl_lex.proofs.scan.quoted.Goals as goal

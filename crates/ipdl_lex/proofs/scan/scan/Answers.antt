@@ -1,6 +1,6 @@
-use Rattle.std.proofs.Common.{length, sym, ◌∙◌, inr, arith}
+use Rattle.std.proofs.Common.{sym, inr, arith}
 use Rattle.std.proofs.lemmas.Result.{err_from_is_err_and}
-use Rattle.ipdl_lex.proofs.Steps.{Reaches, Reaches-next, Reaches-small, IsTokens-done, IsFault-reached}
+use Rattle.ipdl_lex.proofs.Steps.{Reaches-next, Reaches-small, IsTokens-done, IsFault-reached}
 use Rattle.ipdl_lex.proofs.scan.scan.Goals as goal
 
 pub returns-in_err-found-clause-fault : goal.returns-in_err-found-clause-fault
