@@ -85,5 +85,6 @@ abbrev pub IsPieceOf : Option TokenKind → List ℕ → Type 0
 IsPieceOf None bytes = IsSpacing bytes
 IsPieceOf (Some kind) bytes = Spells kind bytes
 
+-- the piece's bytes are what its kind says
 abbrev pub IsPiece : Piece → Type 0
 IsPiece piece = IsPieceOf piece.kind piece.bytes

@@ -20,11 +20,12 @@ abbrev pub Cuts : List ℕ → List Piece → List ℕ → Type 0
 Cuts text [] rest = text ≡ rest
 Cuts text (piece ∷ pieces) rest = (after : List ℕ) × Begins text piece after × Cuts after pieces rest
 
--- a token has at most 256 bytes; a blank or a comment may have any number
+-- a token of this kind and these bytes has at most 256; a blank or a comment may have any number
 abbrev pub IsShortOf : Option TokenKind → List ℕ → Type 0
 IsShortOf None bytes = Unit {0}
 IsShortOf (Some kind) bytes = length bytes ≤ 256
 
+-- so of a piece
 abbrev pub IsShort : Piece → Type 0
 IsShort piece = IsShortOf piece.kind piece.bytes
 

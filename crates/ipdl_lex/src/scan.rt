@@ -11,7 +11,7 @@ use ipdl_base::{Items, Place};
 use std::alloc::{AllocError, Global};
 
 /// What a piece that begins with a byte may be.
-#[derive(Clone, Copy, Debug, PartialEq, Eq)]
+#[derive(Clone, Copy)]
 enum Class {
     Blank,
     Slash,
@@ -23,7 +23,7 @@ enum Class {
 
 /// The piece at the front of a text: the kind of its token, or none for a blank or a comment, and
 /// the number of its bytes.
-#[derive(Clone, Copy, Debug)]
+#[derive(Clone, Copy)]
 struct Found {
     kind: Option<TokenKind>,
     len: usize,
