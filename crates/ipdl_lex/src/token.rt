@@ -1,4 +1,8 @@
+ghost use Rattle.std.specs.Prelude.{◌≡◌};
+ghost use Rattle.ipdl_lex.specs.declared.token.LexFault.TheVariants.{NoMemory};
+
 use ipdl_base::{Items, Name, Place};
+use std::alloc::AllocError;
 
 /// What a token is (docs/tokens.md).
 #[derive(Clone, Copy, Debug, PartialEq, Eq)]
@@ -49,4 +53,12 @@ pub enum LexFault {
     TooLong(Place),
     /// Memory ran out.
     NoMemory,
+}
+
+impl From<AllocError> for LexFault {
+    ghost from_gives = { λ _ fault. fault ≡ NoMemory };
+
+    fn from(_: AllocError) -> LexFault {
+        LexFault::NoMemory
+    }
 }

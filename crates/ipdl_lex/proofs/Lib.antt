@@ -1,0 +1,6 @@
+pub mod Words
+pub mod Classes
+pub mod Runs
+pub mod Fronts
+pub mod Steps
+pub mod Unique

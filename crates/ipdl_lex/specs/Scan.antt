@@ -1,0 +1,44 @@
+-- What the functions of the scan find at the front of a text.
+use Rattle.std.specs.Prelude.{◌≡◌, ℕ, Bool, ◌==◌, ◌||◌, ◌+◌, ◌≤◌, if◌then◌else◌, List, length, take, drop, fold, Option, slice_index}
+use Rattle.ipdl_base.specs.declared.finding.Place.{Place}
+use Rattle.ipdl_lex.specs.declared.token.TokenKind.{TokenKind}
+use Rattle.ipdl_lex.specs.declared.scan.Class.{Class}
+use Rattle.ipdl_lex.specs.declared.scan.Class.TheVariants as class
+use Rattle.ipdl_lex.specs.Pieces.{is_blank, is_letter, is_line_feed, is_mark}
+use Rattle.ipdl_lex.specs.Tokens.{Begins}
+
+-- what a piece that begins with the byte may be
+abbrev pub class_of : ℕ → Class
+class_of b =
+    if is_blank b then class.Blank
+    else (if b == 47 then class.Slash
+    else (if b == 34 then class.Quote
+    else (if is_mark b then class.Mark
+    else (if is_letter b then class.Letter
+    else class.Other))))
+
+-- a quote or a line feed, which end a quoted text
+abbrev pub ends_quoted : ℕ → Bool
+ends_quoted b = b == 34 || is_line_feed b
+
+-- `*/` stands at this index
+pub record ClosesAt (text : List ℕ) (k : ℕ) : Type 0 where
+  pub star : slice_index text k ≡ 42
+  pub slash : slice_index text (k + 1) ≡ 47
+
+-- a piece of this kind begins the text, and has this many bytes
+pub record IsFront (text : List ℕ) (kind : Option TokenKind) (len : ℕ) : Type 0 where
+  pub fits : len ≤ length text
+  pub begins : Begins text (record { kind = kind; bytes = take len text }) (drop len text)
+
+-- the place of the next byte
+abbrev pub behind_byte : Place → ℕ → Place
+behind_byte here b = record {
+  file = here.file;
+  line = if is_line_feed b then here.line + 1 else here.line;
+  column = if is_line_feed b then 1 else here.column + 1;
+}
+
+-- the place behind these bytes
+abbrev pub behind_bytes : Place → List ℕ → Place
+behind_bytes here bytes = fold behind_byte here bytes
