@@ -1,4 +1,5 @@
 use super::*;
+use ipdl_base::Place;
 use std::alloc::Global;
 use std::test::Fail;
 
@@ -112,25 +113,32 @@ fn rows(rt: HostRuntime) -> Result<(), Fail> {
     Ok(())
 }
 
-/// Whether a text that begins with a quote or a letter, and goes on to this length, has a token.
-fn is_token(alloc: Global, first: u8, last: u8, len: usize) -> Result<bool, Fail> {
+/// Why a text with this first and this last byte, and letters between them, is not one token.
+fn fault_of(alloc: Global, first: u8, last: u8, len: usize) -> Result<Option<LexFault>, Fail> {
     let mut text = vec![in alloc; b'a'; len]?;
     if len < 2 || len > 1_000 {
-        return Ok(false);
+        return Err(Fail::from("a length that no row has"));
     }
     text[0] = first;
     text[len - 1] = last;
     match lex(alloc, text.as_slice(), 0) {
-        Ok(lexed) => Ok(lexed.tokens.len() == 1),
-        Err(_) => Ok(false),
+        Ok(lexed) if lexed.tokens.len() == 1 => Ok(None),
+        Ok(_) => Err(Fail::from("not one token")),
+        Err(fault) => Ok(Some(fault)),
     }
 }
 
 #[test]
 fn limits(rt: HostRuntime) -> Result<(), Fail> {
-    assert!(rt; is_token(rt.alloc(), b'b', b'b', 256)?);
-    assert!(rt; !is_token(rt.alloc(), b'b', b'b', 257)?);
-    assert!(rt; is_token(rt.alloc(), b'"', b'"', 256)?);
-    assert!(rt; !is_token(rt.alloc(), b'"', b'"', 257)?);
+    assert!(rt; fault_of(rt.alloc(), b'b', b'b', 256)?.is_none());
+    assert!(rt; fault_of(rt.alloc(), b'"', b'"', 256)?.is_none());
+
+    let too_long = Some(LexFault::TooLong(Place {
+        file: 0,
+        line: 1,
+        column: 1,
+    }));
+    assert!(rt; fault_of(rt.alloc(), b'b', b'b', 257)? == too_long);
+    assert!(rt; fault_of(rt.alloc(), b'"', b'"', 257)? == too_long);
     Ok(())
 }
