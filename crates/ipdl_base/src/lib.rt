@@ -9,6 +9,7 @@ mod memory;
 mod message;
 mod schema;
 mod sink;
+mod token;
 mod value;
 
 pub use builtin::Builtin;
@@ -23,4 +24,5 @@ pub use schema::{
     Shapes, TypeRow, TypeRows,
 };
 pub use sink::{Sink, WriteAnswer};
+pub use token::{Token, TokenKind, Tokens};
 pub use value::{Value, Values};

@@ -5,8 +5,8 @@ use Rattle.std.specs.List.{list_any, list_all, AllByRecursion}
 use Rattle.std.proofs.lemmas.Bool.{false≢true, true≢false, eqb-true, or_cases, and_parts, cases_Bool, both_ways, not-true, and_from}
 use Rattle.std.proofs.lemmas.List.Elements.{All-contains}
 use Rattle.std.proofs.lemmas.List.Sums.{AllPass-from_list_all}
-use Rattle.ipdl_lex.specs.declared.token.TokenKind.{TokenKind}
-use Rattle.ipdl_lex.specs.declared.token.TokenKind.TheVariants.{Word, Reserved, Quoted, Mark}
+use Rattle.ipdl_base.specs.declared.token.TokenKind.{TokenKind}
+use Rattle.ipdl_base.specs.declared.token.TokenKind.TheVariants.{Word, Reserved, Quoted, Mark}
 use Rattle.ipdl_lex.specs.declared.scan.Class.{Class}
 use Rattle.ipdl_lex.specs.declared.scan.Class.TheVariants as class
 use Rattle.ipdl_lex.specs.Pieces.{is_blank, is_letter, is_mark, is_word_byte, reserved_words, IsWord, IsQuoted, IsMark, IsLineComment, IsBlockComment, IsPieceOf}

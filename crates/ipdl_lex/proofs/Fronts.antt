@@ -5,8 +5,8 @@ use Rattle.std.specs.List.{AllByRecursion}
 use Rattle.std.proofs.lemmas.Bool.{false≢true, true≢false, both_ways, cases_lt, not-false, not-true, or_parts, or_cases, eqb-true, eqb-false, ne_eqb, or_from, not_from_false}
 use Rattle.std.proofs.lemmas.List.{append-nil, length-take-le, append_assoc, take_at, drop_at, length-append, get_or_at}
 use Rattle.std.proofs.lemmas.List.Elements.{All-from_recursion, recursion_from_All}
-use Rattle.ipdl_lex.specs.declared.token.TokenKind.{TokenKind}
-use Rattle.ipdl_lex.specs.declared.token.TokenKind.TheVariants.{Quoted, Mark}
+use Rattle.ipdl_base.specs.declared.token.TokenKind.{TokenKind}
+use Rattle.ipdl_base.specs.declared.token.TokenKind.TheVariants.{Quoted, Mark}
 use Rattle.ipdl_lex.specs.declared.scan.Class.TheVariants as class
 use Rattle.ipdl_lex.specs.Pieces.{is_letter, is_line_feed, is_word_byte, IsWord, IsBlockComment, Spells, IsPieceOf}
 use Rattle.ipdl_lex.specs.Tokens.{Begins, IsStuck, IsOpenComment, IsOpenString, IsBadByte, IsTooLong, IsShortOf}

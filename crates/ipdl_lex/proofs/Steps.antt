@@ -7,8 +7,8 @@ use Rattle.std.proofs.lemmas.List.{append-nil, append_assoc, nil_from_length, re
 use Rattle.std.proofs.lemmas.List.Sums.{sum_by_push, count_by-le-length, suffix_len-le-length}
 use Rattle.std.proofs.lemmas.List.Elements.{All-push, All-nil}
 use Rattle.ipdl_base.specs.declared.finding.Place.{Place}
-use Rattle.ipdl_lex.specs.declared.token.TokenKind.{TokenKind}
-use Rattle.ipdl_lex.specs.declared.token.Token.{Token}
+use Rattle.ipdl_base.specs.declared.token.TokenKind.{TokenKind}
+use Rattle.ipdl_base.specs.declared.token.Token.{Token}
 use Rattle.ipdl_lex.specs.declared.token.LexFault.{LexFault}
 use Rattle.ipdl_lex.specs.Pieces.{is_line_feed, Piece}
 use Rattle.ipdl_lex.specs.Places.{place_behind}

@@ -1,7 +1,7 @@
 -- What the functions of the scan find at the front of a text.
 use Rattle.std.specs.Prelude.{◌≡◌, ℕ, Bool, ◌==◌, ◌||◌, ◌+◌, ◌≤◌, if◌then◌else◌, List, length, take, drop, fold, Option, slice_index}
 use Rattle.ipdl_base.specs.declared.finding.Place.{Place}
-use Rattle.ipdl_lex.specs.declared.token.TokenKind.{TokenKind}
+use Rattle.ipdl_base.specs.declared.token.TokenKind.{TokenKind}
 use Rattle.ipdl_lex.specs.declared.scan.Class.{Class}
 use Rattle.ipdl_lex.specs.declared.scan.Class.TheVariants as class
 use Rattle.ipdl_lex.specs.Pieces.{is_blank, is_letter, is_line_feed, is_mark}

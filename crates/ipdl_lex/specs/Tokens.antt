@@ -1,8 +1,8 @@
 -- The tokens of a text, and where it has none.
 use Rattle.std.specs.Prelude.{◌≡◌, ◌≢◌, ℕ, ◌≤◌, ◌<◌, ◌⊎◌, List, [], ◌∷◌, ◌++◌, length, Option, Some, None, Result, Err, All, codes}
 use Rattle.ipdl_base.specs.declared.finding.Place.{Place}
-use Rattle.ipdl_lex.specs.declared.token.TokenKind.{TokenKind}
-use Rattle.ipdl_lex.specs.declared.token.Token.{Token}
+use Rattle.ipdl_base.specs.declared.token.TokenKind.{TokenKind}
+use Rattle.ipdl_base.specs.declared.token.Token.{Token}
 use Rattle.ipdl_lex.specs.declared.token.Lexed.{Lexed}
 use Rattle.ipdl_lex.specs.declared.token.LexFault.{LexFault}
 use Rattle.ipdl_lex.specs.declared.token.LexFault.TheVariants.{BadByte, OpenComment, OpenString, TooLong, NoMemory}

@@ -6,8 +6,8 @@ ghost use Rattle.ipdl_lex.specs.declared.token.LexFault.{LexFault};
 ghost use Rattle.ipdl_lex.specs.declared.token.LexFault.TheVariants.{NoMemory};
 ghost use Rattle.ipdl_lex.specs.Scan.{class_of, ends_quoted, ClosesAt, IsFront, behind_byte, behind_bytes};
 
-use crate::token::{LexFault, Lexed, Token, TokenKind};
-use ipdl_base::{Items, Place};
+use crate::token::{LexFault, Lexed};
+use ipdl_base::{Items, Place, Token, TokenKind};
 use std::alloc::{AllocError, Global};
 
 /// What a piece that begins with a byte may be.

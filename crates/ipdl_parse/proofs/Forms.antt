@@ -8,7 +8,7 @@ use Rattle.std.proofs.lemmas.Grind.{flat_map-append}
 use Rattle.ipdl_base.specs.declared.finding.Place.{Place}
 use Rattle.ipdl_base.specs.declared.kinds.Direction.{Direction}
 use Rattle.ipdl_base.specs.declared.kinds.Semantics.TheVariants.{Async}
-use Rattle.ipdl_lex.specs.declared.token.Token.{Token}
+use Rattle.ipdl_base.specs.declared.token.Token.{Token}
 use Rattle.ipdl_syntax.specs.declared.tree.Attribute.{Attribute}
 use Rattle.ipdl_syntax.specs.declared.tree.Base.{Named}
 use Rattle.ipdl_syntax.specs.declared.tree.FileKind.TheVariants as file

@@ -5,7 +5,7 @@ use Rattle.ipdl_base.specs.declared.builtin.Builtin.{Builtin}
 use Rattle.ipdl_base.specs.declared.kinds.Direction.TheVariants.{Both}
 use Rattle.ipdl_base.specs.declared.kinds.Semantics.TheVariants.{Async}
 use Rattle.ipdl_base.specs.Builtins.{builtin_name, is_carried}
-use Rattle.ipdl_lex.specs.declared.token.Token.{Token}
+use Rattle.ipdl_base.specs.declared.token.Token.{Token}
 use Rattle.ipdl_syntax.specs.declared.tree.Base.{Base, Named, Unique'}
 use Rattle.ipdl_syntax.specs.declared.tree.MessageDecl.{MessageDecl}
 use Rattle.ipdl_syntax.specs.declared.tree.Param.{Param}

@@ -1,7 +1,7 @@
 -- What a reader of sections adds to the messages so far.
 use Rattle.std.specs.Prelude.{◌≡◌, ℕ, List, ◌++◌}
 use Rattle.std.specs.List.{AllByRecursion, flat_map}
-use Rattle.ipdl_lex.specs.declared.token.Token.{Token}
+use Rattle.ipdl_base.specs.declared.token.Token.{Token}
 use Rattle.ipdl_syntax.specs.declared.tree.MessageDecl.{MessageDecl}
 use Rattle.ipdl_syntax.specs.Grammar.{Section, section, sections}
 use Rattle.ipdl_parse.specs.Narrow.{IsNarrowMessage}

@@ -3,14 +3,13 @@ ghost use Rattle.std.specs.List.{AllByRecursion};
 ghost use Rattle.ipdl_syntax.specs.Grammar.{type_spec, param, params, message, direction_word, protocol};
 ghost use Rattle.ipdl_syntax.specs.Parts.{reserved};
 ghost use Rattle.ipdl_syntax.specs.Program.{Tree};
-ghost use Rattle.ipdl_lex.specs.declared.token.Token.{Token};
+ghost use Rattle.ipdl_base.specs.declared.token.Token.{Token};
 ghost use Rattle.ipdl_parse.specs.Narrow.{IsCarriedName, IsBuiltinName, IsPlainParam, IsNarrowMessage, IsNarrowProtocol, IsNarrow};
 ghost use Rattle.ipdl_parse.specs.Sections.{AddsSection, AddsSections};
 
 use crate::names::{messages_differ, params_differ};
 use crate::reader::{Reader, Stop};
-use ipdl_base::{Builtin, Direction, Items, Semantics};
-use ipdl_lex::Token;
+use ipdl_base::{Builtin, Direction, Items, Semantics, Token};
 use ipdl_syntax::{Base, FileKind, MessageDecl, NameAt, Param, ProtocolDecl, TypeSpec, Unit};
 use std::alloc::{AllocError, Global};
 

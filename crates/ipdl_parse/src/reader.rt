@@ -2,7 +2,7 @@ ghost use Rattle.std.specs.Prelude.{◌≡◌, ◌↔◌, ◌≤◌, IfOk, OnOk,
 ghost use Rattle.ipdl_syntax.specs.Parts.{mark, reserved, identifier};
 ghost use Rattle.ipdl_parse.specs.declared.reader.Stop.TheVariants.{NoMemory};
 
-use ipdl_lex::{Token, TokenKind};
+use ipdl_base::{Token, TokenKind};
 use ipdl_syntax::NameAt;
 use std::alloc::{AllocError, AllocFailed, Global};
 use std::marker::Model;
@@ -40,7 +40,7 @@ pub struct Reader<'a> {
 
 impl<'a> Model for Reader<'a> {
     ghost use Rattle.std.specs.Prelude.{List};
-    ghost use Rattle.ipdl_lex.specs.declared.token.Token.{Token};
+    ghost use Rattle.ipdl_base.specs.declared.token.Token.{Token};
 
     ghost Value = { List Token };
 

@@ -7,7 +7,7 @@ use Rattle.ipdl_base.specs.declared.kinds.Direction.TheVariants.{Parent, Child, 
 use Rattle.ipdl_base.specs.declared.kinds.Semantics.{Semantics}
 use Rattle.ipdl_base.specs.declared.kinds.Semantics.TheVariants.{Async, Sync}
 use Rattle.ipdl_base.specs.Words.{joined}
-use Rattle.ipdl_lex.specs.declared.token.TokenKind.TheVariants.{Word, Quoted, Mark}
+use Rattle.ipdl_base.specs.declared.token.TokenKind.TheVariants.{Word, Quoted, Mark}
 use Rattle.ipdl_syntax.specs.declared.tree.Attribute.{Attribute}
 use Rattle.ipdl_syntax.specs.declared.tree.Base.{Base, Named, Unique'}
 use Rattle.ipdl_syntax.specs.declared.tree.Include.{Include}

@@ -1,8 +1,8 @@
 -- Parts of a text: what stands from one point in a list of tokens to another.
 use Rattle.std.specs.Prelude.{◌≡◌, ℕ, ◌⊎◌, List, ◌∷◌}
 use Rattle.ipdl_base.specs.declared.finding.Place.{Place}
-use Rattle.ipdl_lex.specs.declared.token.Token.{Token}
-use Rattle.ipdl_lex.specs.declared.token.TokenKind.TheVariants.{Word, Reserved, Quoted, Mark}
+use Rattle.ipdl_base.specs.declared.token.Token.{Token}
+use Rattle.ipdl_base.specs.declared.token.TokenKind.TheVariants.{Word, Reserved, Quoted, Mark}
 
 -- A part relates the tokens from its begin on to those that are left behind its end.
 abbrev pub Part : Type 1

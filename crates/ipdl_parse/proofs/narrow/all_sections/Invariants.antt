@@ -1,6 +1,6 @@
 use Rattle.std.proofs.Common.{◌≡◌, List, ◌++◌, length}
 use Rattle.std.specs.List.{AllByRecursion, flat_map}
-use Rattle.ipdl_lex.specs.declared.token.Token.{Token}
+use Rattle.ipdl_base.specs.declared.token.Token.{Token}
 use Rattle.ipdl_syntax.specs.Grammar.{Section, sections}
 use Rattle.ipdl_parse.specs.Narrow.{IsNarrowMessage}
 use Rattle.ipdl_parse.proofs.narrow.all_sections.Given as goal

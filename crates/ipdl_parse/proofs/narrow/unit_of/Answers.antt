@@ -1,5 +1,5 @@
 use Rattle.std.proofs.Common.{◌≡◌, ◌∙◌, [], rules, List, subst}
-use Rattle.ipdl_lex.specs.declared.token.Token.{Token}
+use Rattle.ipdl_base.specs.declared.token.Token.{Token}
 use Rattle.ipdl_syntax.specs.Grammar.{protocol}
 use Rattle.ipdl_parse.proofs.Forms.{file_read}
 use Rattle.ipdl_parse.proofs.narrow.unit_of.Goals as goal
