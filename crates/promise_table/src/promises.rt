@@ -42,7 +42,7 @@ impl Model for Promises {
 }
 
 impl Promises {
-    /// No promises. They take the memory that they need from `alloc`.
+    /// No promises. They take the memory that they need from `alloc`; the only error is want of it.
     pub fn new(alloc: Global) -> Result<Promises, AllocError>
         ensures { IfOk result (λ promises. promises ≡ []) }
     {
@@ -51,7 +51,8 @@ impl Promises {
         })
     }
 
-    /// Makes a pending promise of a number that no promise has. It goes last.
+    /// Makes a pending promise of a number that no promise has. It goes last. Want of memory
+    /// changes nothing.
     pub fn make(&mut self, seq: i32, actor: i32) -> Result<(), AllocError>
         requires { IsUnmade self.old seq }
         ensures ok { OnOk result (self.new ≡ self.old ++ made seq actor ∷ []) }
