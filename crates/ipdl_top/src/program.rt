@@ -18,7 +18,7 @@ use crate::write::write_all;
 const MOST_BYTES: usize = 1_048_576;
 
 /// The text that says how the program is called.
-const USAGE: &str = "usage: ipdl [-s LIST] [--path DIRS] FILES\n       ipdl run [-s LIST] [--path DIRS] [--schedule WORD] [--limit N] SCRIPT FILE\n       ipdl frames [-s LIST] [--path DIRS] FILE FRAMES\n";
+const USAGE: &[u8] = b"usage: ipdl [-s LIST] [--path DIRS] FILES\n       ipdl run [-s LIST] [--path DIRS] [--schedule WORD] [--limit N] SCRIPT FILE\n       ipdl frames [-s LIST] [--path DIRS] FILE FRAMES\n";
 
 /// The table of a file's bytes, or nothing where they are not read so far.
 fn table_of(
@@ -69,6 +69,16 @@ fn say_not_built<E: Sink>(alloc: Global, name: &str, err: &mut E) -> Status
         Ok(line) => finish(err, line.as_slice(), Status::Broken),
         Err(_) => Status::NoMemory,
     }
+}
+
+/// Says on `err` how the program is called.
+fn say_usage<E: Sink>(err: &mut E) -> Status
+    ensures status { (result ≡ Status.Usage) ⊎ (result ≡ Status.WriteFault) }
+    ensures whole { result ≡ Status.Usage → Appends (E.written err.old) (E.written err.new) usage_text }
+    ensures front { result ≡ Status.WriteFault → AppendsFront (E.written err.old) (E.written err.new) usage_text }
+    ensures failed { result ≡ Status.WriteFault → Rose (E.faults err.old) (E.faults err.new) }
+{
+    finish(err, USAGE, Status::Usage)
 }
 
 /// Writes the table of a file's bytes to `out`, or says on `err` that they are not read so far.
@@ -148,6 +158,6 @@ pub fn ipdl<F: Files, O: Sink, E: Sink>(
 {
     match read_words(words) {
         Some(name) => compile(alloc, name, files, out, err),
-        None => finish(err, USAGE.as_bytes(), Status::Usage),
+        None => say_usage(err),
     }
 }

@@ -1,0 +1,5 @@
+pub mod Arrived
+pub mod Compression
+pub mod Holding
+mod CompressionExamples
+mod HoldingExamples

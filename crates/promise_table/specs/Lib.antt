@@ -1,0 +1,2 @@
+pub mod Promises
+mod PromisesExamples
