@@ -1,2 +1,3 @@
+pub mod Laws
 pub mod SchemaOf
 pub mod TableText

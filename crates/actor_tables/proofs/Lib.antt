@@ -1,0 +1,4 @@
+pub mod Listed
+pub mod One
+pub mod Pieces
+pub mod Whole
