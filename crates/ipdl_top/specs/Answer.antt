@@ -1,6 +1,7 @@
 -- What the program answers.
 use Rattle.std.specs.Prelude.{◌≡◌, ℕ, ◌≤◌, List, [], ◌∷◌, ◌++◌, length, take, codes, Option, Some, None}
 use Rattle.ipdl_base.specs.Outside.{FileMap}
+use Rattle.ipdl_base.specs.declared.token.Token.{Token}
 use Rattle.ipdl_lex.specs.declared.token.Lexed.{Lexed}
 use Rattle.ipdl_lex.specs.Tokens.{IsTokens}
 use Rattle.ipdl_syntax.specs.declared.tree.FileKind.TheVariants as file
@@ -14,16 +15,20 @@ use Rattle.ipdl_top.specs.declared.status.Status.{Status}
 use Rattle.ipdl_top.specs.declared.status.Status.TheVariants.{Done, Broken, Usage, ReadFault, WriteFault, Spent, NoMemory, BadScript, BadFrames}
 use Rattle.ipdl_top.specs.Command.{IsCommand, IsNoCommand, IsKeyOf, usage_text}
 
--- The text is the table text of the schema of the program whose tree is the grammar's for these bytes, which are a narrow file of this key.
-pub record IsTable (key bytes out : List ℕ) : Type 0 where
-  pub lexed : Lexed
-  pub tokens : IsTokens 0 bytes lexed
+-- The text is the table text of the schema of the program whose tree is the grammar's for these tokens, which are a narrow file of this key.
+pub record IsTableOfTokens (key : List ℕ) (tokens : List Token) (out : List ℕ) : Type 0 where
   pub unit : FileUnit
-  pub tree : Tree file.Protocol lexed.tokens unit
-  pub narrow : IsNarrow key lexed.tokens unit
+  pub tree : Tree file.Protocol tokens unit
+  pub narrow : IsNarrow key tokens unit
   pub schema : Schema
   pub schema_of : IsSchemaOf unit schema
   pub text : out ≡ table_text schema
+
+-- the text is the table of the tokens of these bytes
+pub record IsTable (key bytes out : List ℕ) : Type 0 where
+  pub lexed : Lexed
+  pub tokens : IsTokens 0 bytes lexed
+  pub table : IsTableOfTokens key lexed.tokens out
 
 -- the text is the table of what a file of this name has
 pub record IsTableOf (name : List ℕ) (found : Option (List ℕ)) (text : List ℕ) : Type 0 where

@@ -1,6 +1,6 @@
 ghost use Rattle.std.specs.Prelude.{◌≡◌, ◌≢◌, ◌⊎◌, ℕ, ◌≤◌, ◌++◌, IfOk, IfSome, Some, List, [], length, map, string_bytes, codes};
 ghost use Rattle.ipdl_base.specs.Outside.{Appends, Rose};
-ghost use Rattle.ipdl_top.specs.Answer.{not_built};
+ghost use Rattle.ipdl_top.specs.Answer.{IsTableOfTokens, not_built};
 ghost use Rattle.ipdl_top.specs.Command.{IsNoCommand, usage_text};
 ghost use Rattle.ipdl_top.specs.Outcome.{IsOutcome, IsCompiled};
 ghost use Rattle.ipdl_top.specs.Table.{IsTableOfBytes};
@@ -8,10 +8,13 @@ ghost use Rattle.ipdl_top.specs.Written.{AppendsFront};
 
 use std::alloc::{AllocError, Global};
 
-use ipdl_base::{Files, ReadAnswer, Sink};
+use actor_tables::{narrow_schema, table_text};
+use ipdl_base::{Files, ReadAnswer, Sink, Token};
+use ipdl_lex::{LexFault, lex};
+use ipdl_parse::read_narrow;
 
 use crate::status::Status;
-use crate::words::read_words;
+use crate::words::{key_of, read_words};
 use crate::write::write_all;
 
 /// The most bytes of a file that is read.
@@ -19,6 +22,23 @@ const MOST_BYTES: usize = 1_048_576;
 
 /// The text that says how the program is called.
 const USAGE: &[u8] = b"usage: ipdl [-s LIST] [--path DIRS] FILES\n       ipdl run [-s LIST] [--path DIRS] [--schedule WORD] [--limit N] SCRIPT FILE\n       ipdl frames [-s LIST] [--path DIRS] FILE FRAMES\n";
+
+/// The table of a file's tokens, or nothing where they are not read so far.
+fn table_of_tokens(
+    alloc: Global,
+    tokens: &[Token],
+    key: &[u8],
+) -> Result<Option<Vec<u8>>, AllocError>
+    ensures { IfOk result (λ found. IfSome found (λ text. IsTableOfTokens key.now tokens.now text.items)) }
+{
+    match read_narrow(alloc, tokens, key)? {
+        None => Ok(None),
+        Some(unit) => {
+            let schema = narrow_schema(alloc, &unit)?;
+            Ok(Some(table_text(alloc, &schema)?))
+        }
+    }
+}
 
 /// The table of a file's bytes, or nothing where they are not read so far.
 fn table_of(
@@ -29,7 +49,12 @@ fn table_of(
     requires { length bytes.now ≤ 1048576 }
     ensures { IfOk result (λ found. IfSome found (λ text. IsTableOfBytes name.now bytes.now text.items)) }
 {
-    Err(AllocError)
+    let lexed = match lex(alloc, bytes, 0) {
+        Ok(lexed) => lexed,
+        Err(LexFault::NoMemory) => return Err(AllocError),
+        Err(_) => return Ok(None),
+    };
+    table_of_tokens(alloc, lexed.tokens.as_slice(), key_of(name))
 }
 
 /// The line of a file that is not read so far.
