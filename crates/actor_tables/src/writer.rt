@@ -9,7 +9,7 @@ use crate::words::{
 use ipdl_base::{MessageRow, ParamRow, ParamRows, ProtocolRow, Schema, Shape, TypeRow};
 use std::alloc::{AllocError, Global};
 
-/// Appends a type with a word before it and one behind it.
+/// Appends a name with a text before it and one behind it.
 fn push_around(
     out: &mut Vec<u8>,
     before: &[u8],
