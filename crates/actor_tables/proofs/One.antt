@@ -22,8 +22,7 @@ use Rattle.ipdl_syntax.specs.declared.tree.Base as tree
 use Rattle.ipdl_syntax.specs.declared.tree.Param.{Param}
 use Rattle.ipdl_syntax.specs.declared.tree.MessageDecl.{MessageDecl}
 use Rattle.ipdl_syntax.specs.declared.tree.ProtocolDecl.{ProtocolDecl}
-use Rattle.ipdl_syntax.specs.declared.tree.Unit.{Unit as FileUnit}
-use Rattle.actor_tables.specs.SchemaOf.{IsShapeOfBase, IsShapeOf, IsParamRow, AreParamRows, IsMessageRow, AreMessageRows, IsProtocolRow, AreProtocolRows, IsSchemaOf}
+use Rattle.actor_tables.specs.SchemaOf.{IsShapeOfBase, IsParamRow, AreParamRows, IsMessageRow, AreMessageRows, IsProtocolRow, AreProtocolRows}
 use Rattle.actor_tables.specs.Laws.{OneSchema}
 
 builtins : List BuiltinType
@@ -119,8 +118,8 @@ same_message a b e1 e2 e3 e4 e5 e6 e7 e8 e9 e10 e11 =
 one_message : (p i : ℕ) (m : MessageDecl) (a b : MessageRow) → IsMessageRow p i m a → IsMessageRow p i m b → a ≡ b
 one_message p i m a b x y =
     same_message a b (x.number ∙ sym y.number) (x.name ∙ sym y.name) (x.direction ∙ sym y.direction) (x.semantics ∙ sym y.semantics) (x.level ∙ sym y.level)
-        (x.compress ∙ sym y.compress) (x.kind ∙ sym y.kind) (one_params m.params a.params b.params x.params y.params) (x.returns ∙ sym y.returns)
-        (x.carried ∙ sym y.carried) (x.lazy ∙ sym y.lazy)
+    (x.compress ∙ sym y.compress) (x.kind ∙ sym y.kind) (one_params m.params a.params b.params x.params y.params) (x.returns ∙ sym y.returns)
+    (x.carried ∙ sym y.carried) (x.lazy ∙ sym y.lazy)
 
 one_messages : (p i : ℕ) (ms : List MessageDecl) (us vs : List MessageRow) → AreMessageRows p i ms us → AreMessageRows p i ms vs → us ≡ vs
 one_messages p i [] [] [] x y = refl
@@ -141,7 +140,7 @@ same_protocol a b e1 e2 e3 e4 e5 e6 =
 one_protocol : (p : ℕ) (protocol : ProtocolDecl) (a b : ProtocolRow) → IsProtocolRow p protocol a → IsProtocolRow p protocol b → a ≡ b
 one_protocol p protocol a b x y =
     same_protocol a b (x.name ∙ sym y.name) (x.semantics ∙ sym y.semantics) (x.level ∙ sym y.level) (x.managers ∙ sym y.managers) (x.manages ∙ sym y.manages)
-        (one_messages p 0 protocol.messages a.messages b.messages x.messages y.messages)
+    (one_messages p 0 protocol.messages a.messages b.messages x.messages y.messages)
 
 one_list : (protocol : ProtocolDecl) (us vs : List ProtocolRow) → AreProtocolRows protocol us → AreProtocolRows protocol vs → us ≡ vs
 one_list protocol [] vs x y = elim x [ ]

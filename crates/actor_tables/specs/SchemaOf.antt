@@ -1,5 +1,5 @@
 -- The schema of a program, so far of one file with one protocol whose types are builtins.
-use Rattle.std.specs.Prelude.{◌≡◌, ℕ, ◌+◌, ◌*◌, suc, true, false, List, [], ◌∷◌, Option, Some, None, IsSomeAnd}
+use Rattle.std.specs.Prelude.{◌≡◌, ℕ, ◌+◌, ◌*◌, suc, true, false, List, [], ◌∷◌, None, IsSomeAnd}
 use Rattle.ipdl_base.specs.declared.kinds.Level.TheVariants as level
 use Rattle.ipdl_base.specs.declared.kinds.Compress.TheVariants as compress
 use Rattle.ipdl_base.specs.declared.schema.Kind.TheVariants as kind
@@ -7,7 +7,7 @@ use Rattle.ipdl_base.specs.declared.schema.Schema.{Schema}
 use Rattle.ipdl_base.specs.declared.schema.ProtocolRow.{ProtocolRow}
 use Rattle.ipdl_base.specs.declared.schema.MessageRow.{MessageRow}
 use Rattle.ipdl_base.specs.declared.schema.ParamRow.{ParamRow}
-use Rattle.ipdl_base.specs.declared.schema.Shape.{Shape, Builtin, Using, Actor, Named, Array', Maybe', Unique', Endpoint}
+use Rattle.ipdl_base.specs.declared.schema.Shape.{Shape, Builtin}
 use Rattle.ipdl_base.specs.Builtins.{builtin_name}
 use Rattle.ipdl_syntax.specs.declared.tree.Base.{Base}
 use Rattle.ipdl_syntax.specs.declared.tree.Base as tree

@@ -48,11 +48,7 @@ fn param_rows(alloc: Global, params: &[Param]) -> Result<Vec<ParamRow>, AllocErr
 }
 
 /// The row of the message at this index of the first protocol.
-fn message_row(
-    alloc: Global,
-    index: usize,
-    message: &MessageDecl,
-) -> Result<MessageRow, AllocError>
+fn message_row(alloc: Global, index: usize, message: &MessageDecl) -> Result<MessageRow, AllocError>
     requires few { index < 32768 }
     requires plain { AllByRecursion IsPlainParam message.now.params }
     ensures { IfOk result (IsMessageRow 0 index message.now) }

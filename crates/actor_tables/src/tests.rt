@@ -134,10 +134,7 @@ fn pair(alloc: Global) -> Result<TypeRow, AllocError> {
         param(alloc, Shape::Builtin(Builtin::Int32), b"first")?,
         param(alloc, Shape::Actor(0, false), b"owner")?,
     ]?;
-    Ok(TypeRow::Struct(
-        name(alloc, b"mozilla::MyPair")?,
-        Items::from_vec(fields),
-    ))
+    Ok(TypeRow::Struct(name(alloc, b"mozilla::MyPair")?, Items::from_vec(fields)))
 }
 
 fn union(alloc: Global) -> Result<TypeRow, AllocError> {
@@ -191,19 +188,18 @@ fn tokens(alloc: Global, texts: &[&[u8]]) -> Result<Vec<Token>, AllocError> {
         tokens.push(Token {
             kind: kind_of(text),
             text: name(alloc, text)?,
-            place: Place { file: 0, line: 1, column: 1 },
+            place: Place {
+                file: 0,
+                line: 1,
+                column: 1,
+            },
         })?;
     }
     Ok(tokens)
 }
 
 /// The tables of a narrow file, by its key and its tokens.
-fn table_of(
-    rt: &impl Abort,
-    alloc: Global,
-    key: &[u8],
-    texts: &[&[u8]],
-) -> Result<Vec<u8>, Fail> {
+fn table_of(rt: &impl Abort, alloc: Global, key: &[u8], texts: &[&[u8]]) -> Result<Vec<u8>, Fail> {
     let tokens = tokens(alloc, texts)?;
     let Some(unit) = read_narrow(alloc, tokens.as_slice(), key)? else {
         panic!(rt; "the file is not narrow");
@@ -216,9 +212,30 @@ fn table_of(
 fn hello_table(rt: HostRuntime) -> Result<(), Fail> {
     one_schema();
     let texts: [&[u8]; 24] = [
-        b"protocol", b"PHello", b"{", b"parent", b":", b"async", b"Hello", b"(", b"int32_t", b"n",
-        b",", b"nsString", b"s", b")", b";", b"child", b":", b"async", b"World", b"(", b")", b";",
-        b"}", b";",
+        b"protocol",
+        b"PHello",
+        b"{",
+        b"parent",
+        b":",
+        b"async",
+        b"Hello",
+        b"(",
+        b"int32_t",
+        b"n",
+        b",",
+        b"nsString",
+        b"s",
+        b")",
+        b";",
+        b"child",
+        b":",
+        b"async",
+        b"World",
+        b"(",
+        b")",
+        b";",
+        b"}",
+        b";",
     ];
     let written = table_of(&rt, rt.alloc(), b"PHello.ipdl", &texts)?;
     let wanted = b"protocol 0 PHello async not

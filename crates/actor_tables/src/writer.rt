@@ -9,8 +9,13 @@ use crate::words::{
 use ipdl_base::{MessageRow, ParamRow, ParamRows, ProtocolRow, Schema, Shape, TypeRow};
 use std::alloc::{AllocError, Global};
 
-/// Appends a type with a word before it and one behind it.
-fn push_around(out: &mut Vec<u8>, before: &[u8], name: &[u8], behind: &[u8]) -> Result<(), AllocError>
+/// Appends a name with a text before it and one behind it.
+fn push_around(
+    out: &mut Vec<u8>,
+    before: &[u8],
+    name: &[u8],
+    behind: &[u8],
+) -> Result<(), AllocError>
     ensures { OnOk result (out.new.items ≡ out.old.items ++ (before.now ++ name.now ++ behind.now)) }
 {
     out.extend_from_slice(before)?;
@@ -146,7 +151,7 @@ fn push_message_head(
         codes "message " ++ decimal message.now.number ++ codes " " ++ text.direction_text message.now.direction ++ codes " " ++ text.semantics_text message.now.semantics
         ++ codes " " ++ text.level_text message.now.level ++ codes " " ++ text.compress_text message.now.compress ++ codes " "
         ++ text.kind_text message.now.kind message.now.lazy ++ codes " "
-    )) }
+        )) }
 {
     out.extend_from_slice(b"message ")?;
     push_number(out, alloc, message.number as u64)?;
@@ -218,7 +223,7 @@ fn push_protocol_line(
     ensures { OnOk result (out.new.items ≡ out.old.items ++ (
         codes "protocol " ++ decimal number ++ codes " " ++ protocol.now.name ++ codes " " ++ text.semantics_text protocol.now.semantics ++ codes " "
         ++ text.level_text protocol.now.level ++ codes "\n"
-    )) }
+        )) }
 {
     out.extend_from_slice(b"protocol ")?;
     push_number(out, alloc, number as u64)?;
@@ -260,11 +265,7 @@ fn push_protocols(
 }
 
 /// Appends types, each with a comma before it.
-fn push_more_shapes(
-    out: &mut Vec<u8>,
-    schema: &Schema,
-    shapes: &[Shape],
-) -> Result<(), AllocError>
+fn push_more_shapes(out: &mut Vec<u8>, schema: &Schema, shapes: &[Shape]) -> Result<(), AllocError>
     ensures { OnOk result (out.new.items ≡ out.old.items ++ flat_map (λ s. codes ", " ++ text.shape_text schema.now s) shapes.now) }
 {
     for shape in shapes {
