@@ -28,3 +28,6 @@ pub use schema::{
 pub use sink::{Sink, WriteAnswer};
 pub use token::{Token, TokenKind, Tokens};
 pub use value::{Value, Values};
+
+#[cfg(test)]
+mod tests;
