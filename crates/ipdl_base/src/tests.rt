@@ -44,7 +44,7 @@ fn writes(rt: HostRuntime) -> Result<(), Fail> {
     for (piece, want) in rows {
         assert_eq!(rt; sink.write(piece.as_bytes()), want);
     }
-    assert_eq!(rt; sink.written(), b"abcdefghijkl");
+    assert_eq!(rt; sink.written(), b"abcdefghijkl".as_slice());
     Ok(())
 }
 
@@ -107,8 +107,8 @@ fn names(rt: HostRuntime) -> Result<(), Fail> {
     let name: Name = Items::from_vec(Vec::from_slice(alloc, b"word")?);
     let copy = name.copy(alloc)?;
     assert_eq!(rt; copy, name);
-    assert_eq!(rt; name.as_slice(), b"word");
+    assert_eq!(rt; name.as_slice(), b"word".as_slice());
     assert_eq!(rt; (name.len(), name.is_empty()), (4, false));
-    assert_eq!(rt; copy.into_vec().as_slice(), b"word");
+    assert_eq!(rt; copy.into_vec().as_slice(), b"word".as_slice());
     Ok(())
 }
