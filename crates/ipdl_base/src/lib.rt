@@ -1,6 +1,7 @@
 #![tactic(auto)]
 
 mod builtin;
+mod deferral;
 mod files;
 mod finding;
 mod items;
@@ -13,6 +14,7 @@ mod token;
 mod value;
 
 pub use builtin::Builtin;
+pub use deferral::defers_request;
 pub use files::{Files, ReadAnswer};
 pub use finding::{Finding, Findings, Place, Rule};
 pub use items::{Items, Name, Numbers, Texts};
@@ -26,3 +28,6 @@ pub use schema::{
 pub use sink::{Sink, WriteAnswer};
 pub use token::{Token, TokenKind, Tokens};
 pub use value::{Value, Values};
+
+#[cfg(test)]
+mod tests;

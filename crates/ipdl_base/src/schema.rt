@@ -99,7 +99,7 @@ pub type TypeRows = Items<TypeRow>;
 pub type Shapes = Items<Shape>;
 
 impl Schema {
-    ghost use Rattle.ipdl_base.specs.Sound.{IsSound};
+    ghost use Rattle.ipdl_base.specs.Sound.{IsSound, message_of};
 
     /// The protocol with this number, or nothing where the number is not below the count.
     pub fn protocol(&self, number: u32) -> Option<&ProtocolRow>
@@ -107,6 +107,23 @@ impl Schema {
         ensures { option_map (λ row. row.now) result ≡ slice_get self.now.protocols number }
     {
         self.protocols.as_slice().get(number as usize)
+    }
+
+    /// The message whose request or reply has this number, or nothing where there is none.
+    pub fn message(&self, number: u32) -> Option<&MessageRow>
+        requires { IsSound self.now }
+        ensures { option_map (λ row. row.now) result ≡ message_of self.now number }
+    {
+        let protocol = self.protocol(number / 65536)?;
+        let message = protocol
+            .messages
+            .as_slice()
+            .get((number % 65536 / 2) as usize)?;
+        if number % 2 == 0 || message.has_reply() {
+            Some(message)
+        } else {
+            None
+        }
     }
 }
 

@@ -2,7 +2,6 @@
 
 mod frame;
 mod innermost;
-mod level;
 mod refusals;
 mod stack;
 #[cfg(test)]

@@ -1,11 +1,9 @@
 //! Why a stack refuses a sync send. The slices have the outermost frame first.
-ghost use Rattle.std.specs.Prelude.{◌≡◌, ◌==◌, nat_lt, ◌&&◌, reverse, length};
-ghost use Rattle.ipdl_base.specs.Deferral.{rank};
+ghost use Rattle.std.specs.Prelude.{◌≡◌, ◌==◌, ◌&&◌, reverse, length};
 ghost use Rattle.nesting_core.specs.Refusals.{has_level, is_below, is_nested_in_normal, is_inside_cpow, is_level_too_low};
 
 use crate::frame::{Frame, Head, SendHead};
 use crate::innermost::{innermost_dispatch, innermost_sync_dispatch, innermost_wait};
-use crate::level::rank;
 use ipdl_base::Level;
 
 /// Whether there is a message, and it is of this level.
@@ -23,7 +21,7 @@ fn is_below(level: Level, found: Option<Head>) -> bool
     ensures { result ≡ is_below level found }
 {
     match found {
-        Some(head) => rank(level) < rank(head.level),
+        Some(head) => level.rank() < head.level.rank(),
         None => false,
     }
 }

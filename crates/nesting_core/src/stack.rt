@@ -11,9 +11,8 @@ ghost use Rattle.nesting_core.specs.declared.frame.Frame.TheVariants.{Dispatch, 
 
 use crate::frame::{Answer, Frame, Head, Popped, SendHead, StackTop};
 use crate::innermost::{has_wait, innermost_inside_sync, innermost_unanswered};
-use crate::level::defers_request;
 use crate::refusals::{is_inside_cpow, is_level_too_low, is_nested_in_normal};
-use ipdl_base::{Level, Reason, SendRefusal, Side};
+use ipdl_base::{Level, Reason, SendRefusal, Side, defers_request};
 use std::marker::Model;
 use std::{array, mem};
 
@@ -111,7 +110,15 @@ impl Stack {
     {
         match self.top() {
             StackTop::Unanswered(wait) => {
-                defers_request(side, wait.level, self.inner_transaction(), head)
+                let inner = self.inner_transaction();
+                defers_request(
+                    side,
+                    wait.level,
+                    inner,
+                    head.sync,
+                    head.level,
+                    head.transaction,
+                )
             }
             _ => false,
         }
