@@ -1,12 +1,12 @@
 -- What `find` gives over a list and over joined lists, and where a sound schema has a number.
-use Rattle.std.proofs.Common.{◌≡◌, ◌≢◌, ℕ, zero, suc, inl, inr, ◌+◌, ◌*◌, ◌/◌, ◌%◌, ◌<◌, ◌≤◌, Bool, true, false, ◌&&◌, ◌||◌, ◌==◌, Option, Some, None, List, [], ◌∷◌, ◌++◌, length, get_or, refl, sym, ◌∙◌, ap, arith}
+use Rattle.std.proofs.Common.{◌≡◌, ◌≢◌, ℕ, zero, suc, inl, inr, ◌+◌, ◌*◌, ◌/◌, ◌%◌, ◌<◌, Bool, true, false, ◌&&◌, ◌||◌, ◌==◌, Option, Some, None, List, [], ◌∷◌, length, get_or, refl, sym, ◌∙◌, ap, arith}
 use Rattle.std.specs.List.{find, flat_map, slice_get}
 use Rattle.std.specs.Option.{option_or}
 use Rattle.std.proofs.lemmas.List.Folds.{find-append}
 use Rattle.std.proofs.lemmas.Option.{slice_get_within, slice_get_read}
-use Rattle.std.proofs.lemmas.Bool.{false_from_ne_true, cases_Bool, ne_eqb, eqb-false}
+use Rattle.std.proofs.lemmas.Bool.{false_from_ne_true, cases_Bool, ne_eqb}
 use Rattle.std.proofs.lemmas.Bool.Decides.{nat_tests}
-use Rattle.ipdl_base.specs.Sound.{IsSound, IsSoundProtocol, IsSoundMessage, has_number, has_reply, message_of}
+use Rattle.ipdl_base.specs.Sound.{IsSound, IsSoundProtocol, has_number, has_reply, message_of}
 use Rattle.ipdl_base.specs.declared.schema.Schema.{Schema}
 use Rattle.ipdl_base.specs.declared.schema.ProtocolRow.{ProtocolRow}
 use Rattle.ipdl_base.specs.declared.schema.MessageRow.{MessageRow}
@@ -83,13 +83,13 @@ module _ (s : Schema) (n : ℕ) (sound : IsSound s) where
   other_protocols p row at other =
       let rows : IsSoundProtocol s p row = sound.protocols p row at in
       find_none (has_number n) row.messages (λ i m e.
-        let low : i < length row.messages = slice_get_within row.messages i m e in
-        other_protocol m.number n p i (has_reply m) (rows.messages i m e).number (omega (arith, rows.few)) other)
+      let low : i < length row.messages = slice_get_within row.messages i m e in
+      other_protocol m.number n p i (has_reply m) (rows.messages i m e).number (omega (arith, rows.few)) other)
 
   pub no_protocol : slice_get s.protocols (n / 65536) ≡ None → None ≡ message_of s n
   no_protocol e =
       sym (find_in_none (has_number n) (λ protocol. protocol.messages) s.protocols (λ p row at.
-        other_protocols p row at (λ q. let here : slice_get s.protocols p ≡ None = ap (slice_get s.protocols) q ∙ e in cc)))
+      other_protocols p row at (λ q. let here : slice_get s.protocols p ≡ None = ap (slice_get s.protocols) q ∙ e in cc)))
 
   module _ (row : ProtocolRow) (at : slice_get s.protocols (n / 65536) ≡ Some row) where
     rows : IsSoundProtocol s (n / 65536) row
@@ -106,7 +106,7 @@ module _ (s : Schema) (n : ℕ) (sound : IsSound s) where
     pub no_message : slice_get row.messages (n % 65536 / 2) ≡ None → None ≡ message_of s n
     no_message e =
         sym (in_row ∙ find_none (has_number n) row.messages (λ i m here. false_from_ne_true (has_number n m) (λ passes.
-          let none : slice_get row.messages i ≡ None = ap (slice_get row.messages) (index i m here passes) ∙ e in cc)))
+        let none : slice_get row.messages i ≡ None = ap (slice_get row.messages) (index i m here passes) ∙ e in cc)))
 
     module _ (m : MessageRow) (e : slice_get row.messages (n % 65536 / 2) ≡ Some m) where
       number : m.number ≡ n / 65536 * 65536 + 2 * (n % 65536 / 2)
@@ -124,8 +124,8 @@ module _ (s : Schema) (n : ℕ) (sound : IsSound s) where
       pub no_reply : n % 2 ≢ 0 → has_reply m ≡ false → None ≡ message_of s n
       no_reply odd none =
           sym (in_row ∙ find_none (has_number n) row.messages (λ i x here. false_from_ne_true (has_number n x) (λ passes.
-            let same : Some m ≡ Some x = sym e ∙ (ap (slice_get row.messages) (sym (index i x here passes)) ∙ here) in
-            let alike : m ≡ x = cc in
-            let fails : has_number n m ≡ false = reply_fails m.number n (has_reply m) (λ q. odd (omega (arith, number))) none in
-            let passed : has_number n m ≡ true = ap (has_number n) alike ∙ passes in
-            cc)))
+          let same : Some m ≡ Some x = sym e ∙ (ap (slice_get row.messages) (sym (index i x here passes)) ∙ here) in
+          let alike : m ≡ x = cc in
+          let fails : has_number n m ≡ false = reply_fails m.number n (has_reply m) (λ q. odd (omega (arith, number))) none in
+          let passed : has_number n m ≡ true = ap (has_number n) alike ∙ passes in
+          cc)))

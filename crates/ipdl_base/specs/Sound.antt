@@ -1,4 +1,4 @@
-use Rattle.std.specs.Prelude.{◌≡◌, ◌≢◌, ℕ, ◌+◌, ◌*◌, ◌<◌, ◌≤◌, ◌↔◌, ◌⊎◌, Bool, true, false, ◌&&◌, ◌||◌, ◌==◌, IsTrue, not, is_some, List, length, slice_get, codes, Option, Some, None, IfSome, IsSomeAnd}
+use Rattle.std.specs.Prelude.{◌≡◌, ◌≢◌, ℕ, ◌+◌, ◌*◌, ◌<◌, ◌≤◌, ◌↔◌, ◌⊎◌, Bool, true, false, ◌&&◌, ◌||◌, ◌==◌, IsTrue, is_some, List, length, slice_get, codes, Option, Some, None, IfSome, IsSomeAnd}
 use Rattle.std.specs.List.{All, Any, AllPairs, Contains, flat_map, find}
 use Rattle.ipdl_base.specs.declared.kinds.Level.TheVariants as level
 use Rattle.ipdl_base.specs.declared.kinds.Semantics.{Semantics}

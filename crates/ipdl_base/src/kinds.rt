@@ -29,7 +29,7 @@ pub enum Direction {
 }
 
 /// What a message that arrives does to those of its type and route that arrived before it: nothing,
-/// replace the last item, or remove the latest of them (docs/channel.md, "Arrived items").
+/// replace the last item, or remove the latest of them (docs/arrived.md).
 #[derive(Clone, Copy, Debug, PartialEq, Eq)]
 pub enum Compress {
     Plain,

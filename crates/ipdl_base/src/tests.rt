@@ -78,7 +78,10 @@ fn builtins(rt: HostRuntime) {
     for (name, builtin) in rows {
         assert_eq!(rt; Builtin::named(name.as_bytes()), Some(builtin));
         assert_eq!(rt; builtin.name(), name.as_bytes());
-        assert_eq!(rt; builtin.is_carried(), name != "Shmem" && name != "FileDescriptor");
+        assert_eq!(rt;
+            builtin.is_carried(),
+            name != "Shmem" && name != "FileDescriptor"
+        );
     }
     assert_eq!(rt; Builtin::named(b"string"), None);
 }
@@ -97,7 +100,10 @@ fn deferral(rt: HostRuntime) {
     ];
     for (side, sync, level, transaction, want) in rows {
         let awaited = Level::InsideSync;
-        assert_eq!(rt; defers_request(side, awaited, Some(7), sync, level, transaction), want);
+        assert_eq!(rt;
+            defers_request(side, awaited, Some(7), sync, level, transaction),
+            want
+        );
     }
 }
 
