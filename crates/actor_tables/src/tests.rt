@@ -1,9 +1,8 @@
 use super::{narrow_schema, one_schema, table_text};
 use ipdl_base::{
     Builtin, Compress, Direction, Items, Kind, Level, MessageRow, Name, ParamRow, ParamRows, Place,
-    ProtocolRow, Schema, Semantics, Shape, TypeRow,
+    ProtocolRow, Schema, Semantics, Shape, Token, TokenKind, TypeRow,
 };
-use ipdl_base::{Token, TokenKind};
 use ipdl_parse::read_narrow;
 use std::alloc::{AllocError, Global};
 use std::process::Abort;
