@@ -6,22 +6,21 @@ ghost use Rattle.ipdl_top.specs.Outcome.{IsOutcome, IsCompiled};
 ghost use Rattle.ipdl_top.specs.Table.{IsTableOfBytes};
 ghost use Rattle.ipdl_top.specs.Written.{AppendsFront};
 
-use std::alloc::{AllocError, Global};
-
+use crate::status::Status;
+use crate::words::{key_of, read_words};
+use crate::write::write_all;
 use actor_tables::{narrow_schema, table_text};
 use ipdl_base::{Files, ReadAnswer, Sink, Token};
 use ipdl_lex::{LexFault, lex};
 use ipdl_parse::read_narrow;
-
-use crate::status::Status;
-use crate::words::{key_of, read_words};
-use crate::write::write_all;
+use std::alloc::{AllocError, Global};
 
 /// The most bytes of a file that is read.
 const MOST_BYTES: usize = 1_048_576;
 
 /// The text that says how the program is called.
-const USAGE: &[u8] = b"usage: ipdl [-s LIST] [--path DIRS] FILES\n       ipdl run [-s LIST] [--path DIRS] [--schedule WORD] [--limit N] SCRIPT FILE\n       ipdl frames [-s LIST] [--path DIRS] FILE FRAMES\n";
+const USAGE: &[u8] =
+    b"usage: ipdl [-s LIST] [--path DIRS] FILES\n       ipdl run [-s LIST] [--path DIRS] [--schedule WORD] [--limit N] SCRIPT FILE\n       ipdl frames [-s LIST] [--path DIRS] FILE FRAMES\n";
 
 /// The table of a file's tokens, or nothing where they are not read so far.
 fn table_of_tokens(
@@ -41,11 +40,7 @@ fn table_of_tokens(
 }
 
 /// The table of a file's bytes, or nothing where they are not read so far.
-fn table_of(
-    alloc: Global,
-    name: &[u8],
-    bytes: &[u8],
-) -> Result<Option<Vec<u8>>, AllocError>
+fn table_of(alloc: Global, name: &[u8], bytes: &[u8]) -> Result<Option<Vec<u8>>, AllocError>
     requires { length bytes.now ≤ 1048576 }
     ensures { IfOk result (λ found. IfSome found (λ text. IsTableOfBytes name.now bytes.now text.items)) }
 {
