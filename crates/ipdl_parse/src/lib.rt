@@ -3,5 +3,7 @@
 mod names;
 mod narrow;
 mod reader;
+#[cfg(test)]
+mod tests;
 
 pub use narrow::read_narrow;

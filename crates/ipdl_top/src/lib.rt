@@ -2,6 +2,8 @@
 
 mod program;
 mod status;
+#[cfg(test)]
+mod tests;
 mod words;
 mod write;
 
