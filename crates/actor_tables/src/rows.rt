@@ -1,7 +1,7 @@
 ghost use Rattle.std.specs.Prelude.{◌≡◌, ℕ, ◌<◌, ◌≤◌, IfOk, List, length};
 ghost use Rattle.std.specs.List.{AllByRecursion};
 ghost use Rattle.ipdl_base.specs.declared.token.Token.{Token};
-ghost use Rattle.ipdl_parse.specs.Narrow.{IsCarriedName, IsPlainParam, IsNarrowProtocol, IsNarrow};
+ghost use Rattle.narrow_reader.specs.Narrow.{IsCarriedName, IsPlainParam, IsNarrowProtocol, IsNarrow};
 ghost use Rattle.actor_tables.specs.SchemaOf.{IsShapeOfBase, IsParamRow, AreParamRows, IsMessageRow, AreMessageRows, IsProtocolRow, IsSchemaOf};
 
 use ipdl_base::{

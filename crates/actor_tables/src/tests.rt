@@ -3,7 +3,7 @@ use ipdl_base::{
     Builtin, Compress, Direction, Items, Kind, Level, MessageRow, Name, ParamRow, ParamRows, Place,
     ProtocolRow, Schema, Semantics, Shape, Token, TokenKind, TypeRow,
 };
-use ipdl_parse::read_narrow;
+use narrow_reader::read_narrow;
 use std::alloc::{AllocError, Global};
 use std::process::Abort;
 use std::test::Fail;

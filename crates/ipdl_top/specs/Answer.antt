@@ -7,7 +7,7 @@ use Rattle.ipdl_lex.specs.Tokens.{IsTokens}
 use Rattle.ipdl_syntax.specs.declared.tree.FileKind.TheVariants as file
 use Rattle.ipdl_syntax.specs.declared.tree.Unit.{Unit as FileUnit}
 use Rattle.ipdl_syntax.specs.Program.{Tree}
-use Rattle.ipdl_parse.specs.Narrow.{IsNarrow}
+use Rattle.narrow_reader.specs.Narrow.{IsNarrow}
 use Rattle.ipdl_base.specs.declared.schema.Schema.{Schema}
 use Rattle.actor_tables.specs.SchemaOf.{IsSchemaOf}
 use Rattle.actor_tables.specs.TableText.{table_text}

@@ -12,7 +12,7 @@ use crate::write::write_all;
 use actor_tables::{narrow_schema, table_text};
 use ipdl_base::{Files, ReadAnswer, Sink, Token};
 use ipdl_lex::{LexFault, lex};
-use ipdl_parse::read_narrow;
+use narrow_reader::read_narrow;
 use std::alloc::{AllocError, Global};
 
 /// The most bytes of a file that is read.
