@@ -1,0 +1,13 @@
+pub mod Advance
+pub mod Built
+pub mod Completed
+pub mod FileBuilt
+pub mod FileOpened
+pub mod Files
+pub mod Meaning
+pub mod Opened
+pub mod Runs
+pub mod Symbols
+pub mod Whole
+pub mod Places
+pub mod Reading

@@ -1,0 +1,5 @@
+use Rattle.narrow_rules.proofs.Clean as law
+use Rattle.narrow_rules.proofs.laws.clean.Goals as goal
+
+pub returns : goal.returns
+returns c = law.clean

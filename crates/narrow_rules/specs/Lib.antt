@@ -1,0 +1,5 @@
+pub mod Adds
+pub mod Broken
+pub mod Heads
+pub mod Laws
+pub mod Narrow

@@ -1,0 +1,110 @@
+ghost use Rattle.std.specs.Prelude.{◌≡◌, ◌↔◌, IfOk, OnOk, IsTrue};
+ghost use Rattle.std.specs.declared.cmp.Ordering.TheVariants.{Less};
+ghost use Rattle.std.specs.List.{Any, AllPairs, Contains};
+ghost use Rattle.ipdl_base.specs.declared.finding.Finding.{Finding};
+ghost use Rattle.narrow_rules.specs.Adds.{Adds};
+ghost use Rattle.narrow_rules.specs.Broken.{unknown_type, repeated_name, IsUnknownBase, IsUnknownAt, IsUnknownIn, IsRepeatedIn, Broken, finding_cmp, IsReport};
+
+use crate::names::is_builtin;
+use ipdl_base::{Finding, Findings, Items, Rule};
+use ipdl_syntax::{Base, MessageDecl, Param, Unit};
+use std::alloc::{AllocError, Global};
+use std::collections::HashSet;
+
+/// B1 unknown type: a type whose name is none that the file knows.
+const UNKNOWN_TYPE: Rule = Rule {
+    letter: b'B',
+    number: 1,
+};
+
+/// B21 repeated name: a message with the name of one before it.
+const REPEATED_NAME: Rule = Rule {
+    letter: b'B',
+    number: 21,
+};
+
+fn is_unknown(base: &Base) -> bool
+    ensures { IsTrue result ↔ IsUnknownBase base.now }
+{
+    match base {
+        Base::Named(name, _) => !is_builtin(name.as_slice()),
+        Base::Unique(_) => false,
+    }
+}
+
+/// Adds a finding at each type of a parameter that is unknown.
+fn add_unknown_of(params: &[Param], found: &mut Vec<Finding>) -> Result<(), AllocError>
+    ensures { OnOk result (Adds unknown_type (λ place. Any (IsUnknownAt place) params.now) found.old.items found.new.items) }
+{
+    for param in params {
+        if is_unknown(&param.spec.base) {
+            found.push(Finding {
+                place: param.spec.place,
+                rule: UNKNOWN_TYPE,
+            })?;
+        }
+    }
+    Ok(())
+}
+
+/// Adds a finding at each type of a parameter of the messages that is unknown.
+fn add_unknown(messages: &[MessageDecl], found: &mut Vec<Finding>) -> Result<(), AllocError>
+    ensures { OnOk result (Adds unknown_type (IsUnknownIn messages.now) found.old.items found.new.items) }
+{
+    for message in messages {
+        add_unknown_of(message.params.as_slice(), found)?;
+    }
+    Ok(())
+}
+
+/// Adds a finding at the name of each message that has the name of an earlier one.
+fn add_repeated(
+    alloc: Global,
+    messages: &[MessageDecl],
+    found: &mut Vec<Finding>,
+) -> Result<(), AllocError>
+    ensures { OnOk result (Adds repeated_name (IsRepeatedIn messages.now) found.old.items found.new.items) }
+{
+    let mut seen = HashSet::new(alloc);
+    for message in messages {
+        if !seen.insert(message.name.as_slice())? {
+            found.push(Finding {
+                place: message.place,
+                rule: REPEATED_NAME,
+            })?;
+        }
+    }
+    Ok(())
+}
+
+/// All findings that hold of the tree, in some order.
+fn gathered(alloc: Global, unit: &Unit) -> Result<Vec<Finding>, AllocError>
+    ensures { IfOk result (λ found. (f : Finding) → Contains found.items f ↔ Broken unit.now f) }
+{
+    let mut found = Vec::new(alloc);
+    let Some(protocol) = &unit.protocol else {
+        return Ok(found);
+    };
+    add_unknown(protocol.messages.as_slice(), &mut found)?;
+    add_repeated(alloc, protocol.messages.as_slice(), &mut found)?;
+    Ok(found)
+}
+
+/// Puts findings in their order, each once.
+fn put_in_order(found: &mut Vec<Finding>)
+    ensures ordered { AllPairs (λ a b. finding_cmp a b ≡ Less) found.new.items }
+    ensures same { (f : Finding) → Contains found.new.items f ↔ Contains found.old.items f }
+{
+    found.sort_unstable();
+    found.dedup();
+}
+
+/// The report of the tree of a narrow file: the rules that it breaks, each once, in the order of
+/// their places (docs/narrow.md).
+pub fn narrow_findings(alloc: Global, unit: &Unit) -> Result<Findings, AllocError>
+    ensures { IfOk result (IsReport unit.now) }
+{
+    let mut found = gathered(alloc, unit)?;
+    put_in_order(&mut found);
+    Ok(Items::from_vec(found))
+}
