@@ -1,7 +1,6 @@
-ghost use Rattle.std.specs.Prelude.{◌≡◌, ℕ, ◌<◌, ◌≤◌, IfOk, List, length};
+ghost use Rattle.std.specs.Prelude.{◌≡◌, ◌<◌, ◌≤◌, IfOk, IsSomeAnd, length};
 ghost use Rattle.std.specs.List.{AllByRecursion};
-ghost use Rattle.ipdl_base.specs.declared.token.Token.{Token};
-ghost use Rattle.narrow_reader.specs.Narrow.{IsCarriedName, IsPlainParam, IsNarrowProtocol, IsNarrow};
+ghost use Rattle.narrow_rules.specs.Narrow.{IsCarriedName, IsPlainParam, IsClean};
 ghost use Rattle.actor_tables.specs.SchemaOf.{IsShapeOfBase, IsParamRow, AreParamRows, IsMessageRow, AreMessageRows, IsProtocolRow, IsSchemaOf};
 
 use ipdl_base::{
@@ -83,7 +82,8 @@ fn message_rows(alloc: Global, messages: &[MessageDecl]) -> Result<Vec<MessageRo
 
 /// The row of the first protocol.
 fn protocol_row(alloc: Global, protocol: &ProtocolDecl) -> Result<ProtocolRow, AllocError>
-    requires { (key : List ℕ) × IsNarrowProtocol key protocol.now }
+    requires few { length protocol.now.messages ≤ 32768 }
+    requires clean { IsClean protocol.now }
     ensures { IfOk result (IsProtocolRow 0 protocol.now) }
 {
     Ok(ProtocolRow {
@@ -96,10 +96,10 @@ fn protocol_row(alloc: Global, protocol: &ProtocolDecl) -> Result<ProtocolRow, A
     })
 }
 
-/// The schema of the program of one narrow file: its protocol has number 0, the messages are numbered
+/// The schema of the program of one narrow file in which no rule is broken: its protocol has number 0, the messages are numbered
 /// by twos from 0, and there are no structs and unions.
 pub fn narrow_schema(alloc: Global, unit: &Unit) -> Result<Schema, AllocError>
-    requires { (key : List ℕ) × (tokens : List Token) × IsNarrow key tokens unit.now }
+    requires { IsSomeAnd unit.now.protocol (λ p. (length p.messages ≤ 32768) × IsClean p) }
     ensures { IfOk result (IsSchemaOf unit.now) }
 {
     let Some(protocol) = &unit.protocol else {

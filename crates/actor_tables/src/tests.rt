@@ -1,11 +1,9 @@
-use super::{narrow_schema, one_schema, table_text};
+use super::table_text;
 use ipdl_base::{
-    Builtin, Compress, Direction, Items, Kind, Level, MessageRow, Name, ParamRow, ParamRows, Place,
-    ProtocolRow, Schema, Semantics, Shape, Token, TokenKind, TypeRow,
+    Builtin, Compress, Direction, Items, Kind, Level, MessageRow, Name, ParamRow, ParamRows,
+    ProtocolRow, Schema, Semantics, Shape, TypeRow,
 };
-use narrow_reader::read_narrow;
 use std::alloc::{AllocError, Global};
-use std::process::Abort;
 use std::test::Fail;
 
 fn name(alloc: Global, text: &[u8]) -> Result<Name, AllocError> {
@@ -168,78 +166,6 @@ message 65538 parent sync not plain normal Lookup(nsString aKey) returns (mozill
 message 65540 child async not plain normal Note(mozilla::MyPair aPair, nullable mozilla::PMyManaged aActor, mozilla::MyData aData)
 struct 0 mozilla::MyPair (int32_t first, mozilla::PMyManaged owner)
 union 1 mozilla::MyUnion (float, nsString[], mozilla::MyPair)
-";
-    assert_eq!(rt; written.as_slice(), wanted.as_slice());
-    Ok(())
-}
-
-fn kind_of(text: &[u8]) -> TokenKind {
-    match text {
-        b"protocol" | b"parent" | b"child" | b"async" => TokenKind::Reserved,
-        b"{" | b"}" | b"(" | b")" | b":" | b";" | b"," => TokenKind::Mark,
-        _ => TokenKind::Word,
-    }
-}
-
-fn tokens(alloc: Global, texts: &[&[u8]]) -> Result<Vec<Token>, AllocError> {
-    let mut tokens = Vec::new(alloc);
-    for text in texts {
-        tokens.push(Token {
-            kind: kind_of(text),
-            text: name(alloc, text)?,
-            place: Place {
-                file: 0,
-                line: 1,
-                column: 1,
-            },
-        })?;
-    }
-    Ok(tokens)
-}
-
-/// The tables of a narrow file, by its key and its tokens.
-fn table_of(rt: &impl Abort, alloc: Global, key: &[u8], texts: &[&[u8]]) -> Result<Vec<u8>, Fail> {
-    let tokens = tokens(alloc, texts)?;
-    let Some(unit) = read_narrow(alloc, tokens.as_slice(), key)? else {
-        panic!(rt; "the file is not narrow");
-    };
-    let schema = narrow_schema(alloc, &unit)?;
-    Ok(table_text(alloc, &schema)?)
-}
-
-#[test]
-fn hello_table(rt: HostRuntime) -> Result<(), Fail> {
-    one_schema();
-    let texts: [&[u8]; 24] = [
-        b"protocol",
-        b"PHello",
-        b"{",
-        b"parent",
-        b":",
-        b"async",
-        b"Hello",
-        b"(",
-        b"int32_t",
-        b"n",
-        b",",
-        b"nsString",
-        b"s",
-        b")",
-        b";",
-        b"child",
-        b":",
-        b"async",
-        b"World",
-        b"(",
-        b")",
-        b";",
-        b"}",
-        b";",
-    ];
-    let written = table_of(&rt, rt.alloc(), b"PHello.ipdl", &texts)?;
-    let wanted = b"protocol 0 PHello async not
-message 0 parent async not plain normal Hello(int32_t n, nsString s)
-message 2 child async not plain normal World()
 ";
     assert_eq!(rt; written.as_slice(), wanted.as_slice());
     Ok(())

@@ -3,8 +3,7 @@ ghost use Rattle.ipdl_parse.specs.Machine.{Form as MachineForm, proper, bare_ste
 ghost use Rattle.ipdl_parse.specs.Steps.{Expands, Steps, Moves, place};
 
 use crate::symbol::{Ending, Symbol, first_symbol, token_symbol};
-use ipdl_base::Direction;
-use ipdl_base::Token;
+use ipdl_base::{Direction, Token};
 use ipdl_syntax::FileKind;
 use std::alloc::{AllocError, Global};
 

@@ -3,8 +3,7 @@ ghost use Rattle.ipdl_parse.specs.Place.{HasTree};
 ghost use Rattle.ipdl_parse.specs.Faults.{IsFault, IsFaultAt};
 
 use crate::machine::refusal;
-use ipdl_base::Place;
-use ipdl_base::Token;
+use ipdl_base::{Place, Token};
 use ipdl_syntax::FileKind;
 use std::alloc::Global;
 

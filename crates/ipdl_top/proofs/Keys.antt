@@ -1,5 +1,5 @@
 -- A name is cut at a slash.
-use Rattle.std.proofs.Common.{◌≡◌, ◌⊎◌, ℕ, ◌+◌, ◌<◌, suc, zero, List, [], ◌∷◌, ◌++◌, length, take, drop, get_or, refl, sym, ◌∙◌, ap, inl, inr, arith, add-one, append_assoc}
+use Rattle.std.proofs.Common.{◌≡◌, ◌⊎◌, ℕ, ◌+◌, ◌<◌, suc, zero, List, [], ◌∷◌, ◌++◌, length, take, drop, get_or, sym, ◌∙◌, ap, inl, inr, arith, add-one, append_assoc}
 
 cut : (key : List ℕ) (i : ℕ) → i < length key → get_or key i 0 ≡ 47 → key ≡ take i key ++ 47 ∷ drop (suc i) key
 cut [] i lt is = absurd (let no : ⊥ = omega arith in no)

@@ -1,6 +1,7 @@
 pub mod Answer
+pub mod Checked
 pub mod Codes
 pub mod Command
 pub mod Outcome
-pub mod Table
+pub mod Report
 pub mod Written

@@ -1,9 +1,9 @@
 -- What a call of the program leaves.
-use Rattle.std.specs.Prelude.{◌≡◌, ◌⊎◌, ℕ, List, [], Option, Some}
+use Rattle.std.specs.Prelude.{◌⊎◌, ℕ, List, [], Option}
 use Rattle.ipdl_base.specs.Outside.{FileMap, Appends}
 use Rattle.ipdl_top.specs.declared.status.Status.{Status}
 use Rattle.ipdl_top.specs.declared.status.Status.TheVariants.{Done, Broken, Usage, ReadFault, WriteFault, Spent, NoMemory, BadScript, BadFrames}
-use Rattle.ipdl_top.specs.Answer.{IsAnswer, IsTableOf, not_built}
+use Rattle.ipdl_top.specs.Answer.{IsAnswer, IsTableOf, IsReportTextOf}
 use Rattle.ipdl_top.specs.Written.{AppendsFront}
 
 -- What is written so far to a sink, before a call and after it, where it is told.
@@ -58,13 +58,25 @@ pub record IsTableFront (name : List ℕ) (found : Option (List ℕ)) (out err :
   pub table : IsTableOf name found text
   pub written : WritesFronts out text err []
 
+-- the text of the report on what a file has was written to `err`
+pub record IsReported (name : List ℕ) (found : Option (List ℕ)) (out err : Writing) : Type 0 where
+  pub message : List ℕ
+  pub report : IsReportTextOf name found message
+  pub written : Writes out [] err message
+
+-- a front of that text was written
+pub record IsReportFront (name : List ℕ) (found : Option (List ℕ)) (out err : Writing) : Type 0 where
+  pub message : List ℕ
+  pub report : IsReportTextOf name found message
+  pub written : WritesFronts out [] err message
+
 -- the outcome of a compilation of a file of this name, by what it has
 abbrev pub IsCompiled : List ℕ → Option (List ℕ) → Status → Writing → Writing → Type 0
 IsCompiled name found Done out err = IsTold name found out err
-IsCompiled name found Broken out err = Writes out [] err (not_built name)
+IsCompiled name found Broken out err = IsReported name found out err
 IsCompiled name found Usage out err = ⊥
 IsCompiled name found ReadFault out err = Writes out [] err []
-IsCompiled name found WriteFault out err = IsTableFront name found out err ⊎ WritesFronts out [] err (not_built name)
+IsCompiled name found WriteFault out err = IsTableFront name found out err ⊎ IsReportFront name found out err
 IsCompiled name found Spent out err = ⊥
 IsCompiled name found NoMemory out err = Writes out [] err []
 IsCompiled name found BadScript out err = ⊥

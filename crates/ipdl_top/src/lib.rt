@@ -1,9 +1,9 @@
 #![tactic(auto)]
 
+mod check;
 mod program;
+mod report;
 mod status;
-#[cfg(test)]
-mod tests;
 mod words;
 mod write;
 

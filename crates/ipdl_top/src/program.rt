@@ -1,19 +1,17 @@
-ghost use Rattle.std.specs.Prelude.{◌≡◌, ◌≢◌, ◌⊎◌, ℕ, ◌≤◌, ◌++◌, IfOk, IfSome, Some, List, [], length, map, string_bytes, codes};
+ghost use Rattle.std.specs.Prelude.{◌≡◌, ◌≢◌, ◌⊎◌, ◌≤◌, IfSome, Some, length, map, string_bytes};
 ghost use Rattle.ipdl_base.specs.Outside.{Appends, Rose};
-ghost use Rattle.ipdl_top.specs.Answer.{IsTableOfTokens, not_built};
-ghost use Rattle.ipdl_top.specs.Command.{IsNoCommand, usage_text};
+ghost use Rattle.ipdl_top.specs.Command.{IsKeyOf, IsNoCommand, usage_text};
 ghost use Rattle.ipdl_top.specs.Outcome.{IsOutcome, IsCompiled};
-ghost use Rattle.ipdl_top.specs.Table.{IsTableOfBytes};
+ghost use Rattle.ipdl_top.specs.Report.{not_built, report_text};
 ghost use Rattle.ipdl_top.specs.Written.{AppendsFront};
 
+use crate::check::{Checked, check_bytes, not_built_report};
+use crate::report::text_of_report;
 use crate::status::Status;
 use crate::words::{key_of, read_words};
 use crate::write::write_all;
-use actor_tables::{narrow_schema, table_text};
-use ipdl_base::{Files, ReadAnswer, Sink, Token};
-use ipdl_lex::{LexFault, lex};
-use narrow_reader::read_narrow;
-use std::alloc::{AllocError, Global};
+use ipdl_base::{Files, Finding, ReadAnswer, Sink};
+use std::alloc::Global;
 
 /// The most bytes of a file that is read.
 const MOST_BYTES: usize = 1_048_576;
@@ -21,45 +19,6 @@ const MOST_BYTES: usize = 1_048_576;
 /// The text that says how the program is called.
 const USAGE: &[u8] =
     b"usage: ipdl [-s LIST] [--path DIRS] FILES\n       ipdl run [-s LIST] [--path DIRS] [--schedule WORD] [--limit N] SCRIPT FILE\n       ipdl frames [-s LIST] [--path DIRS] FILE FRAMES\n";
-
-/// The table of a file's tokens, or nothing where they are not read so far.
-fn table_of_tokens(
-    alloc: Global,
-    tokens: &[Token],
-    key: &[u8],
-) -> Result<Option<Vec<u8>>, AllocError>
-    ensures { IfOk result (λ found. IfSome found (λ text. IsTableOfTokens key.now tokens.now text.items)) }
-{
-    match read_narrow(alloc, tokens, key)? {
-        None => Ok(None),
-        Some(unit) => {
-            let schema = narrow_schema(alloc, &unit)?;
-            Ok(Some(table_text(alloc, &schema)?))
-        }
-    }
-}
-
-/// The table of a file's bytes, or nothing where they are not read so far.
-fn table_of(alloc: Global, name: &[u8], bytes: &[u8]) -> Result<Option<Vec<u8>>, AllocError>
-    requires { length bytes.now ≤ 1048576 }
-    ensures { IfOk result (λ found. IfSome found (λ text. IsTableOfBytes name.now bytes.now text.items)) }
-{
-    let lexed = match lex(alloc, bytes, 0) {
-        Ok(lexed) => lexed,
-        Err(LexFault::NoMemory) => return Err(AllocError),
-        Err(_) => return Ok(None),
-    };
-    table_of_tokens(alloc, lexed.tokens.as_slice(), key_of(name))
-}
-
-/// The line of a file that is not read so far.
-fn not_built_line(alloc: Global, name: &[u8]) -> Result<Vec<u8>, AllocError>
-    ensures { IfOk result (λ line. line.items ≡ not_built name.now) }
-{
-    let mut line = Vec::from_slice(alloc, name)?;
-    line.extend_from_slice(b":0:0: N1 not built yet\n")?;
-    Ok(line)
-}
 
 /// Writes a text and gives the status, or WriteFault where a write fails.
 fn finish<S: Sink>(sink: &mut S, text: &[u8], status: Status) -> Status
@@ -76,21 +35,6 @@ fn finish<S: Sink>(sink: &mut S, text: &[u8], status: Status) -> Status
     }
 }
 
-/// Says on `err` that a file is not read so far.
-fn say_not_built<E: Sink>(alloc: Global, name: &str, err: &mut E) -> Status
-    ensures status { (result ≡ Status.Broken) ⊎ ((result ≡ Status.WriteFault) ⊎ (result ≡ Status.NoMemory)) }
-    ensures whole { result ≡ Status.Broken → Appends (E.written err.old) (E.written err.new) (not_built name.now) }
-    ensures front { result ≡ Status.WriteFault → AppendsFront (E.written err.old) (E.written err.new) (not_built name.now) }
-    ensures failed { result ≡ Status.WriteFault → Rose (E.faults err.old) (E.faults err.new) }
-    ensures nothing { result ≡ Status.NoMemory → err.new ≡ err.old }
-    ensures count { E.faults err.old ≤ E.faults err.new }
-{
-    match not_built_line(alloc, name.as_bytes()) {
-        Ok(line) => finish(err, line.as_slice(), Status::Broken),
-        Err(_) => Status::NoMemory,
-    }
-}
-
 /// Says on `err` how the program is called.
 fn say_usage<E: Sink>(err: &mut E) -> Status
     ensures status { (result ≡ Status.Usage) ⊎ (result ≡ Status.WriteFault) }
@@ -101,32 +45,64 @@ fn say_usage<E: Sink>(err: &mut E) -> Status
     finish(err, USAGE, Status::Usage)
 }
 
-/// Writes the table of a file's bytes to `out`, or says on `err` that they are not read so far.
+/// Says a report on a file on `err`.
+fn say_report<E: Sink>(alloc: Global, name: &str, report: &[Finding], err: &mut E) -> Status
+    ensures status { (result ≡ Status.Broken) ⊎ ((result ≡ Status.WriteFault) ⊎ (result ≡ Status.NoMemory)) }
+    ensures whole { result ≡ Status.Broken → Appends (E.written err.old) (E.written err.new) (report_text name.now report.now) }
+    ensures front { result ≡ Status.WriteFault → AppendsFront (E.written err.old) (E.written err.new) (report_text name.now report.now) }
+    ensures failed { result ≡ Status.WriteFault → Rose (E.faults err.old) (E.faults err.new) }
+    ensures nothing { result ≡ Status.NoMemory → err.new ≡ err.old }
+    ensures count { E.faults err.old ≤ E.faults err.new }
+{
+    match text_of_report(alloc, name.as_bytes(), report) {
+        Ok(text) => finish(err, text.as_slice(), Status::Broken),
+        Err(_) => Status::NoMemory,
+    }
+}
+
+/// Says on `err` that a file is not read yet.
+fn say_not_built<E: Sink>(alloc: Global, name: &str, err: &mut E) -> Status
+    ensures status { (result ≡ Status.Broken) ⊎ ((result ≡ Status.WriteFault) ⊎ (result ≡ Status.NoMemory)) }
+    ensures whole { result ≡ Status.Broken → Appends (E.written err.old) (E.written err.new) (report_text name.now not_built) }
+    ensures front { result ≡ Status.WriteFault → AppendsFront (E.written err.old) (E.written err.new) (report_text name.now not_built) }
+    ensures failed { result ≡ Status.WriteFault → Rose (E.faults err.old) (E.faults err.new) }
+    ensures nothing { result ≡ Status.NoMemory → err.new ≡ err.old }
+    ensures count { E.faults err.old ≤ E.faults err.new }
+{
+    match not_built_report(alloc) {
+        Ok(report) => say_report(alloc, name, report.as_slice(), err),
+        Err(_) => Status::NoMemory,
+    }
+}
+
+/// Writes the table of a file's bytes to `out`, or the report on them to `err`.
 fn tell<O: Sink, E: Sink>(
     alloc: Global,
     name: &str,
+    key: &[u8],
     bytes: &[u8],
     out: &mut O,
     err: &mut E,
 ) -> Status
-    requires { length bytes.now ≤ 1048576 }
+    requires { IsKeyOf name.now key.now }
     ensures answer { IsCompiled name.now (Some bytes.now) result
         (record { old = O.written out.old; new = O.written out.new })
         (record { old = E.written err.old; new = E.written err.new }) }
     ensures no_read_fault { result ≢ Status.ReadFault }
     ensures write_fault { result ≡ Status.WriteFault → Rose (O.faults out.old) (O.faults out.new) ⊎ Rose (E.faults err.old) (E.faults err.new) }
     ensures nothing { result ≡ Status.NoMemory → (out.new ≡ out.old) × (err.new ≡ err.old) }
-    ensures out_count { O.faults out.old ≤ O.faults out.new }
-    ensures err_count { E.faults err.old ≤ E.faults err.new }
 {
-    match table_of(alloc, name.as_bytes(), bytes) {
-        Ok(Some(text)) => finish(out, text.as_slice(), Status::Done),
-        Ok(None) => say_not_built(alloc, name, err),
+    if bytes.len() > MOST_BYTES {
+        return say_not_built(alloc, name, err);
+    }
+    match check_bytes(alloc, bytes, key) {
+        Ok(Checked::Table(text)) => finish(out, text.as_slice(), Status::Done),
+        Ok(Checked::Report(report)) => say_report(alloc, name, report.as_slice(), err),
         Err(_) => Status::NoMemory,
     }
 }
 
-/// Reads a file and writes its table.
+/// Reads a file, and writes its table or the report on it.
 fn compile<F: Files, O: Sink, E: Sink>(
     alloc: Global,
     name: &str,
@@ -142,13 +118,13 @@ fn compile<F: Files, O: Sink, E: Sink>(
     ensures write_fault { result ≡ Status.WriteFault → Rose (O.faults out.old) (O.faults out.new) ⊎ Rose (E.faults err.old) (E.faults err.new) }
     ensures nothing { (result ≡ Status.ReadFault) ⊎ (result ≡ Status.NoMemory) → (out.new ≡ out.old) × (err.new ≡ err.old) }
 {
+    let key = key_of(name.as_bytes());
     match files.read(alloc, name, MOST_BYTES) {
         ReadAnswer::Failed => Status::ReadFault,
         ReadAnswer::NoMemory => Status::NoMemory,
-        ReadAnswer::Bytes(bytes) if bytes.len() <= MOST_BYTES => {
-            tell(alloc, name, bytes.as_slice(), out, err)
-        }
-        _ => say_not_built(alloc, name, err),
+        ReadAnswer::Bytes(bytes) => tell(alloc, name, key, bytes.as_slice(), out, err),
+        ReadAnswer::Absent => say_not_built(alloc, name, err),
+        ReadAnswer::Larger => say_not_built(alloc, name, err),
     }
 }
 

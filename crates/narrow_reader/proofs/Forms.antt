@@ -52,15 +52,6 @@ params_begin p from middle one more to rest = (middle, one, rest)
 pub more_of : (p : Param) (more : List Param) (from behind middle to : List Token) → mark (codes ",") from behind → param p behind middle → more_params more middle to → more_params (p ∷ more) from to
 more_of p more from behind middle to comma one rest = (behind, comma, (middle, one, rest))
 
--- one more element of which this holds
-pub all_push : {X : Type 0} (P : X → Type 0) (xs : List X) (x : X) → AllByRecursion P xs → P x → AllByRecursion P (xs ++ x ∷ [])
-all_push P [] x all one = (one, tt)
-all_push P (y ∷ xs) x (first, rest) one = (first, all_push P xs x rest one)
-
-pub all_append : {X : Type 0} (P : X → Type 0) (xs ys : List X) → AllByRecursion P xs → AllByRecursion P ys → AllByRecursion P (xs ++ ys)
-all_append P [] ys all more = more
-all_append P (y ∷ xs) ys (first, rest) more = (first, all_append P xs ys rest more)
-
 -- what holds of an `Ok`, at a result that is one
 pub at_ok : {X E : Type 0} (r : Result X E) (P : Type 0) → is_ok r ≡ true → OnOk r P → P
 at_ok (Ok x) P e h = h

@@ -1,9 +1,6 @@
 #![tactic(auto)]
 
-mod names;
-mod narrow;
+mod plain;
 mod reader;
-#[cfg(test)]
-mod tests;
 
-pub use narrow::read_narrow;
+pub use plain::read_plain;

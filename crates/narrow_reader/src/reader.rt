@@ -10,8 +10,8 @@ use std::marker::Model;
 /// Why a file is not read.
 #[derive(Clone, Copy, Debug, PartialEq, Eq)]
 pub enum Stop {
-    /// It is not a narrow file.
-    NotNarrow,
+    /// It is not a plain file.
+    NotPlain,
     /// Memory ran out.
     NoMemory,
 }
@@ -60,9 +60,9 @@ impl<'a> Reader<'a> {
         ensures err { OnErr result (self.new ≡ self.old) }
         ensures fewer { length self.new ≤ length self.old }
     {
-        let (first, rest) = self.rest.split_first().ok_or(Stop::NotNarrow)?;
+        let (first, rest) = self.rest.split_first().ok_or(Stop::NotPlain)?;
         if first.kind != TokenKind::Mark || first.text.as_slice() != text {
-            return Err(Stop::NotNarrow);
+            return Err(Stop::NotPlain);
         }
         self.rest = rest;
         Ok(())
@@ -74,9 +74,9 @@ impl<'a> Reader<'a> {
         ensures err { OnErr result (self.new ≡ self.old) }
         ensures fewer { length self.new ≤ length self.old }
     {
-        let (first, rest) = self.rest.split_first().ok_or(Stop::NotNarrow)?;
+        let (first, rest) = self.rest.split_first().ok_or(Stop::NotPlain)?;
         if first.kind != TokenKind::Reserved || first.text.as_slice() != text {
-            return Err(Stop::NotNarrow);
+            return Err(Stop::NotPlain);
         }
         self.rest = rest;
         Ok(())
@@ -88,9 +88,9 @@ impl<'a> Reader<'a> {
         ensures err { OnErr result (self.new ≡ self.old) }
         ensures fewer { length self.new ≤ length self.old }
     {
-        let (first, rest) = self.rest.split_first().ok_or(Stop::NotNarrow)?;
+        let (first, rest) = self.rest.split_first().ok_or(Stop::NotPlain)?;
         if first.kind != TokenKind::Word {
-            return Err(Stop::NotNarrow);
+            return Err(Stop::NotPlain);
         }
         let name = first.text.copy(alloc)?;
         self.rest = rest;

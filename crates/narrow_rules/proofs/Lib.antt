@@ -4,5 +4,5 @@ pub mod Endings
 pub mod Repeats
 pub mod Order
 pub mod One
-pub mod Clean
+pub mod EmptyReport
 pub mod Whole

@@ -1,6 +1,5 @@
 -- Two lists in strict order with the same elements are one.
-use Rattle.std.proofs.Common.{◌≡◌, ℕ, ◌+◌, ◌<◌, List, [], ◌∷◌, length, ◌⊎◌, inl, inr, refl, sym, ◌∙◌, ap, subst, zero, suc, lit<, arith, Ordering, Less, Equal}
-use Rattle.std.specs.Prelude.{◌↔◌}
+use Rattle.std.proofs.Common.{◌≡◌, ◌+◌, List, [], ◌∷◌, ◌⊎◌, inl, inr, refl, sym, ◌∙◌, ap, subst, zero, suc, arith, Ordering, Less}
 use Rattle.std.specs.Cmp.{IsTotalOrder}
 use Rattle.std.specs.List.{AllPairs, Contains}
 use Rattle.std.specs.List.Sorted.{IsStrictlySortedBy}
@@ -8,7 +7,7 @@ use Rattle.std.proofs.lemmas.Cmp.{tied_itself}
 use Rattle.std.proofs.lemmas.List.Elements.{All-from_recursion, All-contains}
 use Rattle.std.proofs.lemmas.Map.Keys.{sorted_head, sorted_tail, sorted_from_all_adjacent}
 use Rattle.ipdl_base.specs.declared.finding.Finding.{Finding}
-use Rattle.narrow_rules.specs.Broken.{finding_cmp, IsReport}
+use Rattle.narrow_rules.specs.Broken.{finding_cmp}
 use Rattle.narrow_rules.specs.Laws.{OneReport}
 use Rattle.narrow_rules.proofs.Order.{finding_total}
 

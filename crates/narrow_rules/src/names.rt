@@ -47,6 +47,14 @@ pub fn is_builtin(name: &[u8]) -> bool
         || Builtin::named(name).is_some()
 }
 
+/// Whether the protocol of a narrow file of this key may have this name.
+pub fn is_protocol_name(name: &[u8], key: &[u8]) -> bool
+    ensures { IsTrue result
+        ↔ ((key.now ≡ name.now ++ codes ".ipdl") × (¬ Contains name.now 58) × (¬ IsBuiltinName name.now)) }
+{
+    bears_key(name, key) && is_one_word(name) && !is_builtin(name)
+}
+
 /// Whether a message of the protocol of this name may have this name.
 pub fn is_normal_name(protocol: &[u8], name: &[u8]) -> bool
     ensures { IsTrue result ↔ ((name.now ≢ codes "__delete__") × (name.now ≢ protocol.now)) }

@@ -3,9 +3,7 @@ ghost use Rattle.std.specs.List.{AllByRecursion};
 ghost use Rattle.narrow_rules.specs.Heads.{IsNarrowHead, IsNarrowFrame, HasProtocolAlone};
 ghost use Rattle.narrow_rules.specs.Narrow.{IsWordBase, IsNarrowParam, IsNarrowMessage, IsNarrowProtocol, IsNarrow};
 
-use crate::names::{
-    bears_key, is_builtin, is_normal_name, is_one_word, is_type_word, params_differ,
-};
+use crate::names::{is_normal_name, is_protocol_name, is_type_word, params_differ};
 use ipdl_base::{Direction, Semantics};
 use ipdl_syntax::{Base, MessageDecl, Param, ProtocolDecl, Unit};
 use std::alloc::{AllocError, Global};
@@ -84,9 +82,7 @@ fn are_narrow_messages(
 fn is_narrow_frame(protocol: &ProtocolDecl, key: &[u8]) -> bool
     ensures { IsTrue result ↔ IsNarrowFrame key.now protocol.now }
 {
-    bears_key(protocol.full.as_slice(), key)
-        && is_one_word(protocol.full.as_slice())
-        && !is_builtin(protocol.full.as_slice())
+    is_protocol_name(protocol.full.as_slice(), key)
         && protocol.semantics == Semantics::Async
         && protocol.attributes.is_empty()
         && protocol.managers.is_empty()

@@ -2,7 +2,6 @@ use super::{clean, is_narrow, narrow_findings, one_report};
 use ipdl_base::{Direction, Finding, Items, Name, Place, Rule, Semantics};
 use ipdl_syntax::{Base, MessageDecl, Param, ProtocolDecl, TypeSpec, Unit};
 use std::alloc::{AllocError, Global};
-use std::process::Abort;
 use std::test::Fail;
 
 const UNKNOWN: Rule = Rule {
@@ -77,45 +76,43 @@ fn unit(alloc: Global, messages: Vec<MessageDecl>) -> Result<Unit, AllocError> {
 }
 
 /// A file of two messages of these names, each with one parameter, of these types.
-fn two(alloc: Global, first: (&[u8], &[u8]), second: (&[u8], &[u8])) -> Result<Unit, AllocError> {
-    let one = vec![in alloc; param(alloc, first.1, at(3, 15), b"n")?]?;
-    let other = vec![in alloc; param(alloc, second.1, at(4, 15), b"x")?]?;
-    let messages = vec![in alloc;
-        message(alloc, first.0, at(3, 9), one)?,
-        message(alloc, second.0, at(4, 9), other)?,
-    ]?;
-    unit(alloc, messages)
-}
-
-/// A file of one message with two parameters of these types and names.
-fn one(alloc: Global, first: (&[u8], &[u8]), second: (&[u8], &[u8])) -> Result<Unit, AllocError> {
-    let params = vec![in alloc;
-        param(alloc, first.0, at(3, 15), first.1)?,
-        param(alloc, second.0, at(3, 22), second.1)?,
-    ]?;
-    let messages = vec![in alloc; message(alloc, b"Hello", at(3, 9), params)?]?;
-    unit(alloc, messages)
-}
-
-fn expect(
-    rt: &impl Abort,
+fn two(
     alloc: Global,
-    unit: &Unit,
-    key: &[u8],
-    narrow: bool,
-    wanted: &[(u32, u32, Rule)],
-) -> Result<(), Fail> {
-    assert_eq!(rt; is_narrow(alloc, unit, key)?, narrow);
-    let mut all = Vec::new(alloc);
-    for (line, column, rule) in wanted {
-        all.push(Finding {
-            place: at(*line, *column),
-            rule: *rule,
-        })?;
-    }
-    let found = narrow_findings(alloc, unit)?;
-    assert_eq!(rt; found.as_slice(), all.as_slice());
-    Ok(())
+    first: &[u8],
+    one_type: &[u8],
+    second: &[u8],
+    other_type: &[u8],
+) -> Result<Unit, AllocError> {
+    let mut one = Vec::new(alloc);
+    one.push(param(alloc, one_type, at(3, 15), b"n")?)?;
+    let mut other = Vec::new(alloc);
+    other.push(param(alloc, other_type, at(4, 15), b"x")?)?;
+    let mut messages = Vec::new(alloc);
+    messages.push(message(alloc, first, at(3, 9), one)?)?;
+    messages.push(message(alloc, second, at(4, 9), other)?)?;
+    unit(alloc, messages)
+}
+
+/// Whether the file of two such messages is narrow, and how its findings begin.
+fn tried(
+    alloc: Global,
+    first: &[u8],
+    one_type: &[u8],
+    second: &[u8],
+    other_type: &[u8],
+) -> Result<(bool, usize, Option<Finding>, Option<Finding>), AllocError> {
+    let unit = two(alloc, first, one_type, second, other_type)?;
+    let narrow = is_narrow(alloc, &unit, b"PHello.ipdl")?;
+    let found = narrow_findings(alloc, &unit)?;
+    let all = found.as_slice();
+    Ok((narrow, all.len(), all.get(0).copied(), all.get(1).copied()))
+}
+
+fn finding(line: u32, column: u32, rule: Rule) -> Option<Finding> {
+    Some(Finding {
+        place: at(line, column),
+        rule,
+    })
 }
 
 #[test]
@@ -123,34 +120,19 @@ fn reports(rt: HostRuntime) -> Result<(), Fail> {
     one_report();
     clean();
     let alloc = rt.alloc();
-    let key = b"PHello.ipdl";
-    let both = two(alloc, (b"Hello", b"int32_t"), (b"Hello", b"foo"))?;
-    let wanted = [(4, 9, REPEATED), (4, 15, UNKNOWN)];
-    expect(&rt, alloc, &both, key, true, &wanted)?;
-    expect(&rt, alloc, &both, b"PHi.ipdl", false, &wanted)?;
-    let none = two(alloc, (b"Hello", b"int32_t"), (b"World", b"nsString"))?;
-    expect(&rt, alloc, &none, key, true, &[])?;
-    let words = two(alloc, (b"Hello", b"foo"), (b"World", b"foo"))?;
-    expect(
-        &rt,
-        alloc,
-        &words,
-        key,
-        true,
-        &[(3, 15, UNKNOWN), (4, 15, UNKNOWN)],
-    )?;
-    let shared = two(alloc, (b"Hello", b"Shmem"), (b"World", b"bool"))?;
-    expect(&rt, alloc, &shared, key, false, &[])?;
-    Ok(())
-}
-
-#[test]
-fn parameters(rt: HostRuntime) -> Result<(), Fail> {
-    let alloc = rt.alloc();
-    let key = b"PHello.ipdl";
-    let second = one(alloc, (b"bool", b"a"), (b"foo", b"b"))?;
-    expect(&rt, alloc, &second, key, true, &[(3, 22, UNKNOWN)])?;
-    let alike = one(alloc, (b"bool", b"a"), (b"bool", b"a"))?;
-    expect(&rt, alloc, &alike, key, false, &[])?;
+    let both = (true, 2, finding(4, 9, REPEATED), finding(4, 15, UNKNOWN));
+    assert_eq!(rt; tried(alloc, b"Hello", b"int32_t", b"Hello", b"foo")?, both);
+    let words = (true, 2, finding(3, 15, UNKNOWN), finding(4, 15, UNKNOWN));
+    assert_eq!(rt; tried(alloc, b"Hello", b"foo", b"World", b"foo")?, words);
+    let none = (true, 0, None, None);
+    assert_eq!(rt;
+        tried(alloc, b"Hello", b"int32_t", b"World", b"nsString")?,
+        none
+    );
+    let shared = (false, 0, None, None);
+    assert_eq!(rt;
+        tried(alloc, b"Hello", b"Shmem", b"World", b"bool")?,
+        shared
+    );
     Ok(())
 }

@@ -1,7 +1,7 @@
 use Rattle.std.proofs.Common.{List, ◌++◌, drop}
 use Rattle.std.specs.List.{AllByRecursion}
 use Rattle.ipdl_base.specs.declared.schema.ParamRow.{ParamRow}
-use Rattle.narrow_reader.specs.Narrow.{IsPlainParam}
+use Rattle.narrow_rules.specs.Narrow.{IsPlainParam}
 use Rattle.actor_tables.specs.SchemaOf.{AreParamRows}
 use Rattle.actor_tables.proofs.rows.param_rows.Given as goal
 

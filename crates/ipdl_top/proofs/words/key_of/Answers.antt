@@ -1,4 +1,4 @@
-use Rattle.std.proofs.Common.{◌≢◌, ℕ}
+use Rattle.std.proofs.Common.{◌≢◌}
 use Rattle.std.proofs.lemmas.List.Elements.{recursion_from_All}
 use Rattle.ipdl_top.proofs.Keys.{behind_more}
 use Rattle.ipdl_top.proofs.words.key_of.Goals as goal

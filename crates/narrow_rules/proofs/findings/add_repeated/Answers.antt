@@ -1,10 +1,5 @@
-use Rattle.std.proofs.Common.{◌≡◌, ◌∷◌, ◌++◌, [], List, ℕ, Bor, subst, ap, sym, ◌∙◌, get_or}
-use Rattle.ipdl_base.specs.declared.finding.Finding.{Finding}
-use Rattle.ipdl_base.specs.declared.finding.Place.{Place}
+use Rattle.std.proofs.Common.{ap, sym, ◌∙◌}
 use Rattle.ipdl_syntax.specs.declared.tree.MessageDecl.{MessageDecl}
-use Rattle.std.proofs.lemmas.List.{take_all}
-use Rattle.narrow_rules.specs.Adds.{Adds}
-use Rattle.narrow_rules.specs.Broken.{repeated_name, IsRepeatedIn}
 use Rattle.narrow_rules.proofs.Repeats.{is_among-more, not_among, was_among, Adds-new, Adds-repeated_at}
 use Rattle.narrow_rules.proofs.findings.add_repeated.Goals as goal
 use Rattle.narrow_rules.proofs.findings.add_repeated.Goals.{then-not-branch+in_ok-push, else-not-branch}

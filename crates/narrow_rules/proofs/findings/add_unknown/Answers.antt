@@ -1,4 +1,4 @@
-use Rattle.std.proofs.Common.{subst, rules}
+use Rattle.std.proofs.Common.{subst}
 use Rattle.std.specs.List.{Any}
 use Rattle.ipdl_syntax.specs.declared.tree.MessageDecl.{MessageDecl}
 use Rattle.narrow_rules.specs.Adds.{Adds}

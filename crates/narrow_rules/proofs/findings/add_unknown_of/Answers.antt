@@ -1,8 +1,5 @@
-use Rattle.std.proofs.Common.{subst, sym, refl, ◌∙◌, ap, List, [], ◌∷◌, ◌++◌}
-use Rattle.std.specs.List.{Any}
+use Rattle.std.proofs.Common.{subst, sym, refl, ◌∙◌}
 use Rattle.std.proofs.lemmas.List.{take_all}
-use Rattle.ipdl_base.specs.declared.finding.Finding.{Finding}
-use Rattle.ipdl_base.specs.declared.finding.Place.{Place}
 use Rattle.ipdl_syntax.specs.declared.tree.Param.{Param}
 use Rattle.narrow_rules.specs.Adds.{Adds}
 use Rattle.narrow_rules.specs.Broken.{unknown_type, IsUnknownAt}

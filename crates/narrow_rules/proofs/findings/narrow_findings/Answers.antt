@@ -1,4 +1,3 @@
-use Rattle.std.proofs.Common.{rules}
 use Rattle.narrow_rules.proofs.findings.narrow_findings.Goals as goal
 
 pub returns : goal.returns

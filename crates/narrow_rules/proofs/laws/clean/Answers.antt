@@ -1,4 +1,4 @@
-use Rattle.narrow_rules.proofs.Clean as law
+use Rattle.narrow_rules.proofs.EmptyReport as law
 use Rattle.narrow_rules.proofs.laws.clean.Goals as goal
 
 pub returns : goal.returns
