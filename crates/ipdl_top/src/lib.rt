@@ -4,6 +4,8 @@ mod check;
 mod program;
 mod report;
 mod status;
+#[cfg(test)]
+mod tests;
 mod words;
 mod write;
 

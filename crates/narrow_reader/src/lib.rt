@@ -2,5 +2,7 @@
 
 mod plain;
 mod reader;
+#[cfg(test)]
+mod tests;
 
 pub use plain::read_plain;

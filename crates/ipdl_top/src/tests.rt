@@ -1,0 +1,225 @@
+use super::{Status, ipdl};
+use ipdl_base::{MemoryFiles, MemorySink};
+use std::alloc::{AllocError, Global};
+use std::test::Fail;
+
+const HELLO: &[u8] = b"protocol PHello {
+parent:
+    async Hello(int32_t n, nsString s);
+child:
+    async World();
+};
+";
+
+const HELLO_TABLE: &[u8] = b"protocol 0 PHello async not
+message 0 parent async not plain normal Hello(int32_t n, nsString s)
+message 2 child async not plain normal World()
+";
+
+const USAGE: &[u8] = b"usage: ipdl [-s LIST] [--path DIRS] FILES
+       ipdl run [-s LIST] [--path DIRS] [--schedule WORD] [--limit N] SCRIPT FILE
+       ipdl frames [-s LIST] [--path DIRS] FILE FRAMES
+";
+
+const NOT_BUILT: &[u8] = b"PHello.ipdl:0:0: N1 not built yet\n";
+
+/// The outside of a call. A read or a write with number 0 is none.
+#[derive(Clone, Copy)]
+struct Outside {
+    file: &'static str,
+    bytes: &'static [u8],
+    failing_read: u64,
+    piece: usize,
+    failing_write: u64,
+}
+
+/// What a call leaves.
+#[derive(Drop)]
+struct Left {
+    status: Status,
+    out: MemorySink,
+    err: MemorySink,
+}
+
+/// Files without a fault, and an `out` that takes all that it is given.
+fn whole(file: &'static str, bytes: &'static [u8]) -> Outside {
+    Outside {
+        file,
+        bytes,
+        failing_read: 0,
+        piece: 1000,
+        failing_write: 0,
+    }
+}
+
+fn strings(alloc: Global, words: &[&str]) -> Result<Vec<String>, AllocError> {
+    let mut strings = Vec::new(alloc);
+    for word in words {
+        strings.push(String::from_str(alloc, word)?)?;
+    }
+    Ok(strings)
+}
+
+fn files(alloc: Global, outside: &Outside) -> Result<MemoryFiles, AllocError> {
+    let name = String::from_str(alloc, outside.file)?;
+    let bytes = Vec::from_slice(alloc, outside.bytes)?;
+    let files = vec![in alloc; (name, bytes)]?;
+    Ok(MemoryFiles::new(files, vec![in alloc; outside.failing_read]?))
+}
+
+fn sink(alloc: Global, piece: usize, failing: u64) -> Result<MemorySink, AllocError> {
+    MemorySink::new(alloc, piece.max(1), 1000, vec![in alloc; failing]?)
+}
+
+fn call(alloc: Global, words: &[&str], outside: &Outside) -> Result<Left, AllocError> {
+    let words = strings(alloc, words)?;
+    let mut files = files(alloc, outside)?;
+    let mut out = sink(alloc, outside.piece, outside.failing_write)?;
+    let mut err = sink(alloc, 1000, 0)?;
+    let status = ipdl(alloc, words.as_slice(), &mut files, &mut out, &mut err);
+    Ok(Left { status, out, err })
+}
+
+/// Whether a call ends with this status and has written these texts.
+fn leaves(left: &Left, status: Status, out: &[u8], err: &[u8]) -> bool {
+    left.status == status && left.out.written() == out && left.err.written() == err
+}
+
+#[test]
+fn words(rt: HostRuntime) -> Result<(), Fail> {
+    let rows: [(&[&str], Status, &[u8], &[u8]); 8] = [
+        (&["PHello.ipdl"], Status::Done, HELLO_TABLE, b""),
+        (&[], Status::Usage, b"", USAGE),
+        (&["x.txt"], Status::Usage, b"", USAGE),
+        (&["ipdl"], Status::Usage, b"", USAGE),
+        (&["PHello.ipdl", "PHello.ipdl"], Status::Usage, b"", USAGE),
+        (&["-PHello.ipdl"], Status::Usage, b"", USAGE),
+        (&["-s"], Status::Usage, b"", USAGE),
+        (
+            &["PNo.ipdl"],
+            Status::Broken,
+            b"",
+            b"PNo.ipdl:0:0: N1 not built yet\n",
+        ),
+    ];
+    let outside = whole("PHello.ipdl", HELLO);
+    for (words, status, out, err) in rows {
+        let left = call(rt.alloc(), words, &outside)?;
+        assert!(rt; leaves(&left, status, out, err), "{words:?}");
+    }
+    Ok(())
+}
+
+#[test]
+fn outsides(rt: HostRuntime) -> Result<(), Fail> {
+    let hello = whole("PHello.ipdl", HELLO);
+    let failing_read = Outside {
+        failing_read: 1,
+        ..hello
+    };
+    let pieces = Outside { piece: 5, ..hello };
+    let failing_write = Outside {
+        failing_write: 2,
+        ..pieces
+    };
+    let rows: [(Outside, Status, &[u8], &[u8]); 3] = [
+        (failing_read, Status::ReadFault, b"", b""),
+        (pieces, Status::Done, HELLO_TABLE, b""),
+        (failing_write, Status::WriteFault, b"proto", b""),
+    ];
+    for (outside, status, out, err) in rows {
+        let left = call(rt.alloc(), &["PHello.ipdl"], &outside)?;
+        assert!(rt; leaves(&left, status, out, err), "{status:?}");
+    }
+    Ok(())
+}
+
+/// The report on a file of this name and these bytes.
+#[derive(Clone, Copy)]
+struct Row {
+    name: &'static str,
+    bytes: &'static [u8],
+    report: &'static [u8],
+}
+
+#[test]
+fn reports(rt: HostRuntime) -> Result<(), Fail> {
+    let rows = [
+        Row {
+            name: "PE.ipdl",
+            bytes: b"",
+            report: b"PE.ipdl:1:1: A2 syntax fault\n",
+        },
+        Row {
+            name: "PE.ipdl",
+            bytes: b"// only\n",
+            report: b"PE.ipdl:2:1: A2 syntax fault\n",
+        },
+        Row {
+            name: "PS.ipdl",
+            bytes: b"protocol PS {\nparent:\n  async M(int32_t a;\n};\n",
+            report: b"PS.ipdl:3:20: A2 syntax fault\n",
+        },
+        Row {
+            name: "PS.ipdl",
+            bytes: b"protocol PS {\nparent:\n  async M(bool[][][][][] a);\n};\n",
+            report: b"PS.ipdl:3:23: A2 syntax fault\n",
+        },
+        Row {
+            name: "PG.ipdl",
+            bytes: b"protocol PG {\n#if X\n};\n",
+            report: b"PG.ipdl:2:1: A1 bad token\n",
+        },
+        Row {
+            name: "PG.ipdl",
+            bytes: b"/* open\n",
+            report: b"PG.ipdl:1:1: A1 bad token\n",
+        },
+        Row {
+            name: "PHello.ipdl",
+            bytes: b"protocol PHello {\nparent:\n  async Hello(int32_t n);\n  async Hello(foo x);\n};\n",
+            report: b"PHello.ipdl:4:9: B21 repeated name\nPHello.ipdl:4:15: B1 unknown type\n",
+        },
+        Row {
+            name: "PHello.ipdl",
+            bytes: b"sync protocol PHello { };",
+            report: NOT_BUILT,
+        },
+    ];
+    for row in rows {
+        let outside = whole(row.name, row.bytes);
+        let left = call(rt.alloc(), &[row.name], &outside)?;
+        assert!(rt;
+            leaves(&left, Status::Broken, b"", row.report),
+            "{}",
+            row.name
+        );
+    }
+    Ok(())
+}
+
+#[test]
+fn directory(rt: HostRuntime) -> Result<(), Fail> {
+    let outside = whole("a/b/PHello.ipdl", HELLO);
+    let left = call(rt.alloc(), &["a/b/PHello.ipdl"], &outside)?;
+    assert!(rt; leaves(&left, Status::Done, HELLO_TABLE, b""));
+    Ok(())
+}
+
+#[test]
+fn codes(rt: HostRuntime) {
+    let statuses = [
+        Status::Done,
+        Status::Broken,
+        Status::Usage,
+        Status::ReadFault,
+        Status::WriteFault,
+        Status::Spent,
+        Status::NoMemory,
+        Status::BadScript,
+        Status::BadFrames,
+    ];
+    for (status, code) in statuses.into_iter().zip(0..9) {
+        assert_eq!(rt; status.code(), code);
+    }
+}
