@@ -1,5 +1,11 @@
+ghost use Rattle.std.specs.Prelude.{◌≡◌, IfOk, false, true, []};
+ghost use Rattle.ipdl_base.specs.Sound.{IsSound};
+
 use super::{Status, ipdl};
-use ipdl_base::{MemoryFiles, MemorySink};
+use ipdl_base::{
+    Compress, Direction, Items, Kind, Level, MemoryFiles, MemorySink, MessageRow, ParamRows,
+    ProtocolRow, Schema, Semantics,
+};
 use std::alloc::{AllocError, Global};
 use std::test::Fail;
 
@@ -222,4 +228,83 @@ fn codes(rt: HostRuntime) {
     for (status, code) in statuses.into_iter().zip(0..9) {
         assert_eq!(rt; status.code(), code);
     }
+}
+
+/// A message that the parent receives.
+fn message_row(
+    alloc: Global,
+    number: u32,
+    name: &[u8],
+    semantics: Semantics,
+    returns: Option<ParamRows>,
+) -> Result<MessageRow, AllocError>
+    ensures { IfOk result (λ row. row ≡ record {
+      number = number;
+      name = name.now;
+      direction = Direction.Parent;
+      semantics = semantics;
+      level = Level.Not;
+      compress = Compress.Plain;
+      kind = Kind.Normal;
+      params = [];
+      returns = returns;
+      carried = true;
+      lazy = false;
+    }) }
+{
+    Ok(MessageRow {
+        number,
+        name: Items::from_vec(Vec::from_slice(alloc, name)?),
+        direction: Direction::Parent,
+        semantics,
+        level: Level::Not,
+        compress: Compress::Plain,
+        kind: Kind::Normal,
+        params: Items::from_vec(Vec::new(alloc)),
+        returns,
+        carried: true,
+        lazy: false,
+    })
+}
+
+/// One protocol with a message without a reply and one with a reply.
+fn small(alloc: Global) -> Result<Schema, AllocError>
+    ensures { IfOk result IsSound }
+{
+    let returns = Items::from_vec(Vec::new(alloc));
+    let mut messages = Vec::new(alloc);
+    messages.push(message_row(alloc, 0, b"Ping", Semantics::Async, None)?)?;
+    messages.push(message_row(alloc, 2, b"Ask", Semantics::Sync, Some(returns))?)?;
+    let mut protocols = Vec::new(alloc);
+    protocols.push(ProtocolRow {
+        name: Items::from_vec(Vec::from_slice(alloc, b"P")?),
+        semantics: Semantics::Sync,
+        level: Level::Not,
+        managers: Items::from_vec(Vec::new(alloc)),
+        manages: Items::from_vec(Vec::new(alloc)),
+        messages: Items::from_vec(messages),
+    })?;
+    Ok(Schema {
+        protocols: Items::from_vec(protocols),
+        types: Items::from_vec(Vec::new(alloc)),
+    })
+}
+
+#[test]
+fn schema(rt: HostRuntime) -> Result<(), Fail> {
+    let schema = small(rt.alloc())?;
+    let rows = [
+        (0, Some(0)),
+        (1, None),
+        (2, Some(2)),
+        (3, Some(2)),
+        (4, None),
+        (65536, None),
+    ];
+    for (number, want) in rows {
+        assert_eq!(rt; schema.message(number).map(|row| row.number), want);
+    }
+    assert!(rt; schema.protocol(0).is_some());
+    assert!(rt; schema.protocol(1).is_none());
+    Ok(())
 }
