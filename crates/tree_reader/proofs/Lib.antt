@@ -1,0 +1,3 @@
+pub mod Symbols
+pub mod Tokens
+pub mod Turns

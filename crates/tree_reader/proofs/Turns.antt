@@ -1,0 +1,80 @@
+-- How the machine goes over forms.
+use Rattle.std.proofs.Common.{◌≡◌, ◌≢◌, ℕ, zero, suc, ◌+◌, ◌-◌, ◌≤◌, ◌<◌, Bool, true, false, cond, List, [], ◌∷◌, ◌++◌, length, Option, Some, None, refl, sym, ap, subst, ◌∙◌, arith, append_assoc}
+use Rattle.ipdl_base.specs.declared.token.Token.{Token}
+use Rattle.ipdl_base.specs.declared.token.TokenKind.TheVariants as kind
+use Rattle.ipdl_base.specs.declared.finding.Place.{Place}
+use Rattle.ipdl_syntax.specs.Parts.{Part, token, identifier}
+use Rattle.tree_reader.specs.declared.refusal.Refusal.{Refusal}
+use Rattle.tree_reader.specs.declared.refusal.Refusal.TheVariants.{Left, NoMemory}
+use Rattle.tree_reader.specs.declared.symbol.Symbol.{Symbol}
+use Rattle.tree_reader.specs.declared.symbol.Symbol.TheVariants.{End, Word, Quoted, OtherWord, OtherMark, Colons, OpenBrace, CloseBrace, OpenParen, CloseParen, OpenBracket, CloseBracket, Less, Greater, Semicolon, Comma, Colon, Equals, Question, Async, Both, Child, Class, From, Include, Manager, Manages, Namespace, Nullable, Or, Parent, Protocol, Returns, Struct, Sync, Union, UniquePtr, Using}
+use Rattle.tree_reader.specs.Symbols.{symbol, first_symbol}
+use Rattle.tree_reader.specs.Machine.{Form, proper, take, any_word, production, Stand, gone_in, refusal}
+use Rattle.tree_reader.specs.Reading.{Turns, Stops, IsNext, IsNextAt, IsNextText}
+use Rattle.tree_reader.specs.Spelling.{Means, spelled}
+use Rattle.tree_reader.proofs.Symbols.{means}
+
+-- a token with a symbol is spelled so
+pub is_spelled : (s : Symbol) (from to : List Token) → IsNext s from to → spelled s from to
+is_spelled s from to (t, here, is) = (t, here, means t s is)
+
+-- the first symbol is that of the next token
+pub first_of : (s : Symbol) (from to : List Token) → IsNext s from to → first_symbol from ≡ s
+first_of s from to (t, here, is) = ap (λ (x : List Token). first_symbol x) here ∙ is
+
+pub fewer_of : (s : Symbol) (from to : List Token) → IsNext s from to → length to < length from
+fewer_of s from to (t, here, is) = omega (arith, ap (λ (x : List Token). length x) here)
+
+-- a form turns into what it becomes behind the next token
+pub turn : (f : Form) (s : Symbol) (new : List Form) (from to : List Token) → IsNext s from to → production f s ≡ Some new → Turns (f ∷ []) from new to
+unfolding refusal
+turn f s new from to (t, here, is) p = λ more at.
+    ap (λ (x : List Token). refusal (f ∷ more) at x) here
+    ∙ ap (λ (o : Option (List Form)). gone_in o (length to + 1) (λ y. refusal (y ++ more) at to)) (ap (λ (x : Symbol). production f x) is ∙ p)
+
+-- a form is refused where it has nothing for the next token
+refused_there : (f : Form) (from : List Token) → production f (first_symbol from) ≡ None → Stops (f ∷ []) from (Left (length from))
+unfolding refusal
+refused_there f [] p = λ more at. refl
+refused_there f (t ∷ rest) p = λ more at. ap (λ (o : Option (List Form)). gone_in o (length rest + 1) (λ y. refusal (y ++ more) at rest)) p ∙ ap (λ (n : ℕ). Some n) (omega arith)
+
+pub refused : (f : Form) (from : List Token) (e : Refusal) → production f (first_symbol from) ≡ None → e ≡ Left (length from) → Stops (f ∷ []) from e
+refused f from e p is = let P : Refusal → Type 0 = λ x. Stops (f ∷ []) from x in subst P (sym is) (refused_there f from p)
+
+-- two forms with the same production at the next token
+pub same_turn : (f g : Form) (from : List Token) → production f (first_symbol from) ≡ production g (first_symbol from) → Turns (f ∷ []) from (g ∷ []) from
+unfolding refusal
+same_turn f g [] p = λ more at. refl
+same_turn f g (t ∷ rest) p = λ more at. ap (λ (o : Option (List Form)). gone_in o (length rest + 1) (λ y. refusal (y ++ more) at rest)) p
+
+-- a form that becomes at the next token what the first of others becomes there, with those behind it
+pub split_turn : (f g : Form) (others : List Form) (new : List Form) (s : Symbol) (from : List Token) → first_symbol from ≡ s → s ≢ End → production f s ≡ Some (new ++ others) → production g s ≡ Some new → Turns (f ∷ []) from (g ∷ others) from
+unfolding refusal
+split_turn f g others new s [] is not_end p q = absurd (not_end (sym is))
+split_turn f g others new s (t ∷ rest) is not_end p q = λ more at.
+    ap (λ (o : Option (List Form)). gone_in o (length rest + 1) (λ y. refusal (y ++ more) at rest)) (ap (λ (x : Symbol). production f x) is ∙ p)
+    ∙ ap (λ (x : List Form). refusal x at rest) (append_assoc new others more)
+    ∙ sym (ap (λ (o : Option (List Form)). gone_in o (length rest + 1) (λ y. refusal (y ++ (others ++ more)) at rest)) (ap (λ (x : Symbol). production g x) is ∙ q))
+
+-- one turn behind another
+pub turns : (fs gs hs : List Form) (a b c : List Token) → Turns fs a gs b → Turns gs b hs c → Turns fs a hs c
+turns fs gs hs a b c one two = λ more at. one more at ∙ two more at
+
+-- a turn before other forms
+pub turn_before : (fs gs others : List Form) (a b : List Token) → Turns fs a gs b → Turns (fs ++ others) a (gs ++ others) b
+turn_before fs gs others a b one = λ more at.
+    ap (λ (x : List Form). refusal x at a) (append_assoc fs others more) ∙ one (others ++ more) at ∙ sym (ap (λ (x : List Form). refusal x at b) (append_assoc gs others more))
+
+-- a refusal behind a turn
+pub stops_behind : (fs gs : List Form) (a b : List Token) (e : Refusal) → Turns fs a gs b → Stops gs b e → Stops fs a e
+stops_behind fs gs a b (Left n) one two = λ more at. one more at ∙ two more at
+stops_behind fs gs a b NoMemory one two = tt
+
+-- a refusal before other forms
+pub stops_before : (fs others : List Form) (a : List Token) (e : Refusal) → Stops fs a e → Stops (fs ++ others) a e
+stops_before fs others a (Left n) one = λ more at. ap (λ (x : List Form). refusal x at a) (append_assoc fs others more) ∙ one (others ++ more) at
+stops_before fs others a NoMemory one = tt
+
+-- a form read to its end, and what comes behind it
+pub past : (f : Form) (others : List Form) (a b : List Token) → Turns (f ∷ []) a [] b → Turns (f ∷ others) a others b
+past f others a b one = λ more at. one (others ++ more) at

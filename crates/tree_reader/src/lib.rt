@@ -1,0 +1,17 @@
+#![tactic(auto)]
+
+mod attributes;
+mod body;
+mod fields;
+mod file;
+mod heads;
+mod messages;
+mod names;
+mod params;
+mod reader;
+mod refusal;
+mod symbol;
+mod types;
+
+pub use file::read_file;
+pub use refusal::Refusal;

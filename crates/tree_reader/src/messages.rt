@@ -1,0 +1,93 @@
+ghost use Rattle.std.specs.Prelude.{◌≡◌, ◌<◌, ◌≤◌, IfOk, OnOk, IfErr, true, [], ◌∷◌, length};
+ghost use Rattle.ipdl_syntax.specs.Grammar.{semantics_word, returns, message};
+ghost use Rattle.ipdl_syntax.specs.Parts.{reserved};
+ghost use Rattle.tree_reader.specs.declared.symbol.Symbol.TheVariants.{OpenParen, Semicolon, Word};
+ghost use Rattle.tree_reader.specs.Machine.{take, parameters, behind_parameters, one_message, messaged};
+ghost use Rattle.tree_reader.specs.Reading.{Turns, Stops, bare_message, begins_message};
+ghost use Rattle.tree_reader.specs.Symbols.{first_symbol};
+
+use crate::attributes::attributes;
+use crate::params::params;
+use crate::reader::Reader;
+use crate::refusal::Refusal;
+use crate::symbol::Symbol;
+use ipdl_base::{Direction, Semantics};
+use ipdl_syntax::{Attributes, MessageDecl, NameAt, Params};
+use std::alloc::Global;
+
+/// Takes the returns of a message, where it has some.
+fn returns(alloc: Global, reader: &mut Reader) -> Result<Option<Params>, Refusal>
+    ensures read { IfOk result (λ found. returns found reader.old reader.new) }
+    ensures turns { OnOk result (Turns (behind_parameters ∷ []) reader.old (take Semicolon ∷ []) reader.new) }
+    ensures stops { IfErr result (Stops (behind_parameters ∷ []) reader.old) }
+    ensures fewer { OnOk result (length reader.new ≤ length reader.old) }
+{
+    if reader.skips(Symbol::Returns) {
+        reader.take(Symbol::OpenParen)?;
+        Ok(Some(params(alloc, reader)?))
+    } else {
+        Ok(None)
+    }
+}
+
+/// Takes the word that says how a message is sent.
+fn semantics(reader: &mut Reader) -> Result<Semantics, Refusal>
+    ensures read { IfOk result (λ how. reserved (semantics_word how) reader.old reader.new) }
+    ensures turns { OnOk result (Turns (one_message ∷ []) reader.old (take Word ∷ take OpenParen ∷ parameters ∷ behind_parameters ∷ []) reader.new) }
+    ensures stops { IfErr result (Stops (one_message ∷ []) reader.old) }
+    ensures less { OnOk result (length reader.new < length reader.old) }
+{
+    if reader.skips(Symbol::Async) {
+        return Ok(Semantics::Async);
+    }
+    if reader.skips(Symbol::Sync) {
+        return Ok(Semantics::Sync);
+    }
+    Err(reader.refusal())
+}
+
+/// Takes a message behind its attributes.
+fn bare_message(
+    alloc: Global,
+    reader: &mut Reader,
+    direction: Direction,
+    attributes: Attributes,
+) -> Result<MessageDecl, Refusal>
+    ensures read { IfOk result (λ m. bare_message m reader.old reader.new) }
+    ensures given { IfOk result (λ m. (m.direction ≡ direction) × (m.attributes ≡ attributes)) }
+    ensures turns { OnOk result (Turns (one_message ∷ []) reader.old [] reader.new) }
+    ensures stops { IfErr result (Stops (one_message ∷ []) reader.old) }
+    ensures less { OnOk result (length reader.new < length reader.old) }
+{
+    let semantics = semantics(reader)?;
+    let NameAt { name, place } = reader.word(alloc)?;
+    reader.take(Symbol::OpenParen)?;
+    let params = params(alloc, reader)?;
+    let returns = returns(alloc, reader)?;
+    reader.take(Symbol::Semicolon)?;
+    Ok(MessageDecl {
+        name,
+        place,
+        direction,
+        semantics,
+        params,
+        returns,
+        attributes,
+    })
+}
+
+/// Takes a message of a section.
+pub(crate) fn message(
+    alloc: Global,
+    reader: &mut Reader,
+    direction: Direction,
+) -> Result<MessageDecl, Refusal>
+    requires { begins_message (first_symbol reader.old) ≡ true }
+    ensures read { IfOk result (λ m. message direction m reader.old reader.new) }
+    ensures turns { OnOk result (Turns (messaged direction ∷ []) reader.old (messaged direction ∷ []) reader.new) }
+    ensures stops { IfErr result (Stops (messaged direction ∷ []) reader.old) }
+    ensures less { OnOk result (length reader.new < length reader.old) }
+{
+    let attributes = attributes(alloc, reader)?;
+    bare_message(alloc, reader, direction, attributes)
+}

@@ -1,0 +1,96 @@
+ghost use Rattle.std.specs.Prelude.{◌≡◌, ◌≢◌, ◌<◌, ◌≤◌, IfOk, OnOk, IfErr, List, [], ◌∷◌, length, codes};
+ghost use Rattle.ipdl_syntax.specs.Grammar.{qualified, argument, named};
+ghost use Rattle.ipdl_syntax.specs.Parts.{◌⨾◌, at, mark};
+ghost use Rattle.tree_reader.specs.declared.symbol.Symbol.TheVariants.{Colons, Word};
+ghost use Rattle.tree_reader.specs.Machine.{Form, take, argument_name};
+ghost use Rattle.tree_reader.specs.Reading.{Turns, Stops, AddsWords, IsNaming, MayHaveArgument};
+ghost use Rattle.tree_reader.specs.Symbols.{first_symbol};
+
+use crate::reader::Reader;
+use crate::refusal::Refusal;
+use crate::symbol::Symbol;
+use ipdl_base::{Items, Name, Place};
+use ipdl_syntax::NameAt;
+use std::alloc::Global;
+
+/// Takes the words of a name behind its first one, each with the `::` before it, and puts them
+/// behind the text.
+fn more_words(alloc: Global, reader: &mut Reader, text: &mut Vec<u8>) -> Result<(), Refusal>
+    ensures read { OnOk result (AddsWords text.old.items text.new.items reader.old reader.new) }
+    ensures ending { OnOk result (first_symbol reader.new ≢ Colons) }
+    ensures turns { OnOk result ((f : Form) → IsNaming f → Turns (f ∷ []) reader.old (f ∷ []) reader.new) }
+    ensures stops { IfErr result (λ e. (f : Form) → IsNaming f → Stops (f ∷ []) reader.old e) }
+    ensures fewer { OnOk result (length reader.new ≤ length reader.old) }
+{
+    'words: while reader.skips(Symbol::Colons) {
+        text.extend_from_slice(b"::")?;
+        let word = reader.word(alloc)?;
+        text.extend_from_slice(word.name.as_slice())?;
+    }
+    Ok(())
+}
+
+/// Takes a name with its namespaces; its place is that of its first word.
+fn qualified(alloc: Global, reader: &mut Reader) -> Result<NameAt, Refusal>
+    ensures read { IfOk result (λ n. at n.place (qualified n.name) reader.old reader.new) }
+    ensures ending { OnOk result (first_symbol reader.new ≢ Colons) }
+    ensures turns { OnOk result ((f : Form) → IsNaming f → Turns (take Word ∷ f ∷ []) reader.old (f ∷ []) reader.new) }
+    ensures stops { IfErr result (λ e. (f : Form) → IsNaming f → Stops (take Word ∷ f ∷ []) reader.old e) }
+    ensures less { OnOk result (length reader.new < length reader.old) }
+{
+    let NameAt { name, place } = reader.word(alloc)?;
+    let mut text = name.into_vec();
+    more_words(alloc, reader, &mut text)?;
+    Ok(NameAt {
+        name: Items::from_vec(text),
+        place,
+    })
+}
+
+/// Takes the argument of a name behind its `<`, to its `>`.
+fn argument_name(alloc: Global, reader: &mut Reader) -> Result<Name, Refusal>
+    ensures read { IfOk result (λ name. (qualified name ⨾ mark (codes ">")) reader.old reader.new) }
+    ensures turns { OnOk result (Turns (argument_name ∷ []) reader.old [] reader.new) }
+    ensures stops { IfErr result (Stops (argument_name ∷ []) reader.old) }
+    ensures less { OnOk result (length reader.new < length reader.old) }
+{
+    let NameAt { name, .. } = qualified(alloc, reader)?;
+    reader.take(Symbol::Greater)?;
+    Ok(name)
+}
+
+/// Takes the argument of a name, where there is one.
+fn argument(alloc: Global, reader: &mut Reader) -> Result<Option<Name>, Refusal>
+    requires { first_symbol reader.old ≢ Colons }
+    ensures read { IfOk result (λ inner. argument inner reader.old reader.new) }
+    ensures turns { OnOk result ((f : Form) (others : List Form) → MayHaveArgument f others → Turns (f ∷ []) reader.old others reader.new) }
+    ensures stops { IfErr result (λ e. (f : Form) (others : List Form) → MayHaveArgument f others → Stops (f ∷ []) reader.old e) }
+    ensures fewer { OnOk result (length reader.new ≤ length reader.old) }
+{
+    if reader.skips(Symbol::Less) {
+        Ok(Some(argument_name(alloc, reader)?))
+    } else {
+        Ok(None)
+    }
+}
+
+/// A name with its namespaces, and its argument where it has one; its place is that of its first
+/// word.
+#[derive(Drop)]
+pub(crate) struct Named {
+    pub(crate) name: Name,
+    pub(crate) inner: Option<Name>,
+    pub(crate) place: Place,
+}
+
+/// Takes a name, perhaps with an argument.
+pub(crate) fn name_with_argument(alloc: Global, reader: &mut Reader) -> Result<Named, Refusal>
+    ensures read { IfOk result (λ n. at n.place (named n.name n.inner) reader.old reader.new) }
+    ensures turns { OnOk result ((f : Form) (others : List Form) → IsNaming f → MayHaveArgument f others → Turns (take Word ∷ f ∷ []) reader.old others reader.new) }
+    ensures stops { IfErr result (λ e. (f : Form) (others : List Form) → IsNaming f → MayHaveArgument f others → Stops (take Word ∷ f ∷ []) reader.old e) }
+    ensures less { OnOk result (length reader.new < length reader.old) }
+{
+    let NameAt { name, place } = qualified(alloc, reader)?;
+    let inner = argument(alloc, reader)?;
+    Ok(Named { name, inner, place })
+}

@@ -1,0 +1,136 @@
+ghost use Rattle.std.specs.Prelude.{◌≡◌, ◌≢◌, ◌<◌, IfOk, OnOk, IfErr, true, false, [], ◌∷◌, length};
+ghost use Rattle.ipdl_syntax.specs.Parts.{identifier};
+ghost use Rattle.tree_reader.specs.declared.refusal.Refusal.TheVariants.{Left, NoMemory};
+ghost use Rattle.tree_reader.specs.declared.symbol.Symbol.TheVariants.{End, Word};
+ghost use Rattle.tree_reader.specs.Machine.{take, any_word};
+ghost use Rattle.tree_reader.specs.Reading.{Turns, Stops, IsNext, IsNextAt, IsNextText, IsAnyWord};
+ghost use Rattle.tree_reader.specs.Spelling.{spelled};
+ghost use Rattle.tree_reader.specs.Symbols.{first_symbol};
+
+use crate::refusal::Refusal;
+use crate::symbol::{Symbol, first_symbol, token_symbol};
+use ipdl_base::{Name, Place, Token, TokenKind};
+use ipdl_syntax::NameAt;
+use std::alloc::{AllocError, Global};
+use std::marker::Model;
+
+/// The tokens that are left.
+#[derive(Drop)]
+pub(crate) struct Reader<'a> {
+    rest: &'a [Token],
+}
+
+impl<'a> Model for Reader<'a> {
+    ghost use Rattle.std.specs.Prelude.{List};
+    ghost use Rattle.ipdl_base.specs.declared.token.Token.{Token};
+
+    ghost Value = { List Token };
+
+    ghost view = { λ r. r.rest.now };
+}
+
+impl<'a> Reader<'a> {
+    pub(crate) fn new(tokens: &'a [Token]) -> Reader<'a>
+        ensures { result ≡ tokens.now }
+    {
+        Reader { rest: tokens }
+    }
+
+    /// The symbol of the next token, or that of the end.
+    pub(crate) fn symbol(&self) -> Symbol
+        ensures { result ≡ first_symbol self.now }
+    {
+        first_symbol(self.rest)
+    }
+
+    /// That the next token, or the end, may not stand here.
+    pub(crate) fn refusal(&self) -> Refusal
+        ensures { result ≡ Left (length self.now) }
+    {
+        Refusal::Left(self.rest.len())
+    }
+
+    /// Passes the next token, and gives its place.
+    pub(crate) fn pass(&mut self) -> Place
+        requires { first_symbol self.old ≢ End }
+        ensures { IsNextAt (first_symbol self.old) result self.old self.new }
+    {
+        let (first, rest) = self.rest.split_at(1);
+        let place = first[0].place;
+        self.rest = rest;
+        place
+    }
+
+    /// Passes the next token if it has this symbol, and says whether it did.
+    pub(crate) fn skips(&mut self, symbol: Symbol) -> bool
+        requires { symbol ≢ End }
+        ensures yes { result ≡ true → IsNext symbol self.old self.new }
+        ensures not { result ≡ false → (first_symbol self.old ≢ symbol) × (self.new ≡ self.old) }
+    {
+        if self.symbol() != symbol {
+            return false;
+        }
+        self.pass();
+        true
+    }
+
+    /// Takes a token with this symbol.
+    pub(crate) fn take(&mut self, symbol: Symbol) -> Result<(), Refusal>
+        requires { symbol ≢ End }
+        ensures read { OnOk result (spelled symbol self.old self.new) }
+        ensures turns { OnOk result (Turns (take symbol ∷ []) self.old [] self.new) }
+        ensures stops { IfErr result (Stops (take symbol ∷ []) self.old) }
+        ensures less { OnOk result (length self.new < length self.old) }
+    {
+        if self.skips(symbol) {
+            Ok(())
+        } else {
+            Err(self.refusal())
+        }
+    }
+
+    /// Takes the next token, and gives its text and its place.
+    pub(crate) fn text(&mut self, alloc: Global) -> Result<NameAt, AllocError>
+        requires { first_symbol self.old ≢ End }
+        ensures { IfOk result (λ n. IsNextText (first_symbol self.old) n.name n.place self.old self.new) }
+    {
+        let (first, rest) = self.rest.split_at(1);
+        let name = first[0].text.copy(alloc)?;
+        let place = first[0].place;
+        self.rest = rest;
+        Ok(NameAt { name, place })
+    }
+
+    /// Takes a word that is not reserved.
+    pub(crate) fn word(&mut self, alloc: Global) -> Result<NameAt, Refusal>
+        ensures read { IfOk result (λ n. identifier n.name n.place self.old self.new) }
+        ensures turns { OnOk result (Turns (take Word ∷ []) self.old [] self.new) }
+        ensures stops { IfErr result (Stops (take Word ∷ []) self.old) }
+        ensures less { OnOk result (length self.new < length self.old) }
+    {
+        if self.symbol() != Symbol::Word {
+            return Err(self.refusal());
+        }
+        Ok(self.text(alloc)?)
+    }
+
+    /// Takes any word or a quoted text.
+    pub(crate) fn any_word(&mut self, alloc: Global) -> Result<Name, Refusal>
+        ensures read { IfOk result (λ name. IsAnyWord name self.old self.new) }
+        ensures turns { OnOk result (Turns (any_word ∷ []) self.old [] self.new) }
+        ensures stops { IfErr result (Stops (any_word ∷ []) self.old) }
+        ensures less { OnOk result (length self.new < length self.old) }
+    {
+        match self.rest.split_first() {
+            Some((first, rest)) => {
+                if first.kind == TokenKind::Mark {
+                    return Err(self.refusal());
+                }
+                let name = first.text.copy(alloc)?;
+                self.rest = rest;
+                Ok(name)
+            }
+            None => Err(self.refusal()),
+        }
+    }
+}
