@@ -1,0 +1,148 @@
+-- Results of readers, forms one behind another, and the fields and components of a declaration.
+use Rattle.std.proofs.Common.{◌≡◌, ◌≢◌, ℕ, ◌+◌, ◌≤◌, ◌<◌, List, [], ◌∷◌, ◌++◌, length, Option, Some, None, Result, Ok, Err, refl, sym, ap, subst, ◌∙◌, arith, append_assoc, codes}
+use Rattle.std.specs.Prelude.{IfErr}
+use Rattle.std.specs.Result.{IsErrAnd}
+use Rattle.std.proofs.lemmas.List.{append-nil}
+use Rattle.ipdl_base.specs.declared.token.Token.{Token}
+use Rattle.ipdl_syntax.specs.declared.tree.Attribute.{Attribute}
+use Rattle.ipdl_syntax.specs.declared.tree.Param.{Param}
+use Rattle.ipdl_syntax.specs.declared.tree.TypeSpec.{TypeSpec}
+use Rattle.ipdl_syntax.specs.Grammar.{type_spec, field, fields, components}
+use Rattle.ipdl_syntax.specs.Parts.{◌⨾◌, mark, identifier}
+use Rattle.tree_reader.specs.declared.refusal.Refusal.{Refusal}
+use Rattle.tree_reader.specs.declared.symbol.Symbol.{Symbol}
+use Rattle.tree_reader.specs.declared.symbol.Symbol.TheVariants.{CloseBrace, Semicolon}
+use Rattle.tree_reader.specs.Ending as ending
+use Rattle.tree_reader.specs.Symbols.{symbol, first_symbol}
+use Rattle.tree_reader.specs.Machine.{Form, Stand, behind, gone_in, production, refusal, take, typed, fielded, componented}
+use Rattle.tree_reader.specs.Reading.{Turns, Stops, IsNext, closed}
+use Rattle.tree_reader.specs.Spelling.{spelled}
+use Rattle.tree_reader.proofs.Turns.{turn, turns, past, turn_before, stops_before, stops_behind, is_spelled}
+
+-- Results
+
+-- what holds of an error holds of the result that hands it on
+pub thrown : {T : Type 0} (r : Result T Refusal) (P : Refusal → Type 0) (e : Refusal) → IsErrAnd r (λ x. x ≡ e) → P e → IfErr r P
+thrown (Ok v) P e is p = tt
+thrown (Err x) P e is p = subst P (sym is) p
+
+-- Forms one behind another
+
+-- a form that is read to its end, and the forms behind it
+pub turns_past : (f : Form) (others forms : List Form) (a b c : List Token) → Turns (f ∷ []) a [] b → Turns others b forms c → Turns (f ∷ others) a forms c
+turns_past f others forms a b c one two = turns (f ∷ others) others forms a b c (past f others a b one) two
+
+-- the same where the forms behind it are refused
+pub stops_past : (f : Form) (others : List Form) (a b : List Token) (e : Refusal) → Turns (f ∷ []) a [] b → Stops others b e → Stops (f ∷ others) a e
+stops_past f others a b e one two = stops_behind (f ∷ others) others a b e (past f others a b one) two
+
+-- a form that turns into another one, and the forms behind it
+pub turns_into : (f g : Form) (others forms : List Form) (a b c : List Token) → Turns (f ∷ []) a (g ∷ []) b → Turns (g ∷ others) b forms c → Turns (f ∷ others) a forms c
+turns_into f g others forms a b c one two = turns (f ∷ others) (g ∷ others) forms a b c (turn_before (f ∷ []) (g ∷ []) others a b one) two
+
+-- the same where what it turns into is refused
+pub stops_into : (f g : Form) (others : List Form) (a b : List Token) (e : Refusal) → Turns (f ∷ []) a (g ∷ []) b → Stops (g ∷ others) b e → Stops (f ∷ others) a e
+stops_into f g others a b e one two = stops_behind (f ∷ others) (g ∷ others) a b e (turn_before (f ∷ []) (g ∷ []) others a b one) two
+
+gone_behind : (o : Option (List Form)) (n : ℕ) (others more : List Form) (at : Stand) (rest : List Token) →
+    gone_in (behind o others) n (λ y. refusal (y ++ more) at rest) ≡ gone_in o n (λ y. refusal (y ++ (others ++ more)) at rest)
+gone_behind None n others more at rest = refl
+gone_behind (Some new) n others more at rest = ap (λ (x : List Form). refusal x at rest) (append_assoc new others more)
+
+-- a form that goes on at the next token as the first of others with those behind it
+pub behind_turn : (f g : Form) (others : List Form) (from : List Token) → production f (first_symbol from) ≡ behind (production g (first_symbol from)) others → Turns (f ∷ []) from (g ∷ others) from
+unfolding refusal
+behind_turn f g others [] p = λ more at. refl
+behind_turn f g others (t ∷ rest) p = λ more at.
+    ap (λ (o : Option (List Form)). gone_in o (length rest + 1) (λ y. refusal (y ++ more) at rest)) p ∙ gone_behind (production g (symbol t)) (length rest + 1) others more at rest
+
+-- Fields
+
+-- a type, a name and a semicolon, with no attributes, are a field
+pub field_read : (p : Param) (a b c d : List Token) → p.attributes ≡ [] → type_spec p.spec a b → identifier p.name p.place b c → spelled Semicolon c d → field p a d
+field_read p a b c d none spec name stop = (none, (b, spec, (c, name, stop)))
+
+-- one more field in front of those that go on
+pub fields_more : (p : Param) (so_far more : List Param) (start from middle to : List Token) → field p from middle → fields more middle to → ((others : List Param) (end : List Token) → fields others from end → fields (so_far ++ others) start end) → fields ((so_far ++ p ∷ []) ++ more) start to
+fields_more p so_far more start from middle to one rest before = rw append_assoc (before (p ∷ more) to (middle, one, rest))
+
+-- no more fields
+pub fields_all : (so_far : List Param) (start from : List Token) → ((others : List Param) (end : List Token) → fields others from end → fields (so_far ++ others) start end) → fields so_far start from
+fields_all so_far start from before = rw append-nil at (before [] from refl)
+
+-- the closing brace and the semicolon
+pub closed_read : (a b c : List Token) → IsNext CloseBrace a b → spelled Semicolon b c → closed a c
+closed_read a b c brace stop = (b, is_spelled CloseBrace a b brace, stop)
+
+field_table : (s : Symbol) → s ≢ CloseBrace → production fielded s ≡ behind (production (typed 4 ending.Name) s) (take Semicolon ∷ fielded ∷ [])
+unfolding production
+field_table CloseBrace n = absurd (n refl)
+field_table _ n = refl
+
+-- where no closing brace comes, a field does
+pub field_turn : (from : List Token) → first_symbol from ≢ CloseBrace → Turns (fielded ∷ []) from (typed 4 ending.Name ∷ take Semicolon ∷ fielded ∷ []) from
+field_turn from n = behind_turn fielded (typed 4 ending.Name) (take Semicolon ∷ fielded ∷ []) from (field_table (first_symbol from) n)
+
+-- one more field
+pub field_turned : (start from to : List Token) → first_symbol from ≢ CloseBrace → Turns (fielded ∷ []) start (fielded ∷ []) from → Turns (typed 4 ending.Name ∷ take Semicolon ∷ []) from [] to → Turns (fielded ∷ []) start (fielded ∷ []) to
+field_turned start from to n so_far one = λ more at. so_far more at ∙ field_turn from n more at ∙ one (fielded ∷ more) at
+
+-- a refused field
+pub field_stops : (start from : List Token) (e : Refusal) → first_symbol from ≢ CloseBrace → Turns (fielded ∷ []) start (fielded ∷ []) from → Stops (typed 4 ending.Name ∷ take Semicolon ∷ []) from e → Stops (fielded ∷ []) start e
+field_stops start from e n so_far one =
+    stops_behind (fielded ∷ []) (fielded ∷ []) start from e so_far
+    (stops_behind (fielded ∷ []) (typed 4 ending.Name ∷ take Semicolon ∷ fielded ∷ []) from from e (field_turn from n) (stops_before (typed 4 ending.Name ∷ take Semicolon ∷ []) (fielded ∷ []) from e one))
+
+fielded_closes : production fielded CloseBrace ≡ Some (take Semicolon ∷ [])
+unfolding production
+fielded_closes = refl
+
+-- the end of the fields
+pub fields_turn : (start from to : List Token) → Turns (fielded ∷ []) start (fielded ∷ []) from → IsNext CloseBrace from to → Turns (fielded ∷ []) start (take Semicolon ∷ []) to
+fields_turn start from to so_far brace = turns (fielded ∷ []) (fielded ∷ []) (take Semicolon ∷ []) start from to so_far (turn fielded CloseBrace (take Semicolon ∷ []) from to brace fielded_closes)
+
+-- Components
+
+-- one more component in front of those that go on
+pub components_more : (s : TypeSpec) (so_far more : List TypeSpec) (start from middle to : List Token) → (type_spec s ⨾ mark (codes ";")) from middle → components more middle to → ((others : List TypeSpec) (end : List Token) → components others from end → components (so_far ++ others) start end) → components ((so_far ++ s ∷ []) ++ more) start to
+components_more s so_far more start from middle to (a, spec, stop) rest before = rw append_assoc (before (s ∷ more) to (a, spec, (middle, stop, rest)))
+
+-- no more components
+pub components_all : (so_far : List TypeSpec) (start from : List Token) → ((others : List TypeSpec) (end : List Token) → components others from end → components (so_far ++ others) start end) → components so_far start from
+components_all so_far start from before = rw append-nil at (before [] from refl)
+
+-- a first component, and those that go on
+pub components_begin : (s : TypeSpec) (from middle to : List Token) (more : List TypeSpec) → (type_spec s ⨾ mark (codes ";")) from middle → components more middle to → components (s ∷ more) from to
+components_begin s from middle to more (a, spec, stop) rest = (a, spec, (middle, stop, rest))
+
+component_table : (s : Symbol) → s ≢ CloseBrace → production componented s ≡ behind (production (typed 4 ending.Semicolon) s) (componented ∷ [])
+unfolding production
+component_table CloseBrace n = absurd (n refl)
+component_table _ n = refl
+
+-- where no closing brace comes, a component does
+pub component_turn : (from : List Token) → first_symbol from ≢ CloseBrace → Turns (componented ∷ []) from (typed 4 ending.Semicolon ∷ componented ∷ []) from
+component_turn from n = behind_turn componented (typed 4 ending.Semicolon) (componented ∷ []) from (component_table (first_symbol from) n)
+
+-- one more component
+pub component_turned : (forms : List Form) (start from to : List Token) → first_symbol from ≢ CloseBrace → Turns forms start (componented ∷ []) from → Turns (typed 4 ending.Semicolon ∷ []) from [] to → Turns forms start (componented ∷ []) to
+component_turned forms start from to n so_far one = λ more at. so_far more at ∙ component_turn from n more at ∙ one (componented ∷ more) at
+
+-- a refused component
+pub component_stops : (forms : List Form) (start from : List Token) (e : Refusal) → first_symbol from ≢ CloseBrace → Turns forms start (componented ∷ []) from → Stops (typed 4 ending.Semicolon ∷ []) from e → Stops forms start e
+component_stops forms start from e n so_far one =
+    stops_behind forms (componented ∷ []) start from e so_far
+    (stops_behind (componented ∷ []) (typed 4 ending.Semicolon ∷ componented ∷ []) from from e (component_turn from n) (stops_before (typed 4 ending.Semicolon ∷ []) (componented ∷ []) from e one))
+
+componented_closes : production componented CloseBrace ≡ Some (take Semicolon ∷ [])
+unfolding production
+componented_closes = refl
+
+-- the end of the components
+pub components_turn : (forms : List Form) (start from to : List Token) → Turns forms start (componented ∷ []) from → IsNext CloseBrace from to → Turns forms start (take Semicolon ∷ []) to
+components_turn forms start from to so_far brace = turns forms (componented ∷ []) (take Semicolon ∷ []) start from to so_far (turn componented CloseBrace (take Semicolon ∷ []) from to brace componented_closes)
+
+-- a list with one more element is not empty
+pub more_is_some : {T : Type 0} (xs : List T) (x : T) → xs ++ x ∷ [] ≢ []
+more_is_some [] x = λ e. cc
+more_is_some (y ∷ ys) x = λ e. cc
