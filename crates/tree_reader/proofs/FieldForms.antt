@@ -56,91 +56,95 @@ behind_turn f g others [] p = λ more at. refl
 behind_turn f g others (t ∷ rest) p = λ more at.
     ap (λ (o : Option (List Form)). gone_in o (length rest + 1) (λ y. refusal (y ++ more) at rest)) p ∙ gone_behind (production g (symbol t)) (length rest + 1) others more at rest
 
+-- What a reader that may have skipped a token says where it did not: there was another one, and nothing is gone.
+abbrev pub IsOther : Symbol → List Token → List Token → Type 0
+IsOther s from here = (first_symbol from ≢ s) × (here ≡ from)
+
 -- Fields
 
--- a type, a name and a semicolon, with no attributes, are a field
-pub field_read : (p : Param) (a b c d : List Token) → p.attributes ≡ [] → type_spec p.spec a b → identifier p.name p.place b c → spelled Semicolon c d → field p a d
-field_read p a b c d none spec name stop = (none, (b, spec, (c, name, stop)))
-
 -- one more field in front of those that go on
-pub fields_more : (p : Param) (so_far more : List Param) (start from middle to : List Token) → field p from middle → fields more middle to → ((others : List Param) (end : List Token) → fields others from end → fields (so_far ++ others) start end) → fields ((so_far ++ p ∷ []) ++ more) start to
-fields_more p so_far more start from middle to one rest before = rw append_assoc (before (p ∷ more) to (middle, one, rest))
+pub fields_more : (p : Param) (so_far more : List Param) (start from here middle to : List Token) → here ≡ from → field p here middle → fields more middle to → ((others : List Param) (end : List Token) → fields others from end → fields (so_far ++ others) start end) → fields ((so_far ++ p ∷ []) ++ more) start to
+fields_more p so_far more start from here middle to is one rest before =
+    let P : List Token → Type 0 = λ x. field p x middle in
+    rw append_assoc (before (p ∷ more) to (middle, subst P is one, rest))
 
--- no more fields
-pub fields_all : (so_far : List Param) (start from : List Token) → ((others : List Param) (end : List Token) → fields others from end → fields (so_far ++ others) start end) → fields so_far start from
-fields_all so_far start from before = rw append-nil at (before [] from refl)
-
--- the closing brace and the semicolon
-pub closed_read : (a b c : List Token) → IsNext CloseBrace a b → spelled Semicolon b c → closed a c
-closed_read a b c brace stop = (b, is_spelled CloseBrace a b brace, stop)
+-- no more fields, and the end
+pub fields_closed : (so_far : List Param) (start from here to : List Token) → IsNext CloseBrace from here → spelled Semicolon here to → ((others : List Param) (end : List Token) → fields others from end → fields (so_far ++ others) start end) → (fields so_far ⨾ closed) start to
+fields_closed so_far start from here to brace stop before =
+    (from, rw append-nil at (before [] from refl), (here, is_spelled CloseBrace from here brace, stop))
 
 field_table : (s : Symbol) → s ≢ CloseBrace → production fielded s ≡ behind (production (typed 4 ending.Name) s) (take Semicolon ∷ fielded ∷ [])
 unfolding production
 field_table CloseBrace n = absurd (n refl)
 field_table _ n = refl
 
--- where no closing brace comes, a field does
-pub field_turn : (from : List Token) → first_symbol from ≢ CloseBrace → Turns (fielded ∷ []) from (typed 4 ending.Name ∷ take Semicolon ∷ fielded ∷ []) from
-field_turn from n = behind_turn fielded (typed 4 ending.Name) (take Semicolon ∷ fielded ∷ []) from (field_table (first_symbol from) n)
-
--- one more field
-pub field_turned : (start from to : List Token) → first_symbol from ≢ CloseBrace → Turns (fielded ∷ []) start (fielded ∷ []) from → Turns (typed 4 ending.Name ∷ take Semicolon ∷ []) from [] to → Turns (fielded ∷ []) start (fielded ∷ []) to
-field_turned start from to n so_far one = λ more at. so_far more at ∙ field_turn from n more at ∙ one (fielded ∷ more) at
-
--- a refused field
-pub field_stops : (start from : List Token) (e : Refusal) → first_symbol from ≢ CloseBrace → Turns (fielded ∷ []) start (fielded ∷ []) from → Stops (typed 4 ending.Name ∷ take Semicolon ∷ []) from e → Stops (fielded ∷ []) start e
-field_stops start from e n so_far one =
-    stops_behind (fielded ∷ []) (fielded ∷ []) start from e so_far
-    (stops_behind (fielded ∷ []) (typed 4 ending.Name ∷ take Semicolon ∷ fielded ∷ []) from from e (field_turn from n) (stops_before (typed 4 ending.Name ∷ take Semicolon ∷ []) (fielded ∷ []) from e one))
-
 fielded_closes : production fielded CloseBrace ≡ Some (take Semicolon ∷ [])
 unfolding production
 fielded_closes = refl
 
+-- where no closing brace comes, a field does
+field_turn : (start from here : List Token) → IsOther CloseBrace from here → Turns (fielded ∷ []) start (fielded ∷ []) from → Turns (fielded ∷ []) start (typed 4 ending.Name ∷ take Semicolon ∷ fielded ∷ []) here
+field_turn start from here (n, is) so_far =
+    let P : List Token → Type 0 = λ x. Turns (fielded ∷ []) start (typed 4 ending.Name ∷ take Semicolon ∷ fielded ∷ []) x in
+    subst P (sym is)
+    (turns (fielded ∷ []) (fielded ∷ []) (typed 4 ending.Name ∷ take Semicolon ∷ fielded ∷ []) start from from so_far
+    (behind_turn fielded (typed 4 ending.Name) (take Semicolon ∷ fielded ∷ []) from (field_table (first_symbol from) n)))
+
+-- one more field
+pub field_turned : (start from here to : List Token) → IsOther CloseBrace from here → Turns (fielded ∷ []) start (fielded ∷ []) from → Turns (typed 4 ending.Name ∷ take Semicolon ∷ []) here [] to → Turns (fielded ∷ []) start (fielded ∷ []) to
+field_turned start from here to other so_far one = λ more at. field_turn start from here other so_far more at ∙ one (fielded ∷ more) at
+
+-- a refused field
+pub field_stops : (start from here : List Token) (e : Refusal) → IsOther CloseBrace from here → Turns (fielded ∷ []) start (fielded ∷ []) from → Stops (typed 4 ending.Name ∷ take Semicolon ∷ []) here e → Stops (fielded ∷ []) start e
+field_stops start from here e other so_far one =
+    stops_behind (fielded ∷ []) (typed 4 ending.Name ∷ take Semicolon ∷ fielded ∷ []) start here e (field_turn start from here other so_far) (stops_before (typed 4 ending.Name ∷ take Semicolon ∷ []) (fielded ∷ []) here e one)
+
 -- the end of the fields
-pub fields_turn : (start from to : List Token) → Turns (fielded ∷ []) start (fielded ∷ []) from → IsNext CloseBrace from to → Turns (fielded ∷ []) start (take Semicolon ∷ []) to
-fields_turn start from to so_far brace = turns (fielded ∷ []) (fielded ∷ []) (take Semicolon ∷ []) start from to so_far (turn fielded CloseBrace (take Semicolon ∷ []) from to brace fielded_closes)
+pub fields_turn : (start from here : List Token) → IsNext CloseBrace from here → Turns (fielded ∷ []) start (fielded ∷ []) from → Turns (fielded ∷ []) start (take Semicolon ∷ []) here
+fields_turn start from here brace so_far = turns (fielded ∷ []) (fielded ∷ []) (take Semicolon ∷ []) start from here so_far (turn fielded CloseBrace (take Semicolon ∷ []) from here brace fielded_closes)
 
 -- Components
 
 -- one more component in front of those that go on
-pub components_more : (s : TypeSpec) (so_far more : List TypeSpec) (start from middle to : List Token) → (type_spec s ⨾ mark (codes ";")) from middle → components more middle to → ((others : List TypeSpec) (end : List Token) → components others from end → components (so_far ++ others) start end) → components ((so_far ++ s ∷ []) ++ more) start to
-components_more s so_far more start from middle to (a, spec, stop) rest before = rw append_assoc (before (s ∷ more) to (a, spec, (middle, stop, rest)))
+pub components_more : (s : TypeSpec) (so_far more : List TypeSpec) (start from here middle to : List Token) → here ≡ from → (type_spec s ⨾ mark (codes ";")) here middle → components more middle to → ((others : List TypeSpec) (end : List Token) → components others from end → components (so_far ++ others) start end) → components ((so_far ++ s ∷ []) ++ more) start to
+components_more s so_far more start from here middle to is (a, spec, stop) rest before =
+    let P : List Token → Type 0 = λ x. type_spec s x a in
+    rw append_assoc (before (s ∷ more) to (a, subst P is spec, (middle, stop, rest)))
 
--- no more components
-pub components_all : (so_far : List TypeSpec) (start from : List Token) → ((others : List TypeSpec) (end : List Token) → components others from end → components (so_far ++ others) start end) → components so_far start from
-components_all so_far start from before = rw append-nil at (before [] from refl)
-
--- a first component, and those that go on
-pub components_begin : (s : TypeSpec) (from middle to : List Token) (more : List TypeSpec) → (type_spec s ⨾ mark (codes ";")) from middle → components more middle to → components (s ∷ more) from to
-components_begin s from middle to more (a, spec, stop) rest = (a, spec, (middle, stop, rest))
+-- no more components, and the end
+pub components_closed : (so_far : List TypeSpec) (start from here to : List Token) → IsNext CloseBrace from here → spelled Semicolon here to → ((others : List TypeSpec) (end : List Token) → components others from end → components (so_far ++ others) start end) → (components so_far ⨾ closed) start to
+components_closed so_far start from here to brace stop before =
+    (from, rw append-nil at (before [] from refl), (here, is_spelled CloseBrace from here brace, stop))
 
 component_table : (s : Symbol) → s ≢ CloseBrace → production componented s ≡ behind (production (typed 4 ending.Semicolon) s) (componented ∷ [])
 unfolding production
 component_table CloseBrace n = absurd (n refl)
 component_table _ n = refl
 
--- where no closing brace comes, a component does
-pub component_turn : (from : List Token) → first_symbol from ≢ CloseBrace → Turns (componented ∷ []) from (typed 4 ending.Semicolon ∷ componented ∷ []) from
-component_turn from n = behind_turn componented (typed 4 ending.Semicolon) (componented ∷ []) from (component_table (first_symbol from) n)
-
--- one more component
-pub component_turned : (forms : List Form) (start from to : List Token) → first_symbol from ≢ CloseBrace → Turns forms start (componented ∷ []) from → Turns (typed 4 ending.Semicolon ∷ []) from [] to → Turns forms start (componented ∷ []) to
-component_turned forms start from to n so_far one = λ more at. so_far more at ∙ component_turn from n more at ∙ one (componented ∷ more) at
-
--- a refused component
-pub component_stops : (forms : List Form) (start from : List Token) (e : Refusal) → first_symbol from ≢ CloseBrace → Turns forms start (componented ∷ []) from → Stops (typed 4 ending.Semicolon ∷ []) from e → Stops forms start e
-component_stops forms start from e n so_far one =
-    stops_behind forms (componented ∷ []) start from e so_far
-    (stops_behind (componented ∷ []) (typed 4 ending.Semicolon ∷ componented ∷ []) from from e (component_turn from n) (stops_before (typed 4 ending.Semicolon ∷ []) (componented ∷ []) from e one))
-
 componented_closes : production componented CloseBrace ≡ Some (take Semicolon ∷ [])
 unfolding production
 componented_closes = refl
 
+-- where no closing brace comes, a component does
+component_turn : (forms : List Form) (start from here : List Token) → IsOther CloseBrace from here → Turns forms start (componented ∷ []) from → Turns forms start (typed 4 ending.Semicolon ∷ componented ∷ []) here
+component_turn forms start from here (n, is) so_far =
+    let P : List Token → Type 0 = λ x. Turns forms start (typed 4 ending.Semicolon ∷ componented ∷ []) x in
+    subst P (sym is)
+    (turns forms (componented ∷ []) (typed 4 ending.Semicolon ∷ componented ∷ []) start from from so_far
+    (behind_turn componented (typed 4 ending.Semicolon) (componented ∷ []) from (component_table (first_symbol from) n)))
+
+-- one more component
+pub component_turned : (forms : List Form) (start from here to : List Token) → IsOther CloseBrace from here → Turns forms start (componented ∷ []) from → Turns (typed 4 ending.Semicolon ∷ []) here [] to → Turns forms start (componented ∷ []) to
+component_turned forms start from here to other so_far one = λ more at. component_turn forms start from here other so_far more at ∙ one (componented ∷ more) at
+
+-- a refused component
+pub component_stops : (forms : List Form) (start from here : List Token) (e : Refusal) → IsOther CloseBrace from here → Turns forms start (componented ∷ []) from → Stops (typed 4 ending.Semicolon ∷ []) here e → Stops forms start e
+component_stops forms start from here e other so_far one =
+    stops_behind forms (typed 4 ending.Semicolon ∷ componented ∷ []) start here e (component_turn forms start from here other so_far) (stops_before (typed 4 ending.Semicolon ∷ []) (componented ∷ []) here e one)
+
 -- the end of the components
-pub components_turn : (forms : List Form) (start from to : List Token) → Turns forms start (componented ∷ []) from → IsNext CloseBrace from to → Turns forms start (take Semicolon ∷ []) to
-components_turn forms start from to so_far brace = turns forms (componented ∷ []) (take Semicolon ∷ []) start from to so_far (turn componented CloseBrace (take Semicolon ∷ []) from to brace componented_closes)
+pub components_turn : (forms : List Form) (start from here : List Token) → IsNext CloseBrace from here → Turns forms start (componented ∷ []) from → Turns forms start (take Semicolon ∷ []) here
+components_turn forms start from here brace so_far = turns forms (componented ∷ []) (take Semicolon ∷ []) start from here so_far (turn componented CloseBrace (take Semicolon ∷ []) from here brace componented_closes)
 
 -- a list with one more element is not empty
 pub more_is_some : {T : Type 0} (xs : List T) (x : T) → xs ++ x ∷ [] ≢ []
