@@ -1,14 +1,13 @@
 -- Results of readers, forms one behind another, and the fields and components of a declaration.
-use Rattle.std.proofs.Common.{◌≡◌, ◌≢◌, ℕ, ◌+◌, ◌≤◌, ◌<◌, List, [], ◌∷◌, ◌++◌, length, Option, Some, None, Result, Ok, Err, refl, sym, ap, subst, ◌∙◌, arith, append_assoc, codes}
+use Rattle.std.proofs.Common.{◌≡◌, ◌≢◌, ℕ, ◌+◌, List, [], ◌∷◌, ◌++◌, length, Option, Some, None, Result, Ok, Err, refl, sym, ap, subst, ◌∙◌, append_assoc, codes}
 use Rattle.std.specs.Prelude.{IfErr}
 use Rattle.std.specs.Result.{IsErrAnd}
 use Rattle.std.proofs.lemmas.List.{append-nil}
 use Rattle.ipdl_base.specs.declared.token.Token.{Token}
-use Rattle.ipdl_syntax.specs.declared.tree.Attribute.{Attribute}
 use Rattle.ipdl_syntax.specs.declared.tree.Param.{Param}
 use Rattle.ipdl_syntax.specs.declared.tree.TypeSpec.{TypeSpec}
 use Rattle.ipdl_syntax.specs.Grammar.{type_spec, field, fields, components}
-use Rattle.ipdl_syntax.specs.Parts.{◌⨾◌, mark, identifier}
+use Rattle.ipdl_syntax.specs.Parts.{◌⨾◌, mark}
 use Rattle.tree_reader.specs.declared.refusal.Refusal.{Refusal}
 use Rattle.tree_reader.specs.declared.symbol.Symbol.{Symbol}
 use Rattle.tree_reader.specs.declared.symbol.Symbol.TheVariants.{CloseBrace, Semicolon}
@@ -17,7 +16,7 @@ use Rattle.tree_reader.specs.Symbols.{symbol, first_symbol}
 use Rattle.tree_reader.specs.Machine.{Form, Stand, behind, gone_in, production, refusal, take, typed, fielded, componented}
 use Rattle.tree_reader.specs.Reading.{Turns, Stops, IsNext, closed}
 use Rattle.tree_reader.specs.Spelling.{spelled}
-use Rattle.tree_reader.proofs.Turns.{turn, turns, past, turn_before, stops_before, stops_behind, is_spelled}
+use Rattle.tree_reader.proofs.Turns.{turn, turns, stops_before, stops_behind, is_spelled}
 
 -- Results
 
@@ -28,22 +27,7 @@ thrown (Err x) P e is p = subst P (sym is) p
 
 -- Forms one behind another
 
--- a form that is read to its end, and the forms behind it
-pub turns_past : (f : Form) (others forms : List Form) (a b c : List Token) → Turns (f ∷ []) a [] b → Turns others b forms c → Turns (f ∷ others) a forms c
-turns_past f others forms a b c one two = turns (f ∷ others) others forms a b c (past f others a b one) two
-
--- the same where the forms behind it are refused
-pub stops_past : (f : Form) (others : List Form) (a b : List Token) (e : Refusal) → Turns (f ∷ []) a [] b → Stops others b e → Stops (f ∷ others) a e
-stops_past f others a b e one two = stops_behind (f ∷ others) others a b e (past f others a b one) two
-
--- a form that turns into another one, and the forms behind it
-pub turns_into : (f g : Form) (others forms : List Form) (a b c : List Token) → Turns (f ∷ []) a (g ∷ []) b → Turns (g ∷ others) b forms c → Turns (f ∷ others) a forms c
-turns_into f g others forms a b c one two = turns (f ∷ others) (g ∷ others) forms a b c (turn_before (f ∷ []) (g ∷ []) others a b one) two
-
--- the same where what it turns into is refused
-pub stops_into : (f g : Form) (others : List Form) (a b : List Token) (e : Refusal) → Turns (f ∷ []) a (g ∷ []) b → Stops (g ∷ others) b e → Stops (f ∷ others) a e
-stops_into f g others a b e one two = stops_behind (f ∷ others) (g ∷ others) a b e (turn_before (f ∷ []) (g ∷ []) others a b one) two
-
+-- what the machine does with forms put behind a production
 gone_behind : (o : Option (List Form)) (n : ℕ) (others more : List Form) (at : Stand) (rest : List Token) →
     gone_in (behind o others) n (λ y. refusal (y ++ more) at rest) ≡ gone_in o n (λ y. refusal (y ++ (others ++ more)) at rest)
 gone_behind None n others more at rest = refl
@@ -73,11 +57,13 @@ pub fields_closed : (so_far : List Param) (start from here to : List Token) → 
 fields_closed so_far start from here to brace stop before =
     (from, rw append-nil at (before [] from refl), (here, is_spelled CloseBrace from here brace, stop))
 
+-- at any other symbol, a field begins as a type does
 field_table : (s : Symbol) → s ≢ CloseBrace → production fielded s ≡ behind (production (typed 4 ending.Name) s) (take Semicolon ∷ fielded ∷ [])
 unfolding production
 field_table CloseBrace n = absurd (n refl)
 field_table _ n = refl
 
+-- behind the closing brace the semicolon comes
 fielded_closes : production fielded CloseBrace ≡ Some (take Semicolon ∷ [])
 unfolding production
 fielded_closes = refl
@@ -116,11 +102,13 @@ pub components_closed : (so_far : List TypeSpec) (start from here to : List Toke
 components_closed so_far start from here to brace stop before =
     (from, rw append-nil at (before [] from refl), (here, is_spelled CloseBrace from here brace, stop))
 
+-- at any other symbol, a component begins as a type does
 component_table : (s : Symbol) → s ≢ CloseBrace → production componented s ≡ behind (production (typed 4 ending.Semicolon) s) (componented ∷ [])
 unfolding production
 component_table CloseBrace n = absurd (n refl)
 component_table _ n = refl
 
+-- behind the closing brace the semicolon comes
 componented_closes : production componented CloseBrace ≡ Some (take Semicolon ∷ [])
 unfolding production
 componented_closes = refl

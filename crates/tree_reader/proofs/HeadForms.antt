@@ -4,7 +4,7 @@ use Rattle.ipdl_base.specs.declared.finding.Place.{Place}
 use Rattle.ipdl_base.specs.declared.token.Token.{Token}
 use Rattle.ipdl_syntax.specs.declared.tree.IncludeKind.TheVariants as include_kind
 use Rattle.ipdl_syntax.specs.Grammar.{included}
-use Rattle.ipdl_syntax.specs.Parts.{Part, either, nothing, reserved, identifier, quoted}
+use Rattle.ipdl_syntax.specs.Parts.{Part, either, nothing, reserved, identifier}
 use Rattle.tree_reader.specs.declared.refusal.Refusal.{Refusal}
 use Rattle.tree_reader.specs.declared.refusal.Refusal.TheVariants.{Left}
 use Rattle.tree_reader.specs.declared.symbol.Symbol.{Symbol}
@@ -34,14 +34,17 @@ struct_read true from here to other has lacks =
     inr (inr (is_spelled Struct from to (subst P other.1 (has refl))))
 struct_read false from here to other has lacks = inl (sym other.1 ∙ sym (lacks refl).1)
 
+-- behind `class` the name comes
 class_table : production using_named Class ≡ Some (using_word ∷ [])
 unfolding production
 class_table = refl
 
+-- the same at `struct`
 struct_table : production using_named Struct ≡ Some (using_word ∷ [])
 unfolding production
 struct_table = refl
 
+-- at any other symbol, a using goes on as from its name
 bare_table : (s : Symbol) → s ≢ Class → s ≢ Struct → production using_named s ≡ production using_word s
 unfolding production
 bare_table Class c s = absurd (c refl)
@@ -66,19 +69,23 @@ struct_turn false from here to other has lacks =
 abbrev pub file_forms : List Form
 file_forms = take From ∷ take Quoted ∷ take Semicolon ∷ []
 
+-- the name of a using begins with a word
 word_table : (s : Symbol) → production using_word s ≡ behind (production (take Word) s) (behind_using ∷ [])
 unfolding production
 word_table Word = refl
 word_table _ = refl
 
+-- words may follow the first one
 naming : IsNaming behind_using
 unfolding production
 naming = refl
 
+-- behind `<` an argument comes, and then the file
 argument_begins : production behind_using Less ≡ Some (argument_name ∷ file_forms)
 unfolding production
 argument_begins = refl
 
+-- where neither more words nor an argument come, `from` does
 file_table : (s : Symbol) → s ≢ Colons → s ≢ Less → production behind_using s ≡ behind (production (take From) s) (take Quoted ∷ take Semicolon ∷ [])
 unfolding production
 file_table Colons c l = absurd (c refl)
@@ -86,9 +93,11 @@ file_table Less c l = absurd (l refl)
 file_table From c l = refl
 file_table _ c l = refl
 
+-- so an argument may stand there
 may_have_argument : MayHaveArgument behind_using file_forms
 may_have_argument = (argument_begins, λ tokens c l. behind_turn behind_using (take From) (take Quoted ∷ take Semicolon ∷ []) tokens (file_table (first_symbol tokens) c l))
 
+-- behind the word before it, the name comes
 word_turn : (from here : List Token) → Turns (using_named ∷ []) from (using_word ∷ []) here → Turns (using_named ∷ []) from (take Word ∷ behind_using ∷ []) here
 word_turn from here one =
     turns (using_named ∷ []) (using_word ∷ []) (take Word ∷ behind_using ∷ []) from here here one (behind_turn using_word (take Word) (behind_using ∷ []) here (word_table (first_symbol here)))
@@ -115,10 +124,12 @@ next_at s one place from to e (t, here, (is, at)) = (t, here, is ∙ e)
 pub protocol_read : (name : List ℕ) (place : Place) (from here to : List Token) → IsNext Protocol from here → identifier name place here to → included include_kind.Protocol name place from to
 protocol_read name place from here to is word = (here, is_spelled Protocol from here is, word)
 
+-- behind `protocol` a word and the semicolon come
 protocol_table : production include_named Protocol ≡ Some (take Word ∷ take Semicolon ∷ [])
 unfolding production
 protocol_table = refl
 
+-- the machine there
 protocol_begins : (from here : List Token) → IsNext Protocol from here → Turns (include_named ∷ []) from (take Word ∷ take Semicolon ∷ []) here
 protocol_begins from here is = turn include_named Protocol (take Word ∷ take Semicolon ∷ []) from here is protocol_table
 
@@ -136,10 +147,12 @@ protocol_stops from here e is word =
 pub header_read : (s : Symbol) (name : List ℕ) (place : Place) (from to : List Token) → s ≡ Word → IsNextText s name place from to → included include_kind.Header name place from to
 header_read s name place from to e word = is_identifier s name place from to e word
 
+-- behind a word the semicolon comes
 header_table : production include_named Word ≡ Some (take Semicolon ∷ [])
 unfolding production
 header_table = refl
 
+-- the name of a header leads to the semicolon
 pub header_turn : (s : Symbol) (name : List ℕ) (place : Place) (from to : List Token) → s ≡ Word → IsNextText s name place from to → Turns (include_named ∷ []) from (take Semicolon ∷ []) to
 header_turn s name place from to e word = turn include_named Word (take Semicolon ∷ []) from to (next_word s Word name place from to e word) header_table
 
@@ -147,13 +160,16 @@ header_turn s name place from to e word = turn include_named Word (take Semicolo
 pub quoted_read : (s : Symbol) (name : List ℕ) (place : Place) (from to : List Token) → s ≡ Quoted → IsNextText s name place from to → included include_kind.Quoted name place from to
 quoted_read s name place from to e (t, here, (is, text, at)) = (t, here, (means t Quoted (is ∙ e), text, at))
 
+-- behind a quoted name the semicolon comes
 quoted_table : production include_named Quoted ≡ Some (take Semicolon ∷ [])
 unfolding production
 quoted_table = refl
 
+-- a quoted name leads to the semicolon
 pub quoted_turn : (s : Symbol) (name : List ℕ) (place : Place) (from to : List Token) → s ≡ Quoted → IsNextText s name place from to → Turns (include_named ∷ []) from (take Semicolon ∷ []) to
 quoted_turn s name place from to e text = turn include_named Quoted (take Semicolon ∷ []) from to (next_word s Quoted name place from to e text) quoted_table
 
+-- an include names nothing else
 other_table : (s : Symbol) → s ≢ Protocol → s ≢ Word → s ≢ Quoted → production include_named s ≡ None
 unfolding production
 other_table Protocol p w q = absurd (p refl)

@@ -1,4 +1,4 @@
-use Rattle.std.proofs.Common.{rules, ◌≡◌, ◌≢◌, [], ◌∷◌, sym, ◌∙◌}
+use Rattle.std.proofs.Common.{rules, ◌≡◌, ◌≢◌, [], ◌∷◌}
 use Rattle.tree_reader.specs.declared.symbol.Symbol.TheVariants.{Protocol, Word, Quoted}
 use Rattle.tree_reader.specs.Machine.{include_named}
 use Rattle.tree_reader.specs.Reading.{Stops}
