@@ -1,3 +1,5 @@
+pub mod FieldForms
+pub mod HeadForms
 pub mod Symbols
 pub mod Tokens
 pub mod Turns
