@@ -1,3 +1,4 @@
+pub mod ParamTurns
 pub mod Symbols
 pub mod Tokens
 pub mod Turns
