@@ -16,7 +16,7 @@ use Rattle.tree_reader.specs.declared.symbol.Symbol.TheVariants.{OpenBracket, Cl
 use Rattle.tree_reader.specs.Symbols.{symbol, first_symbol}
 use Rattle.tree_reader.specs.Machine.{Form, take, attributed, typed, one_param, parameters, more_parameters, behind, production, Stand, gone_in, refusal}
 use Rattle.tree_reader.specs.Reading.{Turns, Stops, IsNext, MayBeHeaded}
-use Rattle.tree_reader.proofs.Turns.{turn, same_turn, turns, stops_behind, past, is_spelled, fewer_of}
+use Rattle.tree_reader.proofs.Turns.{turn, same_turn, turns, stops_behind, stops_before, past, is_spelled, fewer_of}
 
 -- Errors
 
@@ -51,6 +51,21 @@ stops_err r fs gs a b one = IfErr-weaker r (Stops gs b) (Stops fs a) (λ e two. 
 -- an error that was handed on, behind a turn
 pub thrown_behind : {T : Type 0} (r : Result T Refusal) (e : Refusal) (fs gs : List Form) (a b : List Token) → IsErrAnd r (λ x. x ≡ e) → Turns fs a gs b → Stops gs b e → IfErr r (Stops fs a)
 thrown_behind r e fs gs a b is one two = thrown r e (λ x. Stops fs a x) is (stops_behind fs gs a b e one two)
+
+-- the first form read to its end behind a turn
+pub then_past : (fs : List Form) (f : Form) (others : List Form) (a b c : List Token) → Turns fs a (f ∷ others) b → Turns (f ∷ []) b [] c → Turns fs a others c
+then_past fs f others a b c one two = turns fs (f ∷ others) others a b c one (past f others b c two)
+
+-- the first form refused behind a turn, by an error that was handed on
+pub thrown_then : {T : Type 0} (r : Result T Refusal) (e : Refusal) (fs : List Form) (f : Form) (others : List Form) (a b : List Token) → IsErrAnd r (λ x. x ≡ e) → Turns fs a (f ∷ others) b → Stops (f ∷ []) b e → IfErr r (Stops fs a)
+thrown_then r e fs f others a b is one two = thrown_behind r e fs (f ∷ others) a b is one (stops_before (f ∷ []) others b e two)
+
+-- the same at the result of a last call
+pub past_ok : {T : Type 0} (r : Result T Refusal) (fs : List Form) (f : Form) (others : List Form) (a b c : List Token) → Turns fs a (f ∷ others) b → OnOk r (Turns (f ∷ []) b [] c) → OnOk r (Turns fs a others c)
+past_ok r fs f others a b c one = on_ok_weaker r (Turns (f ∷ []) b [] c) (Turns fs a others c) (λ two. then_past fs f others a b c one two)
+
+pub stops_then : {T : Type 0} (r : Result T Refusal) (fs : List Form) (f : Form) (others : List Form) (a b : List Token) → Turns fs a (f ∷ others) b → IfErr r (Stops (f ∷ []) b) → IfErr r (Stops fs a)
+stops_then r fs f others a b one = IfErr-weaker r (Stops (f ∷ []) b) (Stops fs a) (λ e two. stops_behind fs (f ∷ others) a b e one (stops_before (f ∷ []) others b e two))
 
 -- what is still to come behind a token, with other forms behind it
 behind_goes : (o : Option (List Form)) (others more : List Form) (n : ℕ) (at : Stand) (rest : List Token) → gone_in (behind o others) n (λ y. refusal (y ++ more) at rest) ≡ gone_in o n (λ y. refusal (y ++ (others ++ more)) at rest)
