@@ -1,3 +1,4 @@
+pub mod BodyTurns
 pub mod MessageTurns
 pub mod ParamTurns
 pub mod Symbols
