@@ -1,8 +1,7 @@
 -- How the body of a protocol is read, and how the machine goes over it.
-use Rattle.std.proofs.Common.{◌≡◌, ◌≢◌, ℕ, ◌≤◌, ◌<◌, Bool, true, false, List, [], ◌∷◌, ◌++◌, length, Option, Some, None, Result, refl, sym, ap, subst, ◌∙◌, arith, append_assoc}
+use Rattle.std.proofs.Common.{◌≡◌, ◌≢◌, ◌≤◌, ◌<◌, false, List, [], ◌∷◌, ◌++◌, length, Some, None, refl, sym, ap, subst, ◌∙◌, arith, append_assoc}
 use Rattle.std.specs.Prelude.{codes}
 use Rattle.std.specs.List.{flat_map}
-use Rattle.std.specs.Result.{IfErr, IsErrAnd}
 use Rattle.std.proofs.lemmas.List.{append-nil}
 use Rattle.std.proofs.lemmas.Grind.{flat_map-append}
 use Rattle.ipdl_base.specs.declared.finding.Place.{Place}
@@ -12,15 +11,14 @@ use Rattle.ipdl_base.specs.declared.kinds.Direction.TheVariants as direction
 use Rattle.ipdl_syntax.specs.declared.tree.MessageDecl.{MessageDecl}
 use Rattle.ipdl_syntax.specs.declared.tree.NameAt.{NameAt}
 use Rattle.ipdl_syntax.specs.Parts.{◌⨾◌, mark, reserved, identifier}
-use Rattle.ipdl_syntax.specs.Grammar.{message, messages, Section, section, sections, direction_word, Management, managed_by, manages, more_managers, management, managements, managers_of, managed_of}
-use Rattle.tree_reader.specs.declared.refusal.Refusal.{Refusal}
+use Rattle.ipdl_syntax.specs.Grammar.{message, messages, Section, sections, direction_word, Management, managed_by, manages, more_managers, managements, managers_of, managed_of}
 use Rattle.tree_reader.specs.declared.symbol.Symbol.{Symbol}
-use Rattle.tree_reader.specs.declared.symbol.Symbol.TheVariants.{End, Word, OpenBracket, Async, Sync, Parent, Child, Both, CloseBrace, Colon, Semicolon, Manager, Manages, Or}
+use Rattle.tree_reader.specs.declared.symbol.Symbol.TheVariants.{Word, OpenBracket, Async, Sync, Parent, Child, Both, CloseBrace, Colon, Semicolon, Manager, Manages, Or}
 use Rattle.tree_reader.specs.Symbols.{first_symbol}
 use Rattle.tree_reader.specs.Machine.{Form, take, messaged, managing, more_managing, behind, production, section_begins}
-use Rattle.tree_reader.specs.Reading.{Turns, Stops, IsNext, IsNextAt, begins_message, direction_of, IsSectioned, AddsMessages, AreSections, AddsManagers, AddsStatements, IsBody, closed}
-use Rattle.tree_reader.proofs.Turns.{turn, turns, same_turn, stops_behind, is_spelled, fewer_of}
-use Rattle.tree_reader.proofs.ParamTurns.{moved, joined_turn, then_past, thrown, thrown_behind, thrown_then}
+use Rattle.tree_reader.specs.Reading.{Turns, IsNext, IsNextAt, begins_message, direction_of, IsSectioned, AddsMessages, AreSections, AddsManagers, AddsStatements, IsBody}
+use Rattle.tree_reader.proofs.Turns.{turn, turns, same_turn, is_spelled, fewer_of}
+use Rattle.tree_reader.proofs.ParamTurns.{moved, joined_turn, then_past}
 
 -- The messages of a section
 
@@ -34,20 +32,12 @@ pub record ReadMessages (d : Direction) (old so_far : List MessageDecl) (start f
   pub turns : Turns (messaged d ∷ []) start (messaged d ∷ []) from
   pub fewer : length from ≤ length start
 
--- none yet
-pub no_messages : (d : Direction) (old : List MessageDecl) (start : List Token) → ReadMessages d old old start start
-no_messages d old start = record {
-  read = λ more to rest. (more, refl, rest);
-  turns = λ more at. refl;
-  fewer = omega arith
-}
-
 -- one message more
 pub more_messages : (d : Direction) (m : MessageDecl) (old so_far all : List MessageDecl) (start from to : List Token) → all ≡ so_far ++ m ∷ [] → ReadMessages d old so_far start from → message d m from to → Turns (messaged d ∷ []) from (messaged d ∷ []) to → length to < length from → ReadMessages d old all start to
 more_messages d m old so_far all start from to is before one turn less = record {
   read = subst (λ (x : List MessageDecl). MessagesGoOn d old x start to) (sym is) (λ more end rest. rw append_assoc (before.read (m ∷ more) end (to, one, rest)));
   turns = turns (messaged d ∷ []) (messaged d ∷ []) (messaged d ∷ []) start from to before.turns turn;
-  fewer = let l = before.fewer in omega arith
+  fewer = let l = before.fewer in omega arith;
 }
 
 -- all of them
@@ -72,11 +62,6 @@ section_table Parent d is = let e : direction.Parent ≡ d = cc in ap (λ (x : D
 section_table Child d is = let e : direction.Child ≡ d = cc in ap (λ (x : Direction). Some (take Colon ∷ messaged x ∷ [])) e
 section_table Both d is = let e : direction.Both ≡ d = cc in ap (λ (x : Direction). Some (take Colon ∷ messaged x ∷ [])) e
 section_table _ d is = absurd (cc)
-
--- the word of a section is no end
-pub no_end : (s : Symbol) (d : Direction) → direction_of s ≡ Some d → s ≢ End
-no_end End d is = absurd (cc)
-no_end _ d is = λ e. absurd (cc)
 
 -- where no section begins, the end of the protocol is wanted
 close_table : (s : Symbol) → direction_of s ≡ None → section_begins s ≡ behind (production (take CloseBrace) s) (take Semicolon ∷ [])
@@ -116,14 +101,6 @@ pub record ReadSections (so_far : List MessageDecl) (start from : List Token) : 
   pub goes : (f : Form) → IsSectioned f start → Goes f start from
   pub fewer : length from ≤ length start
 
--- none yet
-pub no_sections : (all : List MessageDecl) (start : List Token) → all ≡ [] → ReadSections all start start
-no_sections all start is = record {
-  read = subst (λ (x : List MessageDecl). SectionsGoOn x start start) (sym is) (λ more to rest. (more, refl, rest));
-  goes = λ f may. record { form = f; may = may; turns = λ more at. refl };
-  fewer = omega arith
-}
-
 -- behind the word of one more
 pub section_word : (d : Direction) (place : Place) (f : Form) (start from one : List Token) → direction_of (first_symbol from) ≡ Some d → Goes f start from → IsNextAt (first_symbol from) place from one → Turns (f ∷ []) start (take Colon ∷ messaged d ∷ []) one
 section_word d place f start from one is before here =
@@ -147,9 +124,9 @@ more_sections d place so_far all start from one two to is before here colon colo
   goes = λ f may. record {
     form = messaged d;
     may = sectioned d to none;
-    turns = turns (f ∷ []) (messaged d ∷ []) (messaged d ∷ []) start two to (section_colon d place f start from one two is (before.goes f may) here colon_turn) inner_turn
+    turns = turns (f ∷ []) (messaged d ∷ []) (messaged d ∷ []) start two to (section_colon d place f start from one two is (before.goes f may) here colon_turn) inner_turn;
   };
-  fewer = let l1 = before.fewer in let l2 = fewer_of (first_symbol from) from one (placed (first_symbol from) place from one here) in omega arith
+  fewer = let l1 = before.fewer in let l2 = fewer_of (first_symbol from) from one (placed (first_symbol from) place from one here) in omega arith;
 }
 
 -- all of them
@@ -182,14 +159,6 @@ pub record ReadManagers (old so_far : List NameAt) (start from : List Token) : T
   pub turns : Turns (more_managing ∷ []) start (more_managing ∷ []) from
   pub fewer : length from ≤ length start
 
--- none yet
-pub no_managers : (old : List NameAt) (start : List Token) → ReadManagers old old start start
-no_managers old start = record {
-  read = λ more to rest. (more, refl, rest);
-  turns = λ more at. refl;
-  fewer = omega arith
-}
-
 -- behind the `or` of one more
 pub managers_or : (old so_far : List NameAt) (start from one : List Token) → ReadManagers old so_far start from → IsNext Or from one → Turns (more_managing ∷ []) start (take Word ∷ more_managing ∷ []) one
 managers_or old so_far start from one before here =
@@ -203,7 +172,7 @@ pub managers_add : (n : NameAt) (old so_far all : List NameAt) (start from one t
 managers_add n old so_far all start from one two is before here word turn less = record {
   read = subst (λ (x : List NameAt). ManagersGoOn old x start two) (sym is) (managers_go n old so_far start from one two before.read (is_spelled Or from one here) word);
   turns = then_past (more_managing ∷ []) (take Word) (more_managing ∷ []) start one two (managers_or old so_far start from one before here) turn;
-  fewer = let l1 = before.fewer in let l2 = fewer_of Or from one here in omega arith
+  fewer = let l1 = before.fewer in let l2 = fewer_of Or from one here in omega arith;
 }
 
 -- before the semicolon
@@ -249,22 +218,13 @@ no_statement from one two no_manager no_manages =
     subst (λ (x : List Token). IsSectioned managing x) (sym same)
     (neither_table (first_symbol from) no_manager.0 (subst (λ (x : List Token). first_symbol x ≢ Manages) no_manager.1 no_manages.0))
 
--- nor is one read
-pub none_added : (managers managed : List NameAt) (from one two : List Token) → one ≡ from → two ≡ one → AddsStatements managers managers managed managed from two
-none_added managers managed from one two e f = record {
-  all = [];
-  read = sym (f ∙ e);
-  managers = sym (append-nil managers);
-  managed = sym (append-nil managed)
-}
-
 -- managers are read
 pub managers_added : (n : NameAt) (old first new managed : List NameAt) (from one two to : List Token) → first ≡ old ++ n ∷ [] → IsNext Manager from one → identifier n.name n.place one two → AddsManagers first new two to → AddsStatements old new managed managed from to
 managers_added n old first new managed from one two to is here word adds = record {
   all = managed_by n adds.0 ∷ [];
   read = (to, (one, is_spelled Manager from one here, (two, word, adds.2)), refl);
   managers = adds.1 ∙ ap (λ (x : List NameAt). x ++ adds.0) is ∙ append_assoc old (n ∷ []) adds.0 ∙ ap (λ (x : List NameAt). old ++ x) (sym (append-nil (n ∷ adds.0)));
-  managed = sym (append-nil managed)
+  managed = sym (append-nil managed);
 }
 
 -- a managed protocol is read
@@ -273,7 +233,7 @@ managed_added n managers old new from middle one two to is same here word close 
   all = manages n ∷ [];
   read = (to, (one, is_spelled Manages from one (subst (λ (x : List Token). IsNext Manages x one) same here), (two, word, close)), refl);
   managers = sym (append-nil managers);
-  managed = is
+  managed = is;
 }
 
 -- The body
@@ -294,7 +254,7 @@ added_join m0 m1 m2 g0 g1 g2 from middle to one two = record {
   all = one.all ++ two.all;
   read = statements_join one.all two.all from middle to one.read two.read;
   managers = names_join managers_of one.all two.all m0 m1 m2 one.managers two.managers;
-  managed = names_join managed_of one.all two.all g0 g1 g2 one.managed two.managed
+  managed = names_join managed_of one.all two.all g0 g1 g2 one.managed two.managed;
 }
 
 -- the statements so far are read, and behind them more may come
@@ -303,20 +263,12 @@ pub record ReadStatements (managers managed : List NameAt) (start from : List To
   pub turns : Turns (managing ∷ []) start (managing ∷ []) from
   pub fewer : length from ≤ length start
 
--- none yet
-pub no_statements : (managers managed : List NameAt) (start : List Token) → managers ≡ [] → managed ≡ [] → ReadStatements managers managed start start
-no_statements managers managed start no_managers none_managed = record {
-  read = record { all = []; read = refl; managers = no_managers; managed = none_managed };
-  turns = λ more at. refl;
-  fewer = omega arith
-}
-
 -- one statement more, or none
 pub more_statements : (m1 m2 g1 g2 : List NameAt) (start from to : List Token) → ReadStatements m1 g1 start from → AddsStatements m1 m2 g1 g2 from to → Turns (managing ∷ []) from (managing ∷ []) to → length to ≤ length from → ReadStatements m2 g2 start to
 more_statements m1 m2 g1 g2 start from to before one turn fewer = record {
   read = added_join [] m1 m2 [] g1 g2 start from to before.read one;
   turns = turns (managing ∷ []) (managing ∷ []) (managing ∷ []) start from to before.turns turn;
-  fewer = let l = before.fewer in omega arith
+  fewer = let l = before.fewer in omega arith;
 }
 
 -- the whole body
@@ -327,5 +279,5 @@ body_read m g m' g' all ms start from a b to is_m is_g is_all before parts brace
   managers_of_them = is_m ∙ before.read.managers;
   managed_of_them = is_g ∙ before.read.managed;
   messages_of_them = is_all ∙ parts.1;
-  read = (from, before.read.read, (a, parts.2, (b, brace, semicolon)))
+  read = (from, before.read.read, (a, parts.2, (b, brace, semicolon)));
 }

@@ -1,17 +1,14 @@
 -- How messages are read, and how the machine goes over them.
-use Rattle.std.proofs.Common.{◌≡◌, ◌≢◌, ℕ, Bool, true, false, List, [], ◌∷◌, ◌++◌, length, Option, Some, None, refl, sym, ap, subst, ◌∙◌}
+use Rattle.std.proofs.Common.{◌≡◌, ◌≢◌, true, List, [], ◌∷◌, length, Some, None, refl, ap, subst, ◌∙◌}
 use Rattle.ipdl_base.specs.declared.token.Token.{Token}
 use Rattle.ipdl_base.specs.declared.kinds.Direction.{Direction}
-use Rattle.ipdl_syntax.specs.declared.tree.MessageDecl.{MessageDecl}
-use Rattle.ipdl_syntax.specs.declared.tree.Attribute.{Attribute}
-use Rattle.ipdl_syntax.specs.Grammar.{attributes, message}
 use Rattle.tree_reader.specs.declared.refusal.Refusal.{Refusal}
 use Rattle.tree_reader.specs.declared.refusal.Refusal.TheVariants.{Left}
 use Rattle.tree_reader.specs.declared.symbol.Symbol.{Symbol}
 use Rattle.tree_reader.specs.declared.symbol.Symbol.TheVariants.{Word, OpenParen, OpenBracket, Semicolon, Async, Sync, Returns}
 use Rattle.tree_reader.specs.Symbols.{first_symbol}
 use Rattle.tree_reader.specs.Machine.{Form, take, attributed, parameters, behind_parameters, one_message, messaged, behind, production}
-use Rattle.tree_reader.specs.Reading.{Turns, Stops, IsNext, MayBeHeaded, bare_message, begins_message}
+use Rattle.tree_reader.specs.Reading.{Turns, Stops, IsNext, MayBeHeaded, begins_message}
 use Rattle.tree_reader.proofs.Turns.{turn, refused, same_turn}
 use Rattle.tree_reader.proofs.ParamTurns.{moved, joined_turn}
 
@@ -88,8 +85,3 @@ headed_message d from is =
     (headed_table d, λ n. joined_turn (messaged d) one_message (messaged d ∷ []) from (bare_table d (first_symbol from) is n))
 
 -- What is read
-
--- a message with its attributes
-pub message_read : (d : Direction) (all : List Attribute) (m : MessageDecl) (from middle to : List Token) → (m.direction ≡ d) × (m.attributes ≡ all) → attributes all from middle → bare_message m middle to → message d m from to
-message_read d all m from middle to given before bare =
-    (given.0, (middle, subst (λ (x : List Attribute). attributes x from middle) (sym given.1) before, bare))

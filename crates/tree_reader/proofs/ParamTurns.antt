@@ -10,7 +10,6 @@ use Rattle.ipdl_syntax.specs.Grammar.{param, params, more_params}
 use Rattle.ipdl_syntax.specs.Parts.{◌⨾◌, mark}
 use Rattle.tree_reader.specs.Ending as ending
 use Rattle.tree_reader.specs.declared.refusal.Refusal.{Refusal}
-use Rattle.tree_reader.specs.declared.refusal.Refusal.TheVariants.{Left, NoMemory}
 use Rattle.tree_reader.specs.declared.symbol.Symbol.{Symbol}
 use Rattle.tree_reader.specs.declared.symbol.Symbol.TheVariants.{OpenBracket, CloseParen, Comma}
 use Rattle.tree_reader.specs.Symbols.{symbol, first_symbol}
@@ -24,10 +23,6 @@ use Rattle.tree_reader.proofs.Turns.{turn, same_turn, turns, stops_behind, stops
 pub thrown : {T : Type 0} (r : Result T Refusal) (e : Refusal) (P : Refusal → Type 0) → IsErrAnd r (λ x. x ≡ e) → P e → IfErr r P
 thrown (Ok x) e P is holds = tt
 thrown (Err x) e P is holds = subst P (sym is) holds
-
--- the forms are not refused where memory runs out
-pub out_of_memory : {T : Type 0} (r : Result T Refusal) (forms : List Form) (from : List Token) → IsErrAnd r (λ x. x ≡ NoMemory) → IfErr r (Stops forms from)
-out_of_memory r forms from is = thrown r NoMemory (λ x. Stops forms from x) is tt
 
 -- what holds of an `Ok` goes on to what follows from it
 pub on_ok_weaker : {T E : Type 0} (r : Result T E) (P Q : Type 0) → (P → Q) → OnOk r P → OnOk r Q
@@ -139,10 +134,6 @@ some_turn from middle kept = moved (parameters ∷ []) (one_param ∷ more_param
 abbrev pub GoOn : List Param → List Token → List Token → Type 0
 GoOn so_far start from = (more : List Param) (to : List Token) → more_params more from to → params (so_far ++ more) start to
 
--- the first parameter
-pub params_begin : (p : Param) (from middle : List Token) → param p from middle → GoOn (p ∷ []) from middle
-params_begin p from middle one = λ more to rest. (middle, one, rest)
-
 -- one more parameter
 pub params_more : (p : Param) (so_far : List Param) (start from behind middle : List Token) → mark (codes ",") from behind → param p behind middle → GoOn so_far start from → GoOn (so_far ++ p ∷ []) start middle
 params_more p so_far start from behind middle comma one before = λ more to rest. rw append_assoc (before (p ∷ more) to (behind, comma, (middle, one, rest)))
@@ -165,14 +156,6 @@ pub record Read (so_far : List Param) (start from : List Token) : Type 0 where
   pub turns : Turns (one_param ∷ more_parameters ∷ []) start (more_parameters ∷ []) from
   pub fewer : length from < length start
 
--- behind the first one
-pub read_first : (p : Param) (all : List Param) (from to : List Token) → all ≡ p ∷ [] → param p from to → Turns (one_param ∷ []) from [] to → length to < length from → Read all from to
-read_first p all from to is one turn less = record {
-  read = subst (λ (x : List Param). GoOn x from to) (sym is) (params_begin p from to one);
-  turns = past one_param (more_parameters ∷ []) from to turn;
-  fewer = less
-}
-
 -- before one more
 pub read_comma : (so_far : List Param) (start from behind : List Token) → Read so_far start from → IsNext Comma from behind → Turns (one_param ∷ more_parameters ∷ []) start (one_param ∷ more_parameters ∷ []) behind
 read_comma so_far start from behind before comma =
@@ -184,7 +167,7 @@ read_more p so_far all start from behind to is before comma one turn less = reco
   read = subst (λ (x : List Param). GoOn x start to) (sym is) (params_more p so_far start from behind to (is_spelled Comma from behind comma) one before.read);
   turns = turns (one_param ∷ more_parameters ∷ []) (one_param ∷ more_parameters ∷ []) (more_parameters ∷ []) start behind to
       (read_comma so_far start from behind before comma) (past one_param (more_parameters ∷ []) behind to turn);
-  fewer = let l1 = before.fewer in let l2 = fewer_of Comma from behind comma in omega arith
+  fewer = let l1 = before.fewer in let l2 = fewer_of Comma from behind comma in omega arith;
 }
 
 -- before the mark at the end

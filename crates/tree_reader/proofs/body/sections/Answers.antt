@@ -13,8 +13,8 @@ returns-in_err-take-clause-stops c =
     let is : direction_of (first_symbol c.sections.reader) ≡ Some c.in-Some.direction = search rules in
     thrown c.from_residual.result c.in_err-take.field-0.0 (λ e. (f : Form) → IsSectioned f c.args.reader.now → Stops (f ∷ []) c.args.reader.now e) c.from_residual.ensures.1
     (λ f may. stops_behind (f ∷ []) (take Colon ∷ messaged c.in-Some.direction ∷ []) c.args.reader.now c.pass.new.self c.in_err-take.field-0.0
-        (section_word c.in-Some.direction c.pass.result f c.args.reader.now c.sections.reader c.pass.new.self is (c.sections.invariant.goes f may) c.pass.ensures)
-        (stops_before (take Colon ∷ []) (messaged c.in-Some.direction ∷ []) c.pass.new.self c.in_err-take.field-0.0 c.in_err-take.ensures.stops))
+    (section_word c.in-Some.direction c.pass.result f c.args.reader.now c.sections.reader c.pass.new.self is (c.sections.invariant.goes f may) c.pass.ensures)
+    (stops_before (take Colon ∷ []) (messaged c.in-Some.direction ∷ []) c.pass.new.self c.in_err-take.field-0.0 c.in_err-take.ensures.stops))
 
 pub sections-preserved : goal.sections-preserved
 sections-preserved c =
@@ -28,8 +28,8 @@ returns-in_err-section_messages-clause-stops c =
     let is : direction_of (first_symbol c.sections.reader) ≡ Some c.in-Some.direction = search rules in
     thrown c.from_residual-in_err-section_messages.result c.in_err-section_messages.field-0.0 (λ e. (f : Form) → IsSectioned f c.args.reader.now → Stops (f ∷ []) c.args.reader.now e) c.from_residual-in_err-section_messages.ensures.1
     (λ f may. stops_behind (f ∷ []) (messaged c.in-Some.direction ∷ []) c.args.reader.now c.take.new.self c.in_err-section_messages.field-0.0
-        (section_colon c.in-Some.direction c.pass.result f c.args.reader.now c.sections.reader c.pass.new.self c.take.new.self is (c.sections.invariant.goes f may) c.pass.ensures c.in_ok-take.ensures.turns)
-        c.in_err-section_messages.ensures.stops)
+    (section_colon c.in-Some.direction c.pass.result f c.args.reader.now c.sections.reader c.pass.new.self c.take.new.self is (c.sections.invariant.goes f may) c.pass.ensures c.in_ok-take.ensures.turns)
+    c.in_err-section_messages.ensures.stops)
 
 pub returns-clause-read : goal.returns-clause-read
 returns-clause-read c = all_sections c.sections.all.items c.args.reader.now c.sections.reader c.sections.invariant.read

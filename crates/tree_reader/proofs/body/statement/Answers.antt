@@ -15,8 +15,8 @@ pub returns-in_err-more_managers-clause-stops : goal.returns-in_err-more_manager
 returns-in_err-more_managers-clause-stops c =
     thrown_then c.from_residual-in_err-more_managers.result c.in_err-more_managers.field-0.0 (managing ∷ []) more_managing (managing ∷ []) c.args.reader.now c.word.new.self c.from_residual-in_err-more_managers.ensures.1
     (then_past (managing ∷ []) (take Word) (more_managing ∷ managing ∷ []) c.args.reader.now c.skips.new.self c.word.new.self
-        (manager_turn c.args.reader.now c.skips.new.self (c.skips.ensures.yes c.if-skips.true))
-        c.in_ok-word.ensures.turns)
+    (manager_turn c.args.reader.now c.skips.new.self (c.skips.ensures.yes c.if-skips.true))
+    c.in_ok-word.ensures.turns)
     c.in_err-more_managers.ensures.stops
 
 pub returns-then-skips-clause-read : goal.returns-then-skips-clause-read
@@ -28,8 +28,8 @@ pub returns-then-skips-clause-turns : goal.returns-then-skips-clause-turns
 returns-then-skips-clause-turns c =
     then_past (managing ∷ []) more_managing (managing ∷ []) c.args.reader.now c.word.new.self c.more_managers.new.reader
     (then_past (managing ∷ []) (take Word) (more_managing ∷ managing ∷ []) c.args.reader.now c.skips.new.self c.word.new.self
-        (manager_turn c.args.reader.now c.skips.new.self (c.skips.ensures.yes c.if-skips.true))
-        c.in_ok-word.ensures.turns)
+    (manager_turn c.args.reader.now c.skips.new.self (c.skips.ensures.yes c.if-skips.true))
+    c.in_ok-word.ensures.turns)
     c.in_ok-more_managers.ensures.turns
 
 pub returns-in_err-word-2-clause-stops : goal.returns-in_err-word-2-clause-stops
@@ -42,8 +42,8 @@ pub returns-in_err-take-clause-stops : goal.returns-in_err-take-clause-stops
 returns-in_err-take-clause-stops c =
     thrown_then c.from_residual-in_err-take.result c.in_err-take.field-0.0 (managing ∷ []) (take Semicolon) (managing ∷ []) c.args.reader.now c.word-then-skips-2.new.self c.from_residual-in_err-take.ensures.1
     (then_past (managing ∷ []) (take Word) (take Semicolon ∷ managing ∷ []) c.args.reader.now c.skips-2.new.self c.word-then-skips-2.new.self
-        (manages_turn c.args.reader.now c.skips.new.self c.skips-2.new.self (c.skips.ensures.not c.if-skips.false).1 (c.skips-2.ensures.yes c.if-skips-2.true))
-        c.in_ok-word-2.ensures.turns)
+    (manages_turn c.args.reader.now c.skips.new.self c.skips-2.new.self (c.skips.ensures.not c.if-skips.false).1 (c.skips-2.ensures.yes c.if-skips-2.true))
+    c.in_ok-word-2.ensures.turns)
     c.in_err-take.ensures.stops
 
 pub returns-then-skips-2-clause-read : goal.returns-then-skips-2-clause-read
@@ -55,8 +55,8 @@ pub returns-then-skips-2-clause-turns : goal.returns-then-skips-2-clause-turns
 returns-then-skips-2-clause-turns c =
     then_past (managing ∷ []) (take Semicolon) (managing ∷ []) c.args.reader.now c.word-then-skips-2.new.self c.take.new.self
     (then_past (managing ∷ []) (take Word) (take Semicolon ∷ managing ∷ []) c.args.reader.now c.skips-2.new.self c.word-then-skips-2.new.self
-        (manages_turn c.args.reader.now c.skips.new.self c.skips-2.new.self (c.skips.ensures.not c.if-skips.false).1 (c.skips-2.ensures.yes c.if-skips-2.true))
-        c.in_ok-word-2.ensures.turns)
+    (manages_turn c.args.reader.now c.skips.new.self c.skips-2.new.self (c.skips.ensures.not c.if-skips.false).1 (c.skips-2.ensures.yes c.if-skips-2.true))
+    c.in_ok-word-2.ensures.turns)
     c.in_ok-take.ensures.turns
 
 pub returns-clause-ending : goal.returns-clause-ending

@@ -16,8 +16,8 @@ pub returns-in_err-params-clause-stops : goal.returns-in_err-params-clause-stops
 returns-in_err-params-clause-stops c =
     thrown_then c.from_residual-in_err-params.result c.in_err-params.field-0.0 (behind_parameters ∷ []) parameters (take Semicolon ∷ []) c.args.reader.now c.take.new.self c.from_residual-in_err-params.ensures.1
     (then_past (behind_parameters ∷ []) (take OpenParen) (parameters ∷ take Semicolon ∷ []) c.args.reader.now c.skips.new.self c.take.new.self
-        (returns_turn c.args.reader.now c.skips.new.self (c.skips.ensures.yes c.if-skips.true))
-        c.in_ok-take.ensures.turns)
+    (returns_turn c.args.reader.now c.skips.new.self (c.skips.ensures.yes c.if-skips.true))
+    c.in_ok-take.ensures.turns)
     c.in_err-params.ensures.stops
 
 pub returns-in_ok-params-clause-read : goal.returns-in_ok-params-clause-read
@@ -28,8 +28,8 @@ pub returns-in_ok-params-clause-turns : goal.returns-in_ok-params-clause-turns
 returns-in_ok-params-clause-turns c =
     then_past (behind_parameters ∷ []) parameters (take Semicolon ∷ []) c.args.reader.now c.take.new.self c.params.new.reader
     (then_past (behind_parameters ∷ []) (take OpenParen) (parameters ∷ take Semicolon ∷ []) c.args.reader.now c.skips.new.self c.take.new.self
-        (returns_turn c.args.reader.now c.skips.new.self (c.skips.ensures.yes c.if-skips.true))
-        c.in_ok-take.ensures.turns)
+    (returns_turn c.args.reader.now c.skips.new.self (c.skips.ensures.yes c.if-skips.true))
+    c.in_ok-take.ensures.turns)
     c.in_ok-params.ensures.turns
 
 pub returns-else-skips-clause-turns : goal.returns-else-skips-clause-turns

@@ -1,12 +1,9 @@
-use Rattle.std.proofs.Common.{rules, [], ◌∷◌}
+use Rattle.std.proofs.Common.{[], ◌∷◌}
 use Rattle.tree_reader.specs.Machine.{take, one_param, more_parameters}
 use Rattle.tree_reader.specs.declared.symbol.Symbol.TheVariants.{CloseParen}
 use Rattle.tree_reader.proofs.Turns.{turns, stops_before}
-use Rattle.tree_reader.proofs.ParamTurns.{thrown_behind, read_first, read_comma, read_more, read_close, params_all}
+use Rattle.tree_reader.proofs.ParamTurns.{thrown_behind, read_comma, read_more, read_close, params_all}
 use Rattle.tree_reader.proofs.params.some_params.Goals as goal
-
-pub params-init : goal.params-init
-params-init c = read_first c.in_ok-param.field-0 c.push.new.self.items c.args.reader.now c.param.new.reader (search rules) c.in_ok-param.ensures.read c.in_ok-param.ensures.turns c.in_ok-param.ensures.less
 
 pub returns-in_err-param-2-clause-stops : goal.returns-in_err-param-2-clause-stops
 returns-in_err-param-2-clause-stops c =
