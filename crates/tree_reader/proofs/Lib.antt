@@ -1,5 +1,13 @@
+pub mod AttributeForms
+pub mod BodyTurns
 pub mod FieldForms
+pub mod FileForms
 pub mod HeadForms
+pub mod MessageTurns
+pub mod NameForms
+pub mod ParamTurns
+pub mod Rests
 pub mod Symbols
 pub mod Tokens
 pub mod Turns
+pub mod TypeForms
