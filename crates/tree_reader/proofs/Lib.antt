@@ -1,3 +1,5 @@
+pub mod FileForms
 pub mod Symbols
 pub mod Tokens
+pub mod Rests
 pub mod Turns
