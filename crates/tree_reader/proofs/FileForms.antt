@@ -33,6 +33,7 @@ use Rattle.tree_reader.specs.Reading.{Turns, Stops, IsNext, closed, IsBracketed,
 use Rattle.tree_reader.specs.Spelling.{spelled}
 use Rattle.tree_reader.specs.Files.{FileStops, scope_of, room_of, ClosedRest, OpenRest, Makes, may_come, begins_protocol, declared_of, IsDraft, IsHeadedDraft, IsProtocolDraft}
 use Rattle.tree_reader.proofs.Rests.{and_assoc, and_none, Prepends, struct_before, union_before, using_before, include_before, Opens, opened_closed, opened_open, end_closed, end_open, protocol_before, nothing_left, scope_length, room_left, none_open}
+use Rattle.tree_reader.proofs.Symbols.{means}
 use Rattle.tree_reader.proofs.Turns.{is_spelled}
 
 -- The machine between two declarations
@@ -447,6 +448,24 @@ protocol_added kind tokens list how draft from behind to p scope same keyword re
           ∙ ap (λ (b : Bool). refusal [] (stand b (length h.path) false) to) (sym (none_comes kind p));
     }
 
+-- a protocol begins here with no word before its keyword
+keyword_next : (s : Symbol) → begins_protocol s ≡ true → s ≢ symbols.Sync → s ≢ symbols.Async → s ≡ symbols.Protocol
+keyword_next symbols.Protocol b n a = refl
+keyword_next symbols.Sync b n a = absurd (n refl)
+keyword_next symbols.Async b n a = absurd (a refl)
+keyword_next _ b n a = absurd (cc)
+
+-- the word that says how the messages are sent, where it is not `sync`
+pub other_word_read : (b : Bool) (kind : FileKind) (tokens : List Token) (list : List Attribute) (draft : Draft) (from middle to : List Token) → begins_protocol (first_symbol from) ≡ true → first_symbol from ≢ symbols.Sync → middle ≡ from → (b ≡ true → IsNext symbols.Async middle to) → (b ≡ false → (first_symbol middle ≢ symbols.Async) × (to ≡ middle)) → may_come kind draft.protocol ≡ true → IsHeadedDraft kind tokens list draft from → IsProtocolDraft kind tokens list semantics.Async draft to
+other_word_read true kind tokens list draft from middle to begins not_sync same when_async when_other may h =
+    let next = subst (λ (x : List Token). IsNext symbols.Async x to) same (when_async refl) in
+    word_read kind tokens list draft from to symbols.Async semantics.Async (inl refl) (inr (is_spelled symbols.Async from to next)) next may h
+other_word_read false kind tokens list draft from middle to begins not_sync same when_async when_other may h =
+    let o = when_other refl in
+    let not_async : first_symbol from ≢ symbols.Async = subst (λ (x : List Token). first_symbol x ≢ symbols.Async) same o.0 in
+    subst (λ (x : List Token). IsProtocolDraft kind tokens list semantics.Async draft x) (sym (o.1 ∙ same))
+    (no_word_read kind tokens list draft from (keyword_next (first_symbol from) begins not_sync not_async) may h)
+
 -- What may not come
 
 none_step : (may : Bool) (depth : ℕ) (headed : Bool) (s : Symbol) → s ≢ symbols.Struct → s ≢ symbols.Union → (s ≡ symbols.Using → depth ≢ 0) → (begins_protocol s ≡ true → may ≡ false) → unheaded_step headed may depth s ≡ None → step (stand may depth headed) s ≡ None
@@ -469,11 +488,35 @@ not_end false zero true e = absurd (cc)
 not_end false zero false e = refl
 not_end false (suc n) headed e = absurd (grind arith)
 
-pub none_comes_next : (kind : FileKind) (tokens : List Token) (list : List Attribute) (draft : Draft) (from : List Token) (e : Refusal) → e ≡ Left (length from) → first_symbol from ≢ symbols.Struct → first_symbol from ≢ symbols.Union → (first_symbol from ≡ symbols.Using → length draft.scope.items ≢ 0) → (begins_protocol (first_symbol from) ≡ true → may_come kind draft.protocol ≡ false) → IsHeadedDraft kind tokens list draft from → FileStops kind tokens e
-none_comes_next kind tokens list draft from e is not_struct not_union outside_only once h =
+-- No declaration that may have attributes begins with this symbol, with so many namespaces open.
+pub record IsOther (s : Symbol) (count : ℕ) (may : Bool) : Type 0 where
+  pub not_struct : s ≢ symbols.Struct
+  pub not_union : s ≢ symbols.Union
+  pub not_using : s ≡ symbols.Using → count ≢ 0
+  pub not_protocol : begins_protocol s ≡ true → may ≡ false
+
+pub other_using : (s : Symbol) (n : ℕ) (may : Bool) → s ≡ symbols.Using → n ≢ 0 → IsOther s n may
+other_using s n may e h = record { not_struct = λ x. cc; not_union = λ x. cc; not_using = λ x. h; not_protocol = λ b. absurd (cc (ap (λ (x : Symbol). begins_protocol x) e)) }
+
+pub other_protocol : (s : Symbol) (n : ℕ) (may : Bool) → (s ≡ symbols.Protocol) ⊎ ((s ≡ symbols.Async) ⊎ (s ≡ symbols.Sync)) → may ≡ false → IsOther s n may
+other_protocol s n may (inl e) h = record { not_struct = λ x. cc; not_union = λ x. cc; not_using = λ x. absurd (cc); not_protocol = λ b. h }
+other_protocol s n may (inr (inl e)) h = record { not_struct = λ x. cc; not_union = λ x. cc; not_using = λ x. absurd (cc); not_protocol = λ b. h }
+other_protocol s n may (inr (inr e)) h = record { not_struct = λ x. cc; not_union = λ x. cc; not_using = λ x. absurd (cc); not_protocol = λ b. h }
+
+begins_none : (s : Symbol) → s ≢ symbols.Protocol → s ≢ symbols.Async → s ≢ symbols.Sync → begins_protocol s ≡ true → ⊥
+begins_none symbols.Protocol p a b e = p refl
+begins_none symbols.Async p a b e = a refl
+begins_none symbols.Sync p a b e = b refl
+begins_none _ p a b e = cc
+
+pub other_none : (s : Symbol) (n : ℕ) (may : Bool) → s ≢ symbols.Struct → s ≢ symbols.Union → s ≢ symbols.Using → s ≢ symbols.Protocol → s ≢ symbols.Async → s ≢ symbols.Sync → IsOther s n may
+other_none s n may a b c d e f = record { not_struct = a; not_union = b; not_using = λ x. absurd (c x); not_protocol = λ h. absurd (begins_none s d e f h) }
+
+pub none_comes_next : (kind : FileKind) (tokens : List Token) (list : List Attribute) (draft : Draft) (from : List Token) (e : Refusal) → e ≡ Left (length from) → IsOther (first_symbol from) (length draft.scope.items) (may_come kind draft.protocol) → IsHeadedDraft kind tokens list draft from → FileStops kind tokens e
+none_comes_next kind tokens list draft from e is other h =
     let at = stand (may_come kind draft.protocol) (length h.path) h.headed in
     let same : length draft.scope.items ≡ length h.path = ap (λ (x : List (List ℕ)). length x) h.scope ∙ scope_length h.path in
-    let none = none_step (may_come kind draft.protocol) (length h.path) h.headed (first_symbol from) not_struct not_union (λ u z. outside_only u (same ∙ z)) once h.bare in
+    let none = none_step (may_come kind draft.protocol) (length h.path) h.headed (first_symbol from) other.not_struct other.not_union (λ u z. other.not_using u (same ∙ z)) other.not_protocol h.bare in
     subst (λ (x : Refusal). FileStops kind tokens x) (sym is)
     (h.goes ∙ refused_at at from none (λ ends. h.more (not_end (may_come kind draft.protocol) (length h.path) h.headed ends)))
 
@@ -522,8 +565,27 @@ none_bare may zero symbols.CloseBrace a b c d = refl
 none_bare may (suc n) symbols.CloseBrace a b c d = absurd (omega (arith, d refl))
 none_bare may depth _ a b c d = refl
 
-pub no_attributes : (kind : FileKind) (tokens : List Token) (list : List Attribute) (draft : Draft) (from : List Token) → list ≡ [] → first_symbol from ≢ symbols.End → first_symbol from ≢ symbols.OpenBracket → (first_symbol from ≡ symbols.Include → length draft.scope.items ≢ 0) → (first_symbol from ≡ symbols.Namespace → 16 ≤ length draft.scope.items) → (first_symbol from ≡ symbols.CloseBrace → length draft.scope.items ≡ 0) → IsDraft kind tokens draft from → IsHeadedDraft kind tokens list draft from
-no_attributes kind tokens list draft from none more not_bracket not_include not_namespace not_close h =
+-- Nothing that has no attributes begins with this symbol, with so many namespaces open.
+pub record IsBare (s : Symbol) (count : ℕ) : Type 0 where
+  pub not_bracket : s ≢ symbols.OpenBracket
+  pub not_include : s ≡ symbols.Include → count ≢ 0
+  pub not_namespace : s ≡ symbols.Namespace → 16 ≤ count
+  pub not_close : s ≡ symbols.CloseBrace → count ≡ 0
+
+pub bare_include : (s : Symbol) (n : ℕ) → s ≡ symbols.Include → n ≢ 0 → IsBare s n
+bare_include s n e h = record { not_bracket = λ x. cc; not_include = λ x. h; not_namespace = λ x. absurd (cc); not_close = λ x. absurd (cc) }
+
+pub bare_namespace : (s : Symbol) (n : ℕ) → s ≡ symbols.Namespace → 16 ≤ n → IsBare s n
+bare_namespace s n e h = record { not_bracket = λ x. cc; not_include = λ x. absurd (cc); not_namespace = λ x. h; not_close = λ x. absurd (cc) }
+
+pub bare_close : (s : Symbol) (n : ℕ) → s ≡ symbols.CloseBrace → n ≡ 0 → IsBare s n
+bare_close s n e h = record { not_bracket = λ x. cc; not_include = λ x. absurd (cc); not_namespace = λ x. absurd (cc); not_close = λ x. h }
+
+pub bare_none : (s : Symbol) (n : ℕ) → s ≢ symbols.OpenBracket → s ≢ symbols.Include → s ≢ symbols.Namespace → s ≢ symbols.CloseBrace → IsBare s n
+bare_none s n a b c d = record { not_bracket = a; not_include = λ x. absurd (b x); not_namespace = λ x. absurd (c x); not_close = λ x. absurd (d x) }
+
+pub no_attributes : (kind : FileKind) (tokens : List Token) (list : List Attribute) (draft : Draft) (from : List Token) → list ≡ [] → first_symbol from ≢ symbols.End → IsBare (first_symbol from) (length draft.scope.items) → IsDraft kind tokens draft from → IsHeadedDraft kind tokens list draft from
+no_attributes kind tokens list draft from none more other h =
     let same : length draft.scope.items ≡ length h.path = ap (λ (x : List (List ℕ)). length x) h.scope ∙ scope_length h.path in
     record {
       path = h.path;
@@ -533,11 +595,16 @@ no_attributes kind tokens list draft from none more not_bracket not_include not_
       makes = h.makes;
       headed = false;
       goes = h.goes;
-      bare = none_bare (may_come kind draft.protocol) (length h.path) (first_symbol from) not_bracket (λ u z. not_include u (same ∙ z)) (λ u. omega (arith, not_namespace u)) (λ u. sym same ∙ not_close u);
+      bare = none_bare (may_come kind draft.protocol) (length h.path) (first_symbol from) other.not_bracket (λ u z. other.not_include u (same ∙ z)) (λ u. omega (arith, other.not_namespace u)) (λ u. sym same ∙ other.not_close u);
       more = λ e. more;
     }
 
 -- The end
+
+-- no token is left
+pub no_token : (from : List Token) → first_symbol from ≡ symbols.End → from ≡ []
+no_token [] e = refl
+no_token (t ∷ rest) e = absurd (means t symbols.End e)
 
 end_step : (may : Bool) (depth : ℕ) → (may ≡ true) ⊎ (depth ≢ 0) → is_end [] (stand may depth false) ≡ false
 end_step true depth w = refl
