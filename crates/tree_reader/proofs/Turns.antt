@@ -1,5 +1,5 @@
 -- How the machine goes over forms.
-use Rattle.std.proofs.Common.{◌≡◌, ◌≢◌, ℕ, zero, suc, ◌+◌, ◌-◌, ◌≤◌, ◌<◌, Bool, true, false, cond, List, [], ◌∷◌, ◌++◌, length, Option, Some, None, refl, sym, ap, subst, ◌∙◌, arith, append_assoc}
+use Rattle.std.proofs.Common.{◌≡◌, ◌≢◌, ℕ, zero, suc, ◌+◌, ◌-◌, ◌≤◌, ◌<◌, Bool, true, false, cond, List, [], ◌∷◌, ◌++◌, length, Option, Some, None, Result, Ok, Err, IfOk, OnOk, IfErr, IsErrAnd, refl, sym, ap, subst, ◌∙◌, arith, append_assoc}
 use Rattle.ipdl_base.specs.declared.token.Token.{Token}
 use Rattle.ipdl_base.specs.declared.token.TokenKind.TheVariants as kind
 use Rattle.ipdl_base.specs.declared.finding.Place.{Place}
@@ -9,7 +9,7 @@ use Rattle.tree_reader.specs.declared.refusal.Refusal.TheVariants.{Left, NoMemor
 use Rattle.tree_reader.specs.declared.symbol.Symbol.{Symbol}
 use Rattle.tree_reader.specs.declared.symbol.Symbol.TheVariants.{End, Word, Quoted, OtherWord, OtherMark, Colons, OpenBrace, CloseBrace, OpenParen, CloseParen, OpenBracket, CloseBracket, Less, Greater, Semicolon, Comma, Colon, Equals, Question, Async, Both, Child, Class, From, Include, Manager, Manages, Namespace, Nullable, Or, Parent, Protocol, Returns, Struct, Sync, Union, UniquePtr, Using}
 use Rattle.tree_reader.specs.Symbols.{symbol, first_symbol}
-use Rattle.tree_reader.specs.Machine.{Form, proper, take, any_word, production, Stand, gone_in, refusal}
+use Rattle.tree_reader.specs.Machine.{Form, proper, take, any_word, behind, production, Stand, gone_in, refusal}
 use Rattle.tree_reader.specs.Reading.{Turns, Stops, IsNext, IsNextAt, IsNextText}
 use Rattle.tree_reader.specs.Spelling.{Means, spelled}
 use Rattle.tree_reader.proofs.Symbols.{means}
@@ -78,3 +78,55 @@ stops_before fs others a NoMemory one = tt
 -- a form read to its end, and what comes behind it
 pub past : (f : Form) (others : List Form) (a b : List Token) → Turns (f ∷ []) a [] b → Turns (f ∷ others) a others b
 past f others a b one = λ more at. one (others ++ more) at
+
+-- what holds of the error that a `?` carries over
+pub thrown : {T : Type 0} (r : Result T Refusal) (e : Refusal) (P : Refusal → Type 0) → IsErrAnd r (λ x. x ≡ e) → P e → IfErr r P
+thrown (Ok x) e P is holds = tt
+thrown (Err x) e P is holds = subst P (sym is) holds
+
+-- what holds of the error where it is the one that a `?` makes when memory runs out
+pub out_of_memory : {T : Type 0} (r : Result T Refusal) (P : Refusal → Type 0) → IsErrAnd r (λ x. x ≡ NoMemory) → P NoMemory → IfErr r P
+out_of_memory r P is holds = thrown r NoMemory P is holds
+
+-- a weaker fact on an `Ok`
+pub on_ok_weaker : {T E : Type 0} (r : Result T E) (P Q : Type 0) → (P → Q) → OnOk r P → OnOk r Q
+on_ok_weaker (Ok x) P Q f holds = f holds
+on_ok_weaker (Err x) P Q f holds = tt
+
+-- a weaker fact on the value of an `Ok`
+pub if_ok_weaker : {T E : Type 0} (r : Result T E) (P Q : T → Type 0) → ((x : T) → P x → Q x) → IfOk r P → IfOk r Q
+if_ok_weaker (Ok x) P Q f holds = f x holds
+if_ok_weaker (Err x) P Q f holds = tt
+
+-- a weaker fact on the error of an `Err`
+pub if_err_weaker : {T E : Type 0} (r : Result T E) (P Q : E → Type 0) → ((e : E) → P e → Q e) → IfErr r P → IfErr r Q
+if_err_weaker (Ok x) P Q f holds = tt
+if_err_weaker (Err x) P Q f holds = f x holds
+
+-- a refusal that a `?` carries over
+pub stops_on : {T : Type 0} (r : Result T Refusal) (e : Refusal) (fs : List Form) (from : List Token) → IsErrAnd r (λ x. x ≡ e) → Stops fs from e → IfErr r (Stops fs from)
+stops_on r e fs from is holds = thrown r e (λ x. Stops fs from x) is holds
+
+split_step : (o : Option (List Form)) (others more : List Form) (n : ℕ) (go : List Form → Option ℕ) → gone_in (behind o others) n (λ y. go (y ++ more)) ≡ gone_in o n (λ y. go (y ++ (others ++ more)))
+split_step None others more n go = refl
+split_step (Some new) others more n go = ap go (append_assoc new others more)
+
+-- a form that is at the next token what another is there, with others behind it
+pub split : (f g : Form) (others : List Form) (from : List Token) → production f (first_symbol from) ≡ behind (production g (first_symbol from)) others → Turns (f ∷ []) from (g ∷ others) from
+unfolding refusal
+split f g others [] p = λ more at. refl
+split f g others (t ∷ rest) p = λ more at.
+    ap (λ (o : Option (List Form)). gone_in o (length rest + 1) (λ y. refusal (y ++ more) at rest)) p
+    ∙ split_step (production g (symbol t)) others more (length rest + 1) (λ y. refusal y at rest)
+
+-- a form read to its end, and a turn of those behind it
+pub past_turn : (f : Form) (others new : List Form) (a b c : List Token) → Turns (f ∷ []) a [] b → Turns others b new c → Turns (f ∷ others) a new c
+past_turn f others new a b c one two = turns (f ∷ others) others new a b c (past f others a b one) two
+
+-- a form read to its end, and a refusal of those behind it
+pub past_stops : (f : Form) (others : List Form) (a b : List Token) (e : Refusal) → Turns (f ∷ []) a [] b → Stops others b e → Stops (f ∷ others) a e
+past_stops f others a b e one two = stops_behind (f ∷ others) others a b e (past f others a b one) two
+
+-- the next token, where its symbol is known
+pub next_of : (s : Symbol) (place : Place) (from to : List Token) → first_symbol from ≡ s → IsNextAt (first_symbol from) place from to → IsNext s from to
+next_of s place from to e (t, here, (is, at)) = (t, here, is ∙ e)

@@ -1,12 +1,107 @@
--- Where the reader of a file refuses.
-use Rattle.std.specs.Prelude.{◌≡◌, ℕ, List, [], Some}
+-- What a reader of a file says between two declarations: what was read, and what is still to come.
+use Rattle.std.specs.Prelude.{◌≡◌, ◌≢◌, ℕ, ◌-◌, ◌≤◌, ◌⊎◌, Bool, true, false, List, [], ◌∷◌, ◌++◌, length, Option, Some, None, codes}
+use Rattle.std.specs.declared.vec.Vec.{Vec}
+use Rattle.ipdl_base.specs.declared.kinds.Semantics.{Semantics}
 use Rattle.ipdl_base.specs.declared.token.Token.{Token}
+use Rattle.ipdl_syntax.specs.declared.tree.Attribute.{Attribute}
 use Rattle.ipdl_syntax.specs.declared.tree.FileKind.{FileKind}
+use Rattle.ipdl_syntax.specs.declared.tree.FileKind.TheVariants as file
+use Rattle.ipdl_syntax.specs.declared.tree.ProtocolDecl.{ProtocolDecl}
+use Rattle.ipdl_syntax.specs.Parts.{◌⨾◌, mark}
+use Rattle.ipdl_syntax.specs.Grammar.{attributes, protocol_semantics, Inside, Outside, Holder, inside, outside, holder, protocol_file}
+use Rattle.ipdl_syntax.specs.Program.{Tree, Declared, ◌&◌, declared_inside, declared_outside, declared_round, protocol_of, unit_of}
+use Rattle.tree_reader.specs.declared.file.Draft.{Draft}
 use Rattle.tree_reader.specs.declared.refusal.Refusal.{Refusal}
 use Rattle.tree_reader.specs.declared.refusal.Refusal.TheVariants.{Left, NoMemory}
-use Rattle.tree_reader.specs.Machine.{begin, refusal}
+use Rattle.tree_reader.specs.declared.symbol.Symbol.{Symbol}
+use Rattle.tree_reader.specs.declared.symbol.Symbol.TheVariants as symbols
+use Rattle.tree_reader.specs.Symbols.{first_symbol}
+use Rattle.tree_reader.specs.Machine.{Form, Stand, stand, take, managing, unheaded_step, begin, refusal}
 
 -- The machine refuses the tokens of a file where so many are left. Memory may run out in any case.
 abbrev pub FileStops : FileKind → List Token → Refusal → Type 0
 FileStops kind tokens (Left n) = refusal [] (begin kind) tokens ≡ Some n
 FileStops kind tokens NoMemory = Unit {0}
+
+-- Open namespaces, by their names from the innermost to the outermost
+
+-- the names from the outermost to the innermost
+abbrev pub scope_of : List (List ℕ) → List (List ℕ)
+scope_of [] = []
+scope_of (name ∷ outer) = scope_of outer ++ name ∷ []
+
+-- how many more namespaces may stand inside one another
+abbrev pub room_of : List (List ℕ) → ℕ
+room_of [] = 16
+room_of (name ∷ outer) = room_of outer - 1
+
+-- What is left of a file and what it declares, where no protocol may come: the rest of each open namespace, from the innermost, and of the file.
+abbrev pub ClosedRest : List (List ℕ) → Declared → List Token → Type 0
+ClosedRest [] all from = (x : Outside) × (all ≡ declared_outside x) × outside x from []
+ClosedRest (name ∷ outer) all from =
+    (x : Inside) × (rest : Declared) × (middle : List Token) × (all ≡ declared_inside x & rest)
+    × (inside (room_of (name ∷ outer)) (scope_of (name ∷ outer)) x ⨾ mark (codes "}")) from middle × ClosedRest outer rest middle
+
+-- The same where the protocol is still to come: in the innermost namespace, or behind its end.
+abbrev pub OpenRest : List (List ℕ) → Declared → ProtocolDecl → List Token → Type 0
+OpenRest [] all p from =
+    (before : Outside) × (one : Holder) × (after : Outside) × (all ≡ declared_outside before & declared_round one & declared_outside after)
+    × (p ≡ protocol_of one) × protocol_file before one after from []
+OpenRest (name ∷ outer) all p from =
+    (x : Inside) × (middle : List Token) × inside (room_of (name ∷ outer)) (scope_of (name ∷ outer)) x from middle
+    × (((rest : Declared) × (end : List Token) × (all ≡ declared_inside x & rest) × mark (codes "}") middle end × OpenRest outer rest p end)
+    ⊎ ((one : Holder) × (y : Inside) × (rest : Declared) × (end : List Token) × (all ≡ declared_inside x & declared_round one & declared_inside y & rest) × (p ≡ protocol_of one)
+    × (holder (room_of (name ∷ outer)) (scope_of (name ∷ outer)) one ⨾ inside (room_of (name ∷ outer)) (scope_of (name ∷ outer)) y ⨾ mark (codes "}")) middle end × ClosedRest outer rest end))
+
+-- Whatever is left from here makes a tree of all tokens with what was declared so far.
+abbrev pub Makes : FileKind → List Token → Bool → List (List ℕ) → Declared → Option ProtocolDecl → List Token → Type 0
+Makes kind tokens true path so_far protocol from = (rest : Declared) (p : ProtocolDecl) → OpenRest path rest p from → Tree kind tokens (unit_of (so_far & rest) (Some p))
+Makes kind tokens false path so_far protocol from = (rest : Declared) → ClosedRest path rest from → Tree kind tokens (unit_of (so_far & rest) protocol)
+
+-- whether the protocol may still come
+abbrev pub may_come : FileKind → Option ProtocolDecl → Bool
+may_come file.Protocol None = true
+may_come file.Protocol (Some p) = false
+may_come file.Header protocol = false
+
+-- whether a protocol, with or without the word before its keyword, begins with this symbol
+abbrev pub begins_protocol : Symbol → Bool
+begins_protocol symbols.Protocol = true
+begins_protocol symbols.Async = true
+begins_protocol symbols.Sync = true
+begins_protocol _ = false
+
+-- what a draft declares
+abbrev pub declared_of : Draft → Declared
+declared_of draft = record { includes = draft.includes.items; usings = draft.usings.items; structs = draft.structs.items; unions = draft.unions.items }
+
+-- A draft is what stands in the tokens of a file before the ones that are left, and the machine stands there between two declarations.
+pub record IsDraft (kind : FileKind) (tokens : List Token) (draft : Draft) (from : List Token) : Type 0 where
+  pub path : List (List ℕ)
+  pub scope : draft.scope.items ≡ scope_of path
+  pub makes : Makes kind tokens (may_come kind draft.protocol) path (declared_of draft) draft.protocol from
+  pub goes : refusal [] (begin kind) tokens ≡ refusal [] (stand (may_come kind draft.protocol) (length path) false) from
+
+-- The same behind the attributes of a declaration, or where none stand before it and none of what has no attributes comes next.
+pub record IsHeadedDraft (kind : FileKind) (tokens : List Token) (list : List Attribute) (draft : Draft) (from : List Token) : Type 0 where
+  pub path : List (List ℕ)
+  pub scope : draft.scope.items ≡ scope_of path
+  pub before : List Token
+  pub head : attributes list before from
+  pub makes : Makes kind tokens (may_come kind draft.protocol) path (declared_of draft) draft.protocol before
+  pub headed : Bool
+  pub goes : refusal [] (begin kind) tokens ≡ refusal [] (stand (may_come kind draft.protocol) (length path) headed) from
+  pub bare : unheaded_step headed (may_come kind draft.protocol) (length path) (first_symbol from) ≡ None
+  pub more : headed ≡ false → first_symbol from ≢ symbols.End
+
+-- The same behind the attributes of the protocol and the word that says how its messages are sent.
+pub record IsProtocolDraft (kind : FileKind) (tokens : List Token) (list : List Attribute) (how : Semantics) (draft : Draft) (from : List Token) : Type 0 where
+  pub path : List (List ℕ)
+  pub scope : draft.scope.items ≡ scope_of path
+  pub before : List Token
+  pub middle : List Token
+  pub head : attributes list before middle
+  pub word : protocol_semantics how middle from
+  pub may : may_come kind draft.protocol ≡ true
+  pub makes : Makes kind tokens true path (declared_of draft) None before
+  pub goes : refusal [] (begin kind) tokens ≡ refusal (take symbols.Protocol ∷ take symbols.Word ∷ take symbols.OpenBrace ∷ managing ∷ []) (stand false (length path) false) from

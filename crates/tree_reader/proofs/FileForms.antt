@@ -1,0 +1,634 @@
+-- How a draft of a file grows.
+use Rattle.std.proofs.Common.{◌≡◌, ◌≢◌, ℕ, zero, suc, ◌+◌, ◌-◌, ◌≤◌, ◌<◌, ◌⊎◌, inl, inr, Bool, true, false, not, cond, List, [], ◌∷◌, ◌++◌, length, Option, Some, None, codes, refl, sym, ap, subst, ◌∙◌, arith, append_assoc, length-append, add-one}
+use Rattle.std.specs.Prelude.{nat_lt, ◌==◌}
+use Rattle.std.specs.declared.vec.Vec.{Vec}
+use Rattle.std.specs.declared.alloc.Global.{Global}
+use Rattle.std.proofs.lemmas.Bool.{lt-ltb}
+use Rattle.std.proofs.lemmas.Bool.Decides.{nat_tests}
+use Rattle.std.proofs.lemmas.List.{append-nil}
+use Rattle.ipdl_base.specs.declared.kinds.Semantics.{Semantics}
+use Rattle.ipdl_base.specs.declared.kinds.Semantics.TheVariants as semantics
+use Rattle.ipdl_base.specs.declared.token.Token.{Token}
+use Rattle.ipdl_syntax.specs.declared.tree.Attribute.{Attribute}
+use Rattle.ipdl_syntax.specs.declared.tree.FileKind.{FileKind}
+use Rattle.ipdl_syntax.specs.declared.tree.FileKind.TheVariants as file
+use Rattle.ipdl_syntax.specs.declared.tree.Include.{Include as IncludeDecl}
+use Rattle.ipdl_syntax.specs.declared.tree.ProtocolDecl.{ProtocolDecl}
+use Rattle.ipdl_syntax.specs.declared.tree.StructDecl.{StructDecl}
+use Rattle.ipdl_syntax.specs.declared.tree.UnionDecl.{UnionDecl}
+use Rattle.ipdl_syntax.specs.declared.tree.Unit.{Unit as FileUnit}
+use Rattle.ipdl_syntax.specs.declared.tree.Using.{Using as UsingDecl}
+use Rattle.ipdl_syntax.specs.Parts.{Part, ◌⨾◌, mark, reserved, word}
+use Rattle.ipdl_syntax.specs.Grammar.{attributes, declared, fields, components, included, struct_decl, union_decl, using_decl, protocol, protocol_semantics}
+use Rattle.ipdl_syntax.specs.Program.{Tree, Declared, ◌&◌, no_declaration, an_include, a_using, a_struct, a_union, declared_outside, declared_round, unit_of}
+use Rattle.tree_reader.specs.declared.file.Draft.{Draft}
+use Rattle.tree_reader.specs.declared.refusal.Refusal.{Refusal}
+use Rattle.tree_reader.specs.declared.refusal.Refusal.TheVariants.{Left, NoMemory}
+use Rattle.tree_reader.specs.declared.symbol.Symbol.{Symbol}
+use Rattle.tree_reader.specs.declared.symbol.Symbol.TheVariants as symbols
+use Rattle.tree_reader.specs.Symbols.{symbol, first_symbol}
+use Rattle.tree_reader.specs.Ending as ending
+use Rattle.tree_reader.specs.Machine.{Form, take, typed, attributed, managing, fielded, componented, using_named, include_named, production, Stand, stand, step, stepped, unheaded_step, bare_step, is_end, begin, gone_at, gone_in, refusal}
+use Rattle.tree_reader.specs.Reading.{Turns, Stops, IsNext, closed, IsBracketed, IsStructBehind, IsUnionBehind, IsUsingBehind, IsProtocolBehind}
+use Rattle.tree_reader.specs.Spelling.{spelled}
+use Rattle.tree_reader.specs.Files.{FileStops, scope_of, room_of, ClosedRest, OpenRest, Makes, may_come, begins_protocol, declared_of, IsDraft, IsHeadedDraft, IsProtocolDraft}
+use Rattle.tree_reader.proofs.Rests.{and_assoc, and_none, Prepends, struct_before, union_before, using_before, include_before, Opens, opened_closed, opened_open, end_closed, end_open, protocol_before, nothing_left, scope_length, room_left, none_open}
+use Rattle.tree_reader.proofs.Symbols.{means}
+use Rattle.tree_reader.proofs.Turns.{is_spelled}
+
+-- The machine between two declarations
+
+-- where the machine goes at the first word of a declaration
+pub stood : (at to_at : Stand) (s : Symbol) (forms : List Form) (from to : List Token) → IsNext s from to → step at s ≡ Some (forms, to_at) → refusal [] at from ≡ refusal forms to_at to
+unfolding refusal
+stood at to_at s forms from to (t, here, is) e =
+    ap (λ (x : List Token). refusal [] at x) here
+    ∙ ap (λ (o : Option (List Form × Stand)). gone_at o (length to + 1) (λ fs x. refusal fs x to)) (ap (λ (x : Symbol). step at x) is ∙ e)
+
+-- forms read to their end
+pub went : (forms : List Form) (at : Stand) (from to : List Token) → Turns forms from [] to → refusal forms at from ≡ refusal [] at to
+went forms at from to turn = ap (λ (x : List Form). refusal x at from) (sym (append-nil forms)) ∙ turn [] at
+
+-- a refusal in forms is that of the file
+pub stopped : (kind : FileKind) (tokens : List Token) (forms : List Form) (at : Stand) (from : List Token) (e : Refusal) → refusal [] (begin kind) tokens ≡ refusal forms at from → Stops forms from e → FileStops kind tokens e
+stopped kind tokens forms at from (Left n) goes stop = goes ∙ ap (λ (x : List Form). refusal x at from) (sym (append-nil forms)) ∙ stop [] at
+stopped kind tokens forms at from NoMemory goes stop = tt
+
+-- a refusal where no declaration begins
+end_refused : (b : Bool) → (b ≡ true → ⊥) → cond {A = Option ℕ} b None (Some 0) ≡ Some 0
+end_refused true no_end = absurd (no_end refl)
+end_refused false no_end = refl
+
+pub refused_at : (at : Stand) (from : List Token) → step at (first_symbol from) ≡ None → (is_end [] at ≡ true → first_symbol from ≢ symbols.End) → refusal [] at from ≡ Some (length from)
+unfolding refusal
+refused_at at [] e more = end_refused (is_end [] at) (λ h. more h refl)
+refused_at at (t ∷ rest) e more = ap (λ (o : Option (List Form × Stand)). gone_at o (length rest + 1) (λ fs x. refusal fs x rest)) e ∙ ap (λ (n : ℕ). Some n) (omega arith)
+
+-- What a draft makes with what is left
+
+makes_more : (kind : FileKind) (tokens : List Token) (may : Bool) (path : List (List ℕ)) (so_far d : Declared) (held : Option ProtocolDecl) (from to : List Token) → Prepends path d from to → Makes kind tokens may path so_far held from → Makes kind tokens may path (so_far & d) held to
+makes_more kind tokens true path so_far d held from to one makes = λ rest p r.
+    subst (λ (x : Declared). Tree kind tokens (unit_of x (Some p))) (sym (and_assoc so_far d rest)) (makes (d & rest) p (one.when_open rest p r))
+makes_more kind tokens false path so_far d held from to one makes = λ rest r.
+    subst (λ (x : Declared). Tree kind tokens (unit_of x held)) (sym (and_assoc so_far d rest)) (makes (d & rest) (one.when_closed rest r))
+
+makes_inner : (kind : FileKind) (tokens : List Token) (may : Bool) (path : List (List ℕ)) (so_far : Declared) (held : Option ProtocolDecl) (name : List ℕ) (from inner : List Token) → 0 < room_of path → Opens name from inner → Makes kind tokens may path so_far held from → Makes kind tokens may (name ∷ path) so_far held inner
+makes_inner kind tokens true path so_far held name from inner room o makes = λ rest p r. makes rest p (opened_open path name from inner room o rest p r)
+makes_inner kind tokens false path so_far held name from inner room o makes = λ rest r. makes rest (opened_closed path name from inner room o rest r)
+
+makes_outer : (kind : FileKind) (tokens : List Token) (may : Bool) (path : List (List ℕ)) (so_far : Declared) (held : Option ProtocolDecl) (name : List ℕ) (from to : List Token) → mark (codes "}") from to → Makes kind tokens may (name ∷ path) so_far held from → Makes kind tokens may path so_far held to
+makes_outer kind tokens true path so_far held name from to m makes = λ rest p r. makes rest p (end_open path name from to m rest p r)
+makes_outer kind tokens false path so_far held name from to m makes = λ rest r. makes rest (end_closed path name from to m rest r)
+
+-- a file of which nothing was read
+begins_empty : (kind : FileKind) (tokens : List Token) → Makes kind tokens (may_come kind None) [] no_declaration None tokens
+begins_empty file.Header tokens = λ rest (x, e, d). (x, d, ap (λ (r : Declared). unit_of r None) e)
+begins_empty file.Protocol tokens = λ rest p (x, one, y, e, q, d). (x, one, y, d, ap (λ (r : Declared). unit_of r (Some p)) e ∙ ap (λ (r : ProtocolDecl). unit_of (declared_outside x & declared_round one & declared_outside y) (Some r)) q)
+
+begin_is : (kind : FileKind) → begin kind ≡ stand (may_come kind None) 0 false
+begin_is file.Header = refl
+begin_is file.Protocol = refl
+
+pub nothing_read : (kind : FileKind) (tokens : List Token) (draft : Draft) → draft.includes.items ≡ [] → draft.usings.items ≡ [] → draft.structs.items ≡ [] → draft.unions.items ≡ [] → draft.protocol ≡ None → draft.scope.items ≡ [] → IsDraft kind tokens draft tokens
+nothing_read kind tokens draft includes usings structs unions held scope = record {
+  path = [];
+  scope = scope;
+  makes =
+      let none : no_declaration ≡ declared_of draft = λ i. record { includes = sym includes i; usings = sym usings i; structs = sym structs i; unions = sym unions i } in
+      subst (λ (x : Declared). Makes kind tokens (may_come kind draft.protocol) [] x draft.protocol tokens) none
+      (subst (λ (h : Option ProtocolDecl). Makes kind tokens (may_come kind h) [] no_declaration h tokens) (sym held) (begins_empty kind tokens));
+  goes = ap (λ (x : Stand). refusal [] x tokens) (begin_is kind) ∙ ap (λ (h : Option ProtocolDecl). refusal [] (stand (may_come kind h) 0 false) tokens) (sym held);
+}
+
+-- A struct
+
+struct_forms : List Form
+struct_forms = take symbols.Word ∷ take symbols.OpenBrace ∷ fielded ∷ []
+
+with_struct : (d : Declared) (s : StructDecl) (items : List StructDecl) → items ≡ d.structs ++ s ∷ [] → record d { structs = items } ≡ (d & a_struct s)
+with_struct d s items e = λ i. record {
+  includes = sym (append-nil d.includes) i;
+  usings = sym (append-nil d.usings) i;
+  structs = e i;
+  unions = sym (append-nil d.unions) i;
+}
+
+struct_step : (may : Bool) (depth : ℕ) (headed : Bool) → step (stand may depth headed) symbols.Struct ≡ Some (struct_forms, stand may depth false)
+unfolding step struct_forms
+struct_step may depth headed = refl
+
+struct_stood : (kind : FileKind) (tokens : List Token) (list : List Attribute) (draft : Draft) (from behind : List Token) → IsNext symbols.Struct from behind → (h : IsHeadedDraft kind tokens list draft from) →
+    refusal [] (begin kind) tokens ≡ refusal struct_forms (stand (may_come kind draft.protocol) (length h.path) false) behind
+struct_stood kind tokens list draft from behind next h =
+    h.goes ∙ stood (stand (may_come kind draft.protocol) (length h.path) h.headed) (stand (may_come kind draft.protocol) (length h.path) false) symbols.Struct struct_forms from behind next (struct_step (may_come kind draft.protocol) (length h.path) h.headed)
+
+pub struct_stopped : (kind : FileKind) (tokens : List Token) (list : List Attribute) (draft : Draft) (from behind : List Token) (e : Refusal) → IsNext symbols.Struct from behind → Stops (take symbols.Word ∷ take symbols.OpenBrace ∷ fielded ∷ []) behind e → IsHeadedDraft kind tokens list draft from → FileStops kind tokens e
+unfolding struct_forms
+struct_stopped kind tokens list draft from behind e next stop h =
+    stopped kind tokens struct_forms (stand (may_come kind draft.protocol) (length h.path) false) behind e (struct_stood kind tokens list draft from behind next h) stop
+
+struct_whole : (path : List (List ℕ)) (scope : List (List ℕ)) (list : List Attribute) (s : StructDecl) (before from behind to : List Token) → scope ≡ scope_of path → attributes list before from → IsNext symbols.Struct from behind → IsStructBehind scope list s behind to → struct_decl (scope_of path) s before to
+struct_whole path scope list s before from behind to same head next (att, read) =
+    let first = subst (λ (x : List Attribute). attributes x before from) (sym att) head in
+    let last = subst (λ (x : List (List ℕ)). (declared x s.full s.place ⨾ mark (codes "{") ⨾ fields s.fields ⨾ closed) behind to) same read in
+    (from, first, (behind, is_spelled symbols.Struct from behind next, last))
+
+pub struct_added : (kind : FileKind) (tokens : List Token) (list : List Attribute) (draft : Draft) (from behind to : List Token) (s : StructDecl) (pushed : Vec StructDecl Global) (scope : List (List ℕ)) → scope ≡ draft.scope.items → pushed.items ≡ draft.structs.items ++ s ∷ [] → IsNext symbols.Struct from behind → IsStructBehind scope list s behind to → Turns (take symbols.Word ∷ take symbols.OpenBrace ∷ fielded ∷ []) behind [] to → IsHeadedDraft kind tokens list draft from → IsDraft kind tokens (record draft { structs = pushed }) to
+unfolding struct_forms
+struct_added kind tokens list draft from behind to s pushed scope same grown next read turn h = record {
+  path = h.path;
+  scope = h.scope;
+  makes = subst (λ (x : Declared). Makes kind tokens (may_come kind draft.protocol) h.path x draft.protocol to) (sym (with_struct (declared_of draft) s pushed.items grown))
+      (makes_more kind tokens (may_come kind draft.protocol) h.path (declared_of draft) (a_struct s) draft.protocol h.before to
+      (struct_before h.path s h.before to (struct_whole h.path scope list s h.before from behind to (same ∙ h.scope) h.head next read)) h.makes);
+  goes = struct_stood kind tokens list draft from behind next h ∙ went struct_forms (stand (may_come kind draft.protocol) (length h.path) false) behind to turn;
+}
+
+-- A union
+
+union_forms : List Form
+union_forms = take symbols.Word ∷ take symbols.OpenBrace ∷ typed 4 ending.Semicolon ∷ componented ∷ []
+
+with_union : (d : Declared) (u : UnionDecl) (items : List UnionDecl) → items ≡ d.unions ++ u ∷ [] → record d { unions = items } ≡ (d & a_union u)
+with_union d u items e = λ i. record {
+  includes = sym (append-nil d.includes) i;
+  usings = sym (append-nil d.usings) i;
+  structs = sym (append-nil d.structs) i;
+  unions = e i;
+}
+
+union_step : (may : Bool) (depth : ℕ) (headed : Bool) → step (stand may depth headed) symbols.Union ≡ Some (union_forms, stand may depth false)
+unfolding step union_forms
+union_step may depth headed = refl
+
+union_stood : (kind : FileKind) (tokens : List Token) (list : List Attribute) (draft : Draft) (from behind : List Token) → IsNext symbols.Union from behind → (h : IsHeadedDraft kind tokens list draft from) →
+    refusal [] (begin kind) tokens ≡ refusal union_forms (stand (may_come kind draft.protocol) (length h.path) false) behind
+union_stood kind tokens list draft from behind next h =
+    h.goes ∙ stood (stand (may_come kind draft.protocol) (length h.path) h.headed) (stand (may_come kind draft.protocol) (length h.path) false) symbols.Union union_forms from behind next (union_step (may_come kind draft.protocol) (length h.path) h.headed)
+
+pub union_stopped : (kind : FileKind) (tokens : List Token) (list : List Attribute) (draft : Draft) (from behind : List Token) (e : Refusal) → IsNext symbols.Union from behind → Stops (take symbols.Word ∷ take symbols.OpenBrace ∷ typed 4 ending.Semicolon ∷ componented ∷ []) behind e → IsHeadedDraft kind tokens list draft from → FileStops kind tokens e
+unfolding union_forms
+union_stopped kind tokens list draft from behind e next stop h =
+    stopped kind tokens union_forms (stand (may_come kind draft.protocol) (length h.path) false) behind e (union_stood kind tokens list draft from behind next h) stop
+
+union_whole : (path : List (List ℕ)) (scope : List (List ℕ)) (list : List Attribute) (u : UnionDecl) (before from behind to : List Token) → scope ≡ scope_of path → attributes list before from → IsNext symbols.Union from behind → IsUnionBehind scope list u behind to → union_decl (scope_of path) u before to
+union_whole path scope list u before from behind to same head next (att, (some, read)) =
+    let first = subst (λ (x : List Attribute). attributes x before from) (sym att) head in
+    let last = subst (λ (x : List (List ℕ)). (declared x u.full u.place ⨾ mark (codes "{") ⨾ components u.components ⨾ closed) behind to) same read in
+    (some, (from, first, (behind, is_spelled symbols.Union from behind next, last)))
+
+pub union_added : (kind : FileKind) (tokens : List Token) (list : List Attribute) (draft : Draft) (from behind to : List Token) (u : UnionDecl) (pushed : Vec UnionDecl Global) (scope : List (List ℕ)) → scope ≡ draft.scope.items → pushed.items ≡ draft.unions.items ++ u ∷ [] → IsNext symbols.Union from behind → IsUnionBehind scope list u behind to → Turns (take symbols.Word ∷ take symbols.OpenBrace ∷ typed 4 ending.Semicolon ∷ componented ∷ []) behind [] to → IsHeadedDraft kind tokens list draft from → IsDraft kind tokens (record draft { unions = pushed }) to
+unfolding union_forms
+union_added kind tokens list draft from behind to u pushed scope same grown next read turn h = record {
+  path = h.path;
+  scope = h.scope;
+  makes = subst (λ (x : Declared). Makes kind tokens (may_come kind draft.protocol) h.path x draft.protocol to) (sym (with_union (declared_of draft) u pushed.items grown))
+      (makes_more kind tokens (may_come kind draft.protocol) h.path (declared_of draft) (a_union u) draft.protocol h.before to
+      (union_before h.path u h.before to (union_whole h.path scope list u h.before from behind to (same ∙ h.scope) h.head next read)) h.makes);
+  goes = union_stood kind tokens list draft from behind next h ∙ went union_forms (stand (may_come kind draft.protocol) (length h.path) false) behind to turn;
+}
+
+-- A using
+
+with_using : (d : Declared) (u : UsingDecl) (items : List UsingDecl) → items ≡ d.usings ++ u ∷ [] → record d { usings = items } ≡ (d & a_using u)
+with_using d u items e = λ i. record {
+  includes = sym (append-nil d.includes) i;
+  usings = e i;
+  structs = sym (append-nil d.structs) i;
+  unions = sym (append-nil d.unions) i;
+}
+
+using_step : (may : Bool) (path : List (List ℕ)) (headed : Bool) → path ≡ [] → step (stand may (length path) headed) symbols.Using ≡ Some (using_named ∷ [], stand may (length path) false)
+unfolding step
+using_step may [] headed e = refl
+using_step may (name ∷ outer) headed e = absurd (cc)
+
+using_stood : (kind : FileKind) (tokens : List Token) (list : List Attribute) (draft : Draft) (from behind : List Token) → length draft.scope.items ≡ 0 → IsNext symbols.Using from behind → (h : IsHeadedDraft kind tokens list draft from) →
+    refusal [] (begin kind) tokens ≡ refusal (using_named ∷ []) (stand (may_come kind draft.protocol) (length h.path) false) behind
+using_stood kind tokens list draft from behind out next h =
+    h.goes ∙ stood (stand (may_come kind draft.protocol) (length h.path) h.headed) (stand (may_come kind draft.protocol) (length h.path) false) symbols.Using (using_named ∷ []) from behind next
+    (using_step (may_come kind draft.protocol) h.path h.headed (none_open h.path draft.scope.items h.scope out))
+
+pub using_stopped : (kind : FileKind) (tokens : List Token) (list : List Attribute) (draft : Draft) (from behind : List Token) (e : Refusal) → length draft.scope.items ≡ 0 → IsNext symbols.Using from behind → Stops (using_named ∷ []) behind e → IsHeadedDraft kind tokens list draft from → FileStops kind tokens e
+using_stopped kind tokens list draft from behind e out next stop h =
+    stopped kind tokens (using_named ∷ []) (stand (may_come kind draft.protocol) (length h.path) false) behind e (using_stood kind tokens list draft from behind out next h) stop
+
+using_whole : (list : List Attribute) (u : UsingDecl) (before from behind to : List Token) → attributes list before from → IsNext symbols.Using from behind → IsUsingBehind list u behind to → using_decl u before to
+using_whole list u before from behind to head next (att, read) =
+    (from, subst (λ (x : List Attribute). attributes x before from) (sym att) head, (behind, is_spelled symbols.Using from behind next, read))
+
+pub using_added : (kind : FileKind) (tokens : List Token) (list : List Attribute) (draft : Draft) (from behind to : List Token) (u : UsingDecl) (pushed : Vec UsingDecl Global) → length draft.scope.items ≡ 0 → pushed.items ≡ draft.usings.items ++ u ∷ [] → IsNext symbols.Using from behind → IsUsingBehind list u behind to → Turns (using_named ∷ []) behind [] to → IsHeadedDraft kind tokens list draft from → IsDraft kind tokens (record draft { usings = pushed }) to
+using_added kind tokens list draft from behind to u pushed out grown next read turn h =
+    let top = none_open h.path draft.scope.items h.scope out in
+    record {
+      path = h.path;
+      scope = h.scope;
+      makes = subst (λ (x : Declared). Makes kind tokens (may_come kind draft.protocol) h.path x draft.protocol to) (sym (with_using (declared_of draft) u pushed.items grown))
+          (makes_more kind tokens (may_come kind draft.protocol) h.path (declared_of draft) (a_using u) draft.protocol h.before to
+          (subst (λ (x : List (List ℕ)). Prepends x (a_using u) h.before to) (sym top) (using_before u h.before to (using_whole list u h.before from behind to h.head next read))) h.makes);
+      goes = using_stood kind tokens list draft from behind out next h ∙ went (using_named ∷ []) (stand (may_come kind draft.protocol) (length h.path) false) behind to turn;
+    }
+
+-- An include
+
+with_include : (d : Declared) (x : IncludeDecl) (items : List IncludeDecl) → items ≡ d.includes ++ x ∷ [] → record d { includes = items } ≡ (d & an_include x)
+with_include d x items e = λ i. record {
+  includes = e i;
+  usings = sym (append-nil d.usings) i;
+  structs = sym (append-nil d.structs) i;
+  unions = sym (append-nil d.unions) i;
+}
+
+include_step : (may : Bool) (path : List (List ℕ)) → path ≡ [] → step (stand may (length path) false) symbols.Include ≡ Some (include_named ∷ [], stand may (length path) false)
+unfolding step
+include_step may [] e = refl
+include_step may (name ∷ outer) e = absurd (cc)
+
+include_stood : (kind : FileKind) (tokens : List Token) (draft : Draft) (from behind : List Token) → length draft.scope.items ≡ 0 → IsNext symbols.Include from behind → (h : IsDraft kind tokens draft from) →
+    refusal [] (begin kind) tokens ≡ refusal (include_named ∷ []) (stand (may_come kind draft.protocol) (length h.path) false) behind
+include_stood kind tokens draft from behind out next h =
+    h.goes ∙ stood (stand (may_come kind draft.protocol) (length h.path) false) (stand (may_come kind draft.protocol) (length h.path) false) symbols.Include (include_named ∷ []) from behind next
+    (include_step (may_come kind draft.protocol) h.path (none_open h.path draft.scope.items h.scope out))
+
+pub include_stopped : (kind : FileKind) (tokens : List Token) (draft : Draft) (from behind : List Token) (e : Refusal) → length draft.scope.items ≡ 0 → IsNext symbols.Include from behind → Stops (include_named ∷ []) behind e → IsDraft kind tokens draft from → FileStops kind tokens e
+include_stopped kind tokens draft from behind e out next stop h =
+    stopped kind tokens (include_named ∷ []) (stand (may_come kind draft.protocol) (length h.path) false) behind e (include_stood kind tokens draft from behind out next h) stop
+
+pub include_added : (kind : FileKind) (tokens : List Token) (draft : Draft) (from behind to : List Token) (x : IncludeDecl) (pushed : Vec IncludeDecl Global) → length draft.scope.items ≡ 0 → pushed.items ≡ draft.includes.items ++ x ∷ [] → IsNext symbols.Include from behind → (included x.kind x.name x.place ⨾ mark (codes ";")) behind to → Turns (include_named ∷ []) behind [] to → IsDraft kind tokens draft from → IsDraft kind tokens (record draft { includes = pushed }) to
+include_added kind tokens draft from behind to x pushed out grown next read turn h =
+    let top = none_open h.path draft.scope.items h.scope out in
+    record {
+      path = h.path;
+      scope = h.scope;
+      makes = subst (λ (d : Declared). Makes kind tokens (may_come kind draft.protocol) h.path d draft.protocol to) (sym (with_include (declared_of draft) x pushed.items grown))
+          (makes_more kind tokens (may_come kind draft.protocol) h.path (declared_of draft) (an_include x) draft.protocol from to
+          (subst (λ (p : List (List ℕ)). Prepends p (an_include x) from to) (sym top) (include_before x from to (behind, is_spelled symbols.Include from behind next, read))) h.makes);
+      goes = include_stood kind tokens draft from behind out next h ∙ went (include_named ∷ []) (stand (may_come kind draft.protocol) (length h.path) false) behind to turn;
+    }
+
+-- Namespaces
+
+-- a number that is not 0
+not_zero : (depth : ℕ) → depth ≢ 0 → (depth == 0) ≡ false
+not_zero depth h = grind (arith, nat_tests)
+
+-- the machine on these forms, with so many namespaces open
+abbrev reached : List Form → Bool → ℕ → Option (List Form × Stand)
+reached forms may depth = Some (forms, stand may depth false)
+
+open_forms : List Form
+open_forms = take symbols.Word ∷ take symbols.OpenBrace ∷ []
+
+open_step : (may : Bool) (depth : ℕ) → depth < 16 → step (stand may depth false) symbols.Namespace ≡ Some (open_forms, stand may (suc depth) false)
+unfolding step open_forms
+open_step may depth lt =
+    ap (λ (b : Bool). stepped b (take symbols.Word ∷ take symbols.OpenBrace ∷ []) (stand may (depth + 1) false)) (lt-ltb depth 16 lt)
+    ∙ ap (λ (n : ℕ). reached (take symbols.Word ∷ take symbols.OpenBrace ∷ []) may n) (add-one depth)
+
+open_room : (path : List (List ℕ)) (names : List (List ℕ)) → names ≡ scope_of path → length names < 16 → length path < 16
+open_room path names e lt = omega (arith, ap (λ (x : List (List ℕ)). length x) e, scope_length path)
+
+open_stood : (kind : FileKind) (tokens : List Token) (draft : Draft) (from behind : List Token) → length draft.scope.items < 16 → IsNext symbols.Namespace from behind → (h : IsDraft kind tokens draft from) →
+    refusal [] (begin kind) tokens ≡ refusal open_forms (stand (may_come kind draft.protocol) (suc (length h.path)) false) behind
+open_stood kind tokens draft from behind room next h =
+    h.goes ∙ stood (stand (may_come kind draft.protocol) (length h.path) false) (stand (may_come kind draft.protocol) (suc (length h.path)) false) symbols.Namespace open_forms from behind next
+    (open_step (may_come kind draft.protocol) (length h.path) (open_room h.path draft.scope.items h.scope room))
+
+pub open_stopped : (kind : FileKind) (tokens : List Token) (draft : Draft) (from behind : List Token) (e : Refusal) → length draft.scope.items < 16 → IsNext symbols.Namespace from behind → Stops (take symbols.Word ∷ take symbols.OpenBrace ∷ []) behind e → IsDraft kind tokens draft from → FileStops kind tokens e
+unfolding open_forms
+open_stopped kind tokens draft from behind e room next stop h =
+    stopped kind tokens open_forms (stand (may_come kind draft.protocol) (suc (length h.path)) false) behind e (open_stood kind tokens draft from behind room next h) stop
+
+pub namespace_opened : (kind : FileKind) (tokens : List Token) (draft : Draft) (from behind to : List Token) (name : List ℕ) (pushed : Vec (List ℕ) Global) → length draft.scope.items < 16 → pushed.items ≡ draft.scope.items ++ name ∷ [] → IsNext symbols.Namespace from behind → (word name ⨾ mark (codes "{")) behind to → Turns (take symbols.Word ∷ take symbols.OpenBrace ∷ []) behind [] to → IsDraft kind tokens draft from → IsDraft kind tokens (record draft { scope = pushed }) to
+unfolding open_forms
+namespace_opened kind tokens draft from behind to name pushed room grown next read turn h =
+    let few = open_room h.path draft.scope.items h.scope room in
+    let some : 0 < room_of h.path = omega (arith, room_left h.path) in
+    record {
+      path = name ∷ h.path;
+      scope = grown ∙ ap (λ (x : List (List ℕ)). x ++ name ∷ []) h.scope;
+      makes = makes_inner kind tokens (may_come kind draft.protocol) h.path (declared_of draft) draft.protocol name from to some (behind, is_spelled symbols.Namespace from behind next, read) h.makes;
+      goes = open_stood kind tokens draft from behind room next h ∙ went open_forms (stand (may_come kind draft.protocol) (suc (length h.path)) false) behind to turn;
+    }
+
+one_less : (depth : ℕ) → suc depth - 1 ≡ depth
+one_less depth = omega arith
+
+close_step : (may : Bool) (depth : ℕ) → step (stand may (suc depth) false) symbols.CloseBrace ≡ Some ([], stand may depth false)
+unfolding step
+close_step may depth =
+    ap (λ (b : Bool). stepped b [] (stand may (suc depth - 1) false)) (lt-ltb 0 (suc depth) (omega arith))
+    ∙ ap (λ (n : ℕ). reached [] may n) (one_less depth)
+
+-- what is left of the names behind the last
+popped_scope : (left last names : List (List ℕ)) (name : List ℕ) → length last ≡ 1 → left ++ last ≡ names ++ name ∷ [] → left ≡ names
+popped_scope left [] names name single e = absurd (omega (arith, single))
+popped_scope left (x ∷ y ∷ more) names name single e = absurd (omega (arith, single))
+popped_scope [] (x ∷ []) [] name single e = refl
+popped_scope [] (x ∷ []) (n ∷ names) name single e = absurd (omega (arith, ap (λ (z : List (List ℕ)). length z) e, length-append names (name ∷ [])))
+popped_scope (l ∷ left) (x ∷ []) [] name single e = absurd (omega (arith, ap (λ (z : List (List ℕ)). length z) e, length-append left (x ∷ [])))
+popped_scope (l ∷ left) (x ∷ []) (n ∷ names) name single e =
+    let one : l ≡ n = cc in
+    let rest : left ++ x ∷ [] ≡ names ++ name ∷ [] = cc in
+    let more = popped_scope left (x ∷ []) names name single rest in
+    cc
+
+-- the innermost namespace is closed
+module _ (kind : FileKind) (tokens : List Token) (draft : Draft) (from to : List Token) (popped : Vec (List ℕ) Global) (last : List (List ℕ)) where
+  closed_at : (path : List (List ℕ)) → 0 < length draft.scope.items → draft.scope.items ≡ popped.items ++ last → length last ≡ 1 → IsNext symbols.CloseBrace from to → draft.scope.items ≡ scope_of path → Makes kind tokens (may_come kind draft.protocol) path (declared_of draft) draft.protocol from →
+      refusal [] (begin kind) tokens ≡ refusal [] (stand (may_come kind draft.protocol) (length path) false) from → IsDraft kind tokens (record draft { scope = popped }) to
+  closed_at [] some split single next scope makes goes = absurd (omega (arith, ap (λ (x : List (List ℕ)). length x) scope))
+  closed_at (name ∷ outer) some split single next scope makes goes = record {
+    path = outer;
+    scope = popped_scope popped.items last (scope_of outer) name single (sym split ∙ scope);
+    makes = makes_outer kind tokens (may_come kind draft.protocol) outer (declared_of draft) draft.protocol name from to (is_spelled symbols.CloseBrace from to next) makes;
+    goes = goes ∙ stood (stand (may_come kind draft.protocol) (suc (length outer)) false) (stand (may_come kind draft.protocol) (length outer) false) symbols.CloseBrace [] from to next (close_step (may_come kind draft.protocol) (length outer));
+  }
+
+pub namespace_closed : (kind : FileKind) (tokens : List Token) (draft : Draft) (from to : List Token) (popped : Vec (List ℕ) Global) (last : List (List ℕ)) → 0 < length draft.scope.items → draft.scope.items ≡ popped.items ++ last → length last ≡ 1 → IsNext symbols.CloseBrace from to → IsDraft kind tokens draft from → IsDraft kind tokens (record draft { scope = popped }) to
+namespace_closed kind tokens draft from to popped last some split single next h = closed_at kind tokens draft from to popped last h.path some split single next h.scope h.makes h.goes
+
+-- The protocol
+
+protocol_forms : List Form
+protocol_forms = take symbols.Word ∷ take symbols.OpenBrace ∷ managing ∷ []
+
+worded_step : (s : Symbol) (may : Bool) (depth : ℕ) (headed : Bool) → (s ≡ symbols.Async) ⊎ (s ≡ symbols.Sync) → may ≡ true → step (stand may depth headed) s ≡ Some (take symbols.Protocol ∷ protocol_forms, stand false depth false)
+unfolding step protocol_forms
+worded_step symbols.Async true depth headed w m = refl
+worded_step symbols.Sync true depth headed w m = refl
+worded_step s false depth headed w m = absurd (cc)
+worded_step _ true depth headed (inl e) m = absurd (cc)
+worded_step _ true depth headed (inr e) m = absurd (cc)
+
+makes_true : (kind : FileKind) (tokens : List Token) (may : Bool) (path : List (List ℕ)) (so_far : Declared) (held : Option ProtocolDecl) (from : List Token) → may ≡ true → Makes kind tokens may path so_far held from → Makes kind tokens true path so_far None from
+makes_true kind tokens true path so_far held from e makes = makes
+makes_true kind tokens false path so_far held from e makes = absurd (cc)
+
+-- a word that says how the messages are sent, and the protocol behind it
+pub word_read : (kind : FileKind) (tokens : List Token) (list : List Attribute) (draft : Draft) (from to : List Token) (s : Symbol) (how : Semantics) → (s ≡ symbols.Async) ⊎ (s ≡ symbols.Sync) → protocol_semantics how from to → IsNext s from to → may_come kind draft.protocol ≡ true → IsHeadedDraft kind tokens list draft from → IsProtocolDraft kind tokens list how draft to
+unfolding protocol_forms
+word_read kind tokens list draft from to s how which word next may h = record {
+  path = h.path;
+  scope = h.scope;
+  before = h.before;
+  middle = from;
+  head = h.head;
+  word = word;
+  may = may;
+  makes = makes_true kind tokens (may_come kind draft.protocol) h.path (declared_of draft) draft.protocol h.before may h.makes;
+  goes = h.goes ∙ stood (stand (may_come kind draft.protocol) (length h.path) h.headed) (stand false (length h.path) false) s (take symbols.Protocol ∷ protocol_forms) from to next (worded_step s (may_come kind draft.protocol) (length h.path) h.headed which may);
+}
+
+-- no word, and the protocol
+bare_protocol : (may : Bool) (depth : ℕ) (headed : Bool) (from : List Token) → may ≡ true → first_symbol from ≡ symbols.Protocol → refusal [] (stand may depth headed) from ≡ refusal (take symbols.Protocol ∷ protocol_forms) (stand false depth false) from
+unfolding refusal step production protocol_forms
+bare_protocol may depth headed [] m e = absurd (cc)
+bare_protocol false depth headed (t ∷ rest) m e = absurd (cc)
+bare_protocol true depth headed (t ∷ rest) m e =
+    ap (λ (x : Symbol). gone_at (step (stand true depth headed) x) (length rest + 1) (λ fs y. refusal fs y rest)) e
+    ∙ sym (ap (λ (x : Symbol). gone_in (production (take symbols.Protocol) x) (length rest + 1) (λ new. refusal (new ++ protocol_forms) (stand false depth false) rest)) e)
+
+pub no_word_read : (kind : FileKind) (tokens : List Token) (list : List Attribute) (draft : Draft) (from : List Token) → first_symbol from ≡ symbols.Protocol → may_come kind draft.protocol ≡ true → IsHeadedDraft kind tokens list draft from → IsProtocolDraft kind tokens list semantics.Async draft from
+unfolding protocol_forms
+no_word_read kind tokens list draft from is may h = record {
+  path = h.path;
+  scope = h.scope;
+  before = h.before;
+  middle = from;
+  head = h.head;
+  word = inl refl;
+  may = may;
+  makes = makes_true kind tokens (may_come kind draft.protocol) h.path (declared_of draft) draft.protocol h.before may h.makes;
+  goes = h.goes ∙ bare_protocol (may_come kind draft.protocol) (length h.path) h.headed from may is;
+}
+
+protocol_whole : (path : List (List ℕ)) (scope : List (List ℕ)) (list : List Attribute) (how : Semantics) (p : ProtocolDecl) (before middle from behind to : List Token) → scope ≡ scope_of path → attributes list before middle → protocol_semantics how middle from → spelled symbols.Protocol from behind → IsProtocolBehind scope list how p behind to → protocol (scope_of path) p before to
+protocol_whole path scope list how p before middle from behind to same head word keyword (att, (sem, (m1, name, (m2, brace, body)))) = (
+  body.statements,
+  body.parts,
+  body.managers_of_them,
+  body.managed_of_them,
+  body.messages_of_them,
+  (
+    middle,
+    subst (λ (x : List Attribute). attributes x before middle) (sym att) head,
+    (
+      from,
+      subst (λ (x : Semantics). protocol_semantics x middle from) (sym sem) word,
+      (behind, keyword, (m1, subst (λ (x : List (List ℕ)). declared x p.full p.place behind m1) same name, (m2, brace, body.read))),
+    ),
+  ),
+)
+
+none_comes : (kind : FileKind) (p : ProtocolDecl) → may_come kind (Some p) ≡ false
+none_comes file.Protocol p = refl
+none_comes file.Header p = refl
+
+pub protocol_stopped : (kind : FileKind) (tokens : List Token) (list : List Attribute) (how : Semantics) (draft : Draft) (from behind : List Token) (e : Refusal) → Turns (take symbols.Protocol ∷ []) from [] behind → Stops (take symbols.Word ∷ take symbols.OpenBrace ∷ managing ∷ []) behind e → IsProtocolDraft kind tokens list how draft from → FileStops kind tokens e
+unfolding protocol_forms
+protocol_stopped kind tokens list how draft from behind e turn stop h =
+    stopped kind tokens protocol_forms (stand false (length h.path) false) behind e (h.goes ∙ turn protocol_forms (stand false (length h.path) false)) stop
+
+pub keyword_stopped : (kind : FileKind) (tokens : List Token) (list : List Attribute) (how : Semantics) (draft : Draft) (from : List Token) (e : Refusal) → Stops (take symbols.Protocol ∷ []) from e → IsProtocolDraft kind tokens list how draft from → FileStops kind tokens e
+unfolding protocol_forms
+keyword_stopped kind tokens list how draft from (Left n) stop h = h.goes ∙ stop protocol_forms (stand false (length h.path) false)
+keyword_stopped kind tokens list how draft from NoMemory stop h = tt
+
+pub protocol_added : (kind : FileKind) (tokens : List Token) (list : List Attribute) (how : Semantics) (draft : Draft) (from behind to : List Token) (p : ProtocolDecl) (scope : List (List ℕ)) → scope ≡ draft.scope.items → spelled symbols.Protocol from behind → IsProtocolBehind scope list how p behind to → Turns (take symbols.Protocol ∷ []) from [] behind → Turns (take symbols.Word ∷ take symbols.OpenBrace ∷ managing ∷ []) behind [] to → IsProtocolDraft kind tokens list how draft from → IsDraft kind tokens (record draft { protocol = Some p }) to
+unfolding protocol_forms
+protocol_added kind tokens list how draft from behind to p scope same keyword read one two h =
+    let whole = protocol_whole h.path scope list how p h.before h.middle from behind to (same ∙ h.scope) h.head h.word keyword read in
+    record {
+      path = h.path;
+      scope = h.scope;
+      makes = subst (λ (b : Bool). Makes kind tokens b h.path (declared_of draft) (Some p) to) (sym (none_comes kind p))
+          (λ rest r. h.makes rest p (protocol_before h.path p h.before to whole rest r));
+      goes = h.goes ∙ one protocol_forms (stand false (length h.path) false) ∙ went protocol_forms (stand false (length h.path) false) behind to two
+          ∙ ap (λ (b : Bool). refusal [] (stand b (length h.path) false) to) (sym (none_comes kind p));
+    }
+
+-- a protocol begins here with no word before its keyword
+keyword_next : (s : Symbol) → begins_protocol s ≡ true → s ≢ symbols.Sync → s ≢ symbols.Async → s ≡ symbols.Protocol
+keyword_next symbols.Protocol b n a = refl
+keyword_next symbols.Sync b n a = absurd (n refl)
+keyword_next symbols.Async b n a = absurd (a refl)
+keyword_next _ b n a = absurd (cc)
+
+-- the word that says how the messages are sent, where it is not `sync`
+pub other_word_read : (b : Bool) (kind : FileKind) (tokens : List Token) (list : List Attribute) (draft : Draft) (from middle to : List Token) → begins_protocol (first_symbol from) ≡ true → first_symbol from ≢ symbols.Sync → middle ≡ from → (b ≡ true → IsNext symbols.Async middle to) → (b ≡ false → (first_symbol middle ≢ symbols.Async) × (to ≡ middle)) → may_come kind draft.protocol ≡ true → IsHeadedDraft kind tokens list draft from → IsProtocolDraft kind tokens list semantics.Async draft to
+other_word_read true kind tokens list draft from middle to begins not_sync same when_async when_other may h =
+    let next = subst (λ (x : List Token). IsNext symbols.Async x to) same (when_async refl) in
+    word_read kind tokens list draft from to symbols.Async semantics.Async (inl refl) (inr (is_spelled symbols.Async from to next)) next may h
+other_word_read false kind tokens list draft from middle to begins not_sync same when_async when_other may h =
+    let o = when_other refl in
+    let not_async : first_symbol from ≢ symbols.Async = subst (λ (x : List Token). first_symbol x ≢ symbols.Async) same o.0 in
+    subst (λ (x : List Token). IsProtocolDraft kind tokens list semantics.Async draft x) (sym (o.1 ∙ same))
+    (no_word_read kind tokens list draft from (keyword_next (first_symbol from) begins not_sync not_async) may h)
+
+-- What may not come
+
+none_step : (may : Bool) (depth : ℕ) (headed : Bool) (s : Symbol) → s ≢ symbols.Struct → s ≢ symbols.Union → (s ≡ symbols.Using → depth ≢ 0) → (begins_protocol s ≡ true → may ≡ false) → unheaded_step headed may depth s ≡ None → step (stand may depth headed) s ≡ None
+unfolding step
+none_step may depth headed symbols.Struct a b c d e = absurd (a refl)
+none_step may depth headed symbols.Union a b c d e = absurd (b refl)
+none_step may zero headed symbols.Using a b c d e = absurd (c refl refl)
+none_step may (suc n) headed symbols.Using a b c d e = ap (λ (b : Bool). stepped b (using_named ∷ []) (stand may (suc n) false)) (not_zero (suc n) (c refl))
+none_step false depth headed symbols.Protocol a b c d e = refl
+none_step true depth headed symbols.Protocol a b c d e = absurd (cc (d refl))
+none_step false depth headed symbols.Async a b c d e = refl
+none_step true depth headed symbols.Async a b c d e = absurd (cc (d refl))
+none_step false depth headed symbols.Sync a b c d e = refl
+none_step true depth headed symbols.Sync a b c d e = absurd (cc (d refl))
+none_step may depth headed _ a b c d e = e
+
+not_end : (may : Bool) (depth : ℕ) (headed : Bool) → is_end [] (stand may depth headed) ≡ true → headed ≡ false
+not_end true depth headed e = absurd (cc)
+not_end false zero true e = absurd (cc)
+not_end false zero false e = refl
+not_end false (suc n) headed e = absurd (grind arith)
+
+-- No declaration that may have attributes begins with this symbol, with so many namespaces open.
+pub record IsOther (s : Symbol) (count : ℕ) (may : Bool) : Type 0 where
+  pub not_struct : s ≢ symbols.Struct
+  pub not_union : s ≢ symbols.Union
+  pub not_using : s ≡ symbols.Using → count ≢ 0
+  pub not_protocol : begins_protocol s ≡ true → may ≡ false
+
+pub other_using : (s : Symbol) (n : ℕ) (may : Bool) → s ≡ symbols.Using → n ≢ 0 → IsOther s n may
+other_using s n may e h = record { not_struct = λ x. cc; not_union = λ x. cc; not_using = λ x. h; not_protocol = λ b. absurd (cc (ap (λ (x : Symbol). begins_protocol x) e)) }
+
+pub other_protocol : (s : Symbol) (n : ℕ) (may : Bool) → (s ≡ symbols.Protocol) ⊎ ((s ≡ symbols.Async) ⊎ (s ≡ symbols.Sync)) → may ≡ false → IsOther s n may
+other_protocol s n may (inl e) h = record { not_struct = λ x. cc; not_union = λ x. cc; not_using = λ x. absurd (cc); not_protocol = λ b. h }
+other_protocol s n may (inr (inl e)) h = record { not_struct = λ x. cc; not_union = λ x. cc; not_using = λ x. absurd (cc); not_protocol = λ b. h }
+other_protocol s n may (inr (inr e)) h = record { not_struct = λ x. cc; not_union = λ x. cc; not_using = λ x. absurd (cc); not_protocol = λ b. h }
+
+begins_none : (s : Symbol) → s ≢ symbols.Protocol → s ≢ symbols.Async → s ≢ symbols.Sync → begins_protocol s ≡ true → ⊥
+begins_none symbols.Protocol p a b e = p refl
+begins_none symbols.Async p a b e = a refl
+begins_none symbols.Sync p a b e = b refl
+begins_none _ p a b e = cc
+
+pub other_none : (s : Symbol) (n : ℕ) (may : Bool) → s ≢ symbols.Struct → s ≢ symbols.Union → s ≢ symbols.Using → s ≢ symbols.Protocol → s ≢ symbols.Async → s ≢ symbols.Sync → IsOther s n may
+other_none s n may a b c d e f = record { not_struct = a; not_union = b; not_using = λ x. absurd (c x); not_protocol = λ h. absurd (begins_none s d e f h) }
+
+pub none_comes_next : (kind : FileKind) (tokens : List Token) (list : List Attribute) (draft : Draft) (from : List Token) (e : Refusal) → e ≡ Left (length from) → IsOther (first_symbol from) (length draft.scope.items) (may_come kind draft.protocol) → IsHeadedDraft kind tokens list draft from → FileStops kind tokens e
+none_comes_next kind tokens list draft from e is other h =
+    let at = stand (may_come kind draft.protocol) (length h.path) h.headed in
+    let same : length draft.scope.items ≡ length h.path = ap (λ (x : List (List ℕ)). length x) h.scope ∙ scope_length h.path in
+    let none = none_step (may_come kind draft.protocol) (length h.path) h.headed (first_symbol from) other.not_struct other.not_union (λ u z. other.not_using u (same ∙ z)) other.not_protocol h.bare in
+    subst (λ (x : Refusal). FileStops kind tokens x) (sym is)
+    (h.goes ∙ refused_at at from none (λ ends. h.more (not_end (may_come kind draft.protocol) (length h.path) h.headed ends)))
+
+-- Attributes
+
+attributes_step : (may : Bool) (depth : ℕ) → step (stand may depth false) symbols.OpenBracket ≡ Some (attributed ∷ [], stand may depth true)
+unfolding step
+attributes_step may depth = refl
+
+attributes_stood : (kind : FileKind) (tokens : List Token) (draft : Draft) (from behind : List Token) → IsNext symbols.OpenBracket from behind → (h : IsDraft kind tokens draft from) → refusal [] (begin kind) tokens ≡ refusal (attributed ∷ []) (stand (may_come kind draft.protocol) (length h.path) true) behind
+attributes_stood kind tokens draft from behind next h =
+    h.goes ∙ stood (stand (may_come kind draft.protocol) (length h.path) false) (stand (may_come kind draft.protocol) (length h.path) true) symbols.OpenBracket (attributed ∷ []) from behind next (attributes_step (may_come kind draft.protocol) (length h.path))
+
+pub attributes_stopped : (kind : FileKind) (tokens : List Token) (draft : Draft) (from behind : List Token) (e : Refusal) → IsNext symbols.OpenBracket from behind → Stops (attributed ∷ []) behind e → IsDraft kind tokens draft from → FileStops kind tokens e
+attributes_stopped kind tokens draft from behind e next stop h =
+    stopped kind tokens (attributed ∷ []) (stand (may_come kind draft.protocol) (length h.path) true) behind e (attributes_stood kind tokens draft from behind next h) stop
+
+bracketed_whole : (list : List Attribute) (from behind to : List Token) → IsNext symbols.OpenBracket from behind → IsBracketed list behind to → attributes list from to
+bracketed_whole [] from behind to next read = absurd read
+bracketed_whole (a ∷ rest) from behind to next read = (behind, is_spelled symbols.OpenBracket from behind next, read)
+
+pub attributes_read : (kind : FileKind) (tokens : List Token) (list : List Attribute) (draft : Draft) (from behind to : List Token) → IsNext symbols.OpenBracket from behind → IsBracketed list behind to → Turns (attributed ∷ []) behind [] to → IsDraft kind tokens draft from → IsHeadedDraft kind tokens list draft to
+attributes_read kind tokens list draft from behind to next read turn h = record {
+  path = h.path;
+  scope = h.scope;
+  before = from;
+  head = bracketed_whole list from behind to next read;
+  makes = h.makes;
+  headed = true;
+  goes = attributes_stood kind tokens draft from behind next h ∙ went (attributed ∷ []) (stand (may_come kind draft.protocol) (length h.path) true) behind to turn;
+  bare = refl;
+  more = λ e. absurd (cc);
+}
+
+-- No attributes
+
+full : (depth : ℕ) → 16 ≤ depth → nat_lt depth 16 ≡ false
+full depth h = grind (arith, nat_tests)
+
+none_bare : (may : Bool) (depth : ℕ) (s : Symbol) → s ≢ symbols.OpenBracket → (s ≡ symbols.Include → depth ≢ 0) → (s ≡ symbols.Namespace → 16 ≤ depth) → (s ≡ symbols.CloseBrace → depth ≡ 0) → bare_step may depth s ≡ None
+none_bare may depth symbols.OpenBracket a b c d = absurd (a refl)
+none_bare may zero symbols.Include a b c d = absurd (b refl refl)
+none_bare may (suc n) symbols.Include a b c d = ap (λ (x : Bool). stepped x (include_named ∷ []) (stand may (suc n) false)) (not_zero (suc n) (b refl))
+none_bare may depth symbols.Namespace a b c d = ap (λ (x : Bool). stepped x (take symbols.Word ∷ take symbols.OpenBrace ∷ []) (stand may (depth + 1) false)) (full depth (c refl))
+none_bare may zero symbols.CloseBrace a b c d = refl
+none_bare may (suc n) symbols.CloseBrace a b c d = absurd (omega (arith, d refl))
+none_bare may depth _ a b c d = refl
+
+-- Nothing that has no attributes begins with this symbol, with so many namespaces open.
+pub record IsBare (s : Symbol) (count : ℕ) : Type 0 where
+  pub not_bracket : s ≢ symbols.OpenBracket
+  pub not_include : s ≡ symbols.Include → count ≢ 0
+  pub not_namespace : s ≡ symbols.Namespace → 16 ≤ count
+  pub not_close : s ≡ symbols.CloseBrace → count ≡ 0
+
+pub bare_include : (s : Symbol) (n : ℕ) → s ≡ symbols.Include → n ≢ 0 → IsBare s n
+bare_include s n e h = record { not_bracket = λ x. cc; not_include = λ x. h; not_namespace = λ x. absurd (cc); not_close = λ x. absurd (cc) }
+
+pub bare_namespace : (s : Symbol) (n : ℕ) → s ≡ symbols.Namespace → 16 ≤ n → IsBare s n
+bare_namespace s n e h = record { not_bracket = λ x. cc; not_include = λ x. absurd (cc); not_namespace = λ x. h; not_close = λ x. absurd (cc) }
+
+pub bare_close : (s : Symbol) (n : ℕ) → s ≡ symbols.CloseBrace → n ≡ 0 → IsBare s n
+bare_close s n e h = record { not_bracket = λ x. cc; not_include = λ x. absurd (cc); not_namespace = λ x. absurd (cc); not_close = λ x. h }
+
+pub bare_none : (s : Symbol) (n : ℕ) → s ≢ symbols.OpenBracket → s ≢ symbols.Include → s ≢ symbols.Namespace → s ≢ symbols.CloseBrace → IsBare s n
+bare_none s n a b c d = record { not_bracket = a; not_include = λ x. absurd (b x); not_namespace = λ x. absurd (c x); not_close = λ x. absurd (d x) }
+
+pub no_attributes : (kind : FileKind) (tokens : List Token) (list : List Attribute) (draft : Draft) (from : List Token) → list ≡ [] → first_symbol from ≢ symbols.End → IsBare (first_symbol from) (length draft.scope.items) → IsDraft kind tokens draft from → IsHeadedDraft kind tokens list draft from
+no_attributes kind tokens list draft from none more other h =
+    let same : length draft.scope.items ≡ length h.path = ap (λ (x : List (List ℕ)). length x) h.scope ∙ scope_length h.path in
+    record {
+      path = h.path;
+      scope = h.scope;
+      before = from;
+      head = subst (λ (x : List Attribute). attributes x from from) (sym none) refl;
+      makes = h.makes;
+      headed = false;
+      goes = h.goes;
+      bare = none_bare (may_come kind draft.protocol) (length h.path) (first_symbol from) other.not_bracket (λ u z. other.not_include u (same ∙ z)) (λ u. omega (arith, other.not_namespace u)) (λ u. sym same ∙ other.not_close u);
+      more = λ e. more;
+    }
+
+-- The end
+
+-- no token is left
+pub no_token : (from : List Token) → first_symbol from ≡ symbols.End → from ≡ []
+no_token [] e = refl
+no_token (t ∷ rest) e = absurd (means t symbols.End e)
+
+end_step : (may : Bool) (depth : ℕ) → (may ≡ true) ⊎ (depth ≢ 0) → is_end [] (stand may depth false) ≡ false
+end_step true depth w = refl
+end_step false zero (inl e) = absurd (cc)
+end_step false zero (inr n) = absurd (n refl)
+end_step false (suc n) w = grind arith
+
+ended : (at : Stand) → is_end [] at ≡ false → refusal [] at [] ≡ Some 0
+unfolding refusal
+ended at e = ap (λ (b : Bool). cond {A = Option ℕ} b None (Some 0)) e
+
+pub not_ended : (kind : FileKind) (tokens : List Token) (draft : Draft) → (may_come kind draft.protocol ≡ true) ⊎ (length draft.scope.items ≢ 0) → IsDraft kind tokens draft [] → refusal [] (begin kind) tokens ≡ Some 0
+not_ended kind tokens draft (inl m) h = h.goes ∙ ended (stand (may_come kind draft.protocol) (length h.path) false) (end_step (may_come kind draft.protocol) (length h.path) (inl m))
+not_ended kind tokens draft (inr n) h =
+    let same : length draft.scope.items ≡ length h.path = ap (λ (x : List (List ℕ)). length x) h.scope ∙ scope_length h.path in
+    h.goes ∙ ended (stand (may_come kind draft.protocol) (length h.path) false) (end_step (may_come kind draft.protocol) (length h.path) (inr (λ z. n (same ∙ z))))
+
+-- all is read
+makes_whole : (kind : FileKind) (tokens : List Token) (may : Bool) (path : List (List ℕ)) (all : Declared) (held : Option ProtocolDecl) → may ≡ false → path ≡ [] → Makes kind tokens may path all held [] → Tree kind tokens (unit_of all held)
+makes_whole kind tokens false [] all held m e makes = subst (λ (x : Declared). Tree kind tokens (unit_of x held)) (and_none all) (makes no_declaration nothing_left)
+makes_whole kind tokens true path all held m e makes = absurd (cc)
+makes_whole kind tokens false (name ∷ outer) all held m e makes = absurd (cc)
+
+pub all_read : (kind : FileKind) (tokens : List Token) (draft : Draft) (unit : FileUnit) → may_come kind draft.protocol ≡ false → length draft.scope.items ≡ 0 → unit ≡ unit_of (declared_of draft) draft.protocol → IsDraft kind tokens draft [] → Tree kind tokens unit
+all_read kind tokens draft unit m n same h =
+    subst (λ (x : FileUnit). Tree kind tokens x) (sym same)
+    (makes_whole kind tokens (may_come kind draft.protocol) h.path (declared_of draft) draft.protocol m (none_open h.path draft.scope.items h.scope n) h.makes)
