@@ -1,5 +1,5 @@
 -- How the machine goes over forms.
-use Rattle.std.proofs.Common.{◌≡◌, ◌≢◌, ℕ, zero, suc, ◌+◌, ◌-◌, ◌≤◌, ◌<◌, Bool, true, false, cond, List, [], ◌∷◌, ◌++◌, length, Option, Some, None, refl, sym, ap, subst, ◌∙◌, arith, append_assoc}
+use Rattle.std.proofs.Common.{◌≡◌, ◌≢◌, ℕ, zero, suc, ◌+◌, ◌-◌, ◌≤◌, ◌<◌, Bool, true, false, cond, List, [], ◌∷◌, ◌++◌, length, Option, Some, None, Result, Ok, Err, IfOk, OnOk, IfErr, IsErrAnd, refl, sym, ap, subst, ◌∙◌, arith, append_assoc}
 use Rattle.ipdl_base.specs.declared.token.Token.{Token}
 use Rattle.ipdl_base.specs.declared.token.TokenKind.TheVariants as kind
 use Rattle.ipdl_base.specs.declared.finding.Place.{Place}
@@ -78,3 +78,31 @@ stops_before fs others a NoMemory one = tt
 -- a form read to its end, and what comes behind it
 pub past : (f : Form) (others : List Form) (a b : List Token) → Turns (f ∷ []) a [] b → Turns (f ∷ others) a others b
 past f others a b one = λ more at. one (others ++ more) at
+
+-- what holds of the error that a `?` carries over
+pub thrown : {T : Type 0} (r : Result T Refusal) (e : Refusal) (P : Refusal → Type 0) → IsErrAnd r (λ x. x ≡ e) → P e → IfErr r P
+thrown (Ok x) e P is holds = tt
+thrown (Err x) e P is holds = subst P (sym is) holds
+
+-- what holds of the error where it is the one that a `?` makes when memory runs out
+pub out_of_memory : {T : Type 0} (r : Result T Refusal) (P : Refusal → Type 0) → IsErrAnd r (λ x. x ≡ NoMemory) → P NoMemory → IfErr r P
+out_of_memory r P is holds = thrown r NoMemory P is holds
+
+-- a weaker fact on an `Ok`
+pub on_ok_weaker : {T E : Type 0} (r : Result T E) (P Q : Type 0) → (P → Q) → OnOk r P → OnOk r Q
+on_ok_weaker (Ok x) P Q f holds = f holds
+on_ok_weaker (Err x) P Q f holds = tt
+
+-- a weaker fact on the value of an `Ok`
+pub if_ok_weaker : {T E : Type 0} (r : Result T E) (P Q : T → Type 0) → ((x : T) → P x → Q x) → IfOk r P → IfOk r Q
+if_ok_weaker (Ok x) P Q f holds = f x holds
+if_ok_weaker (Err x) P Q f holds = tt
+
+-- a weaker fact on the error of an `Err`
+pub if_err_weaker : {T E : Type 0} (r : Result T E) (P Q : E → Type 0) → ((e : E) → P e → Q e) → IfErr r P → IfErr r Q
+if_err_weaker (Ok x) P Q f holds = tt
+if_err_weaker (Err x) P Q f holds = f x holds
+
+-- a refusal that a `?` carries over
+pub stops_on : {T : Type 0} (r : Result T Refusal) (e : Refusal) (fs : List Form) (from : List Token) → IsErrAnd r (λ x. x ≡ e) → Stops fs from e → IfErr r (Stops fs from)
+stops_on r e fs from is holds = thrown r e (λ x. Stops fs from x) is holds
