@@ -1,3 +1,4 @@
+pub mod AttributeForms
 pub mod Symbols
 pub mod Tokens
 pub mod Turns

@@ -1,0 +1,44 @@
+-- How attributes are put together, and how the machine goes over them.
+use Rattle.std.proofs.Common.{◌≡◌, ◌≢◌, ℕ, List, [], ◌∷◌, ◌++◌, Some, None, codes, refl, sym, ap, ◌∙◌, append_assoc}
+use Rattle.std.proofs.lemmas.List.{append-nil}
+use Rattle.ipdl_base.specs.declared.token.Token.{Token}
+use Rattle.ipdl_syntax.specs.declared.tree.Attribute.{Attribute}
+use Rattle.ipdl_syntax.specs.Grammar.{value, attribute, more_attributes, attributes}
+use Rattle.tree_reader.specs.declared.refusal.Refusal.{Refusal}
+use Rattle.tree_reader.specs.declared.symbol.Symbol.{Symbol}
+use Rattle.tree_reader.specs.declared.symbol.Symbol.TheVariants.{Word, Comma, Equals, OpenBracket, CloseBracket}
+use Rattle.tree_reader.specs.Symbols.{symbol, first_symbol}
+use Rattle.tree_reader.specs.Machine.{Form, take, any_word, attributed, behind_attribute, more_attributed, production}
+use Rattle.tree_reader.specs.Reading.{Turns, Stops, IsNext, IsAnyWord, IsBracketed, MayBeHeaded}
+use Rattle.tree_reader.proofs.Turns.{is_spelled, turn, same_turn, turns, past, stops_behind, stops_before}
+
+-- an equals sign behind an attribute's name
+equals_turn : production behind_attribute Equals ≡ Some (any_word ∷ more_attributed ∷ [])
+unfolding production
+equals_turn = refl
+
+-- without an equals sign the name of an attribute leads on as the whole attribute does
+no_equals : (s : Symbol) → s ≢ Equals → production behind_attribute s ≡ production more_attributed s
+unfolding production
+no_equals Equals n = absurd (n refl)
+no_equals _ n = refl
+
+-- an equals sign, and the value behind it
+pub value_read : (text : List ℕ) (from behind to : List Token) → IsNext Equals from behind → IsAnyWord text behind to → value (Some text) from to
+value_read text from behind to here read = (behind, is_spelled Equals from behind here, read)
+
+pub value_turns : (from behind to : List Token) → IsNext Equals from behind → Turns (any_word ∷ []) behind [] to → Turns (behind_attribute ∷ []) from (more_attributed ∷ []) to
+value_turns from behind to here read =
+    turns (behind_attribute ∷ []) (any_word ∷ more_attributed ∷ []) (more_attributed ∷ []) from behind to
+    (turn behind_attribute Equals (any_word ∷ more_attributed ∷ []) from behind here equals_turn)
+    (past any_word (more_attributed ∷ []) behind to read)
+
+pub value_stops : (from behind : List Token) (e : Refusal) → IsNext Equals from behind → Stops (any_word ∷ []) behind e → Stops (behind_attribute ∷ []) from e
+value_stops from behind e here read =
+    stops_behind (behind_attribute ∷ []) (any_word ∷ more_attributed ∷ []) from behind e
+    (turn behind_attribute Equals (any_word ∷ more_attributed ∷ []) from behind here equals_turn)
+    (stops_before (any_word ∷ []) (more_attributed ∷ []) behind e read)
+
+-- no value
+pub no_value_turns : (from to : List Token) → first_symbol from ≢ Equals → to ≡ from → Turns (behind_attribute ∷ []) from (more_attributed ∷ []) to
+no_value_turns from to n same = rw same (same_turn behind_attribute more_attributed from (no_equals (first_symbol from) n))
