@@ -8,9 +8,9 @@ use Rattle.tree_reader.specs.declared.refusal.Refusal.{Refusal}
 use Rattle.tree_reader.specs.declared.symbol.Symbol.{Symbol}
 use Rattle.tree_reader.specs.declared.symbol.Symbol.TheVariants.{Word, Comma, Equals, OpenBracket, CloseBracket}
 use Rattle.tree_reader.specs.Symbols.{symbol, first_symbol}
-use Rattle.tree_reader.specs.Machine.{Form, take, any_word, attributed, behind_attribute, more_attributed, production}
+use Rattle.tree_reader.specs.Machine.{Form, behind, take, any_word, attributed, behind_attribute, more_attributed, production}
 use Rattle.tree_reader.specs.Reading.{Turns, Stops, IsNext, IsAnyWord, IsBracketed, MayBeHeaded}
-use Rattle.tree_reader.proofs.Turns.{is_spelled, turn, same_turn, turns, past, stops_behind, stops_before}
+use Rattle.tree_reader.proofs.Turns.{is_spelled, turn, same_turn, turns, split, past, past_turn, past_stops, stops_behind, stops_before}
 
 -- an equals sign behind an attribute's name
 equals_turn : production behind_attribute Equals ≡ Some (any_word ∷ more_attributed ∷ [])
@@ -42,3 +42,29 @@ value_stops from behind e here read =
 -- no value
 pub no_value_turns : (from to : List Token) → first_symbol from ≢ Equals → to ≡ from → Turns (behind_attribute ∷ []) from (more_attributed ∷ []) to
 no_value_turns from to n same = rw same (same_turn behind_attribute more_attributed from (no_equals (first_symbol from) n))
+
+-- an attribute is a word, and what comes behind its name
+named_first : (s : Symbol) → production attributed s ≡ behind (production (take Word) s) (behind_attribute ∷ [])
+unfolding production
+named_first Word = refl
+named_first _ = refl
+
+pub attribute_turns : (from behind to : List Token) → Turns (take Word ∷ []) from [] behind → Turns (behind_attribute ∷ []) behind (more_attributed ∷ []) to → Turns (attributed ∷ []) from (more_attributed ∷ []) to
+attribute_turns from behind to name value =
+    turns (attributed ∷ []) (take Word ∷ behind_attribute ∷ []) (more_attributed ∷ []) from from to
+    (split attributed (take Word) (behind_attribute ∷ []) from (named_first (first_symbol from)))
+    (past_turn (take Word) (behind_attribute ∷ []) (more_attributed ∷ []) from behind to name value)
+
+-- no name
+pub unnamed_stops : (from : List Token) (e : Refusal) → Stops (take Word ∷ []) from e → Stops (attributed ∷ []) from e
+unnamed_stops from e name =
+    stops_behind (attributed ∷ []) (take Word ∷ behind_attribute ∷ []) from from e
+    (split attributed (take Word) (behind_attribute ∷ []) from (named_first (first_symbol from)))
+    (stops_before (take Word ∷ []) (behind_attribute ∷ []) from e name)
+
+-- a name, and a refusal behind it
+pub attribute_stops : (from behind : List Token) (e : Refusal) → Turns (take Word ∷ []) from [] behind → Stops (behind_attribute ∷ []) behind e → Stops (attributed ∷ []) from e
+attribute_stops from behind e name value =
+    stops_behind (attributed ∷ []) (take Word ∷ behind_attribute ∷ []) from from e
+    (split attributed (take Word) (behind_attribute ∷ []) from (named_first (first_symbol from)))
+    (past_stops (take Word) (behind_attribute ∷ []) from behind e name value)

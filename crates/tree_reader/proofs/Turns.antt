@@ -9,7 +9,7 @@ use Rattle.tree_reader.specs.declared.refusal.Refusal.TheVariants.{Left, NoMemor
 use Rattle.tree_reader.specs.declared.symbol.Symbol.{Symbol}
 use Rattle.tree_reader.specs.declared.symbol.Symbol.TheVariants.{End, Word, Quoted, OtherWord, OtherMark, Colons, OpenBrace, CloseBrace, OpenParen, CloseParen, OpenBracket, CloseBracket, Less, Greater, Semicolon, Comma, Colon, Equals, Question, Async, Both, Child, Class, From, Include, Manager, Manages, Namespace, Nullable, Or, Parent, Protocol, Returns, Struct, Sync, Union, UniquePtr, Using}
 use Rattle.tree_reader.specs.Symbols.{symbol, first_symbol}
-use Rattle.tree_reader.specs.Machine.{Form, proper, take, any_word, production, Stand, gone_in, refusal}
+use Rattle.tree_reader.specs.Machine.{Form, proper, take, any_word, behind, production, Stand, gone_in, refusal}
 use Rattle.tree_reader.specs.Reading.{Turns, Stops, IsNext, IsNextAt, IsNextText}
 use Rattle.tree_reader.specs.Spelling.{Means, spelled}
 use Rattle.tree_reader.proofs.Symbols.{means}
@@ -106,3 +106,23 @@ if_err_weaker (Err x) P Q f holds = f x holds
 -- a refusal that a `?` carries over
 pub stops_on : {T : Type 0} (r : Result T Refusal) (e : Refusal) (fs : List Form) (from : List Token) → IsErrAnd r (λ x. x ≡ e) → Stops fs from e → IfErr r (Stops fs from)
 stops_on r e fs from is holds = thrown r e (λ x. Stops fs from x) is holds
+
+split_step : (o : Option (List Form)) (others more : List Form) (n : ℕ) (go : List Form → Option ℕ) → gone_in (behind o others) n (λ y. go (y ++ more)) ≡ gone_in o n (λ y. go (y ++ (others ++ more)))
+split_step None others more n go = refl
+split_step (Some new) others more n go = ap go (append_assoc new others more)
+
+-- a form that is at the next token what another is there, with others behind it
+pub split : (f g : Form) (others : List Form) (from : List Token) → production f (first_symbol from) ≡ behind (production g (first_symbol from)) others → Turns (f ∷ []) from (g ∷ others) from
+unfolding refusal
+split f g others [] p = λ more at. refl
+split f g others (t ∷ rest) p = λ more at.
+    ap (λ (o : Option (List Form)). gone_in o (length rest + 1) (λ y. refusal (y ++ more) at rest)) p
+    ∙ split_step (production g (symbol t)) others more (length rest + 1) (λ y. refusal y at rest)
+
+-- a form read to its end, and a turn of those behind it
+pub past_turn : (f : Form) (others new : List Form) (a b c : List Token) → Turns (f ∷ []) a [] b → Turns others b new c → Turns (f ∷ others) a new c
+past_turn f others new a b c one two = turns (f ∷ others) others new a b c (past f others a b one) two
+
+-- a form read to its end, and a refusal of those behind it
+pub past_stops : (f : Form) (others : List Form) (a b : List Token) (e : Refusal) → Turns (f ∷ []) a [] b → Stops others b e → Stops (f ∷ others) a e
+past_stops f others a b e one two = stops_behind (f ∷ others) others a b e (past f others a b one) two
