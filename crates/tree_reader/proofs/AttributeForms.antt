@@ -3,10 +3,12 @@ use Rattle.std.proofs.Common.{◌≡◌, ◌≢◌, ℕ, List, [], ◌∷◌, �
 use Rattle.std.proofs.lemmas.List.{append-nil}
 use Rattle.ipdl_base.specs.declared.token.Token.{Token}
 use Rattle.ipdl_syntax.specs.declared.tree.Attribute.{Attribute}
+use Rattle.ipdl_syntax.specs.Parts.{Part, ◌⨾◌, mark}
 use Rattle.ipdl_syntax.specs.Grammar.{value, attribute, more_attributes, attributes}
 use Rattle.tree_reader.specs.declared.refusal.Refusal.{Refusal}
 use Rattle.tree_reader.specs.declared.symbol.Symbol.{Symbol}
 use Rattle.tree_reader.specs.declared.symbol.Symbol.TheVariants.{Word, Comma, Equals, OpenBracket, CloseBracket}
+use Rattle.tree_reader.specs.Spelling.{spelled}
 use Rattle.tree_reader.specs.Symbols.{symbol, first_symbol}
 use Rattle.tree_reader.specs.Machine.{Form, behind, take, any_word, attributed, behind_attribute, more_attributed, production}
 use Rattle.tree_reader.specs.Reading.{Turns, Stops, IsNext, IsAnyWord, IsBracketed, MayBeHeaded}
@@ -68,3 +70,47 @@ attribute_stops from behind e name value =
     stops_behind (attributed ∷ []) (take Word ∷ behind_attribute ∷ []) from from e
     (split attributed (take Word) (behind_attribute ∷ []) from (named_first (first_symbol from)))
     (past_stops (take Word) (behind_attribute ∷ []) from behind e name value)
+
+-- a comma and a bracket behind an attribute
+comma_turn : production more_attributed Comma ≡ Some (attributed ∷ [])
+unfolding production
+comma_turn = refl
+
+no_comma : (s : Symbol) → s ≢ Comma → production more_attributed s ≡ production (take CloseBracket) s
+unfolding production
+no_comma Comma n = absurd (n refl)
+no_comma CloseBracket n = refl
+no_comma _ n = refl
+
+-- more attributes to the closing bracket
+abbrev pub to_bracket : List Attribute → Part
+to_bracket more = more_attributes more ⨾ mark (codes "]")
+
+-- whatever goes on from here makes attributes with those so far
+abbrev pub GoesOn : List Attribute → List Token → List Token → Type 0
+GoesOn so_far start from = (more : List Attribute) (to : List Token) → to_bracket more from to → IsBracketed (so_far ++ more) start to
+
+-- the first attribute
+pub first_goes_on : (a : Attribute) (old new : List Attribute) (start from : List Token) → old ≡ [] → new ≡ old ++ a ∷ [] → attribute a start from → GoesOn new start from
+first_goes_on a old new start from none is read = λ more to rest. rw (is, none) (from, read, rest)
+
+-- one more attribute
+pub next_goes_on : (a : Attribute) (old new : List Attribute) (start from behind middle : List Token) → new ≡ old ++ a ∷ [] → IsNext Comma from behind → attribute a behind middle → GoesOn old start from → GoesOn new start middle
+next_goes_on a old new start from behind middle is here read before = λ more to rest.
+    rw (is, append_assoc) (before (a ∷ more) to (rest.0, (behind, is_spelled Comma from behind here, (middle, read, rest.1)), rest.2))
+
+-- the closing bracket
+pub bracketed_read : (all old : List Attribute) (start from middle to : List Token) → all ≡ old → middle ≡ from → spelled CloseBracket middle to → GoesOn old start from → IsBracketed all start to
+bracketed_read all old start from middle to is same close before = rw (is, ← append-nil old) (before [] to (from, refl, rw same at close))
+
+-- a comma leads on to an attribute
+pub next_turns : (start from behind : List Token) → Turns (attributed ∷ []) start (more_attributed ∷ []) from → IsNext Comma from behind → Turns (attributed ∷ []) start (attributed ∷ []) behind
+next_turns start from behind before here =
+    turns (attributed ∷ []) (more_attributed ∷ []) (attributed ∷ []) start from behind before
+    (turn more_attributed Comma (attributed ∷ []) from behind here comma_turn)
+
+-- anything else is to be the closing bracket
+pub last_turns : (start from to : List Token) → Turns (attributed ∷ []) start (more_attributed ∷ []) from → first_symbol from ≢ Comma → to ≡ from → Turns (attributed ∷ []) start (take CloseBracket ∷ []) to
+last_turns start from to before n same =
+    rw same (turns (attributed ∷ []) (more_attributed ∷ []) (take CloseBracket ∷ []) start from from before
+    (same_turn more_attributed (take CloseBracket) from (no_comma (first_symbol from) n)))
