@@ -1,5 +1,5 @@
 -- How attributes are put together, and how the machine goes over them.
-use Rattle.std.proofs.Common.{◌≡◌, ◌≢◌, ℕ, List, [], ◌∷◌, ◌++◌, Some, None, codes, refl, sym, ap, ◌∙◌, append_assoc}
+use Rattle.std.proofs.Common.{◌≡◌, ◌≢◌, ℕ, List, [], ◌∷◌, ◌++◌, Some, None, Result, IfOk, OnOk, IfErr, codes, refl, sym, ap, ◌∙◌, append_assoc}
 use Rattle.std.proofs.lemmas.List.{append-nil}
 use Rattle.ipdl_base.specs.declared.token.Token.{Token}
 use Rattle.ipdl_syntax.specs.declared.tree.Attribute.{Attribute}
@@ -12,7 +12,7 @@ use Rattle.tree_reader.specs.Spelling.{spelled}
 use Rattle.tree_reader.specs.Symbols.{symbol, first_symbol}
 use Rattle.tree_reader.specs.Machine.{Form, behind, take, any_word, attributed, behind_attribute, more_attributed, production}
 use Rattle.tree_reader.specs.Reading.{Turns, Stops, IsNext, IsAnyWord, IsBracketed, MayBeHeaded}
-use Rattle.tree_reader.proofs.Turns.{is_spelled, turn, same_turn, turns, split, past, past_turn, past_stops, stops_behind, stops_before}
+use Rattle.tree_reader.proofs.Turns.{is_spelled, turn, same_turn, turns, split, past, past_turn, past_stops, stops_behind, stops_before, on_ok_weaker, if_ok_weaker, if_err_weaker}
 
 -- an equals sign behind an attribute's name
 equals_turn : production behind_attribute Equals ≡ Some (any_word ∷ more_attributed ∷ [])
@@ -114,3 +114,29 @@ pub last_turns : (start from to : List Token) → Turns (attributed ∷ []) star
 last_turns start from to before n same =
     rw same (turns (attributed ∷ []) (more_attributed ∷ []) (take CloseBracket ∷ []) start from from before
     (same_turn more_attributed (take CloseBracket) from (no_comma (first_symbol from) n)))
+
+-- attributes behind their opening bracket, and this bracket
+headed_one : (all : List Attribute) (from behind to : List Token) → IsNext OpenBracket from behind → IsBracketed all behind to → attributes all from to
+headed_one [] from behind to here read = absurd read
+headed_one (a ∷ rest) from behind to here read = (behind, is_spelled OpenBracket from behind here, read)
+
+pub headed_read : (r : Result (List Attribute) Refusal) (from behind to : List Token) → IsNext OpenBracket from behind → IfOk r (λ all. IsBracketed all behind to) → IfOk r (λ all. attributes all from to)
+headed_read r from behind to here read =
+    if_ok_weaker r (λ all. IsBracketed all behind to) (λ all. attributes all from to) (λ all one. headed_one all from behind to here one) read
+
+-- the opening bracket, where attributes may stand
+headed_turn : (f : Form) (others : List Form) (from behind : List Token) → IsNext OpenBracket from behind → MayBeHeaded f others from → Turns (f ∷ []) from (attributed ∷ others) behind
+headed_turn f others from behind here may = turn f OpenBracket (attributed ∷ others) from behind here may.0
+
+pub headed_turns : {T : Type 0} (r : Result T Refusal) (from behind to : List Token) → IsNext OpenBracket from behind → OnOk r (Turns (attributed ∷ []) behind [] to) → OnOk r ((f : Form) (others : List Form) → MayBeHeaded f others from → Turns (f ∷ []) from others to)
+headed_turns r from behind to here read =
+    on_ok_weaker r (Turns (attributed ∷ []) behind [] to) ((f : Form) (others : List Form) → MayBeHeaded f others from → Turns (f ∷ []) from others to)
+    (λ one f others may. turns (f ∷ []) (attributed ∷ others) others from behind to (headed_turn f others from behind here may) (past attributed others behind to one))
+    read
+
+pub headed_stops : {T : Type 0} (r : Result T Refusal) (from behind : List Token) → IsNext OpenBracket from behind → IfErr r (Stops (attributed ∷ []) behind) → IfErr r (λ e. (f : Form) (others : List Form) → MayBeHeaded f others from → Stops (f ∷ []) from e)
+headed_stops r from behind here read =
+    if_err_weaker r (λ e. Stops (attributed ∷ []) behind e) (λ e. (f : Form) (others : List Form) → MayBeHeaded f others from → Stops (f ∷ []) from e)
+    (λ e one f others may.
+        stops_behind (f ∷ []) (attributed ∷ others) from behind e (headed_turn f others from behind here may) (stops_before (attributed ∷ []) others behind e one))
+    read
