@@ -10,7 +10,7 @@ use Rattle.tree_reader.specs.declared.symbol.Symbol.{Symbol}
 use Rattle.tree_reader.specs.declared.symbol.Symbol.TheVariants.{Word, Comma, Equals, OpenBracket, CloseBracket}
 use Rattle.tree_reader.specs.Spelling.{spelled}
 use Rattle.tree_reader.specs.Symbols.{symbol, first_symbol}
-use Rattle.tree_reader.specs.Machine.{Form, behind, take, any_word, attributed, behind_attribute, more_attributed, production}
+use Rattle.tree_reader.specs.Machine.{Form, behind as before_others, take, any_word, attributed, behind_attribute, more_attributed, production}
 use Rattle.tree_reader.specs.Reading.{Turns, Stops, IsNext, IsAnyWord, IsBracketed, MayBeHeaded}
 use Rattle.tree_reader.proofs.Turns.{is_spelled, turn, same_turn, turns, split, past, past_turn, past_stops, stops_behind, stops_before, on_ok_weaker, if_ok_weaker, if_err_weaker}
 
@@ -46,7 +46,7 @@ pub no_value_turns : (from to : List Token) → first_symbol from ≢ Equals →
 no_value_turns from to n same = rw same (same_turn behind_attribute more_attributed from (no_equals (first_symbol from) n))
 
 -- an attribute is a word, and what comes behind its name
-named_first : (s : Symbol) → production attributed s ≡ behind (production (take Word) s) (behind_attribute ∷ [])
+named_first : (s : Symbol) → production attributed s ≡ before_others (production (take Word) s) (behind_attribute ∷ [])
 unfolding production
 named_first Word = refl
 named_first _ = refl

@@ -1,4 +1,5 @@
 pub mod AttributeForms
+pub mod NameForms
 pub mod Symbols
 pub mod Tokens
 pub mod Turns
