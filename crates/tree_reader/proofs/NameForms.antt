@@ -12,7 +12,7 @@ use Rattle.tree_reader.specs.Spelling.{spelled}
 use Rattle.tree_reader.specs.Symbols.{symbol, first_symbol}
 use Rattle.tree_reader.specs.Machine.{Form, behind as before_others, take, argument_name, argument_words, production}
 use Rattle.tree_reader.specs.Reading.{Turns, Stops, IsNext, AddsWords, IsNaming, MayHaveArgument}
-use Rattle.tree_reader.proofs.Turns.{is_spelled, turn, turns, split, past, past_turn, past_stops, stops_behind, stops_before, thrown, on_ok_weaker, if_ok_weaker, if_err_weaker}
+use Rattle.tree_reader.proofs.Turns.{is_spelled, turn, same_turn, turns, split, past, past_turn, past_stops, stops_behind, stops_before, thrown, on_ok_weaker, if_ok_weaker, if_err_weaker}
 
 -- whatever adds words to the text here adds words to the text at the start
 abbrev pub WordsGoOn : List ℕ → List ℕ → List Token → List Token → Type 0
@@ -58,3 +58,61 @@ word_stops r e start from behind is_err before here read =
     thrown r e (λ x. (f : Form) → IsNaming f → Stops (f ∷ []) start x) is_err
     (λ f is. stops_behind (f ∷ []) (f ∷ []) start from e (before f is)
         (stops_behind (f ∷ []) (take Word ∷ f ∷ []) from behind e (colons_turn f from behind is here) (stops_before (take Word ∷ []) (f ∷ []) behind e read)))
+
+-- The argument of a name is a word and what comes behind it, ..
+argument_first : (s : Symbol) → production argument_name s ≡ before_others (production (take Word) s) (argument_words ∷ [])
+unfolding production
+argument_first Word = refl
+argument_first _ = refl
+
+-- .. where more words may stand, ..
+argument_naming : IsNaming argument_words
+unfolding production
+argument_naming = refl
+
+-- .. and then a `>`.
+argument_last : (s : Symbol) → s ≢ Colons → production argument_words s ≡ production (take Greater) s
+unfolding production
+argument_last Colons n = absurd (n refl)
+argument_last Greater n = refl
+argument_last _ n = refl
+
+-- a name with its words before the form behind it
+abbrev pub NameTurns : List Token → List Token → Type 0
+NameTurns from to = (f : Form) → IsNaming f → Turns (take Word ∷ f ∷ []) from (f ∷ []) to
+
+argument_begins : (from : List Token) → Turns (argument_name ∷ []) from (take Word ∷ argument_words ∷ []) from
+argument_begins from = split argument_name (take Word) (argument_words ∷ []) from (argument_first (first_symbol from))
+
+-- no name in an argument
+pub argument_unnamed : (from : List Token) (e : Refusal) → ((f : Form) → IsNaming f → Stops (take Word ∷ f ∷ []) from e) → Stops (argument_name ∷ []) from e
+argument_unnamed from e name = stops_behind (argument_name ∷ []) (take Word ∷ argument_words ∷ []) from from e (argument_begins from) (name argument_words argument_naming)
+
+-- a name, and then the `>` is to come
+pub argument_named : (from to : List Token) → NameTurns from to → first_symbol to ≢ Colons → Turns (argument_name ∷ []) from (take Greater ∷ []) to
+argument_named from to name n =
+    turns (argument_name ∷ []) (take Word ∷ argument_words ∷ []) (take Greater ∷ []) from from to (argument_begins from)
+    (turns (take Word ∷ argument_words ∷ []) (argument_words ∷ []) (take Greater ∷ []) from to to (name argument_words argument_naming)
+    (same_turn argument_words (take Greater) to (argument_last (first_symbol to) n)))
+
+-- an argument behind its `<`, and the `<`
+pub argument_read : (name : List ℕ) (from behind to : List Token) → IsNext Less from behind → (qualified name ⨾ mark (codes ">")) behind to → argument (Some name) from to
+argument_read name from behind to here read = (behind, is_spelled Less from behind here, read)
+
+less_turn : (f : Form) (others : List Form) (from behind : List Token) → MayHaveArgument f others → IsNext Less from behind → Turns (f ∷ []) from (argument_name ∷ others) behind
+less_turn f others from behind may here = turn f Less (argument_name ∷ others) from behind here may.0
+
+pub argument_turns : (from behind to : List Token) → IsNext Less from behind → Turns (argument_name ∷ []) behind [] to → (f : Form) (others : List Form) → MayHaveArgument f others → Turns (f ∷ []) from others to
+argument_turns from behind to here read f others may =
+    turns (f ∷ []) (argument_name ∷ others) others from behind to (less_turn f others from behind may here) (past argument_name others behind to read)
+
+pub argument_stops : {T : Type 0} (r : Result T Refusal) (e : Refusal) (from behind : List Token) → IsErrAnd r (λ x. x ≡ e) → IsNext Less from behind → Stops (argument_name ∷ []) behind e → IfErr r (λ x. (f : Form) (others : List Form) → MayHaveArgument f others → Stops (f ∷ []) from x)
+argument_stops r e from behind is_err here read =
+    thrown r e (λ x. (f : Form) (others : List Form) → MayHaveArgument f others → Stops (f ∷ []) from x) is_err
+    (λ f others may. stops_behind (f ∷ []) (argument_name ∷ others) from behind e (less_turn f others from behind may here) (stops_before (argument_name ∷ []) others behind e read))
+
+-- a refusal behind a name
+pub named_stops : {T : Type 0} (r : Result T Refusal) (e : Refusal) (from middle : List Token) → IsErrAnd r (λ x. x ≡ e) → NameTurns from middle → ((f : Form) (others : List Form) → MayHaveArgument f others → Stops (f ∷ []) middle e) → IfErr r (λ x. (f : Form) (others : List Form) → IsNaming f → MayHaveArgument f others → Stops (take Word ∷ f ∷ []) from x)
+named_stops r e from middle is_err name argument =
+    thrown r e (λ x. (f : Form) (others : List Form) → IsNaming f → MayHaveArgument f others → Stops (take Word ∷ f ∷ []) from x) is_err
+    (λ f others is may. stops_behind (take Word ∷ f ∷ []) (f ∷ []) from middle e (name f is) (argument f others may))
