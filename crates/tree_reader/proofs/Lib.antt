@@ -3,3 +3,4 @@ pub mod NameForms
 pub mod Symbols
 pub mod Tokens
 pub mod Turns
+pub mod TypeForms
