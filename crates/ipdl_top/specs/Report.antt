@@ -24,7 +24,7 @@ finding_at letter number place = record { place = place; rule = record { letter 
 abbrev pub whole_file : Place
 whole_file = record { file = 0; line = 0; column = 0 }
 
--- the one finding of a file that is not read yet
+-- the one finding of a file that is not built yet
 abbrev pub not_built : List Finding
 not_built = finding_at 78 1 whole_file ∷ []
 
@@ -60,14 +60,16 @@ pub record IsReportOfNarrow (key : List ℕ) (lexed : Lexed) (report : List Find
   pub narrow : IsNarrow key unit
   pub reported : IsReport unit report
 
--- the report on a file of the language that is not read yet
-pub record IsReportOfOther (lexed : Lexed) (report : List Finding) : Type 0 where
-  pub has_tree : HasTree file.Protocol lexed.tokens
+-- the report on a file of the language that is not built yet: it has a tree, which is not that of a narrow file of this key
+pub record IsReportOfOther (key : List ℕ) (lexed : Lexed) (report : List Finding) : Type 0 where
+  pub unit : FileUnit
+  pub tree : Tree file.Protocol lexed.tokens unit
+  pub other : ¬ IsNarrow key unit
   pub reported : report ≡ not_built
 
 -- the report on tokens
 abbrev pub IsReportOfLexed : List ℕ → Lexed → List Finding → Type 0
-IsReportOfLexed key lexed report = IsSyntaxFault lexed report ⊎ (IsReportOfNarrow key lexed report ⊎ IsReportOfOther lexed report)
+IsReportOfLexed key lexed report = IsSyntaxFault lexed report ⊎ (IsReportOfNarrow key lexed report ⊎ IsReportOfOther key lexed report)
 
 -- the report on a text that has tokens
 pub record IsReportOfTokens (key bytes : List ℕ) (report : List Finding) : Type 0 where
@@ -79,7 +81,7 @@ pub record IsReportOfTokens (key bytes : List ℕ) (report : List Finding) : Typ
 abbrev pub IsReportOfBytes : List ℕ → List ℕ → List Finding → Type 0
 IsReportOfBytes key bytes report = IsBadToken bytes report ⊎ IsReportOfTokens key bytes report
 
--- the report on what a file of this key has: one that is absent or has more than 1,048,576 bytes is not read yet
+-- the report on what a file of this key has: one that is absent or has more than 1,048,576 bytes is not built yet
 abbrev pub IsReportOf : List ℕ → Option (List ℕ) → List Finding → Type 0
 IsReportOf key None report = report ≡ not_built
 IsReportOf key (Some bytes) report = ((1048576 < length bytes) × (report ≡ not_built)) ⊎ ((length bytes ≤ 1048576) × IsReportOfBytes key bytes report)

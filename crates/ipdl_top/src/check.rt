@@ -1,19 +1,16 @@
 ghost use Rattle.std.specs.Prelude.{◌≡◌, ◌≢◌, ◌≤◌, ◌∷◌, ◌⊎◌, ℕ, IfOk, IfErr, IsSomeAnd, List, [], length};
 ghost use Rattle.ipdl_lex.specs.Tokens.{IsTokens};
 ghost use Rattle.ipdl_parse.specs.Faults.{IsFault};
-ghost use Rattle.ipdl_parse.specs.Place.{HasTree};
-ghost use Rattle.ipdl_syntax.specs.Program.{Tree};
 ghost use Rattle.narrow_rules.specs.Broken.{IsReport};
 ghost use Rattle.narrow_rules.specs.Narrow.{IsNarrow, IsClean};
 ghost use Rattle.ipdl_top.specs.Report.{IsSyntaxFault, finding_at, not_built};
-ghost use Rattle.ipdl_top.specs.Checked.{IsSome, IsCheckOfUnit, IsCheckOfLexed, IsCheckOfBytes};
+ghost use Rattle.ipdl_top.specs.Checked.{IsNonEmpty, IsCheckOfUnit, IsCheckOfTree, IsCheckOfLexed, IsCheckOfBytes};
 
 use actor_tables::{narrow_schema, table_text};
 use ipdl_base::{Finding, Findings, Items, Place, Rule};
 use ipdl_lex::{LexFault, Lexed, lex};
-use ipdl_parse::SyntaxFault;
+use ipdl_parse::{SyntaxFault, parse};
 use ipdl_syntax::{FileKind, Unit};
-use narrow_reader::read_plain;
 use narrow_rules::{clean, is_narrow, narrow_findings};
 use std::alloc::{AllocError, Global};
 
@@ -65,23 +62,21 @@ fn check_unit(alloc: Global, unit: &Unit) -> Result<Checked, AllocError>
     }
 }
 
-/// Checks a text that has tokens with a tree.
-fn check_file(alloc: Global, lexed: &Lexed, key: &[u8]) -> Result<Checked, AllocError>
-    requires { HasTree FileKind.Protocol lexed.now.tokens }
-    ensures { IfOk result (IsCheckOfLexed key.now lexed.now) }
+/// Checks a file of this key by its tree.
+fn check_tree(alloc: Global, unit: &Unit, key: &[u8]) -> Result<Checked, AllocError>
+    ensures { IfOk result (IsCheckOfTree key.now unit.now) }
 {
-    if let Some(unit) = read_plain(alloc, lexed.tokens.as_slice())? {
-        if is_narrow(alloc, &unit, key)? {
-            return check_unit(alloc, &unit);
-        }
+    if is_narrow(alloc, unit, key)? {
+        check_unit(alloc, unit)
+    } else {
+        Ok(Checked::Report(not_built_report(alloc)?))
     }
-    Ok(Checked::Report(not_built_report(alloc)?))
 }
 
 /// The report on tokens that have no tree.
 fn syntax_report(alloc: Global, lexed: &Lexed, fault: SyntaxFault) -> Result<Findings, AllocError>
     requires { IsFault FileKind.Protocol lexed.now.tokens lexed.now.end fault }
-    ensures { IfOk result (IsSome (IsSyntaxFault lexed.now)) }
+    ensures { IfOk result (IsNonEmpty (IsSyntaxFault lexed.now)) }
 {
     match fault {
         SyntaxFault::NoMemory => Err(AllocError),
@@ -93,13 +88,13 @@ fn syntax_report(alloc: Global, lexed: &Lexed, fault: SyntaxFault) -> Result<Fin
 fn check_lexed(alloc: Global, lexed: &Lexed, key: &[u8]) -> Result<Checked, AllocError>
     ensures { IfOk result (IsCheckOfLexed key.now lexed.now) }
 {
-    match ipdl_parse::check(
+    match parse(
         alloc,
         lexed.tokens.as_slice(),
         lexed.end,
         FileKind::Protocol,
     ) {
-        Ok(()) => check_file(alloc, lexed, key),
+        Ok(unit) => check_tree(alloc, &unit, key),
         Err(fault) => Ok(Checked::Report(syntax_report(alloc, lexed, fault)?)),
     }
 }

@@ -1,8 +1,0 @@
-#![tactic(auto)]
-
-mod plain;
-mod reader;
-#[cfg(test)]
-mod tests;
-
-pub use plain::read_plain;
