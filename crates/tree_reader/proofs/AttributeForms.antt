@@ -12,7 +12,8 @@ use Rattle.tree_reader.specs.Spelling.{spelled}
 use Rattle.tree_reader.specs.Symbols.{symbol, first_symbol}
 use Rattle.tree_reader.specs.Machine.{Form, behind as before_others, take, any_word, attributed, behind_attribute, more_attributed, production}
 use Rattle.tree_reader.specs.Reading.{Turns, Stops, IsNext, IsAnyWord, IsBracketed, MayBeHeaded}
-use Rattle.tree_reader.proofs.Turns.{is_spelled, turn, same_turn, turns, split, past, past_turn, past_stops, stops_behind, stops_before, on_ok_weaker, if_ok_weaker, if_err_weaker}
+use Rattle.tree_reader.proofs.Turns.{is_spelled, turn, same_turn, turns, split_turn, past, past_turn, past_stops, stops_behind, stops_before}
+use Rattle.std.proofs.lemmas.Result.{on_ok_weaker, IfOk-weaker, IfErr-weaker}
 
 -- an equals sign behind an attribute's name
 equals_turn : production behind_attribute Equals ≡ Some (any_word ∷ more_attributed ∷ [])
@@ -54,21 +55,21 @@ named_first _ = refl
 pub attribute_turns : (from behind to : List Token) → Turns (take Word ∷ []) from [] behind → Turns (behind_attribute ∷ []) behind (more_attributed ∷ []) to → Turns (attributed ∷ []) from (more_attributed ∷ []) to
 attribute_turns from behind to name value =
     turns (attributed ∷ []) (take Word ∷ behind_attribute ∷ []) (more_attributed ∷ []) from from to
-    (split attributed (take Word) (behind_attribute ∷ []) from (named_first (first_symbol from)))
+    (split_turn attributed (take Word) (behind_attribute ∷ []) from (named_first (first_symbol from)))
     (past_turn (take Word) (behind_attribute ∷ []) (more_attributed ∷ []) from behind to name value)
 
 -- no name
 pub unnamed_stops : (from : List Token) (e : Refusal) → Stops (take Word ∷ []) from e → Stops (attributed ∷ []) from e
 unnamed_stops from e name =
     stops_behind (attributed ∷ []) (take Word ∷ behind_attribute ∷ []) from from e
-    (split attributed (take Word) (behind_attribute ∷ []) from (named_first (first_symbol from)))
+    (split_turn attributed (take Word) (behind_attribute ∷ []) from (named_first (first_symbol from)))
     (stops_before (take Word ∷ []) (behind_attribute ∷ []) from e name)
 
 -- a name, and a refusal behind it
 pub attribute_stops : (from behind : List Token) (e : Refusal) → Turns (take Word ∷ []) from [] behind → Stops (behind_attribute ∷ []) behind e → Stops (attributed ∷ []) from e
 attribute_stops from behind e name value =
     stops_behind (attributed ∷ []) (take Word ∷ behind_attribute ∷ []) from from e
-    (split attributed (take Word) (behind_attribute ∷ []) from (named_first (first_symbol from)))
+    (split_turn attributed (take Word) (behind_attribute ∷ []) from (named_first (first_symbol from)))
     (past_stops (take Word) (behind_attribute ∷ []) from behind e name value)
 
 -- a comma and a bracket behind an attribute
@@ -122,7 +123,7 @@ headed_one (a ∷ rest) from behind to here read = (behind, is_spelled OpenBrack
 
 pub headed_read : (r : Result (List Attribute) Refusal) (from behind to : List Token) → IsNext OpenBracket from behind → IfOk r (λ all. IsBracketed all behind to) → IfOk r (λ all. attributes all from to)
 headed_read r from behind to here read =
-    if_ok_weaker r (λ all. IsBracketed all behind to) (λ all. attributes all from to) (λ all one. headed_one all from behind to here one) read
+    IfOk-weaker r (λ all. IsBracketed all behind to) (λ all. attributes all from to) (λ all one. headed_one all from behind to here one) read
 
 -- the opening bracket, where attributes may stand
 headed_turn : (f : Form) (others : List Form) (from behind : List Token) → IsNext OpenBracket from behind → MayBeHeaded f others from → Turns (f ∷ []) from (attributed ∷ others) behind
@@ -130,13 +131,13 @@ headed_turn f others from behind here may = turn f OpenBracket (attributed ∷ o
 
 pub headed_turns : {T : Type 0} (r : Result T Refusal) (from behind to : List Token) → IsNext OpenBracket from behind → OnOk r (Turns (attributed ∷ []) behind [] to) → OnOk r ((f : Form) (others : List Form) → MayBeHeaded f others from → Turns (f ∷ []) from others to)
 headed_turns r from behind to here read =
-    on_ok_weaker r (Turns (attributed ∷ []) behind [] to) ((f : Form) (others : List Form) → MayBeHeaded f others from → Turns (f ∷ []) from others to)
+    on_ok_weaker {P = Turns (attributed ∷ []) behind [] to} {Q = (f : Form) (others : List Form) → MayBeHeaded f others from → Turns (f ∷ []) from others to} r
     (λ one f others may. turns (f ∷ []) (attributed ∷ others) others from behind to (headed_turn f others from behind here may) (past attributed others behind to one))
     read
 
 pub headed_stops : {T : Type 0} (r : Result T Refusal) (from behind : List Token) → IsNext OpenBracket from behind → IfErr r (Stops (attributed ∷ []) behind) → IfErr r (λ e. (f : Form) (others : List Form) → MayBeHeaded f others from → Stops (f ∷ []) from e)
 headed_stops r from behind here read =
-    if_err_weaker r (λ e. Stops (attributed ∷ []) behind e) (λ e. (f : Form) (others : List Form) → MayBeHeaded f others from → Stops (f ∷ []) from e)
+    IfErr-weaker r (λ e. Stops (attributed ∷ []) behind e) (λ e. (f : Form) (others : List Form) → MayBeHeaded f others from → Stops (f ∷ []) from e)
     (λ e one f others may.
         stops_behind (f ∷ []) (attributed ∷ others) from behind e (headed_turn f others from behind here may) (stops_before (attributed ∷ []) others behind e one))
     read

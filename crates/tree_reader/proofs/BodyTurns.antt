@@ -17,8 +17,8 @@ use Rattle.tree_reader.specs.declared.symbol.Symbol.TheVariants.{Word, OpenBrack
 use Rattle.tree_reader.specs.Symbols.{first_symbol}
 use Rattle.tree_reader.specs.Machine.{Form, take, messaged, managing, more_managing, behind, production, section_begins}
 use Rattle.tree_reader.specs.Reading.{Turns, IsNext, IsNextAt, begins_message, direction_of, IsSectioned, AddsMessages, AreSections, AddsManagers, AddsStatements, IsBody}
-use Rattle.tree_reader.proofs.Turns.{turn, turns, same_turn, is_spelled, fewer_of}
-use Rattle.tree_reader.proofs.ParamTurns.{moved, joined_turn, then_past}
+use Rattle.tree_reader.proofs.Turns.{split_turn, turn, turns, same_turn, is_spelled, fewer_of}
+use Rattle.tree_reader.proofs.ParamTurns.{moved, then_past}
 
 -- The messages of a section
 
@@ -72,7 +72,7 @@ close_table Both is = absurd (cc)
 close_table _ is = refl
 
 pub close_turn : (f : Form) (from : List Token) → IsSectioned f from → direction_of (first_symbol from) ≡ None → Turns (f ∷ []) from (take CloseBrace ∷ take Semicolon ∷ []) from
-close_turn f from may is = joined_turn f (take CloseBrace) (take Semicolon ∷ []) from (may ∙ close_table (first_symbol from) is)
+close_turn f from may is = split_turn f (take CloseBrace) (take Semicolon ∷ []) from (may ∙ close_table (first_symbol from) is)
 
 -- the word of a section
 word_of : (s : Symbol) (d : Direction) (from to : List Token) → direction_of s ≡ Some d → IsNext s from to → reserved (direction_word d) from to

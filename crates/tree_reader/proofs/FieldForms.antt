@@ -1,4 +1,4 @@
--- Results of readers, forms one behind another, and the fields and components of a declaration.
+-- The fields and components of a declaration.
 use Rattle.std.proofs.Common.{◌≡◌, ◌≢◌, ℕ, ◌+◌, List, [], ◌∷◌, ◌++◌, length, Option, Some, None, Result, Ok, Err, refl, sym, ap, subst, ◌∙◌, append_assoc, codes}
 use Rattle.std.specs.Prelude.{IfErr}
 use Rattle.std.specs.Result.{IsErrAnd}
@@ -16,29 +16,7 @@ use Rattle.tree_reader.specs.Symbols.{symbol, first_symbol}
 use Rattle.tree_reader.specs.Machine.{Form, Stand, behind, gone_in, production, refusal, take, typed, fielded, componented}
 use Rattle.tree_reader.specs.Reading.{Turns, Stops, IsNext, closed}
 use Rattle.tree_reader.specs.Spelling.{spelled}
-use Rattle.tree_reader.proofs.Turns.{turn, turns, stops_before, stops_behind, is_spelled}
-
--- Results
-
--- what holds of an error holds of the result that hands it on
-pub thrown : {T : Type 0} (r : Result T Refusal) (P : Refusal → Type 0) (e : Refusal) → IsErrAnd r (λ x. x ≡ e) → P e → IfErr r P
-thrown (Ok v) P e is p = tt
-thrown (Err x) P e is p = subst P (sym is) p
-
--- Forms one behind another
-
--- what the machine does with forms put behind a production
-gone_behind : (o : Option (List Form)) (n : ℕ) (others more : List Form) (at : Stand) (rest : List Token) →
-    gone_in (behind o others) n (λ y. refusal (y ++ more) at rest) ≡ gone_in o n (λ y. refusal (y ++ (others ++ more)) at rest)
-gone_behind None n others more at rest = refl
-gone_behind (Some new) n others more at rest = ap (λ (x : List Form). refusal x at rest) (append_assoc new others more)
-
--- a form that goes on at the next token as the first of others with those behind it
-pub behind_turn : (f g : Form) (others : List Form) (from : List Token) → production f (first_symbol from) ≡ behind (production g (first_symbol from)) others → Turns (f ∷ []) from (g ∷ others) from
-unfolding refusal
-behind_turn f g others [] p = λ more at. refl
-behind_turn f g others (t ∷ rest) p = λ more at.
-    ap (λ (o : Option (List Form)). gone_in o (length rest + 1) (λ y. refusal (y ++ more) at rest)) p ∙ gone_behind (production g (symbol t)) (length rest + 1) others more at rest
+use Rattle.tree_reader.proofs.Turns.{split_turn, turn, turns, stops_before, stops_behind, is_spelled}
 
 -- What a reader that may have skipped a token says where it did not: there was another one, and nothing is gone.
 abbrev pub IsOther : Symbol → List Token → List Token → Type 0
@@ -74,7 +52,7 @@ field_turn start from here (n, is) so_far =
     let P : List Token → Type 0 = λ x. Turns (fielded ∷ []) start (typed 4 ending.Name ∷ take Semicolon ∷ fielded ∷ []) x in
     subst P (sym is)
     (turns (fielded ∷ []) (fielded ∷ []) (typed 4 ending.Name ∷ take Semicolon ∷ fielded ∷ []) start from from so_far
-    (behind_turn fielded (typed 4 ending.Name) (take Semicolon ∷ fielded ∷ []) from (field_table (first_symbol from) n)))
+    (split_turn fielded (typed 4 ending.Name) (take Semicolon ∷ fielded ∷ []) from (field_table (first_symbol from) n)))
 
 -- one more field
 pub field_turned : (start from here to : List Token) → IsOther CloseBrace from here → Turns (fielded ∷ []) start (fielded ∷ []) from → Turns (typed 4 ending.Name ∷ take Semicolon ∷ []) here [] to → Turns (fielded ∷ []) start (fielded ∷ []) to
@@ -119,7 +97,7 @@ component_turn forms start from here (n, is) so_far =
     let P : List Token → Type 0 = λ x. Turns forms start (typed 4 ending.Semicolon ∷ componented ∷ []) x in
     subst P (sym is)
     (turns forms (componented ∷ []) (typed 4 ending.Semicolon ∷ componented ∷ []) start from from so_far
-    (behind_turn componented (typed 4 ending.Semicolon) (componented ∷ []) from (component_table (first_symbol from) n)))
+    (split_turn componented (typed 4 ending.Semicolon) (componented ∷ []) from (component_table (first_symbol from) n)))
 
 -- one more component
 pub component_turned : (forms : List Form) (start from here to : List Token) → IsOther CloseBrace from here → Turns forms start (componented ∷ []) from → Turns (typed 4 ending.Semicolon ∷ []) here [] to → Turns forms start (componented ∷ []) to

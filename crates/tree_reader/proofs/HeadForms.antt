@@ -14,8 +14,8 @@ use Rattle.tree_reader.specs.Machine.{Form, behind, production, take, argument_n
 use Rattle.tree_reader.specs.Reading.{Turns, Stops, IsNext, IsNextAt, IsNextText, IsNaming, MayHaveArgument}
 use Rattle.tree_reader.proofs.Symbols.{means}
 use Rattle.tree_reader.proofs.Tokens.{is_identifier, next_word}
-use Rattle.tree_reader.proofs.Turns.{turn, turns, turn_before, refused, same_turn, stops_behind, stops_before, is_spelled}
-use Rattle.tree_reader.proofs.FieldForms.{IsOther, behind_turn}
+use Rattle.tree_reader.proofs.Turns.{split_turn, turn, turns, turn_before, refused, same_turn, stops_behind, stops_before, is_spelled}
+use Rattle.tree_reader.proofs.FieldForms.{IsOther}
 
 -- Usings
 
@@ -95,12 +95,12 @@ file_table _ c l = refl
 
 -- so an argument may stand there
 may_have_argument : MayHaveArgument behind_using file_forms
-may_have_argument = (argument_begins, λ tokens c l. behind_turn behind_using (take From) (take Quoted ∷ take Semicolon ∷ []) tokens (file_table (first_symbol tokens) c l))
+may_have_argument = (argument_begins, λ tokens c l. split_turn behind_using (take From) (take Quoted ∷ take Semicolon ∷ []) tokens (file_table (first_symbol tokens) c l))
 
 -- behind the word before it, the name comes
 word_turn : (from here : List Token) → Turns (using_named ∷ []) from (using_word ∷ []) here → Turns (using_named ∷ []) from (take Word ∷ behind_using ∷ []) here
 word_turn from here one =
-    turns (using_named ∷ []) (using_word ∷ []) (take Word ∷ behind_using ∷ []) from here here one (behind_turn using_word (take Word) (behind_using ∷ []) here (word_table (first_symbol here)))
+    turns (using_named ∷ []) (using_word ∷ []) (take Word ∷ behind_using ∷ []) from here here one (split_turn using_word (take Word) (behind_using ∷ []) here (word_table (first_symbol here)))
 
 -- a name with its argument leads to the file
 pub using_turn : (from here to : List Token) → Turns (using_named ∷ []) from (using_word ∷ []) here →

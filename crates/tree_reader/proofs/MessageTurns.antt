@@ -9,8 +9,8 @@ use Rattle.tree_reader.specs.declared.symbol.Symbol.TheVariants.{Word, OpenParen
 use Rattle.tree_reader.specs.Symbols.{first_symbol}
 use Rattle.tree_reader.specs.Machine.{Form, take, attributed, parameters, behind_parameters, one_message, messaged, behind, production}
 use Rattle.tree_reader.specs.Reading.{Turns, Stops, IsNext, MayBeHeaded, begins_message}
-use Rattle.tree_reader.proofs.Turns.{turn, refused, same_turn}
-use Rattle.tree_reader.proofs.ParamTurns.{moved, joined_turn}
+use Rattle.tree_reader.proofs.Turns.{split_turn, turn, refused, same_turn}
+use Rattle.tree_reader.proofs.ParamTurns.{moved}
 
 -- Returns
 
@@ -82,6 +82,6 @@ bare_table d _ is n = absurd (cc)
 -- attributes may stand before a message
 pub headed_message : (d : Direction) (from : List Token) → begins_message (first_symbol from) ≡ true → MayBeHeaded (messaged d) (one_message ∷ messaged d ∷ []) from
 headed_message d from is =
-    (headed_table d, λ n. joined_turn (messaged d) one_message (messaged d ∷ []) from (bare_table d (first_symbol from) is n))
+    (headed_table d, λ n. split_turn (messaged d) one_message (messaged d ∷ []) from (bare_table d (first_symbol from) is n))
 
 -- What is read

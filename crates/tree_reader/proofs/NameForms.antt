@@ -12,7 +12,7 @@ use Rattle.tree_reader.specs.Spelling.{spelled}
 use Rattle.tree_reader.specs.Symbols.{symbol, first_symbol}
 use Rattle.tree_reader.specs.Machine.{Form, behind as before_others, take, argument_name, argument_words, production}
 use Rattle.tree_reader.specs.Reading.{Turns, Stops, IsNext, AddsWords, IsNaming, MayHaveArgument}
-use Rattle.tree_reader.proofs.Turns.{is_spelled, turn, same_turn, turns, split, past, past_turn, past_stops, stops_behind, stops_before, thrown, on_ok_weaker, if_ok_weaker, if_err_weaker}
+use Rattle.tree_reader.proofs.Turns.{is_spelled, turn, same_turn, turns, split_turn, past, past_turn, past_stops, stops_behind, stops_before, thrown}
 
 -- whatever adds words to the text here adds words to the text at the start
 abbrev pub WordsGoOn : List ℕ → List ℕ → List Token → List Token → Type 0
@@ -82,7 +82,7 @@ abbrev pub NameTurns : List Token → List Token → Type 0
 NameTurns from to = (f : Form) → IsNaming f → Turns (take Word ∷ f ∷ []) from (f ∷ []) to
 
 argument_begins : (from : List Token) → Turns (argument_name ∷ []) from (take Word ∷ argument_words ∷ []) from
-argument_begins from = split argument_name (take Word) (argument_words ∷ []) from (argument_first (first_symbol from))
+argument_begins from = split_turn argument_name (take Word) (argument_words ∷ []) from (argument_first (first_symbol from))
 
 -- no name in an argument
 pub argument_unnamed : (from : List Token) (e : Refusal) → ((f : Form) → IsNaming f → Stops (take Word ∷ f ∷ []) from e) → Stops (argument_name ∷ []) from e

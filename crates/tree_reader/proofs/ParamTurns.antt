@@ -2,7 +2,7 @@
 use Rattle.std.proofs.Common.{◌≡◌, ◌≢◌, ℕ, ◌+◌, ◌<◌, List, [], ◌∷◌, ◌++◌, length, Option, Some, None, Result, Ok, Err, refl, sym, ap, subst, ◌∙◌, arith, append_assoc}
 use Rattle.std.specs.Prelude.{codes}
 use Rattle.std.specs.Result.{IfErr, IsErrAnd, OnOk}
-use Rattle.std.proofs.lemmas.Result.{IfErr-weaker}
+use Rattle.std.proofs.lemmas.Result.{IfErr-weaker, on_ok_weaker}
 use Rattle.std.proofs.lemmas.List.{append-nil}
 use Rattle.ipdl_base.specs.declared.token.Token.{Token}
 use Rattle.ipdl_syntax.specs.declared.tree.Param.{Param}
@@ -15,19 +15,7 @@ use Rattle.tree_reader.specs.declared.symbol.Symbol.TheVariants.{OpenBracket, Cl
 use Rattle.tree_reader.specs.Symbols.{symbol, first_symbol}
 use Rattle.tree_reader.specs.Machine.{Form, take, attributed, typed, one_param, parameters, more_parameters, behind, production, Stand, gone_in, refusal}
 use Rattle.tree_reader.specs.Reading.{Turns, Stops, IsNext, MayBeHeaded}
-use Rattle.tree_reader.proofs.Turns.{turn, same_turn, turns, stops_behind, stops_before, past, is_spelled, fewer_of}
-
--- Errors
-
--- what holds of the error that was handed on
-pub thrown : {T : Type 0} (r : Result T Refusal) (e : Refusal) (P : Refusal → Type 0) → IsErrAnd r (λ x. x ≡ e) → P e → IfErr r P
-thrown (Ok x) e P is holds = tt
-thrown (Err x) e P is holds = subst P (sym is) holds
-
--- what holds of an `Ok` goes on to what follows from it
-pub on_ok_weaker : {T E : Type 0} (r : Result T E) (P Q : Type 0) → (P → Q) → OnOk r P → OnOk r Q
-on_ok_weaker (Ok x) P Q f holds = f holds
-on_ok_weaker (Err x) P Q f holds = tt
+use Rattle.tree_reader.proofs.Turns.{thrown, split_turn, turn, same_turn, turns, stops_behind, stops_before, past, is_spelled, fewer_of}
 
 -- Forms
 
@@ -37,7 +25,7 @@ moved forms others from middle same one = let P : List Token → Type 0 = λ x. 
 
 -- a result behind a turn
 pub turns_ok : {T : Type 0} (r : Result T Refusal) (fs gs hs : List Form) (a b c : List Token) → Turns fs a gs b → OnOk r (Turns gs b hs c) → OnOk r (Turns fs a hs c)
-turns_ok r fs gs hs a b c one = on_ok_weaker r (Turns gs b hs c) (Turns fs a hs c) (λ two. turns fs gs hs a b c one two)
+turns_ok r fs gs hs a b c one = on_ok_weaker r (λ two. turns fs gs hs a b c one two)
 
 -- an error behind a turn
 pub stops_err : {T : Type 0} (r : Result T Refusal) (fs gs : List Form) (a b : List Token) → Turns fs a gs b → IfErr r (Stops gs b) → IfErr r (Stops fs a)
@@ -57,23 +45,10 @@ thrown_then r e fs f others a b is one two = thrown_behind r e fs (f ∷ others)
 
 -- the same at the result of a last call
 pub past_ok : {T : Type 0} (r : Result T Refusal) (fs : List Form) (f : Form) (others : List Form) (a b c : List Token) → Turns fs a (f ∷ others) b → OnOk r (Turns (f ∷ []) b [] c) → OnOk r (Turns fs a others c)
-past_ok r fs f others a b c one = on_ok_weaker r (Turns (f ∷ []) b [] c) (Turns fs a others c) (λ two. then_past fs f others a b c one two)
+past_ok r fs f others a b c one = on_ok_weaker r (λ two. then_past fs f others a b c one two)
 
 pub stops_then : {T : Type 0} (r : Result T Refusal) (fs : List Form) (f : Form) (others : List Form) (a b : List Token) → Turns fs a (f ∷ others) b → IfErr r (Stops (f ∷ []) b) → IfErr r (Stops fs a)
 stops_then r fs f others a b one = IfErr-weaker r (Stops (f ∷ []) b) (Stops fs a) (λ e two. stops_behind fs (f ∷ others) a b e one (stops_before (f ∷ []) others b e two))
-
--- what is still to come behind a token, with other forms behind it
-behind_goes : (o : Option (List Form)) (others more : List Form) (n : ℕ) (at : Stand) (rest : List Token) → gone_in (behind o others) n (λ y. refusal (y ++ more) at rest) ≡ gone_in o n (λ y. refusal (y ++ (others ++ more)) at rest)
-behind_goes None others more n at rest = refl
-behind_goes (Some new) others more n at rest = ap (λ (x : List Form). refusal x at rest) (append_assoc new others more)
-
--- a form that becomes at the next token what another becomes there, with others behind it
-pub joined_turn : (f g : Form) (others : List Form) (from : List Token) → production f (first_symbol from) ≡ behind (production g (first_symbol from)) others → Turns (f ∷ []) from (g ∷ others) from
-unfolding refusal
-joined_turn f g others [] p = λ more at. refl
-joined_turn f g others (t ∷ rest) p = λ more at.
-    ap (λ (o : Option (List Form)). gone_in o (length rest + 1) (λ y. refusal (y ++ more) at rest)) p
-    ∙ behind_goes (production g (symbol t)) others more (length rest + 1) at rest
 
 -- One parameter
 
@@ -126,7 +101,7 @@ none_turn from to here = turn parameters CloseParen [] from to here none_table
 
 -- at least one parameter
 pub some_turn : (from middle : List Token) → (first_symbol from ≢ CloseParen) × (middle ≡ from) → Turns (parameters ∷ []) from (one_param ∷ more_parameters ∷ []) middle
-some_turn from middle kept = moved (parameters ∷ []) (one_param ∷ more_parameters ∷ []) from middle kept.1 (joined_turn parameters one_param (more_parameters ∷ []) from (some_table (first_symbol from) kept.0))
+some_turn from middle kept = moved (parameters ∷ []) (one_param ∷ more_parameters ∷ []) from middle kept.1 (split_turn parameters one_param (more_parameters ∷ []) from (some_table (first_symbol from) kept.0))
 
 -- What is read
 

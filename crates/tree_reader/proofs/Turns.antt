@@ -47,15 +47,6 @@ unfolding refusal
 same_turn f g [] p = λ more at. refl
 same_turn f g (t ∷ rest) p = λ more at. ap (λ (o : Option (List Form)). gone_in o (length rest + 1) (λ y. refusal (y ++ more) at rest)) p
 
--- a form that becomes at the next token what the first of others becomes there, with those behind it
-pub split_turn : (f g : Form) (others : List Form) (new : List Form) (s : Symbol) (from : List Token) → first_symbol from ≡ s → s ≢ End → production f s ≡ Some (new ++ others) → production g s ≡ Some new → Turns (f ∷ []) from (g ∷ others) from
-unfolding refusal
-split_turn f g others new s [] is not_end p q = absurd (not_end (sym is))
-split_turn f g others new s (t ∷ rest) is not_end p q = λ more at.
-    ap (λ (o : Option (List Form)). gone_in o (length rest + 1) (λ y. refusal (y ++ more) at rest)) (ap (λ (x : Symbol). production f x) is ∙ p)
-    ∙ ap (λ (x : List Form). refusal x at rest) (append_assoc new others more)
-    ∙ sym (ap (λ (o : Option (List Form)). gone_in o (length rest + 1) (λ y. refusal (y ++ (others ++ more)) at rest)) (ap (λ (x : Symbol). production g x) is ∙ q))
-
 -- one turn behind another
 pub turns : (fs gs hs : List Form) (a b c : List Token) → Turns fs a gs b → Turns gs b hs c → Turns fs a hs c
 turns fs gs hs a b c one two = λ more at. one more at ∙ two more at
@@ -84,40 +75,21 @@ pub thrown : {T : Type 0} (r : Result T Refusal) (e : Refusal) (P : Refusal → 
 thrown (Ok x) e P is holds = tt
 thrown (Err x) e P is holds = subst P (sym is) holds
 
--- what holds of the error where it is the one that a `?` makes when memory runs out
-pub out_of_memory : {T : Type 0} (r : Result T Refusal) (P : Refusal → Type 0) → IsErrAnd r (λ x. x ≡ NoMemory) → P NoMemory → IfErr r P
-out_of_memory r P is holds = thrown r NoMemory P is holds
-
--- a weaker fact on an `Ok`
-pub on_ok_weaker : {T E : Type 0} (r : Result T E) (P Q : Type 0) → (P → Q) → OnOk r P → OnOk r Q
-on_ok_weaker (Ok x) P Q f holds = f holds
-on_ok_weaker (Err x) P Q f holds = tt
-
--- a weaker fact on the value of an `Ok`
-pub if_ok_weaker : {T E : Type 0} (r : Result T E) (P Q : T → Type 0) → ((x : T) → P x → Q x) → IfOk r P → IfOk r Q
-if_ok_weaker (Ok x) P Q f holds = f x holds
-if_ok_weaker (Err x) P Q f holds = tt
-
--- a weaker fact on the error of an `Err`
-pub if_err_weaker : {T E : Type 0} (r : Result T E) (P Q : E → Type 0) → ((e : E) → P e → Q e) → IfErr r P → IfErr r Q
-if_err_weaker (Ok x) P Q f holds = tt
-if_err_weaker (Err x) P Q f holds = f x holds
-
 -- a refusal that a `?` carries over
 pub stops_on : {T : Type 0} (r : Result T Refusal) (e : Refusal) (fs : List Form) (from : List Token) → IsErrAnd r (λ x. x ≡ e) → Stops fs from e → IfErr r (Stops fs from)
 stops_on r e fs from is holds = thrown r e (λ x. Stops fs from x) is holds
 
-split_step : (o : Option (List Form)) (others more : List Form) (n : ℕ) (go : List Form → Option ℕ) → gone_in (behind o others) n (λ y. go (y ++ more)) ≡ gone_in o n (λ y. go (y ++ (others ++ more)))
-split_step None others more n go = refl
-split_step (Some new) others more n go = ap go (append_assoc new others more)
+behind_step : (o : Option (List Form)) (others more : List Form) (n : ℕ) (go : List Form → Option ℕ) → gone_in (behind o others) n (λ y. go (y ++ more)) ≡ gone_in o n (λ y. go (y ++ (others ++ more)))
+behind_step None others more n go = refl
+behind_step (Some new) others more n go = ap go (append_assoc new others more)
 
 -- a form that is at the next token what another is there, with others behind it
-pub split : (f g : Form) (others : List Form) (from : List Token) → production f (first_symbol from) ≡ behind (production g (first_symbol from)) others → Turns (f ∷ []) from (g ∷ others) from
+pub split_turn : (f g : Form) (others : List Form) (from : List Token) → production f (first_symbol from) ≡ behind (production g (first_symbol from)) others → Turns (f ∷ []) from (g ∷ others) from
 unfolding refusal
-split f g others [] p = λ more at. refl
-split f g others (t ∷ rest) p = λ more at.
+split_turn f g others [] p = λ more at. refl
+split_turn f g others (t ∷ rest) p = λ more at.
     ap (λ (o : Option (List Form)). gone_in o (length rest + 1) (λ y. refusal (y ++ more) at rest)) p
-    ∙ split_step (production g (symbol t)) others more (length rest + 1) (λ y. refusal y at rest)
+    ∙ behind_step (production g (symbol t)) others more (length rest + 1) (λ y. refusal y at rest)
 
 -- a form read to its end, and a turn of those behind it
 pub past_turn : (f : Form) (others new : List Form) (a b c : List Token) → Turns (f ∷ []) a [] b → Turns others b new c → Turns (f ∷ others) a new c

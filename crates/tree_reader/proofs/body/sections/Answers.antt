@@ -3,8 +3,7 @@ use Rattle.tree_reader.specs.declared.symbol.Symbol.TheVariants.{Colon}
 use Rattle.tree_reader.specs.Symbols.{first_symbol}
 use Rattle.tree_reader.specs.Machine.{Form, take, messaged}
 use Rattle.tree_reader.specs.Reading.{Stops, IsSectioned, direction_of}
-use Rattle.tree_reader.proofs.Turns.{stops_behind, stops_before}
-use Rattle.tree_reader.proofs.ParamTurns.{thrown}
+use Rattle.tree_reader.proofs.Turns.{thrown, stops_behind, stops_before}
 use Rattle.tree_reader.proofs.BodyTurns.{section_word, section_colon, more_sections, all_sections, sections_close}
 use Rattle.tree_reader.proofs.body.sections.Goals as goal
 

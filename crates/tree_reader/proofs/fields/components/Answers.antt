@@ -4,8 +4,8 @@ use Rattle.tree_reader.specs.declared.symbol.Symbol.TheVariants.{Semicolon}
 use Rattle.tree_reader.specs.Ending as ending
 use Rattle.tree_reader.specs.Machine.{Form, take, typed, componented}
 use Rattle.tree_reader.specs.Reading.{Stops}
-use Rattle.tree_reader.proofs.FieldForms.{thrown, components_more, components_closed, component_turned, component_stops, components_turn, more_is_some}
-use Rattle.tree_reader.proofs.Turns.{turns, stops_behind}
+use Rattle.tree_reader.proofs.FieldForms.{components_more, components_closed, component_turned, component_stops, components_turn, more_is_some}
+use Rattle.tree_reader.proofs.Turns.{thrown, turns, stops_behind}
 use Rattle.tree_reader.proofs.fields.components.Goals as goal
 
 -- what is read behind the `{` of a union
@@ -15,7 +15,7 @@ all_forms = typed 4 ending.Semicolon ∷ componented ∷ []
 pub returns-in_err-component-2-clause-stops : goal.returns-in_err-component-2-clause-stops
 returns-in_err-component-2-clause-stops c =
     let other = c.skips.ensures.not c.components-test.true in
-    thrown c.from_residual-in_err-component-2.result (Stops all_forms c.args.reader.now) c.in_err-component-2.field-0.0 c.from_residual-in_err-component-2.ensures.1
+    thrown c.from_residual-in_err-component-2.result c.in_err-component-2.field-0.0 (Stops all_forms c.args.reader.now) c.from_residual-in_err-component-2.ensures.1
     (component_stops all_forms c.args.reader.now c.components.reader c.skips.new.self c.in_err-component-2.field-0.0 other c.components.invariant.turns c.in_err-component-2.ensures.stops)
 
 pub components-preserved : goal.components-preserved
@@ -33,7 +33,7 @@ components-preserved c =
 pub returns-in_err-take-clause-stops : goal.returns-in_err-take-clause-stops
 returns-in_err-take-clause-stops c =
     let brace = c.skips.ensures.yes c.components-test.false in
-    thrown c.from_residual-in_err-take.result (Stops all_forms c.args.reader.now) c.in_err-take.field-0.0 c.from_residual-in_err-take.ensures.1
+    thrown c.from_residual-in_err-take.result c.in_err-take.field-0.0 (Stops all_forms c.args.reader.now) c.from_residual-in_err-take.ensures.1
     (stops_behind all_forms (take Semicolon ∷ []) c.args.reader.now c.skips.new.self c.in_err-take.field-0.0 (components_turn all_forms c.args.reader.now c.components.reader c.skips.new.self brace c.components.invariant.turns)
     c.in_err-take.ensures.stops)
 

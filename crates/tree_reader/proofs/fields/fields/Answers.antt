@@ -3,14 +3,14 @@ use Rattle.ipdl_base.specs.declared.token.Token.{Token}
 use Rattle.tree_reader.specs.declared.symbol.Symbol.TheVariants.{Semicolon}
 use Rattle.tree_reader.specs.Machine.{take, fielded}
 use Rattle.tree_reader.specs.Reading.{Stops}
-use Rattle.tree_reader.proofs.FieldForms.{thrown, fields_more, fields_closed, field_turned, field_stops, fields_turn}
-use Rattle.tree_reader.proofs.Turns.{turns, stops_behind}
+use Rattle.tree_reader.proofs.FieldForms.{fields_more, fields_closed, field_turned, field_stops, fields_turn}
+use Rattle.tree_reader.proofs.Turns.{thrown, turns, stops_behind}
 use Rattle.tree_reader.proofs.fields.fields.Goals as goal
 
 pub returns-in_err-field-clause-stops : goal.returns-in_err-field-clause-stops
 returns-in_err-field-clause-stops c =
     let other = c.skips.ensures.not c.fields-test.true in
-    thrown c.from_residual.result (Stops (fielded ∷ []) c.args.reader.now) c.in_err-field.field-0.0 c.from_residual.ensures.1
+    thrown c.from_residual.result c.in_err-field.field-0.0 (Stops (fielded ∷ []) c.args.reader.now) c.from_residual.ensures.1
     (field_stops c.args.reader.now c.fields.reader c.skips.new.self c.in_err-field.field-0.0 other c.fields.invariant.turns c.in_err-field.ensures.stops)
 
 pub fields-preserved : goal.fields-preserved
@@ -27,7 +27,7 @@ fields-preserved c =
 pub returns-in_err-take-clause-stops : goal.returns-in_err-take-clause-stops
 returns-in_err-take-clause-stops c =
     let brace = c.skips.ensures.yes c.fields-test.false in
-    thrown c.from_residual-in_err-take.result (Stops (fielded ∷ []) c.args.reader.now) c.in_err-take.field-0.0 c.from_residual-in_err-take.ensures.1
+    thrown c.from_residual-in_err-take.result c.in_err-take.field-0.0 (Stops (fielded ∷ []) c.args.reader.now) c.from_residual-in_err-take.ensures.1
     (stops_behind (fielded ∷ []) (take Semicolon ∷ []) c.args.reader.now c.skips.new.self c.in_err-take.field-0.0 (fields_turn c.args.reader.now c.fields.reader c.skips.new.self brace c.fields.invariant.turns) c.in_err-take.ensures.stops)
 
 pub returns-clause-read : goal.returns-clause-read

@@ -5,7 +5,6 @@ use Rattle.tree_reader.specs.declared.refusal.Refusal.{Refusal}
 use Rattle.tree_reader.specs.Files.{FileStops, IsDraft, IsHeadedDraft, IsProtocolDraft}
 use Rattle.tree_reader.specs.declared.symbol.Symbol.TheVariants as symbols
 use Rattle.tree_reader.proofs.FileForms.{protocol_added, protocol_stopped, keyword_stopped}
-use Rattle.tree_reader.proofs.Turns.{thrown, next_of}
 use Rattle.tree_reader.proofs.file.add_protocol.Goals as goal
 
 pub returns-clause-read : goal.returns-clause-read

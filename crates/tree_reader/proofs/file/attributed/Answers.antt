@@ -5,7 +5,8 @@ use Rattle.tree_reader.specs.declared.refusal.Refusal.{Refusal}
 use Rattle.tree_reader.specs.Files.{FileStops, IsDraft, IsHeadedDraft, IsProtocolDraft}
 use Rattle.tree_reader.specs.declared.symbol.Symbol.TheVariants as symbols
 use Rattle.tree_reader.proofs.FileForms.{attributes_read, attributes_stopped}
-use Rattle.tree_reader.proofs.Turns.{thrown, next_of, on_ok_weaker, if_err_weaker}
+use Rattle.tree_reader.proofs.Turns.{thrown, next_of}
+use Rattle.std.proofs.lemmas.Result.{on_ok_weaker, IfErr-weaker}
 use Rattle.tree_reader.proofs.file.attributed.Goals as goal
 
 pub returns-in_err-attributes-clause-stops : goal.returns-in_err-attributes-clause-stops
@@ -19,12 +20,12 @@ head c tokens h =
 
 pub returns-clause-read : goal.returns-clause-read
 returns-clause-read c =
-    on_ok_weaker c.headed.result ((tokens : List Token) → IsHeadedDraft c.args.kind tokens c.in_ok-attributes.attributes c.args.draft.now c.bracketed.new.reader → IsDraft c.args.kind tokens c.headed.new.draft c.headed.new.reader)
-    ((tokens : List Token) → IsDraft c.args.kind tokens c.args.draft.now c.args.reader.now → IsDraft c.args.kind tokens c.headed.new.draft c.headed.new.reader)
-    (λ f tokens h. f tokens (head c tokens h)) c.headed.ensures.read
+    on_ok_weaker {P = ((tokens : List Token) → IsHeadedDraft c.args.kind tokens c.in_ok-attributes.attributes c.args.draft.now c.bracketed.new.reader → IsDraft c.args.kind tokens c.headed.new.draft c.headed.new.reader)}
+    {Q = ((tokens : List Token) → IsDraft c.args.kind tokens c.args.draft.now c.args.reader.now → IsDraft c.args.kind tokens c.headed.new.draft c.headed.new.reader)}
+    c.headed.result (λ f tokens h. f tokens (head c tokens h)) c.headed.ensures.read
 
 pub returns-clause-stops : goal.returns-clause-stops
 returns-clause-stops c =
-    if_err_weaker c.headed.result (λ (e : Refusal). (tokens : List Token) → IsHeadedDraft c.args.kind tokens c.in_ok-attributes.attributes c.args.draft.now c.bracketed.new.reader → FileStops c.args.kind tokens e)
+    IfErr-weaker c.headed.result (λ (e : Refusal). (tokens : List Token) → IsHeadedDraft c.args.kind tokens c.in_ok-attributes.attributes c.args.draft.now c.bracketed.new.reader → FileStops c.args.kind tokens e)
     (λ (e : Refusal). (tokens : List Token) → IsDraft c.args.kind tokens c.args.draft.now c.args.reader.now → FileStops c.args.kind tokens e)
     (λ e f tokens h. f tokens (head c tokens h)) c.headed.ensures.stops

@@ -5,7 +5,7 @@ use Rattle.tree_reader.specs.declared.refusal.Refusal.{Refusal}
 use Rattle.tree_reader.specs.Files.{FileStops, IsDraft, IsHeadedDraft, IsProtocolDraft}
 use Rattle.tree_reader.specs.declared.symbol.Symbol.TheVariants as symbols
 use Rattle.tree_reader.proofs.FileForms.{namespace_closed}
-use Rattle.tree_reader.proofs.Turns.{thrown, next_of}
+use Rattle.tree_reader.proofs.Turns.{next_of}
 use Rattle.tree_reader.proofs.file.close_namespace.Goals as goal
 
 pub returns-clause-read : goal.returns-clause-read

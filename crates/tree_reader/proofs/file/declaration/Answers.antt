@@ -5,7 +5,7 @@ use Rattle.tree_reader.specs.declared.refusal.Refusal.{Refusal}
 use Rattle.tree_reader.specs.Files.{FileStops, IsDraft, IsHeadedDraft, IsProtocolDraft}
 use Rattle.tree_reader.specs.declared.symbol.Symbol.{Symbol}
 use Rattle.tree_reader.proofs.FileForms.{no_attributes, IsBare, bare_include, bare_namespace, bare_close, bare_none}
-use Rattle.tree_reader.proofs.Turns.{on_ok_weaker, if_err_weaker}
+use Rattle.std.proofs.lemmas.Result.{on_ok_weaker, IfErr-weaker}
 use Rattle.tree_reader.proofs.file.declaration.Goals as goal
 use Rattle.tree_reader.proofs.file.declaration.Goals.{in_default-via-in-Include+else-is_empty, in_default-via-in-Namespace+else-len-lt16, in_default-via-in-CloseBrace+else-not-is_empty, in_default-via-in_default}
 use Rattle.tree_reader.specs.Symbols.{first_symbol}
@@ -25,12 +25,12 @@ head c tokens h = no_attributes c.args.kind tokens c.from_vec.result c.args.draf
 
 pub returns-in_default-clause-read : goal.returns-in_default-clause-read
 returns-in_default-clause-read c =
-    on_ok_weaker c.headed.result ((tokens : List Token) → IsHeadedDraft c.args.kind tokens c.from_vec.result c.args.draft.now c.args.reader.now → IsDraft c.args.kind tokens c.headed.new.draft c.headed.new.reader)
-    ((tokens : List Token) → IsDraft c.args.kind tokens c.args.draft.now c.args.reader.now → IsDraft c.args.kind tokens c.headed.new.draft c.headed.new.reader)
-    (λ f tokens h. f tokens (head c tokens h)) c.headed.ensures.read
+    on_ok_weaker {P = ((tokens : List Token) → IsHeadedDraft c.args.kind tokens c.from_vec.result c.args.draft.now c.args.reader.now → IsDraft c.args.kind tokens c.headed.new.draft c.headed.new.reader)}
+    {Q = ((tokens : List Token) → IsDraft c.args.kind tokens c.args.draft.now c.args.reader.now → IsDraft c.args.kind tokens c.headed.new.draft c.headed.new.reader)}
+    c.headed.result (λ f tokens h. f tokens (head c tokens h)) c.headed.ensures.read
 
 pub returns-in_default-clause-stops : goal.returns-in_default-clause-stops
 returns-in_default-clause-stops c =
-    if_err_weaker c.headed.result (λ (e : Refusal). (tokens : List Token) → IsHeadedDraft c.args.kind tokens c.from_vec.result c.args.draft.now c.args.reader.now → FileStops c.args.kind tokens e)
+    IfErr-weaker c.headed.result (λ (e : Refusal). (tokens : List Token) → IsHeadedDraft c.args.kind tokens c.from_vec.result c.args.draft.now c.args.reader.now → FileStops c.args.kind tokens e)
     (λ (e : Refusal). (tokens : List Token) → IsDraft c.args.kind tokens c.args.draft.now c.args.reader.now → FileStops c.args.kind tokens e)
     (λ e f tokens h. f tokens (head c tokens h)) c.headed.ensures.stops

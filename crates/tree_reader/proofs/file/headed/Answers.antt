@@ -5,7 +5,6 @@ use Rattle.tree_reader.specs.declared.refusal.Refusal.{Refusal}
 use Rattle.tree_reader.specs.Files.{may_come, FileStops, IsDraft, IsHeadedDraft, IsProtocolDraft}
 use Rattle.tree_reader.specs.declared.symbol.Symbol.{Symbol}
 use Rattle.tree_reader.proofs.FileForms.{none_comes_next, IsOther, other_using, other_protocol, other_none}
-use Rattle.tree_reader.proofs.Turns.{thrown, next_of}
 use Rattle.tree_reader.proofs.file.headed.Goals as goal
 use Rattle.tree_reader.proofs.file.headed.Goals.{in_default-via-in-Using+else-is_empty, in_default-via-in-Protocol+else-may_come, in_default-via-in_default}
 use Rattle.tree_reader.specs.Symbols.{first_symbol}

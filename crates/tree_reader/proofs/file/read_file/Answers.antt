@@ -7,7 +7,8 @@ use Rattle.tree_reader.specs.declared.symbol.Symbol.TheVariants.{End}
 use Rattle.tree_reader.specs.Symbols.{first_symbol}
 use Rattle.tree_reader.specs.Files.{FileStops, IsDraft}
 use Rattle.tree_reader.proofs.FileForms.{no_token}
-use Rattle.tree_reader.proofs.Turns.{thrown, if_ok_weaker, if_err_weaker}
+use Rattle.tree_reader.proofs.Turns.{thrown}
+use Rattle.std.proofs.lemmas.Result.{IfOk-weaker, IfErr-weaker}
 use Rattle.tree_reader.proofs.file.read_file.Goals as goal
 
 pub returns-in_err-declaration-clause-stops : goal.returns-in_err-declaration-clause-stops
@@ -22,10 +23,10 @@ whole c =
 
 pub returns-clause-read : goal.returns-clause-read
 returns-clause-read c =
-    if_ok_weaker c.finish.result (λ (unit : FileUnit). (tokens : List Token) → IsDraft c.args.kind tokens c.declarations.draft [] → Tree c.args.kind tokens unit) (Tree c.args.kind c.args.tokens.now)
+    IfOk-weaker c.finish.result (λ (unit : FileUnit). (tokens : List Token) → IsDraft c.args.kind tokens c.declarations.draft [] → Tree c.args.kind tokens unit) (Tree c.args.kind c.args.tokens.now)
     (λ unit f. f c.args.tokens.now (whole c)) c.finish.ensures.read
 
 pub returns-clause-stops : goal.returns-clause-stops
 returns-clause-stops c =
-    if_err_weaker c.finish.result (λ (e : Refusal). (tokens : List Token) → IsDraft c.args.kind tokens c.declarations.draft [] → FileStops c.args.kind tokens e) (FileStops c.args.kind c.args.tokens.now)
+    IfErr-weaker c.finish.result (λ (e : Refusal). (tokens : List Token) → IsDraft c.args.kind tokens c.declarations.draft [] → FileStops c.args.kind tokens e) (FileStops c.args.kind c.args.tokens.now)
     (λ e f. f c.args.tokens.now (whole c)) c.finish.ensures.stops

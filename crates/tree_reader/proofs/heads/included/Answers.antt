@@ -3,7 +3,7 @@ use Rattle.tree_reader.specs.declared.symbol.Symbol.TheVariants.{Protocol, Word,
 use Rattle.tree_reader.specs.Machine.{include_named}
 use Rattle.tree_reader.specs.Reading.{Stops}
 use Rattle.tree_reader.specs.Symbols.{first_symbol}
-use Rattle.tree_reader.proofs.FieldForms.{thrown}
+use Rattle.tree_reader.proofs.Turns.{thrown}
 use Rattle.tree_reader.proofs.HeadForms.{next_at, protocol_read, protocol_turn, protocol_stops, header_read, header_turn, quoted_read, quoted_turn, include_stops}
 use Rattle.tree_reader.proofs.heads.included.Goals as goal
 
@@ -11,7 +11,7 @@ pub returns-in_err-name-in-Protocol-clause-stops : goal.returns-in_err-name-in-P
 returns-in_err-name-in-Protocol-clause-stops c =
     let is : first_symbol c.args.reader.now ≡ Protocol = search rules in
     let next = next_at (first_symbol c.args.reader.now) Protocol c.pass.result c.args.reader.now c.pass.new.self is c.pass.ensures in
-    thrown c.from_residual.result (Stops (include_named ∷ []) c.args.reader.now) c.in_err-name-in-Protocol.field-0.0 c.from_residual.ensures.1
+    thrown c.from_residual.result c.in_err-name-in-Protocol.field-0.0 (Stops (include_named ∷ []) c.args.reader.now) c.from_residual.ensures.1
     (protocol_stops c.args.reader.now c.pass.new.self c.in_err-name-in-Protocol.field-0.0 next c.in_err-name-in-Protocol.ensures.stops)
 
 pub returns-in_ok-name-in-Protocol-clause-read : goal.returns-in_ok-name-in-Protocol-clause-read

@@ -1,7 +1,8 @@
 use Rattle.std.proofs.Common.{[], ◌∷◌}
 use Rattle.tree_reader.specs.Machine.{one_message, messaged}
 use Rattle.tree_reader.specs.Reading.{Stops}
-use Rattle.tree_reader.proofs.ParamTurns.{thrown, past_ok, stops_then}
+use Rattle.tree_reader.proofs.ParamTurns.{past_ok, stops_then}
+use Rattle.tree_reader.proofs.Turns.{thrown}
 use Rattle.tree_reader.proofs.MessageTurns.{headed_message}
 use Rattle.tree_reader.proofs.messages.message.Goals as goal
 

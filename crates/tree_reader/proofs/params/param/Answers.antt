@@ -3,8 +3,8 @@ use Rattle.tree_reader.specs.declared.symbol.Symbol.TheVariants.{Word}
 use Rattle.tree_reader.specs.Ending as ending
 use Rattle.tree_reader.specs.Machine.{take, typed, one_param}
 use Rattle.tree_reader.specs.Reading.{Stops}
-use Rattle.tree_reader.proofs.Turns.{turns, stops_behind}
-use Rattle.tree_reader.proofs.ParamTurns.{thrown, headed_param}
+use Rattle.tree_reader.proofs.Turns.{thrown, turns, stops_behind}
+use Rattle.tree_reader.proofs.ParamTurns.{headed_param}
 use Rattle.tree_reader.proofs.params.param.Goals as goal
 
 pub returns-in_err-attributes-clause-stops : goal.returns-in_err-attributes-clause-stops
