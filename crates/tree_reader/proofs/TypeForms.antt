@@ -6,18 +6,20 @@ use Rattle.ipdl_base.specs.declared.finding.Place.{Place}
 use Rattle.ipdl_base.specs.declared.token.Token.{Token}
 use Rattle.ipdl_syntax.specs.declared.tree.Suffix.{Suffix}
 use Rattle.ipdl_syntax.specs.declared.tree.Suffix.TheVariants.{Array, Maybe}
-use Rattle.ipdl_syntax.specs.Parts.{Part, ◌⨾◌, at}
-use Rattle.ipdl_syntax.specs.Grammar.{suffix, suffixes, base, type_round}
+use Rattle.ipdl_syntax.specs.declared.tree.TypeSpec.{TypeSpec}
+use Rattle.ipdl_syntax.specs.Parts.{Part, ◌⨾◌, mark, reserved, at, provided}
+use Rattle.ipdl_syntax.specs.Grammar.{suffixes, base, nullable_word, type_round}
 use Rattle.tree_reader.specs.declared.refusal.Refusal.{Refusal}
+use Rattle.tree_reader.specs.declared.refusal.Refusal.TheVariants.{Left}
 use Rattle.tree_reader.specs.declared.symbol.Symbol.{Symbol}
-use Rattle.tree_reader.specs.declared.symbol.Symbol.TheVariants.{Word, OpenBracket, CloseBracket, Less, Greater, Semicolon, Question, Nullable, UniquePtr}
+use Rattle.tree_reader.specs.declared.symbol.Symbol.TheVariants.{Word, Colons, OpenBracket, CloseBracket, Less, Greater, Semicolon, Question, Nullable, UniquePtr}
 use Rattle.tree_reader.specs.Ending.{Ending}
 use Rattle.tree_reader.specs.Ending as ending
 use Rattle.tree_reader.specs.Spelling.{spelled}
 use Rattle.tree_reader.specs.Symbols.{symbol, first_symbol}
 use Rattle.tree_reader.specs.Machine.{Form, provided_that, take, suffixed, named, based, typed, argument_name, production}
-use Rattle.tree_reader.specs.Reading.{Turns, Stops, IsNext, last, MaySuffix, IsNaming, MayHaveArgument}
-use Rattle.tree_reader.proofs.Turns.{is_spelled, turn, same_turn, turns, past, past_turn, past_stops, stops_behind, stops_before, thrown}
+use Rattle.tree_reader.specs.Reading.{Turns, Stops, IsNext, IsNextAt, last, MaySuffix, IsNaming, MayHaveArgument}
+use Rattle.tree_reader.proofs.Turns.{is_spelled, turn, refused, same_turn, split_turn, turns, turn_before, past, stops_behind, stops_before, thrown}
 
 -- the next token where nothing was taken before it
 pub next_from : (s : Symbol) (start from to : List Token) → from ≡ start → IsNext s from to → IsNext s start to
@@ -121,3 +123,179 @@ pub suffix_stops : {T : Type 0} (r : Result T Refusal) (x : Refusal) (n : ℕ) (
 suffix_stops r x n start from is_err room before stop =
     thrown r x (λ y. (e : Ending) → Stops (suffixed 4 e ∷ []) start y) is_err
     (λ e. stops_behind (suffixed 4 e ∷ []) (suffixed (4 - n) e ∷ []) start from x (before e) (stop (4 - n) e (omega arith)))
+
+-- Bases
+
+-- a type behind a word of its name goes on with the name
+type_naming : (e : Ending) → IsNaming (named e)
+unfolding production
+type_naming e = refl
+
+unargued : (e : Ending) (s : Symbol) → s ≢ Colons → s ≢ Less → production (named e) s ≡ production (suffixed 4 e) s
+unfolding production
+unargued e Colons c l = absurd (c refl)
+unargued e Less c l = absurd (l refl)
+unargued e _ c l = refl
+
+type_argument : (e : Ending) → MayHaveArgument (named e) (suffixed 4 e ∷ [])
+unfolding production
+type_argument e = (refl, λ tokens c l. same_turn (named e) (suffixed 4 e) tokens (unargued e (first_symbol tokens) c l))
+
+-- a base that begins with a word is a name
+word_table : (room : ℕ) (e : Ending) → production (based room e) Word ≡ Some (named e ∷ [])
+unfolding production
+word_table room e = refl
+
+word_take : production (take Word) Word ≡ Some []
+unfolding production
+word_take = refl
+
+word_turn : (room : ℕ) (e : Ending) (from : List Token) → first_symbol from ≡ Word → Turns (based room e ∷ []) from (take Word ∷ named e ∷ []) from
+word_turn room e from is = split_turn (based room e) (take Word) (named e ∷ []) [] Word from is (λ same. cc) (word_table room e) word_take
+
+pub named_turns : (room : ℕ) (from to : List Token) → first_symbol from ≡ Word → ((f : Form) (others : List Form) → IsNaming f → MayHaveArgument f others → Turns (take Word ∷ f ∷ []) from others to) → (e : Ending) → Turns (based room e ∷ []) from (suffixed 4 e ∷ []) to
+named_turns room from to is name e =
+    turns (based room e ∷ []) (take Word ∷ named e ∷ []) (suffixed 4 e ∷ []) from from to (word_turn room e from is)
+    (name (named e) (suffixed 4 e ∷ []) (type_naming e) (type_argument e))
+
+-- The refusals of a base, for every end of the type
+abbrev pub BaseStops : ℕ → List Token → Refusal → Type 0
+BaseStops room from x = (e : Ending) → Stops (based room e ∷ []) from x
+
+-- a refusal of a type that a `?` carries over
+pub base_stops_on : {T : Type 0} (r : Result T Refusal) (x : Refusal) (room : ℕ) (from : List Token) → IsErrAnd r (λ y. y ≡ x) → BaseStops room from x → IfErr r (λ y. (e : Ending) → Stops (based room e ∷ []) from y)
+base_stops_on r x room from is_err stop = thrown r x (λ y. (e : Ending) → Stops (based room e ∷ []) from y) is_err stop
+
+pub unnamed_stops : (room : ℕ) (from : List Token) (x : Refusal) → first_symbol from ≡ Word → ((f : Form) (others : List Form) → IsNaming f → MayHaveArgument f others → Stops (take Word ∷ f ∷ []) from x) → BaseStops room from x
+unnamed_stops room from x is name e =
+    stops_behind (based room e ∷ []) (take Word ∷ named e ∷ []) from from x (word_turn room e from is)
+    (name (named e) (suffixed 4 e ∷ []) (type_naming e) (type_argument e))
+
+-- what is still to come behind `UniquePtr`
+abbrev wrapped : ℕ → Ending → List Form
+wrapped room e = take Less ∷ typed (room - 1) ending.Greater ∷ suffixed 4 e ∷ []
+
+unique_table : (room : ℕ) (e : Ending) → 0 < room → production (based room e) UniquePtr ≡ Some (wrapped room e)
+unfolding production
+unique_table room e some = provided_true _ (wrapped room e) (lt-ltb 0 room some)
+
+-- a `UniquePtr` that there is room for, at its place
+pub record IsUnique (room : ℕ) (place : Place) (from to : List Token) : Type 0 where
+  pub some : 0 < room
+  pub here : IsNextAt UniquePtr place from to
+
+pub is_unique : (room : ℕ) (place : Place) (from to : List Token) → 0 < room → UniquePtr ≡ first_symbol from → IsNextAt (first_symbol from) place from to → IsUnique room place from to
+is_unique room place from to some same (t, is, (alike, there)) = record { some = some; here = (t, is, (alike ∙ sym same, there)) }
+
+unique_next : (place : Place) (from to : List Token) → IsNextAt UniquePtr place from to → IsNext UniquePtr from to
+unique_next place from to (t, is, (same, there)) = (t, is, same)
+
+unique_turn : (room : ℕ) (place : Place) (e : Ending) (from a : List Token) → IsUnique room place from a → Turns (based room e ∷ []) from (wrapped room e) a
+unique_turn room place e from a u = turn (based room e) UniquePtr (wrapped room e) from a (unique_next place from a u.here) (unique_table room e u.some)
+
+less_turn : (room : ℕ) (place : Place) (e : Ending) (from a b : List Token) → IsUnique room place from a → Turns (take Less ∷ []) a [] b → Turns (based room e ∷ []) from (typed (room - 1) ending.Greater ∷ suffixed 4 e ∷ []) b
+less_turn room place e from a b u less =
+    turns (based room e ∷ []) (wrapped room e) (typed (room - 1) ending.Greater ∷ suffixed 4 e ∷ []) from a b (unique_turn room place e from a u)
+    (past (take Less) (typed (room - 1) ending.Greater ∷ suffixed 4 e ∷ []) a b less)
+
+-- a type inside, and then its `>` is to come
+abbrev pub TypeTurns : ℕ → List Token → List Token → Type 0
+TypeTurns room from to = (e : Ending) → Turns (typed room e ∷ []) from (take (last e) ∷ []) to
+
+inner_turn : (room : ℕ) (place : Place) (e : Ending) (from a b c : List Token) → IsUnique room place from a → Turns (take Less ∷ []) a [] b → TypeTurns (room - 1) b c → Turns (based room e ∷ []) from (take Greater ∷ suffixed 4 e ∷ []) c
+inner_turn room place e from a b c u less inner =
+    turns (based room e ∷ []) (typed (room - 1) ending.Greater ∷ suffixed 4 e ∷ []) (take Greater ∷ suffixed 4 e ∷ []) from b c (less_turn room place e from a b u less)
+    (turn_before (typed (room - 1) ending.Greater ∷ []) (take Greater ∷ []) (suffixed 4 e ∷ []) b c (inner ending.Greater))
+
+pub unique_turns : (room : ℕ) (place : Place) (from a b c d : List Token) → IsUnique room place from a → Turns (take Less ∷ []) a [] b → TypeTurns (room - 1) b c → Turns (take Greater ∷ []) c [] d → (e : Ending) → Turns (based room e ∷ []) from (suffixed 4 e ∷ []) d
+unique_turns room place from a b c d u less inner greater e =
+    turns (based room e ∷ []) (take Greater ∷ suffixed 4 e ∷ []) (suffixed 4 e ∷ []) from c d (inner_turn room place e from a b c u less inner)
+    (past (take Greater) (suffixed 4 e ∷ []) c d greater)
+
+pub less_stops : (room : ℕ) (place : Place) (from a : List Token) (x : Refusal) → IsUnique room place from a → Stops (take Less ∷ []) a x → BaseStops room from x
+less_stops room place from a x u less e =
+    stops_behind (based room e ∷ []) (wrapped room e) from a x (unique_turn room place e from a u)
+    (stops_before (take Less ∷ []) (typed (room - 1) ending.Greater ∷ suffixed 4 e ∷ []) a x less)
+
+pub inner_stops : (room : ℕ) (place : Place) (from a b : List Token) (x : Refusal) → IsUnique room place from a → Turns (take Less ∷ []) a [] b → ((e : Ending) → Stops (typed (room - 1) e ∷ []) b x) → BaseStops room from x
+inner_stops room place from a b x u less inner e =
+    stops_behind (based room e ∷ []) (typed (room - 1) ending.Greater ∷ suffixed 4 e ∷ []) from b x (less_turn room place e from a b u less)
+    (stops_before (typed (room - 1) ending.Greater ∷ []) (suffixed 4 e ∷ []) b x (inner ending.Greater))
+
+pub greater_stops : (room : ℕ) (place : Place) (from a b c : List Token) (x : Refusal) → IsUnique room place from a → Turns (take Less ∷ []) a [] b → TypeTurns (room - 1) b c → Stops (take Greater ∷ []) c x → BaseStops room from x
+greater_stops room place from a b c x u less inner greater e =
+    stops_behind (based room e ∷ []) (take Greater ∷ suffixed 4 e ∷ []) from c x (inner_turn room place e from a b c u less inner)
+    (stops_before (take Greater ∷ []) (suffixed 4 e ∷ []) c x greater)
+
+-- no base begins with any other symbol
+other_table : (room : ℕ) (e : Ending) (s : Symbol) → s ≢ Word → s ≢ UniquePtr → production (based room e) s ≡ None
+unfolding production
+other_table room e Word w u = absurd (w refl)
+other_table room e UniquePtr w u = absurd (u refl)
+other_table room e _ w u = refl
+
+no_room_table : (e : Ending) → production (based 0 e) UniquePtr ≡ None
+unfolding production
+no_room_table e = refl
+
+pub other_stops : (room : ℕ) (from : List Token) (x : Refusal) → first_symbol from ≢ Word → first_symbol from ≢ UniquePtr → x ≡ Left (length from) → BaseStops room from x
+other_stops room from x w u is e = refused (based room e) from x (other_table room e (first_symbol from) w u) is
+
+pub no_room_stops : (room : ℕ) (from : List Token) (x : Refusal) → room ≡ 0 → first_symbol from ≡ UniquePtr → x ≡ Left (length from) → BaseStops room from x
+no_room_stops room from x none same is e = refused (based room e) from x (rw (none, same) (no_room_table e)) is
+
+-- `UniquePtr` of a type, which stands in a box
+pub unique_read : (room : ℕ) (place : Place) (boxed inner : TypeSpec) (from a b c d : List Token) → IsUnique room place from a → boxed ≡ inner → spelled Less a b → type_round inner.nullable (base (room - 1) inner.base) inner.suffixes inner.place b c → spelled Greater c d → at place (provided (0 < room) (reserved (codes "UniquePtr") ⨾ mark (codes "<") ⨾ type_round boxed.nullable (base (room - 1) boxed.base) boxed.suffixes boxed.place ⨾ mark (codes ">"))) from d
+unique_read room place boxed inner from a b c d u same less read greater =
+    let there = u.here in
+    let within = subst (λ (x : TypeSpec). type_round x.nullable (base (room - 1) x.base) x.suffixes x.place b c) (sym same) read in
+    (there.0, a, there.1, there.2.1, (u.some, (a, is_spelled UniquePtr from a (unique_next place from a u.here), (b, less, (c, within, greater)))))
+
+-- Types
+
+-- Perhaps `nullable` was passed.
+pub record MayPass (is : Bool) (from to : List Token) : Type 0 where
+  pub passed : is ≡ true → IsNext Nullable from to
+  pub kept : is ≡ false → (first_symbol from ≢ Nullable) × (to ≡ from)
+
+nullable_read : (is : Bool) (from to : List Token) → MayPass is from to → nullable_word is from to
+nullable_read true from to p = is_spelled Nullable from to (p.passed refl)
+nullable_read false from to p = sym (p.kept refl).1
+
+nullable_table : (room : ℕ) (e : Ending) → production (typed room e) Nullable ≡ Some (based room e ∷ [])
+unfolding production
+nullable_table room e = refl
+
+bare_table : (room : ℕ) (e : Ending) (s : Symbol) → s ≢ Nullable → production (typed room e) s ≡ production (based room e) s
+unfolding production
+bare_table room e Nullable n = absurd (n refl)
+bare_table room e _ n = refl
+
+nullable_turn : (is : Bool) (room : ℕ) (e : Ending) (from to : List Token) → MayPass is from to → Turns (typed room e ∷ []) from (based room e ∷ []) to
+nullable_turn true room e from to p = turn (typed room e) Nullable (based room e ∷ []) from to (p.passed refl) (nullable_table room e)
+nullable_turn false room e from to p = rw (p.kept refl).1 (same_turn (typed room e) (based room e) from (bare_table room e (first_symbol from) (p.kept refl).0))
+
+-- a base behind it, and its suffixes
+abbrev pub BaseTurns : ℕ → List Token → List Token → Type 0
+BaseTurns room from to = (e : Ending) → Turns (based room e ∷ []) from (suffixed 4 e ∷ []) to
+
+base_turn : (is : Bool) (room : ℕ) (e : Ending) (from a b : List Token) → MayPass is from a → BaseTurns room a b → Turns (typed room e ∷ []) from (suffixed 4 e ∷ []) b
+base_turn is room e from a b p base = turns (typed room e ∷ []) (based room e ∷ []) (suffixed 4 e ∷ []) from a b (nullable_turn is room e from a p) (base e)
+
+pub type_turns : (is : Bool) (room : ℕ) (from a b c : List Token) → MayPass is from a → BaseTurns room a b → AtEnd b c → TypeTurns room from c
+type_turns is room from a b c p base after e =
+    turns (typed room e ∷ []) (suffixed 4 e ∷ []) (take (last e) ∷ []) from b c (base_turn is room e from a b p base) (after e)
+
+pub no_base_stops : {T : Type 0} (r : Result T Refusal) (x : Refusal) (is : Bool) (room : ℕ) (from a : List Token) → IsErrAnd r (λ y. y ≡ x) → MayPass is from a → BaseStops room a x → IfErr r (λ y. (e : Ending) → Stops (typed room e ∷ []) from y)
+no_base_stops r x is room from a is_err p base =
+    thrown r x (λ y. (e : Ending) → Stops (typed room e ∷ []) from y) is_err
+    (λ e. stops_behind (typed room e ∷ []) (based room e ∷ []) from a x (nullable_turn is room e from a p) (base e))
+
+pub no_suffixes_stops : {T : Type 0} (r : Result T Refusal) (x : Refusal) (is : Bool) (room : ℕ) (from a b : List Token) → IsErrAnd r (λ y. y ≡ x) → MayPass is from a → BaseTurns room a b → ((e : Ending) → Stops (suffixed 4 e ∷ []) b x) → IfErr r (λ y. (e : Ending) → Stops (typed room e ∷ []) from y)
+no_suffixes_stops r x is room from a b is_err p base after =
+    thrown r x (λ y. (e : Ending) → Stops (typed room e ∷ []) from y) is_err
+    (λ e. stops_behind (typed room e ∷ []) (suffixed 4 e ∷ []) from b x (base_turn is room e from a b p base) (after e))
+
+-- a type from its parts
+pub type_read : (is : Bool) (inside : Part) (after : List Suffix) (place : Place) (from a b c : List Token) → MayPass is from a → at place inside a b → length after ≤ 4 → suffixes after b c → type_round is inside after place from c
+type_read is inside after place from a b c p base few rest = (few, (a, nullable_read is from a p, (b, base, rest)))
