@@ -1,5 +1,5 @@
 -- How attributes are put together, and how the machine goes over them.
-use Rattle.std.proofs.Common.{◌≡◌, ◌≢◌, ℕ, List, [], ◌∷◌, ◌++◌, Some, None, Result, IfOk, OnOk, IfErr, codes, refl, sym, ap, ◌∙◌, append_assoc}
+use Rattle.std.proofs.Common.{◌≡◌, ◌≢◌, ℕ, List, [], ◌∷◌, ◌++◌, Some, Result, IfOk, OnOk, IfErr, codes, refl, append_assoc}
 use Rattle.std.proofs.lemmas.List.{append-nil}
 use Rattle.ipdl_base.specs.declared.token.Token.{Token}
 use Rattle.ipdl_syntax.specs.declared.tree.Attribute.{Attribute}
@@ -9,7 +9,7 @@ use Rattle.tree_reader.specs.declared.refusal.Refusal.{Refusal}
 use Rattle.tree_reader.specs.declared.symbol.Symbol.{Symbol}
 use Rattle.tree_reader.specs.declared.symbol.Symbol.TheVariants.{Word, Comma, Equals, OpenBracket, CloseBracket}
 use Rattle.tree_reader.specs.Spelling.{spelled}
-use Rattle.tree_reader.specs.Symbols.{symbol, first_symbol}
+use Rattle.tree_reader.specs.Symbols.{first_symbol}
 use Rattle.tree_reader.specs.Machine.{Form, behind as before_others, take, any_word, attributed, behind_attribute, more_attributed, production}
 use Rattle.tree_reader.specs.Reading.{Turns, Stops, IsNext, IsAnyWord, IsBracketed, MayBeHeaded}
 use Rattle.tree_reader.proofs.Turns.{is_spelled, turn, same_turn, turns, split, past, past_turn, past_stops, stops_behind, stops_before, on_ok_weaker, if_ok_weaker, if_err_weaker}
@@ -90,10 +90,6 @@ to_bracket more = more_attributes more ⨾ mark (codes "]")
 abbrev pub GoesOn : List Attribute → List Token → List Token → Type 0
 GoesOn so_far start from = (more : List Attribute) (to : List Token) → to_bracket more from to → IsBracketed (so_far ++ more) start to
 
--- the first attribute
-pub first_goes_on : (a : Attribute) (old new : List Attribute) (start from : List Token) → old ≡ [] → new ≡ old ++ a ∷ [] → attribute a start from → GoesOn new start from
-first_goes_on a old new start from none is read = λ more to rest. rw (is, none) (from, read, rest)
-
 -- one more attribute
 pub next_goes_on : (a : Attribute) (old new : List Attribute) (start from behind middle : List Token) → new ≡ old ++ a ∷ [] → IsNext Comma from behind → attribute a behind middle → GoesOn old start from → GoesOn new start middle
 next_goes_on a old new start from behind middle is here read before = λ more to rest.
@@ -138,5 +134,5 @@ pub headed_stops : {T : Type 0} (r : Result T Refusal) (from behind : List Token
 headed_stops r from behind here read =
     if_err_weaker r (λ e. Stops (attributed ∷ []) behind e) (λ e. (f : Form) (others : List Form) → MayBeHeaded f others from → Stops (f ∷ []) from e)
     (λ e one f others may.
-        stops_behind (f ∷ []) (attributed ∷ others) from behind e (headed_turn f others from behind here may) (stops_before (attributed ∷ []) others behind e one))
+    stops_behind (f ∷ []) (attributed ∷ others) from behind e (headed_turn f others from behind here may) (stops_before (attributed ∷ []) others behind e one))
     read

@@ -1,18 +1,17 @@
 -- How names are put together, and how the machine goes over them.
-use Rattle.std.proofs.Common.{◌≡◌, ◌≢◌, ℕ, List, [], ◌∷◌, ◌++◌, length, Option, Some, None, Result, IfOk, OnOk, IfErr, IsErrAnd, codes, refl, sym, ap, subst, ◌∙◌, append_assoc}
+use Rattle.std.proofs.Common.{◌≡◌, ◌≢◌, ℕ, List, [], ◌∷◌, ◌++◌, Some, Result, IfErr, IsErrAnd, codes, refl, subst, ◌∙◌, append_assoc}
 use Rattle.ipdl_base.specs.Words.{joined}
 use Rattle.ipdl_base.specs.declared.finding.Place.{Place}
 use Rattle.ipdl_base.specs.declared.token.Token.{Token}
-use Rattle.ipdl_syntax.specs.Parts.{◌⨾◌, mark, word, identifier, at}
-use Rattle.ipdl_syntax.specs.Grammar.{words, qualified, argument, named}
+use Rattle.ipdl_syntax.specs.Parts.{◌⨾◌, mark, word, identifier}
+use Rattle.ipdl_syntax.specs.Grammar.{qualified, argument}
 use Rattle.tree_reader.specs.declared.refusal.Refusal.{Refusal}
 use Rattle.tree_reader.specs.declared.symbol.Symbol.{Symbol}
 use Rattle.tree_reader.specs.declared.symbol.Symbol.TheVariants.{Word, Colons, Less, Greater}
-use Rattle.tree_reader.specs.Spelling.{spelled}
-use Rattle.tree_reader.specs.Symbols.{symbol, first_symbol}
+use Rattle.tree_reader.specs.Symbols.{first_symbol}
 use Rattle.tree_reader.specs.Machine.{Form, behind as before_others, take, argument_name, argument_words, production}
 use Rattle.tree_reader.specs.Reading.{Turns, Stops, IsNext, AddsWords, IsNaming, MayHaveArgument}
-use Rattle.tree_reader.proofs.Turns.{is_spelled, turn, same_turn, turns, split, past, past_turn, past_stops, stops_behind, stops_before, thrown, on_ok_weaker, if_ok_weaker, if_err_weaker}
+use Rattle.tree_reader.proofs.Turns.{is_spelled, turn, same_turn, turns, split, past, stops_behind, stops_before, thrown}
 
 -- whatever adds words to the text here adds words to the text at the start
 abbrev pub WordsGoOn : List ℕ → List ℕ → List Token → List Token → Type 0
@@ -36,10 +35,6 @@ word_goes_on first old half new name text place start from behind middle one two
     let is : new ≡ (old ++ codes "::") ++ name = cc in
     before all to (add_word old name all place from behind middle to here read (subst (λ (x : List ℕ). AddsWords x all middle to) is rest))
 
--- no more words
-pub no_words : (first text : List ℕ) (start from to : List Token) → to ≡ from → WordsGoOn first text start from → AddsWords first text start to
-no_words first text start from to same before = rw same (before text from ([], refl, refl))
-
 -- `::` leads on to a word, and then to the same form
 colons_turn : (f : Form) (from behind : List Token) → IsNaming f → IsNext Colons from behind → Turns (f ∷ []) from (take Word ∷ f ∷ []) behind
 colons_turn f from behind is here = turn f Colons (take Word ∷ f ∷ []) from behind here is
@@ -57,7 +52,7 @@ pub word_stops : {T : Type 0} (r : Result T Refusal) (e : Refusal) (start from b
 word_stops r e start from behind is_err before here read =
     thrown r e (λ x. (f : Form) → IsNaming f → Stops (f ∷ []) start x) is_err
     (λ f is. stops_behind (f ∷ []) (f ∷ []) start from e (before f is)
-        (stops_behind (f ∷ []) (take Word ∷ f ∷ []) from behind e (colons_turn f from behind is here) (stops_before (take Word ∷ []) (f ∷ []) behind e read)))
+    (stops_behind (f ∷ []) (take Word ∷ f ∷ []) from behind e (colons_turn f from behind is here) (stops_before (take Word ∷ []) (f ∷ []) behind e read)))
 
 -- The argument of a name is a word and what comes behind it, ..
 argument_first : (s : Symbol) → production argument_name s ≡ before_others (production (take Word) s) (argument_words ∷ [])

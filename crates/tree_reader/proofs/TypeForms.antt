@@ -1,5 +1,5 @@
 -- How types are put together, and how the machine goes over them.
-use Rattle.std.proofs.Common.{◌≡◌, ◌≢◌, ℕ, ◌+◌, ◌-◌, ◌≤◌, ◌<◌, Bool, true, false, List, [], ◌∷◌, ◌++◌, length, Option, Some, None, Result, IfOk, OnOk, IfErr, IsErrAnd, codes, refl, sym, ap, subst, ◌∙◌, arith, append_assoc}
+use Rattle.std.proofs.Common.{◌≡◌, ◌≢◌, ℕ, ◌+◌, ◌-◌, ◌≤◌, ◌<◌, Bool, true, false, List, [], ◌∷◌, ◌++◌, length, Some, None, Result, IfErr, IsErrAnd, codes, refl, sym, subst, ◌∙◌, arith, append_assoc}
 use Rattle.std.proofs.lemmas.Bool.{lt-ltb}
 use Rattle.std.proofs.lemmas.List.{append-nil}
 use Rattle.ipdl_base.specs.declared.finding.Place.{Place}
@@ -16,8 +16,8 @@ use Rattle.tree_reader.specs.declared.symbol.Symbol.TheVariants.{Word, Colons, O
 use Rattle.tree_reader.specs.Ending.{Ending}
 use Rattle.tree_reader.specs.Ending as ending
 use Rattle.tree_reader.specs.Spelling.{spelled}
-use Rattle.tree_reader.specs.Symbols.{symbol, first_symbol}
-use Rattle.tree_reader.specs.Machine.{Form, provided_that, take, suffixed, named, based, typed, argument_name, production}
+use Rattle.tree_reader.specs.Symbols.{first_symbol}
+use Rattle.tree_reader.specs.Machine.{Form, provided_that, take, suffixed, named, based, typed, production}
 use Rattle.tree_reader.specs.Reading.{Turns, Stops, IsNext, IsNextAt, last, MaySuffix, IsNaming, MayHaveArgument}
 use Rattle.tree_reader.proofs.Turns.{is_spelled, turn, refused, same_turn, split_turn, turns, turn_before, past, stops_behind, stops_before, thrown}
 
@@ -47,18 +47,19 @@ bracket_turn : (n : ℕ) (e : Ending) (from behind : List Token) → 0 < n → I
 bracket_turn n e from behind room here = turn (suffixed n e) OpenBracket (take CloseBracket ∷ suffixed (n - 1) e ∷ []) from behind here (bracket_table n e room)
 
 pub array_read : (from behind to : List Token) → IsNext OpenBracket from behind → spelled CloseBracket behind to → Turns (take CloseBracket ∷ []) behind [] to → MaySuffix (Some Array) from to
-array_read from behind to here read close =
-    ((behind, is_spelled OpenBracket from behind here, read),
-    λ n e room. turns (suffixed n e ∷ []) (take CloseBracket ∷ suffixed (n - 1) e ∷ []) (suffixed (n - 1) e ∷ []) from behind to
-        (bracket_turn n e from behind room here)
-        (past (take CloseBracket) (suffixed (n - 1) e ∷ []) behind to close))
+array_read from behind to here read close = (
+  (behind, is_spelled OpenBracket from behind here, read),
+  λ n e room. turns (suffixed n e ∷ []) (take CloseBracket ∷ suffixed (n - 1) e ∷ []) (suffixed (n - 1) e ∷ []) from behind to
+      (bracket_turn n e from behind room here)
+      (past (take CloseBracket) (suffixed (n - 1) e ∷ []) behind to close),
+)
 
 pub array_stops : {T : Type 0} (r : Result T Refusal) (x : Refusal) (from behind : List Token) → IsErrAnd r (λ y. y ≡ x) → IsNext OpenBracket from behind → Stops (take CloseBracket ∷ []) behind x → IfErr r (λ y. (n : ℕ) (e : Ending) → 0 < n → Stops (suffixed n e ∷ []) from y)
 array_stops r x from behind is_err here close =
     thrown r x (λ y. (n : ℕ) (e : Ending) → 0 < n → Stops (suffixed n e ∷ []) from y) is_err
     (λ n e room. stops_behind (suffixed n e ∷ []) (take CloseBracket ∷ suffixed (n - 1) e ∷ []) from behind x
-        (bracket_turn n e from behind room here)
-        (stops_before (take CloseBracket ∷ []) (suffixed (n - 1) e ∷ []) behind x close))
+    (bracket_turn n e from behind room here)
+    (stops_before (take CloseBracket ∷ []) (suffixed (n - 1) e ∷ []) behind x close))
 
 -- whatever goes on from here makes suffixes with those so far
 abbrev pub SuffixesGoOn : List Suffix → List Token → List Token → Type 0
@@ -67,17 +68,6 @@ SuffixesGoOn so_far start from = (more : List Suffix) (to : List Token) → suff
 -- the machine has room for so many more suffixes
 abbrev pub HasRoom : ℕ → List Token → List Token → Type 0
 HasRoom n start from = (e : Ending) → Turns (suffixed 4 e ∷ []) start (suffixed n e ∷ []) from
-
--- one more suffix
-pub suffix_goes_on : (s : Suffix) (old new : List Suffix) (start from to : List Token) → new ≡ old ++ s ∷ [] → MaySuffix (Some s) from to → SuffixesGoOn old start from → SuffixesGoOn new start to
-suffix_goes_on s old new start from to is read before = λ more end rest. rw (is, append_assoc) (before (s ∷ more) end (to, read.0, rest))
-
-pub suffix_turns : (s : Suffix) (old new : ℕ) (start from to : List Token) → new ≡ old + 1 → old < 4 → MaySuffix (Some s) from to → HasRoom (4 - old) start from → HasRoom (4 - new) start to
-suffix_turns s old new start from to is room read before = λ e.
-    let less : (4 - old) - 1 ≡ 4 - new = omega arith in
-    let some : 0 < 4 - old = omega arith in
-    subst (λ (n : ℕ). Turns (suffixed 4 e ∷ []) start (suffixed n e ∷ []) to) less
-    (turns (suffixed 4 e ∷ []) (suffixed (4 - old) e ∷ []) (suffixed ((4 - old) - 1) e ∷ []) start from to (before e) (read.1 (4 - old) e some))
 
 -- no more suffixes
 pub suffixes_read : (all old : List Suffix) (start from to : List Token) → all ≡ old → from ≡ to → SuffixesGoOn old start from → suffixes all start to
