@@ -29,12 +29,14 @@ no_equals _ n = refl
 pub value_read : (text : List ℕ) (from behind to : List Token) → IsNext Equals from behind → IsAnyWord text behind to → value (Some text) from to
 value_read text from behind to here read = (behind, is_spelled Equals from behind here, read)
 
+-- the machine goes over it to what comes behind an attribute
 pub value_turns : (from behind to : List Token) → IsNext Equals from behind → Turns (any_word ∷ []) behind [] to → Turns (behind_attribute ∷ []) from (more_attributed ∷ []) to
 value_turns from behind to here read =
     turns (behind_attribute ∷ []) (any_word ∷ more_attributed ∷ []) (more_attributed ∷ []) from behind to
     (turn behind_attribute Equals (any_word ∷ more_attributed ∷ []) from behind here equals_turn)
     (past any_word (more_attributed ∷ []) behind to read)
 
+-- and refuses where there is no value behind it
 pub value_stops : (from behind : List Token) (e : Refusal) → IsNext Equals from behind → Stops (any_word ∷ []) behind e → Stops (behind_attribute ∷ []) from e
 value_stops from behind e here read =
     stops_behind (behind_attribute ∷ []) (any_word ∷ more_attributed ∷ []) from behind e
@@ -51,6 +53,7 @@ unfolding production
 named_first Word = refl
 named_first _ = refl
 
+-- the machine goes over an attribute: its name, and then its value
 pub attribute_turns : (from behind to : List Token) → Turns (take Word ∷ []) from [] behind → Turns (behind_attribute ∷ []) behind (more_attributed ∷ []) to → Turns (attributed ∷ []) from (more_attributed ∷ []) to
 attribute_turns from behind to name value =
     turns (attributed ∷ []) (take Word ∷ behind_attribute ∷ []) (more_attributed ∷ []) from from to
@@ -76,6 +79,7 @@ comma_turn : production more_attributed Comma ≡ Some (attributed ∷ [])
 unfolding production
 comma_turn = refl
 
+-- without a comma the bracket is to close
 no_comma : (s : Symbol) → s ≢ Comma → production more_attributed s ≡ production (take CloseBracket) s
 unfolding production
 no_comma Comma n = absurd (n refl)
@@ -116,6 +120,7 @@ headed_one : (all : List Attribute) (from behind to : List Token) → IsNext Ope
 headed_one [] from behind to here read = absurd read
 headed_one (a ∷ rest) from behind to here read = (behind, is_spelled OpenBracket from behind here, read)
 
+-- the same of the result of a reader
 pub headed_read : (r : Result (List Attribute) Refusal) (from behind to : List Token) → IsNext OpenBracket from behind → IfOk r (λ all. IsBracketed all behind to) → IfOk r (λ all. attributes all from to)
 headed_read r from behind to here read =
     if_ok_weaker r (λ all. IsBracketed all behind to) (λ all. attributes all from to) (λ all one. headed_one all from behind to here one) read
@@ -124,12 +129,14 @@ headed_read r from behind to here read =
 headed_turn : (f : Form) (others : List Form) (from behind : List Token) → IsNext OpenBracket from behind → MayBeHeaded f others from → Turns (f ∷ []) from (attributed ∷ others) behind
 headed_turn f others from behind here may = turn f OpenBracket (attributed ∷ others) from behind here may.0
 
+-- behind the bracket the machine goes over the attributes
 pub headed_turns : {T : Type 0} (r : Result T Refusal) (from behind to : List Token) → IsNext OpenBracket from behind → OnOk r (Turns (attributed ∷ []) behind [] to) → OnOk r ((f : Form) (others : List Form) → MayBeHeaded f others from → Turns (f ∷ []) from others to)
 headed_turns r from behind to here read =
     on_ok_weaker r (Turns (attributed ∷ []) behind [] to) ((f : Form) (others : List Form) → MayBeHeaded f others from → Turns (f ∷ []) from others to)
     (λ one f others may. turns (f ∷ []) (attributed ∷ others) others from behind to (headed_turn f others from behind here may) (past attributed others behind to one))
     read
 
+-- and refuses where they are refused
 pub headed_stops : {T : Type 0} (r : Result T Refusal) (from behind : List Token) → IsNext OpenBracket from behind → IfErr r (Stops (attributed ∷ []) behind) → IfErr r (λ e. (f : Form) (others : List Form) → MayBeHeaded f others from → Stops (f ∷ []) from e)
 headed_stops r from behind here read =
     if_err_weaker r (λ e. Stops (attributed ∷ []) behind e) (λ e. (f : Form) (others : List Form) → MayBeHeaded f others from → Stops (f ∷ []) from e)

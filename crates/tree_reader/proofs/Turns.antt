@@ -107,6 +107,7 @@ if_err_weaker (Err x) P Q f holds = f x holds
 pub stops_on : {T : Type 0} (r : Result T Refusal) (e : Refusal) (fs : List Form) (from : List Token) → IsErrAnd r (λ x. x ≡ e) → Stops fs from e → IfErr r (Stops fs from)
 stops_on r e fs from is holds = thrown r e (λ x. Stops fs from x) is holds
 
+-- what a form becomes, with others behind it, goes on as the same before them
 split_step : (o : Option (List Form)) (others more : List Form) (n : ℕ) (go : List Form → Option ℕ) → gone_in (behind o others) n (λ y. go (y ++ more)) ≡ gone_in o n (λ y. go (y ++ (others ++ more)))
 split_step None others more n go = refl
 split_step (Some new) others more n go = ap go (append_assoc new others more)
