@@ -1,5 +1,5 @@
 -- How attributes are put together, and how the machine goes over them.
-use Rattle.std.proofs.Common.{◌≡◌, ◌≢◌, ℕ, List, [], ◌∷◌, ◌++◌, Some, None, Result, IfOk, OnOk, IfErr, codes, refl, sym, ap, ◌∙◌, append_assoc}
+use Rattle.std.proofs.Common.{◌≡◌, ◌≢◌, ℕ, List, [], ◌∷◌, ◌++◌, Some, Result, IfOk, OnOk, IfErr, codes, refl, append_assoc}
 use Rattle.std.proofs.lemmas.List.{append-nil}
 use Rattle.ipdl_base.specs.declared.token.Token.{Token}
 use Rattle.ipdl_syntax.specs.declared.tree.Attribute.{Attribute}
@@ -9,7 +9,7 @@ use Rattle.tree_reader.specs.declared.refusal.Refusal.{Refusal}
 use Rattle.tree_reader.specs.declared.symbol.Symbol.{Symbol}
 use Rattle.tree_reader.specs.declared.symbol.Symbol.TheVariants.{Word, Comma, Equals, OpenBracket, CloseBracket}
 use Rattle.tree_reader.specs.Spelling.{spelled}
-use Rattle.tree_reader.specs.Symbols.{symbol, first_symbol}
+use Rattle.tree_reader.specs.Symbols.{first_symbol}
 use Rattle.tree_reader.specs.Machine.{Form, behind as before_others, take, any_word, attributed, behind_attribute, more_attributed, production}
 use Rattle.tree_reader.specs.Reading.{Turns, Stops, IsNext, IsAnyWord, IsBracketed, MayBeHeaded}
 use Rattle.tree_reader.proofs.Turns.{is_spelled, turn, same_turn, turns, split_turn, past, past_turn, past_stops, stops_behind, stops_before}
@@ -30,12 +30,14 @@ no_equals _ n = refl
 pub value_read : (text : List ℕ) (from behind to : List Token) → IsNext Equals from behind → IsAnyWord text behind to → value (Some text) from to
 value_read text from behind to here read = (behind, is_spelled Equals from behind here, read)
 
+-- the machine goes over it to what comes behind an attribute
 pub value_turns : (from behind to : List Token) → IsNext Equals from behind → Turns (any_word ∷ []) behind [] to → Turns (behind_attribute ∷ []) from (more_attributed ∷ []) to
 value_turns from behind to here read =
     turns (behind_attribute ∷ []) (any_word ∷ more_attributed ∷ []) (more_attributed ∷ []) from behind to
     (turn behind_attribute Equals (any_word ∷ more_attributed ∷ []) from behind here equals_turn)
     (past any_word (more_attributed ∷ []) behind to read)
 
+-- and refuses where there is no value behind it
 pub value_stops : (from behind : List Token) (e : Refusal) → IsNext Equals from behind → Stops (any_word ∷ []) behind e → Stops (behind_attribute ∷ []) from e
 value_stops from behind e here read =
     stops_behind (behind_attribute ∷ []) (any_word ∷ more_attributed ∷ []) from behind e
@@ -52,6 +54,7 @@ unfolding production
 named_first Word = refl
 named_first _ = refl
 
+-- the machine goes over an attribute: its name, and then its value
 pub attribute_turns : (from behind to : List Token) → Turns (take Word ∷ []) from [] behind → Turns (behind_attribute ∷ []) behind (more_attributed ∷ []) to → Turns (attributed ∷ []) from (more_attributed ∷ []) to
 attribute_turns from behind to name value =
     turns (attributed ∷ []) (take Word ∷ behind_attribute ∷ []) (more_attributed ∷ []) from from to
@@ -77,6 +80,7 @@ comma_turn : production more_attributed Comma ≡ Some (attributed ∷ [])
 unfolding production
 comma_turn = refl
 
+-- without a comma the bracket is to close
 no_comma : (s : Symbol) → s ≢ Comma → production more_attributed s ≡ production (take CloseBracket) s
 unfolding production
 no_comma Comma n = absurd (n refl)
@@ -90,10 +94,6 @@ to_bracket more = more_attributes more ⨾ mark (codes "]")
 -- whatever goes on from here makes attributes with those so far
 abbrev pub GoesOn : List Attribute → List Token → List Token → Type 0
 GoesOn so_far start from = (more : List Attribute) (to : List Token) → to_bracket more from to → IsBracketed (so_far ++ more) start to
-
--- the first attribute
-pub first_goes_on : (a : Attribute) (old new : List Attribute) (start from : List Token) → old ≡ [] → new ≡ old ++ a ∷ [] → attribute a start from → GoesOn new start from
-first_goes_on a old new start from none is read = λ more to rest. rw (is, none) (from, read, rest)
 
 -- one more attribute
 pub next_goes_on : (a : Attribute) (old new : List Attribute) (start from behind middle : List Token) → new ≡ old ++ a ∷ [] → IsNext Comma from behind → attribute a behind middle → GoesOn old start from → GoesOn new start middle
@@ -121,6 +121,7 @@ headed_one : (all : List Attribute) (from behind to : List Token) → IsNext Ope
 headed_one [] from behind to here read = absurd read
 headed_one (a ∷ rest) from behind to here read = (behind, is_spelled OpenBracket from behind here, read)
 
+-- the same of the result of a reader
 pub headed_read : (r : Result (List Attribute) Refusal) (from behind to : List Token) → IsNext OpenBracket from behind → IfOk r (λ all. IsBracketed all behind to) → IfOk r (λ all. attributes all from to)
 headed_read r from behind to here read =
     IfOk-weaker r (λ all. IsBracketed all behind to) (λ all. attributes all from to) (λ all one. headed_one all from behind to here one) read
@@ -129,15 +130,17 @@ headed_read r from behind to here read =
 headed_turn : (f : Form) (others : List Form) (from behind : List Token) → IsNext OpenBracket from behind → MayBeHeaded f others from → Turns (f ∷ []) from (attributed ∷ others) behind
 headed_turn f others from behind here may = turn f OpenBracket (attributed ∷ others) from behind here may.0
 
+-- behind the bracket the machine goes over the attributes
 pub headed_turns : {T : Type 0} (r : Result T Refusal) (from behind to : List Token) → IsNext OpenBracket from behind → OnOk r (Turns (attributed ∷ []) behind [] to) → OnOk r ((f : Form) (others : List Form) → MayBeHeaded f others from → Turns (f ∷ []) from others to)
 headed_turns r from behind to here read =
     on_ok_weaker {P = Turns (attributed ∷ []) behind [] to} {Q = (f : Form) (others : List Form) → MayBeHeaded f others from → Turns (f ∷ []) from others to} r
     (λ one f others may. turns (f ∷ []) (attributed ∷ others) others from behind to (headed_turn f others from behind here may) (past attributed others behind to one))
     read
 
+-- and refuses where they are refused
 pub headed_stops : {T : Type 0} (r : Result T Refusal) (from behind : List Token) → IsNext OpenBracket from behind → IfErr r (Stops (attributed ∷ []) behind) → IfErr r (λ e. (f : Form) (others : List Form) → MayBeHeaded f others from → Stops (f ∷ []) from e)
 headed_stops r from behind here read =
     IfErr-weaker r (λ e. Stops (attributed ∷ []) behind e) (λ e. (f : Form) (others : List Form) → MayBeHeaded f others from → Stops (f ∷ []) from e)
     (λ e one f others may.
-        stops_behind (f ∷ []) (attributed ∷ others) from behind e (headed_turn f others from behind here may) (stops_before (attributed ∷ []) others behind e one))
+    stops_behind (f ∷ []) (attributed ∷ others) from behind e (headed_turn f others from behind here may) (stops_before (attributed ∷ []) others behind e one))
     read

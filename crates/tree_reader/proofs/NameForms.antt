@@ -1,18 +1,21 @@
 -- How names are put together, and how the machine goes over them.
-use Rattle.std.proofs.Common.{◌≡◌, ◌≢◌, ℕ, List, [], ◌∷◌, ◌++◌, length, Option, Some, None, Result, IfOk, OnOk, IfErr, IsErrAnd, codes, refl, sym, ap, subst, ◌∙◌, append_assoc}
+use Rattle.std.proofs.Common.{◌≡◌, ◌≢◌, ℕ, List, [], ◌∷◌, ◌++◌, Some, Result, IfErr, IsErrAnd, codes, refl, subst, ◌∙◌, append_assoc}
 use Rattle.ipdl_base.specs.Words.{joined}
 use Rattle.ipdl_base.specs.declared.finding.Place.{Place}
 use Rattle.ipdl_base.specs.declared.token.Token.{Token}
-use Rattle.ipdl_syntax.specs.Parts.{◌⨾◌, mark, word, identifier, at}
-use Rattle.ipdl_syntax.specs.Grammar.{words, qualified, argument, named}
+use Rattle.ipdl_syntax.specs.Parts.{◌⨾◌, mark, word, identifier}
+use Rattle.ipdl_syntax.specs.Grammar.{qualified, argument}
 use Rattle.tree_reader.specs.declared.refusal.Refusal.{Refusal}
 use Rattle.tree_reader.specs.declared.symbol.Symbol.{Symbol}
 use Rattle.tree_reader.specs.declared.symbol.Symbol.TheVariants.{Word, Colons, Less, Greater}
-use Rattle.tree_reader.specs.Spelling.{spelled}
-use Rattle.tree_reader.specs.Symbols.{symbol, first_symbol}
+use Rattle.tree_reader.specs.Symbols.{first_symbol}
 use Rattle.tree_reader.specs.Machine.{Form, behind as before_others, take, argument_name, argument_words, production}
 use Rattle.tree_reader.specs.Reading.{Turns, Stops, IsNext, AddsWords, IsNaming, MayHaveArgument}
+<<<<<<< HEAD
 use Rattle.tree_reader.proofs.Turns.{is_spelled, turn, same_turn, turns, split_turn, past, past_turn, past_stops, stops_behind, stops_before, thrown}
+=======
+use Rattle.tree_reader.proofs.Turns.{is_spelled, turn, same_turn, turns, split, past, stops_behind, stops_before, thrown}
+>>>>>>> ee096b684ff3e99adc1e274af382be516e9a12fa
 
 -- whatever adds words to the text here adds words to the text at the start
 abbrev pub WordsGoOn : List ℕ → List ℕ → List Token → List Token → Type 0
@@ -23,9 +26,11 @@ join_step : (text word : List ℕ) (ws : List (List ℕ)) → joined (((text ++ 
 join_step text word [] = append_assoc text (58 ∷ 58 ∷ []) word
 join_step text word (v ∷ vs) = append_assoc (text ++ 58 ∷ 58 ∷ []) word (58 ∷ 58 ∷ joined (v ∷ vs)) ∙ append_assoc text (58 ∷ 58 ∷ []) (word ++ 58 ∷ 58 ∷ joined (v ∷ vs))
 
+-- an identifier is a word, whatever its place
 word_of : (name : List ℕ) (place : Place) (from to : List Token) → identifier name place from to → word name from to
 word_of name place from to (t, is, (kind, text, here)) = (t, is, (kind, text))
 
+-- `::` and a word before more words
 add_word : (text name new : List ℕ) (place : Place) (from behind middle to : List Token) → IsNext Colons from behind → identifier name place behind middle → AddsWords ((text ++ codes "::") ++ name) new middle to → AddsWords text new from to
 add_word text name new place from behind middle to here read (ws, is, rest) =
     (name ∷ ws, is ∙ join_step text name ws, (behind, is_spelled Colons from behind here, (middle, word_of name place behind middle read, rest)))
@@ -36,10 +41,6 @@ word_goes_on first old half new name text place start from behind middle one two
     let is : new ≡ (old ++ codes "::") ++ name = cc in
     before all to (add_word old name all place from behind middle to here read (subst (λ (x : List ℕ). AddsWords x all middle to) is rest))
 
--- no more words
-pub no_words : (first text : List ℕ) (start from to : List Token) → to ≡ from → WordsGoOn first text start from → AddsWords first text start to
-no_words first text start from to same before = rw same (before text from ([], refl, refl))
-
 -- `::` leads on to a word, and then to the same form
 colons_turn : (f : Form) (from behind : List Token) → IsNaming f → IsNext Colons from behind → Turns (f ∷ []) from (take Word ∷ f ∷ []) behind
 colons_turn f from behind is here = turn f Colons (take Word ∷ f ∷ []) from behind here is
@@ -48,16 +49,18 @@ colons_turn f from behind is here = turn f Colons (take Word ∷ f ∷ []) from 
 abbrev pub StaysOn : List Token → List Token → Type 0
 StaysOn start from = (f : Form) → IsNaming f → Turns (f ∷ []) start (f ∷ []) from
 
+-- one more word, and the same form again
 pub word_stays_on : (start from behind to : List Token) → StaysOn start from → IsNext Colons from behind → Turns (take Word ∷ []) behind [] to → StaysOn start to
 word_stays_on start from behind to before here read f is =
     turns (f ∷ []) (f ∷ []) (f ∷ []) start from to (before f is)
     (turns (f ∷ []) (take Word ∷ f ∷ []) (f ∷ []) from behind to (colons_turn f from behind is here) (past (take Word) (f ∷ []) behind to read))
 
+-- no word behind `::`
 pub word_stops : {T : Type 0} (r : Result T Refusal) (e : Refusal) (start from behind : List Token) → IsErrAnd r (λ x. x ≡ e) → StaysOn start from → IsNext Colons from behind → Stops (take Word ∷ []) behind e → IfErr r (λ x. (f : Form) → IsNaming f → Stops (f ∷ []) start x)
 word_stops r e start from behind is_err before here read =
     thrown r e (λ x. (f : Form) → IsNaming f → Stops (f ∷ []) start x) is_err
     (λ f is. stops_behind (f ∷ []) (f ∷ []) start from e (before f is)
-        (stops_behind (f ∷ []) (take Word ∷ f ∷ []) from behind e (colons_turn f from behind is here) (stops_before (take Word ∷ []) (f ∷ []) behind e read)))
+    (stops_behind (f ∷ []) (take Word ∷ f ∷ []) from behind e (colons_turn f from behind is here) (stops_before (take Word ∷ []) (f ∷ []) behind e read)))
 
 -- The argument of a name is a word and what comes behind it, ..
 argument_first : (s : Symbol) → production argument_name s ≡ before_others (production (take Word) s) (argument_words ∷ [])
@@ -81,6 +84,7 @@ argument_last _ n = refl
 abbrev pub NameTurns : List Token → List Token → Type 0
 NameTurns from to = (f : Form) → IsNaming f → Turns (take Word ∷ f ∷ []) from (f ∷ []) to
 
+-- an argument turns into its first word and what comes behind it
 argument_begins : (from : List Token) → Turns (argument_name ∷ []) from (take Word ∷ argument_words ∷ []) from
 argument_begins from = split_turn argument_name (take Word) (argument_words ∷ []) from (argument_first (first_symbol from))
 
@@ -99,13 +103,16 @@ argument_named from to name n =
 pub argument_read : (name : List ℕ) (from behind to : List Token) → IsNext Less from behind → (qualified name ⨾ mark (codes ">")) behind to → argument (Some name) from to
 argument_read name from behind to here read = (behind, is_spelled Less from behind here, read)
 
+-- `<` leads on to the argument, and then to the other forms
 less_turn : (f : Form) (others : List Form) (from behind : List Token) → MayHaveArgument f others → IsNext Less from behind → Turns (f ∷ []) from (argument_name ∷ others) behind
 less_turn f others from behind may here = turn f Less (argument_name ∷ others) from behind here may.0
 
+-- the machine goes over `<` and the argument
 pub argument_turns : (from behind to : List Token) → IsNext Less from behind → Turns (argument_name ∷ []) behind [] to → (f : Form) (others : List Form) → MayHaveArgument f others → Turns (f ∷ []) from others to
 argument_turns from behind to here read f others may =
     turns (f ∷ []) (argument_name ∷ others) others from behind to (less_turn f others from behind may here) (past argument_name others behind to read)
 
+-- and refuses where the argument is refused
 pub argument_stops : {T : Type 0} (r : Result T Refusal) (e : Refusal) (from behind : List Token) → IsErrAnd r (λ x. x ≡ e) → IsNext Less from behind → Stops (argument_name ∷ []) behind e → IfErr r (λ x. (f : Form) (others : List Form) → MayHaveArgument f others → Stops (f ∷ []) from x)
 argument_stops r e from behind is_err here read =
     thrown r e (λ x. (f : Form) (others : List Form) → MayHaveArgument f others → Stops (f ∷ []) from x) is_err

@@ -79,6 +79,7 @@ thrown (Err x) e P is holds = subst P (sym is) holds
 pub stops_on : {T : Type 0} (r : Result T Refusal) (e : Refusal) (fs : List Form) (from : List Token) → IsErrAnd r (λ x. x ≡ e) → Stops fs from e → IfErr r (Stops fs from)
 stops_on r e fs from is holds = thrown r e (λ x. Stops fs from x) is holds
 
+-- what a form becomes, with others behind it, goes on as the same before them
 behind_step : (o : Option (List Form)) (others more : List Form) (n : ℕ) (go : List Form → Option ℕ) → gone_in (behind o others) n (λ y. go (y ++ more)) ≡ gone_in o n (λ y. go (y ++ (others ++ more)))
 behind_step None others more n go = refl
 behind_step (Some new) others more n go = ap go (append_assoc new others more)

@@ -1,6 +1,4 @@
-use Rattle.std.proofs.Common.{◌≡◌, ◌≢◌, sym, ◌∙◌, arith}
-use Rattle.tree_reader.specs.declared.symbol.Symbol.TheVariants.{Word, UniquePtr}
-use Rattle.tree_reader.specs.Symbols.{first_symbol}
+use Rattle.std.proofs.Common.{sym, ◌∙◌, arith}
 use Rattle.tree_reader.proofs.TypeForms.{named_turns, unnamed_stops, base_stops_on, is_unique, unique_read, unique_turns, less_stops, inner_stops, greater_stops, other_stops, no_room_stops, type_read, type_turns, no_base_stops, no_suffixes_stops}
 use Rattle.tree_reader.proofs.types.+type_spec.Goals as goal
 use Rattle.tree_reader.proofs.types.+type_spec.Goals.{base-in_default-via-in-UniquePtr+else-room-gt0, base-in_default-via-in_default}
@@ -50,10 +48,10 @@ base-returns-in_ok-new-in-UniquePtr-clause-turns t c =
 pub base-returns-in_default-clause-stops : goal.base-returns-in_default-clause-stops
 base-returns-in_default-clause-stops t c =
     elim c.in_default.branch [
-    base-in_default-via-in-UniquePtr+else-room-gt0 w ↦
-        no_room_stops c.args.room c.args.reader.now c.refusal.result (omega arith) (sym w.in-UniquePtr.ensures) c.refusal.ensures
-    | base-in_default-via-in_default w ↦
-        other_stops c.args.room c.args.reader.now c.refusal.result (λ is. w.in_default.not-Word (c.symbol.ensures ∙ is)) (λ is. w.in_default.not-UniquePtr (c.symbol.ensures ∙ is)) c.refusal.ensures
+      | base-in_default-via-in-UniquePtr+else-room-gt0 w ↦
+          no_room_stops c.args.room c.args.reader.now c.refusal.result (omega arith) (sym w.in-UniquePtr.ensures) c.refusal.ensures
+      | base-in_default-via-in_default w ↦
+          other_stops c.args.room c.args.reader.now c.refusal.result (λ is. w.in_default.not-Word (c.symbol.ensures ∙ is)) (λ is. w.in_default.not-UniquePtr (c.symbol.ensures ∙ is)) c.refusal.ensures
     ]
 
 pub type_within-returns-in_err-base-clause-stops : goal.type_within-returns-in_err-base-clause-stops

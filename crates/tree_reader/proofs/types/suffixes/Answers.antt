@@ -1,4 +1,4 @@
-use Rattle.std.proofs.Common.{rules, ◌≡◌, ◌-◌, ◌<◌, length, Option, None, refl, subst, arith}
+use Rattle.std.proofs.Common.{◌-◌, length, Option, refl, subst, arith}
 use Rattle.ipdl_syntax.specs.declared.tree.Suffix.{Suffix}
 use Rattle.tree_reader.specs.Reading.{MaySuffix}
 use Rattle.tree_reader.proofs.TypeForms.{suffixes_read, ended_turns, full_turns, suffix_stops}
