@@ -15,3 +15,4 @@ mod types;
 
 pub use file::read_file;
 pub use refusal::Refusal;
+pub use symbol::Symbol;

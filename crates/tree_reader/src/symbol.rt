@@ -5,7 +5,7 @@ use ipdl_base::{Token, TokenKind};
 
 /// What the grammar sees of a token, and the end of the tokens.
 #[derive(Clone, Copy, Debug, PartialEq, Eq)]
-pub(crate) enum Symbol {
+pub enum Symbol {
     End,
     Word,
     Quoted,
