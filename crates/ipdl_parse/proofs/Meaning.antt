@@ -22,12 +22,12 @@ use Rattle.ipdl_syntax.specs.declared.tree.Suffix.TheVariants.{Array, Maybe}
 use Rattle.ipdl_syntax.specs.declared.tree.TypeSpec.{TypeSpec}
 use Rattle.ipdl_syntax.specs.Parts.{Part, nothing, ◌⨾◌, either, token, mark, reserved, word, identifier, quoted, at, provided}
 use Rattle.ipdl_syntax.specs.Grammar.{words, qualified, argument, named as named_part, value, attribute, more_attributes, attributes, suffix, suffixes, nullable_word, type_round, base, type_spec, param, more_params, params, returns, semantics_word, message, messages, Section, direction_word, section, sections, Management, managed_by, manages, more_managers, management, managements, field, fields, components, foreign_name, whole_name, included}
-use Rattle.ipdl_parse.specs.declared.symbol.Ending.{Ending}
-use Rattle.ipdl_parse.specs.declared.symbol.Ending.TheVariants as ending
-use Rattle.ipdl_parse.specs.declared.symbol.Symbol.{Symbol}
-use Rattle.ipdl_parse.specs.declared.symbol.Symbol.TheVariants.{End, Word, Quoted, OtherWord, OtherMark, Colons, OpenBrace, CloseBrace, OpenParen, CloseParen, OpenBracket, CloseBracket, Less, Greater, Semicolon, Comma, Colon, Equals, Question, Async, Both, Child, Class, From, Include, Manager, Manages, Namespace, Nullable, Or, Parent, Protocol, Returns, Struct, Sync, Union, UniquePtr, Using}
-use Rattle.ipdl_parse.specs.Symbols.{symbol}
-use Rattle.ipdl_parse.specs.Machine.{Form, proper, take, any_word, argument_name, argument_words, suffixed, named, based, typed, attributed, behind_attribute, more_attributed, one_param, parameters, more_parameters, behind_parameters, one_message, messaged, managing, more_managing, fielded, componented, using_named, using_word, behind_using, include_named, production, behind, provided_that, ends, suffix_begins, base_begins, type_begins, param_begins, message_begins, section_begins}
+use Rattle.tree_reader.specs.Ending.{Ending}
+use Rattle.tree_reader.specs.Ending as ending
+use Rattle.tree_reader.specs.declared.symbol.Symbol.{Symbol}
+use Rattle.tree_reader.specs.declared.symbol.Symbol.TheVariants.{End, Word, Quoted, OtherWord, OtherMark, Colons, OpenBrace, CloseBrace, OpenParen, CloseParen, OpenBracket, CloseBracket, Less, Greater, Semicolon, Comma, Colon, Equals, Question, Async, Both, Child, Class, From, Include, Manager, Manages, Namespace, Nullable, Or, Parent, Protocol, Returns, Struct, Sync, Union, UniquePtr, Using}
+use Rattle.tree_reader.specs.Symbols.{symbol}
+use Rattle.tree_reader.specs.Machine.{Form, proper, take, any_word, argument_name, argument_words, suffixed, named, based, typed, attributed, behind_attribute, more_attributed, one_param, parameters, more_parameters, behind_parameters, one_message, messaged, managing, more_managing, fielded, componented, using_named, using_word, behind_using, include_named, production, behind, provided_that, ends, suffix_begins, base_begins, type_begins, param_begins, message_begins, section_begins}
 
 abbrev pub ending_part : Ending → Part
 ending_part ending.Name = token (λ t. t.kind ≡ kind.Word)

@@ -6,8 +6,8 @@ use Rattle.ipdl_syntax.specs.declared.tree.FileKind.TheVariants as file_kind
 use Rattle.ipdl_syntax.specs.declared.tree.Unit.{Unit as FileUnit}
 use Rattle.ipdl_syntax.specs.Grammar.{outside_end}
 use Rattle.ipdl_syntax.specs.Program.{Tree, Declared, unit_of, declared_outside, declared_round, protocol_of, ◌&◌}
-use Rattle.ipdl_parse.specs.Symbols.{symbol}
-use Rattle.ipdl_parse.specs.Machine.{Form, production, Stand, stand, step, is_end, begin, gone_at, gone_in, refusal}
+use Rattle.tree_reader.specs.Symbols.{symbol}
+use Rattle.tree_reader.specs.Machine.{Form, production, Stand, stand, step, is_end, begin, gone_at, gone_in, refusal}
 use Rattle.ipdl_parse.proofs.Meaning.{Takes, TakeAll, Behind, Opened, together, apart}
 use Rattle.ipdl_parse.proofs.Built.{built}
 use Rattle.ipdl_parse.proofs.Opened.{opened}
