@@ -2,7 +2,7 @@ use super::parse;
 use ipdl_base::{Direction, Name, Place, Semantics};
 use ipdl_lex::lex;
 use ipdl_syntax::{
-    Attributes, Base, FileKind, Includes, IncludeKind, MessageDecl, NamesAt, Params, ProtocolDecl,
+    Attributes, Base, FileKind, IncludeKind, Includes, MessageDecl, NamesAt, Params, ProtocolDecl,
     StructDecls, Suffix, TypeSpec, UnionDecls, Unit, Usings,
 };
 use std::alloc::{AllocError, Global};
@@ -99,11 +99,7 @@ fn show_params(
 }
 
 /// A message: its direction, its semantics and its name, its attributes, its parameters and returns.
-fn show_message(
-    alloc: Global,
-    out: &mut Vec<u8>,
-    message: &MessageDecl,
-) -> Result<(), AllocError> {
+fn show_message(alloc: Global, out: &mut Vec<u8>, message: &MessageDecl) -> Result<(), AllocError> {
     let side: &[u8] = match message.direction {
         Direction::Parent => b"parent ",
         Direction::Child => b"child ",
@@ -161,11 +157,7 @@ fn show_protocol(
 }
 
 /// Each include as a line.
-fn show_includes(
-    alloc: Global,
-    out: &mut Vec<u8>,
-    includes: &Includes,
-) -> Result<(), AllocError> {
+fn show_includes(alloc: Global, out: &mut Vec<u8>, includes: &Includes) -> Result<(), AllocError> {
     for include in includes.as_slice() {
         let word: &[u8] = match include.kind {
             IncludeKind::Protocol => b"include protocol",

@@ -1,4 +1,3 @@
-use Rattle.tree_reader.specs.Files.{FileStops}
 use Rattle.ipdl_parse.proofs.Places.{left_within, fault_of}
 use Rattle.ipdl_parse.proofs.parser.parse.Goals as goal
 
