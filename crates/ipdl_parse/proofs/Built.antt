@@ -1,39 +1,29 @@
 -- Behind a first token, what its production takes makes what the form takes.
-use Rattle.std.proofs.Common.{◌≡◌, ◌≢◌, ℕ, zero, suc, ◌+◌, ◌-◌, ◌≤◌, ◌<◌, ◌⊎◌, inl, inr, Bool, true, false, List, [], ◌∷◌, ◌++◌, length, Option, Some, None, codes, refl, sym, ap, subst, ◌∙◌, arith, append_assoc}
+use Rattle.std.proofs.Common.{◌≡◌, ℕ, suc, ◌-◌, ◌≤◌, ◌<◌, inl, inr, true, false, List, [], ◌∷◌, length, Some, None, codes, refl, subst, arith}
 use Rattle.std.specs.Prelude.{nat_lt}
 use Rattle.ipdl_base.specs.Words.{joined}
-use Rattle.ipdl_base.specs.declared.finding.Place.{Place}
 use Rattle.ipdl_base.specs.declared.kinds.Direction.{Direction}
 use Rattle.ipdl_base.specs.declared.kinds.Direction.TheVariants as direction
-use Rattle.ipdl_base.specs.declared.kinds.Semantics.{Semantics}
 use Rattle.ipdl_base.specs.declared.kinds.Semantics.TheVariants as semantics
 use Rattle.ipdl_base.specs.declared.token.Token.{Token}
-use Rattle.ipdl_base.specs.declared.token.TokenKind.{TokenKind}
-use Rattle.ipdl_base.specs.declared.token.TokenKind.TheVariants as kind
 use Rattle.ipdl_syntax.specs.declared.tree.Attribute.{Attribute}
-use Rattle.ipdl_syntax.specs.declared.tree.Base.{Base, Named, Unique'}
-use Rattle.ipdl_syntax.specs.declared.tree.IncludeKind.{IncludeKind}
+use Rattle.ipdl_syntax.specs.declared.tree.Base.{Named, Unique'}
 use Rattle.ipdl_syntax.specs.declared.tree.IncludeKind.TheVariants as include_kind
-use Rattle.ipdl_syntax.specs.declared.tree.MessageDecl.{MessageDecl}
-use Rattle.ipdl_syntax.specs.declared.tree.NameAt.{NameAt}
-use Rattle.ipdl_syntax.specs.declared.tree.Param.{Param}
-use Rattle.ipdl_syntax.specs.declared.tree.Suffix.{Suffix}
 use Rattle.ipdl_syntax.specs.declared.tree.Suffix.TheVariants.{Array, Maybe}
-use Rattle.ipdl_syntax.specs.declared.tree.TypeSpec.{TypeSpec}
-use Rattle.ipdl_syntax.specs.Parts.{Part, nothing, ◌⨾◌, either, token, mark, reserved, word, identifier, quoted, at, provided}
-use Rattle.ipdl_syntax.specs.Grammar.{words, qualified, argument, named as named_part, value, attribute, more_attributes, attributes, suffix, suffixes, nullable_word, type_round, base, type_spec, param, more_params, params, returns, semantics_word, message, messages, Section, direction_word, section, sections, Management, managed_by, manages, more_managers, management, managements, field, fields, components, foreign_name, whole_name, included}
-use Rattle.ipdl_parse.specs.declared.symbol.Ending.{Ending}
-use Rattle.ipdl_parse.specs.declared.symbol.Ending.TheVariants as ending
-use Rattle.ipdl_parse.specs.declared.symbol.Symbol.{Symbol}
-use Rattle.ipdl_parse.specs.declared.symbol.Symbol.TheVariants.{End, Word, Quoted, OtherWord, OtherMark, Colons, OpenBrace, CloseBrace, OpenParen, CloseParen, OpenBracket, CloseBracket, Less, Greater, Semicolon, Comma, Colon, Equals, Question, Async, Both, Child, Class, From, Include, Manager, Manages, Namespace, Nullable, Or, Parent, Protocol, Returns, Struct, Sync, Union, UniquePtr, Using}
-use Rattle.ipdl_parse.specs.Symbols.{symbol}
-use Rattle.ipdl_parse.specs.Machine.{Form, proper, take, any_word, argument_name, argument_words, suffixed, named, based, typed, attributed, behind_attribute, more_attributed, one_param, parameters, more_parameters, behind_parameters, one_message, messaged, managing, more_managing, fielded, componented, using_named, using_word, behind_using, include_named, production, behind, provided_that, ends, suffix_begins, base_begins, type_begins, param_begins, message_begins, section_begins}
-use Rattle.std.proofs.lemmas.Bool.{ltb-true, lt-ltb}
+use Rattle.ipdl_syntax.specs.Parts.{Part, ◌⨾◌, either, reserved}
+use Rattle.ipdl_syntax.specs.Grammar.{attributes, Section, direction_word, sections, managed_by, manages, whole_name}
+use Rattle.tree_reader.specs.Ending.{Ending}
+use Rattle.tree_reader.specs.Ending as ending
+use Rattle.tree_reader.specs.declared.symbol.Symbol.{Symbol}
+use Rattle.tree_reader.specs.declared.symbol.Symbol.TheVariants.{End, Word, Quoted, OtherWord, OtherMark, Colons, OpenBrace, CloseBrace, OpenParen, CloseParen, OpenBracket, CloseBracket, Less, Greater, Semicolon, Comma, Colon, Equals, Question, Async, Both, Child, Class, From, Include, Manager, Manages, Namespace, Nullable, Or, Parent, Protocol, Returns, Struct, Sync, Union, UniquePtr, Using}
+use Rattle.tree_reader.specs.Symbols.{symbol}
+use Rattle.tree_reader.specs.Machine.{Form, take, any_word, argument_name, argument_words, suffixed, named, based, typed, attributed, behind_attribute, more_attributed, one_param, parameters, more_parameters, behind_parameters, one_message, messaged, managing, more_managing, fielded, componented, using_named, using_word, behind_using, include_named, production, ends, suffix_begins, base_begins, type_begins, param_begins, section_begins}
+use Rattle.std.proofs.lemmas.Bool.{ltb-true}
 use Rattle.std.specs.declared.alloc.Global.{Global}
 use Rattle.std.specs.declared.boxed.Box.{Box}
-use denote.RawPtr.{Ptr, block_ptr, null_ptr}
-use Rattle.ipdl_parse.proofs.Symbols.{Means, means}
-use Rattle.ipdl_parse.proofs.Meaning.{ending_part, closed, from_file, bare_message, Takes, TakeAll, Behind, together, apart, behind_apart, was_allowed}
+use denote.RawPtr.{null_ptr}
+use Rattle.tree_reader.proofs.Symbols.{means}
+use Rattle.ipdl_parse.proofs.Meaning.{ending_part, closed, Takes, TakeAll, Behind, behind_apart, was_allowed}
 
 -- what is built of a form behind a first token
 abbrev pub Builds : Form → Symbol → Type 0

@@ -1,42 +1,18 @@
 -- What is left of a file where the machine stands between declarations, in the grammar's words.
-use Rattle.std.proofs.Common.{◌≡◌, ◌≢◌, ℕ, zero, suc, ◌+◌, ◌-◌, ◌≤◌, ◌<◌, ◌⊎◌, inl, inr, Bool, true, false, List, [], ◌∷◌, ◌++◌, length, Option, Some, None, codes, refl, sym, ap, subst, ◌∙◌, arith, append_assoc}
-use Rattle.std.specs.Prelude.{nat_lt}
+use Rattle.std.proofs.Common.{◌≡◌, ◌≢◌, ℕ, zero, suc, ◌-◌, ◌<◌, ◌⊎◌, inl, inr, Bool, true, false, List, [], ◌∷◌, ◌++◌, Option, Some, None, codes, refl, sym, subst, arith}
 use Rattle.ipdl_base.specs.Words.{joined}
-use Rattle.ipdl_base.specs.declared.finding.Place.{Place}
-use Rattle.ipdl_base.specs.declared.kinds.Direction.{Direction}
-use Rattle.ipdl_base.specs.declared.kinds.Direction.TheVariants as direction
-use Rattle.ipdl_base.specs.declared.kinds.Semantics.{Semantics}
-use Rattle.ipdl_base.specs.declared.kinds.Semantics.TheVariants as semantics
 use Rattle.ipdl_base.specs.declared.token.Token.{Token}
-use Rattle.ipdl_base.specs.declared.token.TokenKind.{TokenKind}
-use Rattle.ipdl_base.specs.declared.token.TokenKind.TheVariants as kind
 use Rattle.ipdl_syntax.specs.declared.tree.Attribute.{Attribute}
-use Rattle.ipdl_syntax.specs.declared.tree.Base.{Base, Named, Unique'}
-use Rattle.ipdl_syntax.specs.declared.tree.IncludeKind.{IncludeKind}
-use Rattle.ipdl_syntax.specs.declared.tree.IncludeKind.TheVariants as include_kind
-use Rattle.ipdl_syntax.specs.declared.tree.MessageDecl.{MessageDecl}
-use Rattle.ipdl_syntax.specs.declared.tree.NameAt.{NameAt}
-use Rattle.ipdl_syntax.specs.declared.tree.Param.{Param}
-use Rattle.ipdl_syntax.specs.declared.tree.Suffix.{Suffix}
-use Rattle.ipdl_syntax.specs.declared.tree.Suffix.TheVariants.{Array, Maybe}
-use Rattle.ipdl_syntax.specs.declared.tree.TypeSpec.{TypeSpec}
-use Rattle.ipdl_syntax.specs.Parts.{Part, nothing, ◌⨾◌, either, token, mark, reserved, word, identifier, quoted, at, provided}
-use Rattle.ipdl_syntax.specs.Grammar.{words, qualified, argument, named as named_part, value, attribute, more_attributes, attributes, suffix, suffixes, nullable_word, type_round, base, type_spec, param, more_params, params, returns, semantics_word, message, messages, Section, direction_word, section, sections, Management, managed_by, manages, more_managers, management, managements, field, fields, components, foreign_name, whole_name, included, include, declared, protocol_semantics, managers_of, managed_of, protocol, struct_decl, union_decl, using_decl, Inside, inside_end, inside_struct, inside_union, inside_namespace, Outside, outside_end, outside_include, outside_using, outside_struct, outside_union, outside_namespace, Holder, holder_protocol, holder_namespace, in_namespace, inside, outside, holder, header, protocol_file}
-use Rattle.ipdl_parse.specs.declared.symbol.Ending.{Ending}
-use Rattle.ipdl_parse.specs.declared.symbol.Ending.TheVariants as ending
-use Rattle.ipdl_parse.specs.declared.symbol.Symbol.{Symbol}
-use Rattle.ipdl_parse.specs.declared.symbol.Symbol.TheVariants.{End, Word, Quoted, OtherWord, OtherMark, Colons, OpenBrace, CloseBrace, OpenParen, CloseParen, OpenBracket, CloseBracket, Less, Greater, Semicolon, Comma, Colon, Equals, Question, Async, Both, Child, Class, From, Include, Manager, Manages, Namespace, Nullable, Or, Parent, Protocol, Returns, Struct, Sync, Union, UniquePtr, Using}
-use Rattle.ipdl_parse.specs.Symbols.{symbol}
-use Rattle.ipdl_parse.specs.Machine.{Form, proper, take, any_word, argument_name, argument_words, suffixed, named, based, typed, attributed, behind_attribute, more_attributed, one_param, parameters, more_parameters, behind_parameters, one_message, messaged, managing, more_managing, fielded, componented, using_named, using_word, behind_using, include_named, Stand, stand, stepped, step, is_end, production, behind, provided_that, ends, suffix_begins, base_begins, type_begins, param_begins, message_begins, section_begins}
+use Rattle.ipdl_syntax.specs.Parts.{Part, nothing, ◌⨾◌, either, mark, reserved, word, at}
+use Rattle.ipdl_syntax.specs.Grammar.{attributes, Section, sections, Management, managements, fields, components, foreign_name, include, declared, protocol_semantics, managers_of, managed_of, protocol, struct_decl, union_decl, using_decl, Inside, inside_end, inside_struct, inside_union, inside_namespace, Outside, outside_end, outside_include, outside_using, outside_struct, outside_union, outside_namespace, Holder, holder_protocol, holder_namespace, inside, outside, holder, protocol_file}
+use Rattle.tree_reader.specs.Machine.{Form, Stand, stand, stepped}
 use Rattle.std.specs.List.{flat_map}
-use Rattle.std.proofs.Common.{add-one}
-use Rattle.std.proofs.lemmas.Bool.{ltb-true, lt-ltb}
 use Rattle.ipdl_syntax.specs.declared.tree.Include.{Include as IncludeDecl}
 use Rattle.ipdl_syntax.specs.declared.tree.ProtocolDecl.{ProtocolDecl}
 use Rattle.ipdl_syntax.specs.declared.tree.StructDecl.{StructDecl}
 use Rattle.ipdl_syntax.specs.declared.tree.UnionDecl.{UnionDecl}
 use Rattle.ipdl_syntax.specs.declared.tree.Using.{Using as UsingDecl}
-use Rattle.ipdl_parse.proofs.Meaning.{closed, from_file, Takes, TakeAll}
+use Rattle.ipdl_parse.proofs.Meaning.{closed, from_file, TakeAll}
 
 -- declarations without their attributes
 

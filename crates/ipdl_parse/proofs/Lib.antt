@@ -1,4 +1,3 @@
-pub mod Advance
 pub mod Built
 pub mod Completed
 pub mod FileBuilt
@@ -7,7 +6,5 @@ pub mod Files
 pub mod Meaning
 pub mod Opened
 pub mod Runs
-pub mod Symbols
 pub mod Whole
 pub mod Places
-pub mod Reading

@@ -1,36 +1,26 @@
 -- What a form takes begins with a token that has a production, which takes the rest.
-use Rattle.std.proofs.Common.{◌≡◌, ◌≢◌, ℕ, zero, suc, ◌+◌, ◌-◌, ◌≤◌, ◌<◌, ◌⊎◌, inl, inr, Bool, true, false, List, [], ◌∷◌, ◌++◌, length, Option, Some, None, codes, refl, sym, ap, subst, ◌∙◌, arith, append_assoc}
+use Rattle.std.proofs.Common.{◌≡◌, ◌≢◌, ℕ, suc, ◌-◌, ◌≤◌, inl, inr, true, false, List, [], ◌∷◌, length, Option, Some, None, codes, refl, sym, subst, ◌∙◌, arith}
 use Rattle.std.specs.Prelude.{nat_lt}
-use Rattle.ipdl_base.specs.Words.{joined}
-use Rattle.ipdl_base.specs.declared.finding.Place.{Place}
 use Rattle.ipdl_base.specs.declared.kinds.Direction.{Direction}
 use Rattle.ipdl_base.specs.declared.kinds.Direction.TheVariants as direction
-use Rattle.ipdl_base.specs.declared.kinds.Semantics.{Semantics}
 use Rattle.ipdl_base.specs.declared.kinds.Semantics.TheVariants as semantics
 use Rattle.ipdl_base.specs.declared.token.Token.{Token}
-use Rattle.ipdl_base.specs.declared.token.TokenKind.{TokenKind}
 use Rattle.ipdl_base.specs.declared.token.TokenKind.TheVariants as kind
 use Rattle.ipdl_syntax.specs.declared.tree.Attribute.{Attribute}
-use Rattle.ipdl_syntax.specs.declared.tree.Base.{Base, Named, Unique'}
-use Rattle.ipdl_syntax.specs.declared.tree.IncludeKind.{IncludeKind}
+use Rattle.ipdl_syntax.specs.declared.tree.Base.{Named, Unique'}
 use Rattle.ipdl_syntax.specs.declared.tree.IncludeKind.TheVariants as include_kind
-use Rattle.ipdl_syntax.specs.declared.tree.MessageDecl.{MessageDecl}
-use Rattle.ipdl_syntax.specs.declared.tree.NameAt.{NameAt}
-use Rattle.ipdl_syntax.specs.declared.tree.Param.{Param}
-use Rattle.ipdl_syntax.specs.declared.tree.Suffix.{Suffix}
 use Rattle.ipdl_syntax.specs.declared.tree.Suffix.TheVariants.{Array, Maybe}
-use Rattle.ipdl_syntax.specs.declared.tree.TypeSpec.{TypeSpec}
-use Rattle.ipdl_syntax.specs.Parts.{Part, nothing, ◌⨾◌, either, token, mark, reserved, word, identifier, quoted, at, provided}
-use Rattle.ipdl_syntax.specs.Grammar.{words, qualified, argument, named as named_part, value, attribute, more_attributes, attributes, suffix, suffixes, nullable_word, type_round, base, type_spec, param, more_params, params, returns, semantics_word, message, messages, Section, direction_word, section, sections, Management, managed_by, manages, more_managers, management, managements, field, fields, components, foreign_name, whole_name, included}
-use Rattle.ipdl_parse.specs.declared.symbol.Ending.{Ending}
-use Rattle.ipdl_parse.specs.declared.symbol.Ending.TheVariants as ending
-use Rattle.ipdl_parse.specs.declared.symbol.Symbol.{Symbol}
-use Rattle.ipdl_parse.specs.declared.symbol.Symbol.TheVariants.{End, Word, Quoted, OtherWord, OtherMark, Colons, OpenBrace, CloseBrace, OpenParen, CloseParen, OpenBracket, CloseBracket, Less, Greater, Semicolon, Comma, Colon, Equals, Question, Async, Both, Child, Class, From, Include, Manager, Manages, Namespace, Nullable, Or, Parent, Protocol, Returns, Struct, Sync, Union, UniquePtr, Using}
-use Rattle.ipdl_parse.specs.Symbols.{symbol}
-use Rattle.ipdl_parse.specs.Machine.{Form, proper, take, any_word, argument_name, argument_words, suffixed, named, based, typed, attributed, behind_attribute, more_attributed, one_param, parameters, more_parameters, behind_parameters, one_message, messaged, managing, more_managing, fielded, componented, using_named, using_word, behind_using, include_named, production, behind, provided_that, ends, suffix_begins, base_begins, type_begins, param_begins, message_begins, section_begins}
-use Rattle.std.proofs.lemmas.Bool.{ltb-true, lt-ltb}
-use Rattle.ipdl_parse.proofs.Symbols.{Means, means, is_word, is_quoted, is_colons, is_open_brace, is_close_brace, is_open_paren, is_close_paren, is_open_bracket, is_close_bracket, is_less, is_greater, is_semicolon, is_comma, is_colon, is_equals, is_question, is_async, is_both, is_child, is_class, is_from, is_include, is_manager, is_manages, is_namespace, is_nullable, is_or, is_parent, is_protocol, is_returns, is_struct, is_sync, is_union, is_unique_ptr, is_using}
-use Rattle.ipdl_parse.proofs.Meaning.{ending_part, closed, from_file, bare_message, Takes, TakeAll, Behind, Opened, together, behind_together, allowed}
+use Rattle.ipdl_syntax.specs.Parts.{Part, ◌⨾◌, mark, reserved, at}
+use Rattle.ipdl_syntax.specs.Grammar.{attributes, suffixes, base, Section, direction_word, sections, managed_by, manages}
+use Rattle.tree_reader.specs.Ending.{Ending}
+use Rattle.tree_reader.specs.Ending as ending
+use Rattle.tree_reader.specs.declared.symbol.Symbol.{Symbol}
+use Rattle.tree_reader.specs.declared.symbol.Symbol.TheVariants.{End, Word, Quoted, OtherWord, OtherMark, Colons, OpenBrace, CloseBrace, OpenParen, CloseParen, OpenBracket, CloseBracket, Less, Greater, Semicolon, Comma, Colon, Equals, Question, Async, Both, Child, Class, From, Include, Manager, Manages, Namespace, Nullable, Or, Parent, Protocol, Returns, Struct, Sync, Union, UniquePtr, Using}
+use Rattle.tree_reader.specs.Symbols.{symbol}
+use Rattle.tree_reader.specs.Machine.{Form, proper, take, any_word, argument_name, argument_words, suffixed, named, based, typed, attributed, behind_attribute, more_attributed, one_param, parameters, more_parameters, behind_parameters, one_message, messaged, managing, more_managing, fielded, componented, using_named, using_word, behind_using, include_named, production, behind, ends, suffix_begins, base_begins, type_begins, section_begins}
+use Rattle.std.proofs.lemmas.Bool.{lt-ltb}
+use Rattle.tree_reader.proofs.Symbols.{means, is_word, is_quoted, is_colons, is_close_brace, is_open_paren, is_close_paren, is_open_bracket, is_close_bracket, is_less, is_greater, is_semicolon, is_comma, is_colon, is_equals, is_question, is_async, is_both, is_child, is_class, is_from, is_manager, is_manages, is_nullable, is_or, is_parent, is_protocol, is_returns, is_struct, is_sync, is_unique_ptr}
+use Rattle.ipdl_parse.proofs.Meaning.{ending_part, closed, Takes, Behind, Opened, behind_together, allowed}
 
 open_by : (f : Form) (s : Symbol) (from to : List Token) (t : Token) (rest : List Token) → from ≡ t ∷ rest → symbol t ≡ s → Behind (production f s) rest to → Opened f from to
 open_by f s from to t rest e is d = (t, rest, e, subst (λ (x : Symbol). Behind (production f x) rest to) (sym is) d)

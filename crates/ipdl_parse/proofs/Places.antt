@@ -1,14 +1,14 @@
 -- The machine refuses at the syntax place.
-use Rattle.std.proofs.Common.{◌≡◌, ◌≢◌, ℕ, zero, suc, ◌+◌, ◌-◌, ◌≤◌, ◌<◌, List, [], ◌∷◌, ◌++◌, length, take, drop, Option, Some, None, refl, sym, ap, subst, ◌∙◌, arith, append_assoc, length-append, add-one}
+use Rattle.std.proofs.Common.{◌≡◌, ℕ, suc, ◌-◌, ◌≤◌, List, [], ◌∷◌, ◌++◌, length, take, Some, None, refl, sym, ap, subst, ◌∙◌, arith, append_assoc, length-append, add-one}
 use Rattle.ipdl_base.specs.declared.token.Token.{Token}
 use Rattle.ipdl_syntax.specs.declared.tree.FileKind.{FileKind}
-use Rattle.ipdl_parse.specs.Machine.{Form, Stand, begin, refusal}
+use Rattle.tree_reader.specs.Machine.{Form, Stand, begin, refusal}
 use Rattle.ipdl_base.specs.declared.finding.Place.{Place}
-use Rattle.ipdl_parse.specs.declared.syntax_place.SyntaxFault.{SyntaxFault}
-use Rattle.ipdl_parse.specs.declared.syntax_place.SyntaxFault.TheVariants.{Fault, NoMemory}
+use Rattle.ipdl_parse.specs.declared.parser.SyntaxFault.{SyntaxFault}
+use Rattle.ipdl_parse.specs.declared.parser.SyntaxFault.TheVariants.{Fault, NoMemory}
 use Rattle.ipdl_parse.specs.Faults.{IsFault, IsFaultAt}
 use Rattle.ipdl_parse.specs.Place.{HasTree, GoesOn, IsSyntaxPlace}
-use Rattle.ipdl_parse.proofs.Runs.{Refusing, Stops, stops}
+use Rattle.ipdl_parse.proofs.Runs.{Refusing, stops}
 use Rattle.ipdl_parse.proofs.Completed.{completed}
 use Rattle.ipdl_parse.proofs.Whole.{tree_taken, taken_tree}
 

@@ -1,9 +1,9 @@
 -- Whole runs of the machine.
-use Rattle.std.proofs.Common.{◌≡◌, ◌≢◌, ℕ, zero, suc, ◌+◌, ◌-◌, ◌≤◌, ◌<◌, Bool, true, false, cond, List, [], ◌∷◌, ◌++◌, length, Option, Some, None, refl, sym, ap, subst, ◌∙◌, arith, append_assoc}
+use Rattle.std.proofs.Common.{◌≡◌, ℕ, ◌+◌, Bool, true, false, cond, List, [], ◌∷◌, ◌++◌, length, Option, Some, None, refl, sym, ap, subst, ◌∙◌, arith, append_assoc}
 use Rattle.ipdl_base.specs.declared.token.Token.{Token}
-use Rattle.ipdl_parse.specs.Symbols.{symbol}
-use Rattle.ipdl_parse.specs.Machine.{Form, production, Stand, step, is_end, gone_at, gone_in, refusal}
-use Rattle.ipdl_parse.proofs.Meaning.{Takes, TakeAll, Behind, Opened, together, apart}
+use Rattle.tree_reader.specs.Symbols.{symbol}
+use Rattle.tree_reader.specs.Machine.{Form, production, Stand, step, is_end, gone_at, gone_in, refusal}
+use Rattle.ipdl_parse.proofs.Meaning.{TakeAll, Behind, together, apart}
 use Rattle.ipdl_parse.proofs.Built.{built}
 use Rattle.ipdl_parse.proofs.Opened.{opened}
 

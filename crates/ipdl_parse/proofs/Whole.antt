@@ -1,19 +1,19 @@
 -- Whole files: what the machine takes to its end is what the grammar says.
-use Rattle.std.proofs.Common.{◌≡◌, ◌≢◌, ℕ, zero, suc, ◌+◌, ◌-◌, ◌≤◌, ◌<◌, ◌⊎◌, inl, inr, Bool, true, false, cond, List, [], ◌∷◌, ◌++◌, length, Option, Some, None, refl, sym, ap, subst, ◌∙◌, arith, append_assoc}
+use Rattle.std.proofs.Common.{◌≡◌, ℕ, zero, suc, ◌+◌, inl, inr, Bool, true, false, cond, List, [], ◌∷◌, ◌++◌, length, Option, Some, None, refl, sym, ap, subst, arith}
 use Rattle.ipdl_base.specs.declared.token.Token.{Token}
 use Rattle.ipdl_syntax.specs.declared.tree.FileKind.{FileKind}
 use Rattle.ipdl_syntax.specs.declared.tree.FileKind.TheVariants as file_kind
 use Rattle.ipdl_syntax.specs.declared.tree.Unit.{Unit as FileUnit}
 use Rattle.ipdl_syntax.specs.Grammar.{outside_end}
-use Rattle.ipdl_syntax.specs.Program.{Tree, Declared, unit_of, declared_outside, declared_round, protocol_of, ◌&◌}
-use Rattle.ipdl_parse.specs.Symbols.{symbol}
-use Rattle.ipdl_parse.specs.Machine.{Form, production, Stand, stand, step, is_end, begin, gone_at, gone_in, refusal}
-use Rattle.ipdl_parse.proofs.Meaning.{Takes, TakeAll, Behind, Opened, together, apart}
+use Rattle.ipdl_syntax.specs.Program.{Tree, unit_of, declared_outside, declared_round, protocol_of, ◌&◌}
+use Rattle.tree_reader.specs.Symbols.{symbol}
+use Rattle.tree_reader.specs.Machine.{Form, production, Stand, stand, step, is_end, begin, gone_at, gone_in, refusal}
+use Rattle.ipdl_parse.proofs.Meaning.{Behind, together, apart}
 use Rattle.ipdl_parse.proofs.Built.{built}
 use Rattle.ipdl_parse.proofs.Opened.{opened}
-use Rattle.ipdl_parse.proofs.Files.{Rest, FileRest, Whole, BehindAt}
+use Rattle.ipdl_parse.proofs.Files.{FileRest, Whole, BehindAt}
 use Rattle.ipdl_parse.proofs.FileBuilt.{file_built}
-use Rattle.ipdl_parse.proofs.FileOpened.{Begins, FileOpened, file_opened}
+use Rattle.ipdl_parse.proofs.FileOpened.{FileOpened, file_opened}
 use Rattle.ipdl_parse.proofs.Runs.{heads}
 
 -- what is whole is taken

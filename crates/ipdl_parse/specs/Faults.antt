@@ -3,8 +3,8 @@ use Rattle.ipdl_base.specs.declared.finding.Place.{Place}
 use Rattle.ipdl_base.specs.declared.token.Token.{Token}
 use Rattle.std.specs.Prelude.{◌≡◌, ℕ, List}
 use Rattle.ipdl_syntax.specs.declared.tree.FileKind.{FileKind}
-use Rattle.ipdl_parse.specs.declared.syntax_place.SyntaxFault.{SyntaxFault}
-use Rattle.ipdl_parse.specs.declared.syntax_place.SyntaxFault.TheVariants.{Fault, NoMemory}
+use Rattle.ipdl_parse.specs.declared.parser.SyntaxFault.{SyntaxFault}
+use Rattle.ipdl_parse.specs.declared.parser.SyntaxFault.TheVariants.{Fault, NoMemory}
 use Rattle.ipdl_parse.specs.Place.{HasTree, IsSyntaxPlace, IsPlaceAt}
 
 -- A fault says that there is no tree, and has the syntax place. Memory may run out in any case.

@@ -1,6 +1,3 @@
 pub mod Faults
-pub mod Machine
 pub mod Place
-pub mod Reading
-pub mod Steps
-pub mod Symbols
+pub mod Trees

@@ -1,11 +1,10 @@
 #![tactic(auto)]
 
-mod machine;
-mod refusal;
-mod symbol;
-mod syntax_place;
+mod parser;
 
-pub use syntax_place::{SyntaxFault, check};
+pub use parser::{SyntaxFault, parse};
 
 #[cfg(test)]
 mod tests;
+#[cfg(test)]
+mod tree_tests;

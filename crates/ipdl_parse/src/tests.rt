@@ -14,8 +14,8 @@ fn shown(alloc: Global, kind: FileKind, text: &[u8]) -> Result<String, Fail> {
         Ok(lexed) => lexed,
         Err(_) => return Ok(format!(in alloc; "no tokens")?),
     };
-    match check(alloc, lexed.tokens.as_slice(), lexed.end, kind) {
-        Ok(()) => Ok(format!(in alloc; "tree")?),
+    match parse(alloc, lexed.tokens.as_slice(), lexed.end, kind) {
+        Ok(_) => Ok(format!(in alloc; "tree")?),
         Err(SyntaxFault::Fault { index, place }) => {
             let Place { line, column, .. } = place;
             Ok(format!(in alloc; "{index} at {line}:{column}")?)
@@ -201,15 +201,16 @@ fn protocol_files(rt: HostRuntime) -> Result<(), Fail> {
     Ok(())
 }
 
-/// The most bytes of a file, nearly all of them messages.
+/// A text of as many bytes as a file may have, nearly all of them messages.
 #[test]
 fn large(rt: HostRuntime) -> Result<(), Fail> {
     let mut text = Vec::new(rt.alloc());
     text.extend_from_slice(b"protocol P { parent: ")?;
-    for _ in 0..61_000 {
+    for _ in 0..61_679 {
         text.extend_from_slice(b"async m(int a);\n ")?;
     }
-    text.extend_from_slice(b"};")?;
+    text.extend_from_slice(b"};\n\n\n\n\n     ")?;
+    assert_eq!(rt; text.len(), 1_048_576);
     let answer = shown(rt.alloc(), FileKind::Protocol, text.as_slice())?;
     assert_eq!(rt; answer.as_str(), "tree");
     Ok(())
