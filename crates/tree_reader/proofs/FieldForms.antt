@@ -1,7 +1,5 @@
 -- The fields and components of a declaration.
-use Rattle.std.proofs.Common.{◌≡◌, ◌≢◌, ℕ, ◌+◌, List, [], ◌∷◌, ◌++◌, length, Option, Some, None, Result, Ok, Err, refl, sym, ap, subst, ◌∙◌, append_assoc, codes}
-use Rattle.std.specs.Prelude.{IfErr}
-use Rattle.std.specs.Result.{IsErrAnd}
+use Rattle.std.proofs.Common.{◌≡◌, ◌≢◌, List, [], ◌∷◌, ◌++◌, Some, refl, sym, subst, ◌∙◌, append_assoc, codes}
 use Rattle.std.proofs.lemmas.List.{append-nil}
 use Rattle.ipdl_base.specs.declared.token.Token.{Token}
 use Rattle.ipdl_syntax.specs.declared.tree.Param.{Param}
@@ -12,8 +10,8 @@ use Rattle.tree_reader.specs.declared.refusal.Refusal.{Refusal}
 use Rattle.tree_reader.specs.declared.symbol.Symbol.{Symbol}
 use Rattle.tree_reader.specs.declared.symbol.Symbol.TheVariants.{CloseBrace, Semicolon}
 use Rattle.tree_reader.specs.Ending as ending
-use Rattle.tree_reader.specs.Symbols.{symbol, first_symbol}
-use Rattle.tree_reader.specs.Machine.{Form, Stand, behind, gone_in, production, refusal, take, typed, fielded, componented}
+use Rattle.tree_reader.specs.Symbols.{first_symbol}
+use Rattle.tree_reader.specs.Machine.{Form, behind, production, take, typed, fielded, componented}
 use Rattle.tree_reader.specs.Reading.{Turns, Stops, IsNext, closed}
 use Rattle.tree_reader.specs.Spelling.{spelled}
 use Rattle.tree_reader.proofs.Turns.{split_turn, turn, turns, stops_before, stops_behind, is_spelled}

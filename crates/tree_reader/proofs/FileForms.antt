@@ -1,5 +1,5 @@
 -- How a draft of a file grows.
-use Rattle.std.proofs.Common.{◌≡◌, ◌≢◌, ℕ, zero, suc, ◌+◌, ◌-◌, ◌≤◌, ◌<◌, ◌⊎◌, inl, inr, Bool, true, false, not, cond, List, [], ◌∷◌, ◌++◌, length, Option, Some, None, codes, refl, sym, ap, subst, ◌∙◌, arith, append_assoc, length-append, add-one}
+use Rattle.std.proofs.Common.{◌≡◌, ◌≢◌, ℕ, zero, suc, ◌+◌, ◌-◌, ◌≤◌, ◌<◌, ◌⊎◌, inl, inr, Bool, true, false, cond, List, [], ◌∷◌, ◌++◌, length, Option, Some, None, codes, refl, sym, ap, subst, ◌∙◌, arith, length-append, add-one}
 use Rattle.std.specs.Prelude.{nat_lt, ◌==◌}
 use Rattle.std.specs.declared.vec.Vec.{Vec}
 use Rattle.std.specs.declared.alloc.Global.{Global}
@@ -18,7 +18,7 @@ use Rattle.ipdl_syntax.specs.declared.tree.StructDecl.{StructDecl}
 use Rattle.ipdl_syntax.specs.declared.tree.UnionDecl.{UnionDecl}
 use Rattle.ipdl_syntax.specs.declared.tree.Unit.{Unit as FileUnit}
 use Rattle.ipdl_syntax.specs.declared.tree.Using.{Using as UsingDecl}
-use Rattle.ipdl_syntax.specs.Parts.{Part, ◌⨾◌, mark, reserved, word}
+use Rattle.ipdl_syntax.specs.Parts.{◌⨾◌, mark, word}
 use Rattle.ipdl_syntax.specs.Grammar.{attributes, declared, fields, components, included, struct_decl, union_decl, using_decl, protocol, protocol_semantics}
 use Rattle.ipdl_syntax.specs.Program.{Tree, Declared, ◌&◌, no_declaration, an_include, a_using, a_struct, a_union, declared_outside, declared_round, unit_of}
 use Rattle.tree_reader.specs.declared.file.Draft.{Draft}
@@ -26,12 +26,12 @@ use Rattle.tree_reader.specs.declared.refusal.Refusal.{Refusal}
 use Rattle.tree_reader.specs.declared.refusal.Refusal.TheVariants.{Left, NoMemory}
 use Rattle.tree_reader.specs.declared.symbol.Symbol.{Symbol}
 use Rattle.tree_reader.specs.declared.symbol.Symbol.TheVariants as symbols
-use Rattle.tree_reader.specs.Symbols.{symbol, first_symbol}
+use Rattle.tree_reader.specs.Symbols.{first_symbol}
 use Rattle.tree_reader.specs.Ending as ending
 use Rattle.tree_reader.specs.Machine.{Form, take, typed, attributed, managing, fielded, componented, using_named, include_named, production, Stand, stand, step, stepped, unheaded_step, bare_step, is_end, begin, gone_at, gone_in, refusal}
 use Rattle.tree_reader.specs.Reading.{Turns, Stops, IsNext, closed, IsBracketed, IsStructBehind, IsUnionBehind, IsUsingBehind, IsProtocolBehind}
 use Rattle.tree_reader.specs.Spelling.{spelled}
-use Rattle.tree_reader.specs.Files.{FileStops, scope_of, room_of, ClosedRest, OpenRest, Makes, may_come, begins_protocol, declared_of, IsDraft, IsHeadedDraft, IsProtocolDraft}
+use Rattle.tree_reader.specs.Files.{FileStops, scope_of, room_of, Makes, may_come, begins_protocol, declared_of, IsDraft, IsHeadedDraft, IsProtocolDraft}
 use Rattle.tree_reader.proofs.Rests.{and_assoc, and_none, Prepends, struct_before, union_before, using_before, include_before, Opens, opened_closed, opened_open, end_closed, end_open, protocol_before, nothing_left, scope_length, room_left, none_open}
 use Rattle.tree_reader.proofs.Symbols.{means}
 use Rattle.tree_reader.proofs.Turns.{is_spelled}

@@ -11,7 +11,7 @@ use Rattle.tree_reader.specs.declared.symbol.Symbol.TheVariants.{Word, Colons, L
 use Rattle.tree_reader.specs.Symbols.{first_symbol}
 use Rattle.tree_reader.specs.Machine.{Form, behind as before_others, take, argument_name, argument_words, production}
 use Rattle.tree_reader.specs.Reading.{Turns, Stops, IsNext, AddsWords, IsNaming, MayHaveArgument}
-use Rattle.tree_reader.proofs.Turns.{is_spelled, turn, same_turn, turns, split_turn, past, past_turn, past_stops, stops_behind, stops_before, thrown}
+use Rattle.tree_reader.proofs.Turns.{is_spelled, turn, same_turn, turns, split_turn, past, stops_behind, stops_before, thrown}
 
 -- whatever adds words to the text here adds words to the text at the start
 abbrev pub WordsGoOn : List ℕ → List ℕ → List Token → List Token → Type 0

@@ -1,5 +1,5 @@
 -- How parameters are read, and how the machine goes over them.
-use Rattle.std.proofs.Common.{◌≡◌, ◌≢◌, ℕ, ◌+◌, ◌<◌, List, [], ◌∷◌, ◌++◌, length, Option, Some, None, Result, Ok, Err, refl, sym, ap, subst, ◌∙◌, arith, append_assoc}
+use Rattle.std.proofs.Common.{◌≡◌, ◌≢◌, ◌<◌, List, [], ◌∷◌, ◌++◌, length, Some, Result, refl, sym, subst, arith, append_assoc}
 use Rattle.std.specs.Prelude.{codes}
 use Rattle.std.specs.Result.{IfErr, IsErrAnd, OnOk}
 use Rattle.std.proofs.lemmas.Result.{IfErr-weaker, on_ok_weaker}
@@ -12,8 +12,8 @@ use Rattle.tree_reader.specs.Ending as ending
 use Rattle.tree_reader.specs.declared.refusal.Refusal.{Refusal}
 use Rattle.tree_reader.specs.declared.symbol.Symbol.{Symbol}
 use Rattle.tree_reader.specs.declared.symbol.Symbol.TheVariants.{OpenBracket, CloseParen, Comma}
-use Rattle.tree_reader.specs.Symbols.{symbol, first_symbol}
-use Rattle.tree_reader.specs.Machine.{Form, take, attributed, typed, one_param, parameters, more_parameters, behind, production, Stand, gone_in, refusal}
+use Rattle.tree_reader.specs.Symbols.{first_symbol}
+use Rattle.tree_reader.specs.Machine.{Form, take, attributed, typed, one_param, parameters, more_parameters, behind, production}
 use Rattle.tree_reader.specs.Reading.{Turns, Stops, IsNext, MayBeHeaded}
 use Rattle.tree_reader.proofs.Turns.{thrown, split_turn, turn, same_turn, turns, stops_behind, stops_before, past, is_spelled, fewer_of}
 

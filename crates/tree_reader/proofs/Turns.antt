@@ -1,17 +1,14 @@
 -- How the machine goes over forms.
-use Rattle.std.proofs.Common.{◌≡◌, ◌≢◌, ℕ, zero, suc, ◌+◌, ◌-◌, ◌≤◌, ◌<◌, Bool, true, false, cond, List, [], ◌∷◌, ◌++◌, length, Option, Some, None, Result, Ok, Err, IfOk, OnOk, IfErr, IsErrAnd, refl, sym, ap, subst, ◌∙◌, arith, append_assoc}
+use Rattle.std.proofs.Common.{◌≡◌, ℕ, ◌+◌, ◌<◌, List, [], ◌∷◌, ◌++◌, length, Option, Some, None, Result, Ok, Err, IfErr, IsErrAnd, refl, sym, ap, subst, ◌∙◌, arith, append_assoc}
 use Rattle.ipdl_base.specs.declared.token.Token.{Token}
-use Rattle.ipdl_base.specs.declared.token.TokenKind.TheVariants as kind
 use Rattle.ipdl_base.specs.declared.finding.Place.{Place}
-use Rattle.ipdl_syntax.specs.Parts.{Part, token, identifier}
 use Rattle.tree_reader.specs.declared.refusal.Refusal.{Refusal}
 use Rattle.tree_reader.specs.declared.refusal.Refusal.TheVariants.{Left, NoMemory}
 use Rattle.tree_reader.specs.declared.symbol.Symbol.{Symbol}
-use Rattle.tree_reader.specs.declared.symbol.Symbol.TheVariants.{End, Word, Quoted, OtherWord, OtherMark, Colons, OpenBrace, CloseBrace, OpenParen, CloseParen, OpenBracket, CloseBracket, Less, Greater, Semicolon, Comma, Colon, Equals, Question, Async, Both, Child, Class, From, Include, Manager, Manages, Namespace, Nullable, Or, Parent, Protocol, Returns, Struct, Sync, Union, UniquePtr, Using}
 use Rattle.tree_reader.specs.Symbols.{symbol, first_symbol}
-use Rattle.tree_reader.specs.Machine.{Form, proper, take, any_word, behind, production, Stand, gone_in, refusal}
-use Rattle.tree_reader.specs.Reading.{Turns, Stops, IsNext, IsNextAt, IsNextText}
-use Rattle.tree_reader.specs.Spelling.{Means, spelled}
+use Rattle.tree_reader.specs.Machine.{Form, behind, production, gone_in, refusal}
+use Rattle.tree_reader.specs.Reading.{Turns, Stops, IsNext, IsNextAt}
+use Rattle.tree_reader.specs.Spelling.{spelled}
 use Rattle.tree_reader.proofs.Symbols.{means}
 
 -- a token with a symbol is spelled so

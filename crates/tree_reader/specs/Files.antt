@@ -1,6 +1,5 @@
 -- What a reader of a file says between two declarations: what was read, and what is still to come.
-use Rattle.std.specs.Prelude.{◌≡◌, ◌≢◌, ℕ, ◌-◌, ◌≤◌, ◌⊎◌, Bool, true, false, List, [], ◌∷◌, ◌++◌, length, Option, Some, None, codes}
-use Rattle.std.specs.declared.vec.Vec.{Vec}
+use Rattle.std.specs.Prelude.{◌≡◌, ◌≢◌, ℕ, ◌-◌, ◌⊎◌, Bool, true, false, List, [], ◌∷◌, ◌++◌, length, Option, Some, None, codes}
 use Rattle.ipdl_base.specs.declared.kinds.Semantics.{Semantics}
 use Rattle.ipdl_base.specs.declared.token.Token.{Token}
 use Rattle.ipdl_syntax.specs.declared.tree.Attribute.{Attribute}
@@ -16,7 +15,7 @@ use Rattle.tree_reader.specs.declared.refusal.Refusal.TheVariants.{Left, NoMemor
 use Rattle.tree_reader.specs.declared.symbol.Symbol.{Symbol}
 use Rattle.tree_reader.specs.declared.symbol.Symbol.TheVariants as symbols
 use Rattle.tree_reader.specs.Symbols.{first_symbol}
-use Rattle.tree_reader.specs.Machine.{Form, Stand, stand, take, managing, unheaded_step, begin, refusal}
+use Rattle.tree_reader.specs.Machine.{stand, take, managing, unheaded_step, begin, refusal}
 
 -- The machine refuses the tokens of a file where so many are left. Memory may run out in any case.
 abbrev pub FileStops : FileKind → List Token → Refusal → Type 0

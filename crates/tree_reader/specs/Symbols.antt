@@ -1,5 +1,5 @@
 -- What the grammar sees of a token.
-use Rattle.std.specs.Prelude.{ℕ, Bool, List, [], ◌∷◌, if◌then◌else◌, codes}
+use Rattle.std.specs.Prelude.{ℕ, List, [], ◌∷◌, if◌then◌else◌, codes}
 use Rattle.std.specs.Str.{bytes_eq}
 use Rattle.ipdl_base.specs.declared.token.Token.{Token}
 use Rattle.ipdl_base.specs.declared.token.TokenKind.{TokenKind}

@@ -1,10 +1,4 @@
-use Rattle.ipdl_base.specs.declared.token.Token.{Token}
-use Rattle.ipdl_syntax.specs.declared.tree.FileKind.{FileKind}
-use Rattle.std.proofs.Common.{List, ap, ◌∙◌, refl, sym, subst, rules, ◌≡◌}
-use Rattle.tree_reader.specs.declared.refusal.Refusal.{Refusal}
-use Rattle.tree_reader.specs.Files.{FileStops, IsDraft, IsHeadedDraft, IsProtocolDraft}
-use Rattle.tree_reader.specs.declared.symbol.Symbol.TheVariants as symbols
-use Rattle.tree_reader.proofs.FileForms.{protocol_added, protocol_stopped, keyword_stopped}
+use Rattle.tree_reader.proofs.FileForms.{protocol_added}
 use Rattle.tree_reader.proofs.file.add_protocol.Goals as goal
 
 pub returns-clause-read : goal.returns-clause-read

@@ -1,8 +1,7 @@
 use Rattle.ipdl_base.specs.declared.token.Token.{Token}
-use Rattle.ipdl_syntax.specs.declared.tree.FileKind.{FileKind}
-use Rattle.std.proofs.Common.{List, ap, ◌∙◌, refl, sym, subst, rules, ◌≡◌}
+use Rattle.std.proofs.Common.{List}
 use Rattle.tree_reader.specs.declared.refusal.Refusal.{Refusal}
-use Rattle.tree_reader.specs.Files.{FileStops, IsDraft, IsHeadedDraft, IsProtocolDraft}
+use Rattle.tree_reader.specs.Files.{FileStops, IsDraft, IsHeadedDraft}
 use Rattle.tree_reader.specs.declared.symbol.Symbol.TheVariants as symbols
 use Rattle.tree_reader.proofs.FileForms.{attributes_read, attributes_stopped}
 use Rattle.tree_reader.proofs.Turns.{thrown, next_of}

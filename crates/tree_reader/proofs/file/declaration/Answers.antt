@@ -1,8 +1,7 @@
 use Rattle.ipdl_base.specs.declared.token.Token.{Token}
-use Rattle.ipdl_syntax.specs.declared.tree.FileKind.{FileKind}
-use Rattle.std.proofs.Common.{length, List, ap, ◌∙◌, refl, sym, subst, rules, ◌≡◌}
+use Rattle.std.proofs.Common.{length, List, ◌∙◌, subst, rules}
 use Rattle.tree_reader.specs.declared.refusal.Refusal.{Refusal}
-use Rattle.tree_reader.specs.Files.{FileStops, IsDraft, IsHeadedDraft, IsProtocolDraft}
+use Rattle.tree_reader.specs.Files.{FileStops, IsDraft, IsHeadedDraft}
 use Rattle.tree_reader.specs.declared.symbol.Symbol.{Symbol}
 use Rattle.tree_reader.proofs.FileForms.{no_attributes, IsBare, bare_include, bare_namespace, bare_close, bare_none}
 use Rattle.std.proofs.lemmas.Result.{on_ok_weaker, IfErr-weaker}
@@ -15,10 +14,11 @@ bare c =
     let same = c.symbol.ensures in
     subst (λ (s : Symbol). IsBare s (length c.args.draft.now.scope.items)) same
     (elim c.in_default.branch [
-      in_default-via-in-Include+else-is_empty w ↦ bare_include c.symbol.result _ w.in-Include.is (search rules)
+      | in_default-via-in-Include+else-is_empty w ↦ bare_include c.symbol.result _ w.in-Include.is (search rules)
       | in_default-via-in-Namespace+else-len-lt16 w ↦ bare_namespace c.symbol.result _ w.in-Namespace.is (search rules)
       | in_default-via-in-CloseBrace+else-not-is_empty w ↦ bare_close c.symbol.result _ w.in-CloseBrace.is (search rules)
-      | in_default-via-in_default w ↦ bare_none c.symbol.result _ w.in_default.not-OpenBracket w.in_default.not-Include w.in_default.not-Namespace w.in_default.not-CloseBrace ])
+      | in_default-via-in_default w ↦ bare_none c.symbol.result _ w.in_default.not-OpenBracket w.in_default.not-Include w.in_default.not-Namespace w.in_default.not-CloseBrace
+    ])
 
 head : (c : goal.After-headed) (tokens : List Token) → IsDraft c.args.kind tokens c.args.draft.now c.args.reader.now → IsHeadedDraft c.args.kind tokens c.from_vec.result c.args.draft.now c.args.reader.now
 head c tokens h = no_attributes c.args.kind tokens c.from_vec.result c.args.draft.now c.args.reader.now (c.from_vec.ensures ∙ c.new.ensures.items) c.requires (bare c) h

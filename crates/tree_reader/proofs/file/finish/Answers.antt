@@ -1,17 +1,14 @@
-use Rattle.ipdl_base.specs.declared.token.Token.{Token}
-use Rattle.ipdl_syntax.specs.declared.tree.FileKind.{FileKind}
-use Rattle.std.proofs.Common.{inl, inr, ◌⊎◌, ◌≢◌, true, false, length, List, ap, ◌∙◌, refl, sym, subst, rules, ◌≡◌}
-use Rattle.tree_reader.specs.declared.refusal.Refusal.{Refusal}
-use Rattle.tree_reader.specs.Files.{may_come, FileStops, IsDraft, IsHeadedDraft, IsProtocolDraft}
-use Rattle.tree_reader.specs.declared.symbol.Symbol.TheVariants as symbols
+use Rattle.std.proofs.Common.{inl, inr, ◌⊎◌, ◌≢◌, true, false, length, rules, ◌≡◌}
+use Rattle.tree_reader.specs.Files.{may_come}
 use Rattle.tree_reader.proofs.FileForms.{not_ended, all_read}
 use Rattle.tree_reader.proofs.file.finish.Goals as goal
 use Rattle.tree_reader.proofs.file.finish.Goals.{then-may_come-via-then-may_come, then-may_come-via-else-may_come+then-not-is_empty}
 
 why : (c : goal.After-drop-draft-then-may_come-9) → (may_come c.args.kind c.args.draft.protocol ≡ true) ⊎ (length c.args.draft.scope.items ≢ 0)
 why c = elim c.then-may_come.branch [
-  then-may_come-via-then-may_come w ↦ inl (search rules)
-  | then-may_come-via-else-may_come+then-not-is_empty w ↦ inr (search rules) ]
+  | then-may_come-via-then-may_come w ↦ inl (search rules)
+  | then-may_come-via-else-may_come+then-not-is_empty w ↦ inr (search rules)
+]
 
 pub returns-then-may_come-clause-stops : goal.returns-then-may_come-clause-stops
 returns-then-may_come-clause-stops c = λ tokens h. not_ended c.args.kind tokens c.args.draft (why c) h

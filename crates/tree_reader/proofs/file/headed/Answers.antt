@@ -1,8 +1,5 @@
-use Rattle.ipdl_base.specs.declared.token.Token.{Token}
-use Rattle.ipdl_syntax.specs.declared.tree.FileKind.{FileKind}
-use Rattle.std.proofs.Common.{length, List, ap, ◌∙◌, refl, sym, subst, rules, ◌≡◌}
-use Rattle.tree_reader.specs.declared.refusal.Refusal.{Refusal}
-use Rattle.tree_reader.specs.Files.{may_come, FileStops, IsDraft, IsHeadedDraft, IsProtocolDraft}
+use Rattle.std.proofs.Common.{length, ◌∙◌, sym, subst, rules}
+use Rattle.tree_reader.specs.Files.{may_come}
 use Rattle.tree_reader.specs.declared.symbol.Symbol.{Symbol}
 use Rattle.tree_reader.proofs.FileForms.{none_comes_next, IsOther, other_using, other_protocol, other_none}
 use Rattle.tree_reader.proofs.file.headed.Goals as goal
@@ -14,9 +11,10 @@ other c =
     let same = c.symbol.ensures in
     subst (λ (s : Symbol). IsOther s (length c.args.draft.now.scope.items) (may_come c.args.kind c.args.draft.now.protocol)) same
     (elim c.in_default.branch [
-      in_default-via-in-Using+else-is_empty w ↦ other_using c.symbol.result _ _ w.in-Using.is (search rules)
+      | in_default-via-in-Using+else-is_empty w ↦ other_using c.symbol.result _ _ w.in-Using.is (search rules)
       | in_default-via-in-Protocol+else-may_come w ↦ other_protocol c.symbol.result _ _ w.in-Protocol.is (sym w.may_come.ensures ∙ w.if-may_come.false)
-      | in_default-via-in_default w ↦ other_none c.symbol.result _ _ w.in_default.not-Struct w.in_default.not-Union w.in_default.not-Using w.in_default.not-Protocol w.in_default.not-Async w.in_default.not-Sync ])
+      | in_default-via-in_default w ↦ other_none c.symbol.result _ _ w.in_default.not-Struct w.in_default.not-Union w.in_default.not-Using w.in_default.not-Protocol w.in_default.not-Async w.in_default.not-Sync
+    ])
 
 pub returns-in_default-clause-stops : goal.returns-in_default-clause-stops
 returns-in_default-clause-stops c = λ tokens h.

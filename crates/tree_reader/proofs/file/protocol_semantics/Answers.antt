@@ -1,9 +1,5 @@
-use Rattle.ipdl_base.specs.declared.token.Token.{Token}
-use Rattle.ipdl_syntax.specs.declared.tree.FileKind.{FileKind}
 use Rattle.ipdl_base.specs.declared.kinds.Semantics.TheVariants.{Sync}
-use Rattle.std.proofs.Common.{inr, List, ap, ◌∙◌, refl, sym, subst, rules, ◌≡◌}
-use Rattle.tree_reader.specs.declared.refusal.Refusal.{Refusal}
-use Rattle.tree_reader.specs.Files.{FileStops, IsDraft, IsHeadedDraft, IsProtocolDraft}
+use Rattle.std.proofs.Common.{inr, refl}
 use Rattle.tree_reader.specs.declared.symbol.Symbol.TheVariants as symbols
 use Rattle.tree_reader.proofs.FileForms.{word_read, other_word_read}
 use Rattle.tree_reader.proofs.Turns.{is_spelled}
