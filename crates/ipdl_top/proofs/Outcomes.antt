@@ -6,7 +6,7 @@ use Rattle.ipdl_top.specs.declared.status.Status.{Status}
 use Rattle.ipdl_top.specs.declared.status.Status.TheVariants.{Done, Broken, Usage, ReadFault, WriteFault, Spent, NoMemory, BadScript, BadFrames}
 use Rattle.ipdl_top.specs.Answer.{IsTable, IsTableOf, IsReportTextOf}
 use Rattle.ipdl_top.specs.Command.{IsCommand, IsNoCommand, IsKeyOf, usage_text}
-use Rattle.ipdl_top.specs.Checked.{IsSome}
+use Rattle.ipdl_top.specs.Checked.{IsNonEmpty}
 use Rattle.ipdl_top.specs.Report.{IsReportOfBytes, not_built, report_text}
 use Rattle.ipdl_base.specs.declared.finding.Finding.{Finding}
 use Rattle.ipdl_top.specs.Outcome.{Writing, IsCompiled, IsOutcome}
@@ -43,7 +43,7 @@ told_report name found text status other before after report (inr (inr e)) whole
     subst P (sym e) (Appends-nothing other, subst Q (sym (nothing e)) (Appends-nothing before))
 
 -- the report on bytes that are checked
-pub bytes_report : (name key bytes : List ℕ) (report listed : List Finding) → listed ≡ report → IsKeyOf name key → length bytes ≤ 1048576 → IsSome (IsReportOfBytes key bytes) report → IsReportTextOf name (Some bytes) (report_text name listed)
+pub bytes_report : (name key bytes : List ℕ) (report listed : List Finding) → listed ≡ report → IsKeyOf name key → length bytes ≤ 1048576 → IsNonEmpty (IsReportOfBytes key bytes) report → IsReportTextOf name (Some bytes) (report_text name listed)
 bytes_report name key bytes report listed same is_key small h = record {
   key = key;
   is_key = is_key;
