@@ -5,10 +5,22 @@ mod real;
 
 use crate::real::{RealFiles, RealSink};
 use ipdl_top::{Status, ipdl};
+use std::alloc::AllocError;
 use std::env;
-use std::io::Write;
+use std::io::{ErrorKind, Write};
 use std::process::ExitCode;
 use std::rt::{Env, Files};
+
+/// The words of the command, which stand behind the program's name; an error is want of memory.
+fn command_words<R: Env + AllocGlobal>(rt: &R) -> Result<Vec<String>, AllocError> {
+    match env::args(rt) {
+        Ok(all) => all.skip(1).collect(rt.alloc()),
+        // A word that is no text is no word of a command, so the call is one without words.
+        Err(error) if error.kind() == ErrorKind::InvalidData => Ok(Vec::new(rt.alloc())),
+        // The words can fail in no other way than for want of memory.
+        Err(_) => Err(AllocError),
+    }
+}
 
 /// Runs the program on the words of the process.
 fn run<R: Files + Env + AllocGlobal, O: Write + Drop, E: Write + Drop>(
@@ -16,13 +28,8 @@ fn run<R: Files + Env + AllocGlobal, O: Write + Drop, E: Write + Drop>(
     out: O,
     err: E,
 ) -> Status {
-    let words: Vec<String> = match env::args(rt) {
-        Ok(all) => match all.skip(1).collect(rt.alloc()) {
-            Ok(words) => words,
-            Err(_) => return Status::NoMemory,
-        },
-        // A word that is no text is no word of a command.
-        Err(_) => Vec::new(rt.alloc()),
+    let Ok(words) = command_words(rt) else {
+        return Status::NoMemory;
     };
     let mut files = RealFiles::new(rt);
     let mut out = RealSink::new(out);

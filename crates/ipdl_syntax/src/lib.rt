@@ -1,7 +1,9 @@
 #![tactic(auto)]
 
+mod laws;
 mod tree;
 
+pub use laws::{files_hold, limits_hold};
 pub use tree::{
     Attribute, Attributes, Base, FileKind, Include, IncludeKind, Includes, MessageDecl,
     MessageDecls, NameAt, NamesAt, Param, Params, ProtocolDecl, StructDecl, StructDecls, Suffix,

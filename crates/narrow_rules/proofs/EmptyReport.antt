@@ -1,8 +1,9 @@
 -- A narrow file with an empty report.
-use Rattle.std.proofs.Common.{◌≡◌, ◌≢◌, ℕ, ◌<◌, Bool, true, false, List, [], ◌∷◌, length, take, get_or, Option, Some, None, ◌⊎◌, inl, inr, refl, sym, ◌∙◌, ap, suc, lit<, arith}
+use Rattle.std.proofs.Common.{◌≡◌, ◌≢◌, ℕ, ◌<◌, true, List, [], ◌∷◌, length, take, get_or, Option, Some, None, inl, inr, refl, sym, ◌∙◌, ap, suc, lit<, arith}
 use Rattle.std.specs.Prelude.{codes, IsSomeAnd}
 use Rattle.std.specs.List.{AllByRecursion, AllPairs, Any, Contains}
-use Rattle.std.proofs.lemmas.List.{length-take}
+use Rattle.std.proofs.lemmas.Bool.{cases_Bool}
+use Rattle.std.proofs.lemmas.List.{length-take, get_or-take}
 use Rattle.std.proofs.lemmas.List.Elements.{Contains-get_or}
 use Rattle.std.proofs.lemmas.Option.{slice_get-get_or}
 use Rattle.ipdl_base.specs.Builtins.{builtin_name, is_carried}
@@ -16,7 +17,6 @@ use Rattle.ipdl_syntax.specs.declared.tree.ProtocolDecl.{ProtocolDecl}
 use Rattle.narrow_rules.specs.Broken.{IsUnknownBase, IsUnknownAt, IsUnknownIn, IsRepeatedIn, unknown_type, repeated_name}
 use Rattle.narrow_rules.specs.Laws.{CleanWhereEmpty}
 use Rattle.narrow_rules.specs.Narrow.{IsBuiltinName, IsWordBase, IsNarrowParam, IsNarrowMessage, IsNarrowProtocol, IsCarriedName, IsPlainParam, IsClean}
-use Rattle.narrow_rules.proofs.Elements.{get_or-take}
 use Rattle.narrow_rules.proofs.Repeats.{is_among, found_among, none_among}
 
 every : List Builtin
@@ -48,13 +48,9 @@ listed builtin.ByteBuf = (20, lit< tt, refl)
 listed builtin.Shmem = (21, lit< tt, refl)
 listed builtin.FileDescriptor = (22, lit< tt, refl)
 
-decide : (b : Bool) → (b ≡ true) ⊎ (b ≡ false)
-decide true = inl refl
-decide false = inr refl
-
 -- a name is a builtin's or not
 is_known : (name : List ℕ) → ¬ ¬ IsBuiltinName name → codes "Endpoint" ≢ name → codes "ManagedEndpoint" ≢ name → (b : Builtin) × (builtin_name b ≡ name)
-is_known name known no_endpoint no_managed = elim (decide (is_among builtin_name every name)) [
+is_known name known no_endpoint no_managed = elim (cases_Bool (is_among builtin_name every name)) [
   | inl h ↦ (let any = found_among builtin_name every name h in (any.1, any.4))
   | inr h ↦ absurd (known (λ is. elim is [
     | inl e ↦ no_endpoint e

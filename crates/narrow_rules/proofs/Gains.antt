@@ -1,5 +1,5 @@
 -- How findings are gathered.
-use Rattle.std.proofs.Common.{◌≡◌, ℕ, ◌+◌, ◌<◌, List, [], ◌∷◌, ◌++◌, length, take, get_or, ◌⊎◌, inl, inr, subst, sym, ap, ◌∙◌}
+use Rattle.std.proofs.Common.{◌≡◌, ℕ, ◌+◌, ◌<◌, List, [], ◌∷◌, ◌++◌, length, take, get_or, ◌⊎◌, inl, inr, subst, sym, ap}
 use Rattle.std.specs.List.{Any, Contains}
 use Rattle.std.proofs.lemmas.List.{take_more}
 use Rattle.std.proofs.lemmas.List.Elements.{Contains-push, Contains-push_cases, Contains-append_left}
@@ -11,6 +11,7 @@ use Rattle.ipdl_syntax.specs.declared.tree.Param.{Param}
 use Rattle.narrow_rules.specs.Adds.{Adds}
 use Rattle.narrow_rules.specs.Broken.{unknown_type, IsUnknownBase, IsUnknownAt}
 use Rattle.narrow_rules.proofs.Elements.{any_cases, any_left}
+use Rattle.narrow_rules.proofs.Same.{same_finding}
 
 -- nothing is added where it holds nowhere
 pub Adds-none : (rule : Rule) (P : Place → Type 0) (old : List Finding) → ((place : Place) → ¬ P place) → Adds rule P old old
@@ -25,13 +26,6 @@ Adds-like rule P Q old new adds to back = record {
   );
 }
 
-finding_of : Place → Rule → Finding
-finding_of place rule = record { place = place; rule = rule }
-
-same_finding : (rule : Rule) (at : Place) (f : Finding) → f.rule ≡ rule → at ≡ f.place → (let x : Finding = record { place = at; rule = rule } in x ≡ f)
-unfolding finding_of
-same_finding rule at f r p = ap (λ q. finding_of q rule) p ∙ ap (finding_of f.place) (sym r)
-
 -- one finding more
 pub Adds-push : (rule : Rule) (at : Place) (old : List Finding) → Adds rule (λ place. at ≡ place) old (old ++ record { place = at; rule = rule } ∷ [])
 Adds-push rule at old =
@@ -41,7 +35,7 @@ Adds-push rule at old =
         λ h. elim (Contains-push_cases old x f h) [ inl a ↦ inl a | inr e ↦ inr (sym (ap (λ (y : Finding). y.rule) e), ap (λ (y : Finding). y.place) e) ],
         λ h. elim h [
           | inl a ↦ Contains-append_left old (x ∷ []) f a
-          | inr b ↦ (let P : Finding → Type 0 = λ y. Contains (old ++ x ∷ []) y in subst P (same_finding rule at f b.0 b.1) (Contains-push old x))
+          | inr b ↦ (let P : Finding → Type 0 = λ y. Contains (old ++ x ∷ []) y in subst P (same_finding x f b.1 (sym b.0)) (Contains-push old x))
         ],
       );
     }

@@ -1,4 +1,5 @@
 pub mod Elements
+pub mod Same
 pub mod Gains
 pub mod Endings
 pub mod Repeats

@@ -1,31 +1,26 @@
 -- Messages that have the name of an earlier one.
 use Rattle.std.proofs.Common.{◌≡◌, ◌≢◌, ℕ, ◌+◌, ◌<◌, Bool, true, false, not, cond, ◌||◌, List, [], ◌∷◌, ◌++◌, length, take, get_or, ◌⊎◌, inl, inr, refl, sym, ◌∙◌, ap, subst, arith}
 use Rattle.std.specs.Prelude.{nat_eq}
-use Rattle.std.specs.Bool.{Decides}
 use Rattle.std.specs.List.{list_any, Any, AllPairs}
 use Rattle.std.specs.Cmp.Lexicographic.{pointwise}
 use Rattle.std.proofs.lemmas.Bool.{true≢false}
-use Rattle.std.proofs.lemmas.Bool.Decides.{Decides-eqb}
-use Rattle.std.proofs.lemmas.List.{take_more, take_all, take-append-le, length-append, length-take}
+use Rattle.std.proofs.Math.Seq.{get_or-append_seam}
+use Rattle.std.proofs.lemmas.List.{get_or-take, get_or_append_left, get_or_default, take_more, take_all, take-append-le, length-append, length-take}
 use Rattle.std.proofs.lemmas.List.Folds.{list_any_more, Any-from_list_any, list_any-from_Any}
 use Rattle.std.proofs.lemmas.List.Elements.{Contains-get_or}
 use Rattle.std.proofs.lemmas.List.Quantifiers.{all_pairs_push}
 use Rattle.std.proofs.lemmas.Option.{slice_get_cases, slice_get_within, get_or_from_slice_get, slice_get_read}
-use Rattle.std.proofs.lemmas.Slice.Eq.{slice_eq-Decides}
 use Rattle.ipdl_base.specs.declared.finding.Finding.{Finding}
 use Rattle.ipdl_base.specs.declared.finding.Place.{Place}
 use Rattle.ipdl_syntax.specs.declared.tree.MessageDecl.{MessageDecl}
 use Rattle.narrow_rules.specs.Adds.{Adds}
 use Rattle.narrow_rules.specs.Broken.{IsRepeatedIn, repeated_name}
-use Rattle.narrow_rules.proofs.Elements.{at_left, at_last, at_within, get_or-take}
 use Rattle.narrow_rules.proofs.Gains.{Adds-like, Adds-then, Adds-push}
+use Rattle.narrow_rules.proofs.Same.{decided}
 
 -- whether one of these has the name
 abbrev pub is_among : {X : Type 0} (name_of : X → List ℕ) → List X → List ℕ → Bool
 is_among name_of xs name = list_any (λ x. pointwise nat_eq (name_of x) name) xs
-
-decided : (xs ys : List ℕ) → Decides (pointwise nat_eq xs ys) (xs ≡ ys)
-decided xs ys = slice_eq-Decides Decides-eqb xs ys (pointwise nat_eq xs ys) refl
 
 any_weaker : {X : Type 0} (P Q : X → Type 0) → ((x : X) → P x → Q x) → (xs : List X) → Any P xs → Any Q xs
 any_weaker P Q to xs (k, x, lt, at, p) = (k, x, lt, at, to x p)
@@ -65,7 +60,7 @@ pub not_apart : {X : Type 0} (name_of : X → List ℕ) (xs : List X) (i : ℕ) 
 not_apart name_of xs i d lt among apart =
     let any = found_among name_of (take i xs) (name_of (get_or xs i d)) among in
     let within : any.0 < i = omega (arith, any.2, length-take i xs) in
-    apart any.0 i d within lt (ap name_of (sym (get_or-take i xs any.0 d within) ∙ at_within (take i xs) any.0 any.1 d any.2 any.3) ∙ any.4)
+    apart any.0 i d within lt (ap name_of (sym (get_or-take i xs any.0 d within) ∙ get_or_default (take i xs) any.0 d any.1 any.2 ∙ any.3) ∙ any.4)
 
 -- one more name, which was not among the first
 pub apart_more : {X : Type 0} (name_of : X → List ℕ) (xs : List X) (i : ℕ) (d : X) → i < length xs → is_among name_of (take i xs) (name_of (get_or xs i d)) ≡ false → AllPairs (λ a b. name_of a ≢ name_of b) (take i xs) → AllPairs (λ a b. name_of a ≢ name_of b) (take (i + 1) xs)
@@ -86,13 +81,13 @@ repeated_cases xs y place r =
       | inl h ↦ inl (record {
         index = r.index;
         message = r.message;
-        there = slice_get_read xs (length xs) r.index r.message refl h.1 (sym (sym (at_left xs (y ∷ []) r.index r.message h.1) ∙ read));
+        there = slice_get_read xs (length xs) r.index r.message refl h.1 (sym (sym (get_or_append_left xs (y ∷ []) r.message r.index h.1) ∙ read));
         repeats = rw (take-append-le r.index xs (y ∷ []) (omega (arith, h.1))) at r.repeats;
         here = r.here;
       })
       | inr h ↦ (
           let last : r.index ≡ length xs = omega (arith, h.0, length_more xs y) in
-          let same : r.message ≡ y = sym read ∙ ap (λ k. get_or (xs ++ y ∷ []) k r.message) last ∙ at_last xs y r.message in
+          let same : r.message ≡ y = sym read ∙ ap (λ k. get_or (xs ++ y ∷ []) k r.message) last ∙ get_or-append_seam xs y [] r.message in
           let before : take r.index (xs ++ y ∷ []) ≡ xs = take-append-le r.index xs (y ∷ []) (omega (arith, last)) ∙ take_all r.index xs h.0 in
           let Names : MessageDecl → Type 0 = λ m. Any (λ (e : MessageDecl). e.name ≡ m.name) xs in
           let Before : List MessageDecl → Type 0 = λ ms. Any (λ (e : MessageDecl). e.name ≡ r.message.name) ms in
@@ -107,7 +102,7 @@ repeated_left xs y place r =
     record {
       index = r.index;
       message = r.message;
-      there = slice_get_read (xs ++ y ∷ []) (length (xs ++ y ∷ [])) r.index r.message refl (omega (arith, length_more xs y)) (sym (at_left xs (y ∷ []) r.index r.message within ∙ get_or_from_slice_get xs r.index r.message r.message r.there));
+      there = slice_get_read (xs ++ y ∷ []) (length (xs ++ y ∷ [])) r.index r.message refl (omega (arith, length_more xs y)) (sym (get_or_append_left xs (y ∷ []) r.message r.index within ∙ get_or_from_slice_get xs r.index r.message r.message r.there));
       repeats = rw (take-append-le r.index xs (y ∷ []) (omega arith)) r.repeats;
       here = r.here;
     }
@@ -117,7 +112,7 @@ pub repeated_last : (xs : List MessageDecl) (y : MessageDecl) (place : Place) �
 repeated_last xs y place at any = record {
   index = length xs;
   message = y;
-  there = slice_get_read (xs ++ y ∷ []) (length (xs ++ y ∷ [])) (length xs) y refl (omega (arith, length_more xs y)) (sym (at_last xs y y));
+  there = slice_get_read (xs ++ y ∷ []) (length (xs ++ y ∷ [])) (length xs) y refl (omega (arith, length_more xs y)) (sym (get_or-append_seam xs y [] y));
   repeats = rw (take-append-le (length xs) xs (y ∷ []) (omega arith), take_all (length xs) xs (omega arith)) any;
   here = at;
 }

@@ -1,5 +1,5 @@
 -- The parts of a tree, put together.
-use Rattle.std.proofs.Common.{◌≡◌, ℕ, Bool, List, [], Option, Some, None, Result, inl, inr, subst, arith}
+use Rattle.std.proofs.Common.{◌≡◌, ℕ, Bool, List, [], Option, Some, Result, inl, inr, subst, arith}
 use Rattle.std.specs.declared.alloc.AllocError.{AllocError}
 use Rattle.std.specs.Prelude.{◌↔◌, IfOk, IsTrue, IsSomeAnd}
 use Rattle.std.specs.List.{Contains}
@@ -18,9 +18,6 @@ at_some P o x e h = rw e h
 from_some : {X : Type 0} (P : X → Type 0) (o : Option X) (x : X) → o ≡ Some x → IsSomeAnd o P → P x
 from_some {X} P o x e h = let Q : Option X → Type 0 = λ o. IsSomeAnd o P in subst Q e h
 
-from_none : {X : Type 0} (P : X → Type 0) (o : Option X) → o ≡ None → ¬ IsSomeAnd o P
-from_none {X} P o e h = let Q : Option X → Type 0 = λ o. IsSomeAnd o P in subst Q e h
-
 -- what was added for both rules, to nothing, is what is broken
 pub broken_some : (unit : FileUnit) (p : ProtocolDecl) (old a b : List Finding) → unit.protocol ≡ Some p → old ≡ [] → Adds unknown_type (IsUnknownIn p.messages) old a → Adds repeated_name (IsRepeatedIn p.messages) a b → (f : Finding) → Contains b f ↔ Broken unit f
 broken_some unit p old a b e none one two f = (
@@ -35,16 +32,6 @@ broken_some unit p old a b e none one two f = (
     | inl x ↦ (two.exact f).1 (inl ((one.exact f).1 (inr (x.0, from_some (λ (q : ProtocolDecl). IsUnknownIn q.messages f.place) unit.protocol p e x.1))))
     | inr x ↦ (two.exact f).1 (inr (x.0, from_some (λ (q : ProtocolDecl). IsRepeatedIn q.messages f.place) unit.protocol p e x.1))
   ],
-)
-
--- nothing is broken where there is no protocol
-pub broken_none : (unit : FileUnit) (old : List Finding) → unit.protocol ≡ None → old ≡ [] → (f : Finding) → Contains old f ↔ Broken unit f
-broken_none unit old e none f = (
-  λ h. absurd (let P : List Finding → Type 0 = λ fs. Contains fs f in let z = subst P none h in let no : ⊥ = omega (arith, z.1) in no),
-  λ h. absurd (elim h [
-    | inl x ↦ from_none (λ (q : ProtocolDecl). IsUnknownIn q.messages f.place) unit.protocol e x.1
-    | inr x ↦ from_none (λ (q : ProtocolDecl). IsRepeatedIn q.messages f.place) unit.protocol e x.1
-  ]),
 )
 
 -- a file that has a protocol alone is narrow where the protocol is
