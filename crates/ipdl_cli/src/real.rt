@@ -45,6 +45,7 @@ fn read_file<R: std::rt::Files>(rt: &R, alloc: Global, name: &str, limit: usize)
     match File::open(rt, name) {
         Ok(mut file) => read_all(alloc, &mut file, limit),
         Err(error) if error.kind() == ErrorKind::NotFound => ReadAnswer::Absent,
+        Err(error) if error.kind() == ErrorKind::OutOfMemory => ReadAnswer::NoMemory,
         Err(_) => ReadAnswer::Failed,
     }
 }
