@@ -186,11 +186,6 @@ fn reports(rt: HostRuntime) -> Result<(), Fail> {
             bytes: b"protocol PHello {\nparent:\n  async Hello(int32_t n);\n  async Hello(foo x);\n};\n",
             report: b"PHello.ipdl:4:9: B21 repeated name\nPHello.ipdl:4:15: B1 unknown type\n",
         },
-        Row {
-            name: "PHello.ipdl",
-            bytes: b"sync protocol PHello { };",
-            report: NOT_BUILT,
-        },
     ];
     for row in rows {
         let outside = whole(row.name, row.bytes);
@@ -200,6 +195,28 @@ fn reports(rt: HostRuntime) -> Result<(), Fail> {
             "{}",
             row.name
         );
+    }
+    Ok(())
+}
+
+/// Files that have a tree and are not narrow.
+#[test]
+fn not_built(rt: HostRuntime) -> Result<(), Fail> {
+    let texts: [&'static [u8]; 10] = [
+        b"sync protocol PHello { };",
+        b"protocol POther { };",
+        b"namespace n { protocol PHello { }; }",
+        b"include x; protocol PHello { };",
+        b"struct S { int32_t x; }; protocol PHello { };",
+        b"protocol PHello { manages PChild; };",
+        b"protocol PHello { both: async M(); };",
+        b"protocol PHello { parent: async M() returns (int32_t r); };",
+        b"protocol PHello { parent: async M(UniquePtr<int32_t> a); };",
+        b"protocol PHello { parent: [A] async M(int32_t[]? a); };",
+    ];
+    for bytes in texts {
+        let left = call(rt.alloc(), &["PHello.ipdl"], &whole("PHello.ipdl", bytes))?;
+        assert!(rt; leaves(&left, Status::Broken, b"", NOT_BUILT));
     }
     Ok(())
 }
