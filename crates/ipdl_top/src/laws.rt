@@ -6,7 +6,7 @@ use narrow_rules::one_report;
 use tree_laws::one_tree;
 
 /// The law of the answer: for the same files, words have at most one. So the files and the words
-/// determine the status, what is written to `out` and what is written to `err`.
+/// determine an answer's status, its text for `out` and its text for `err`.
 pub fn determined()
     ensures { OneAnswer }
 {
