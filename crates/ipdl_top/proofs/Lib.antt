@@ -3,3 +3,7 @@ pub mod Pieces
 pub mod Reports
 pub mod Outcomes
 pub mod SmallSchema
+pub mod OneKey
+pub mod Unboxing
+pub mod OneFault
+pub mod AtMostOne

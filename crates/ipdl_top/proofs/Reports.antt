@@ -7,10 +7,9 @@ use Rattle.ipdl_syntax.specs.declared.tree.FileKind.TheVariants as file
 use Rattle.ipdl_parse.specs.Place.{HasTree, IsSyntaxPlace, IsPlaceAt}
 use Rattle.ipdl_syntax.specs.declared.tree.Unit.{Unit as FileUnit}
 use Rattle.ipdl_syntax.specs.Program.{Tree}
-use Rattle.narrow_rules.specs.Narrow.{IsNarrow}
 use Rattle.ipdl_top.specs.declared.check.Checked.{Checked}
 use Rattle.ipdl_top.specs.declared.check.Checked.TheVariants.{Table, Report}
-use Rattle.ipdl_top.specs.Checked.{IsNonEmpty, IsCheckOfUnit, IsCheckOfTree, IsCheckOfLexed}
+use Rattle.ipdl_top.specs.Checked.{IsNonEmpty, IsCheckOfTree, IsCheckOfLexed}
 use Rattle.ipdl_top.specs.Report.{finding_at, whole_file, IsSyntaxFault}
 
 -- a report of one finding is not empty

@@ -1,6 +1,7 @@
 #![tactic(auto)]
 
 mod check;
+mod laws;
 mod program;
 mod report;
 mod status;
@@ -9,5 +10,6 @@ mod tests;
 mod words;
 mod write;
 
+pub use laws::determined;
 pub use program::ipdl;
 pub use status::Status;
