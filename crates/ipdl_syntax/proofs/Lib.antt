@@ -1,3 +1,4 @@
+pub mod Declarations
 pub mod Files
 pub mod Limits
 pub mod Worked

@@ -1,13 +1,13 @@
 -- Each tree is a row of pieces, so some tokens have one tree.
 use Rattle.std.proofs.Common.{◌≡◌, ℕ, ◌-◌, List, [], ◌∷◌, ◌++◌, Option, Some, None, refl, sym, ap, subst, ◌∙◌}
-use Rattle.std.proofs.lemmas.List.{append_assoc, append-nil}
 use Rattle.ipdl_base.specs.declared.token.Token.{Token}
 use Rattle.ipdl_syntax.specs.declared.tree.FileKind.{FileKind}
 use Rattle.ipdl_syntax.specs.declared.tree.FileKind.TheVariants as file
 use Rattle.ipdl_syntax.specs.declared.tree.ProtocolDecl.{ProtocolDecl}
 use Rattle.ipdl_syntax.specs.declared.tree.Unit.{Unit as FileUnit}
 use Rattle.ipdl_syntax.specs.Grammar.{Inside, inside_end, inside_struct, inside_union, inside_namespace, Outside, outside_end, outside_include, outside_using, outside_struct, outside_union, outside_namespace, Holder, holder_protocol, holder_namespace, inside, outside, holder}
-use Rattle.ipdl_syntax.specs.Program.{Declared, ◌&◌, no_declaration, an_include, a_using, a_struct, a_union, declared_inside, declared_outside, declared_round, protocol_of, unit_of, Tree}
+use Rattle.ipdl_syntax.specs.Program.{Declared, ◌&◌, an_include, a_using, a_struct, a_union, declared_inside, declared_outside, declared_round, protocol_of, unit_of, Tree}
+use Rattle.ipdl_syntax.proofs.Declarations.{and_assoc, and_none}
 use Rattle.tree_laws.specs.Boxes.{unboxed}
 use Rattle.tree_laws.specs.Laws.{HasOneTree}
 use Rattle.tree_laws.proofs.Pieces.{Piece, the_include, the_using, the_struct, the_union, the_protocol, opening, closing, Scopes, innermost, row, declared_row, protocol_in, row_unit}
@@ -72,19 +72,6 @@ row_round (holder_namespace name before held after) room scopes more from middle
       ),
     )
 
--- three lots of declarations are in one order
-in_order : (a b c : Declared) → (a & b) & c ≡ a & (b & c)
-in_order a b c = λ i. record {
-  includes = append_assoc a.includes b.includes c.includes i;
-  usings = append_assoc a.usings b.usings c.usings i;
-  structs = append_assoc a.structs b.structs c.structs i;
-  unions = append_assoc a.unions b.unions c.unions i;
-}
-
--- what is declared before nothing more
-with_none : (a : Declared) → a & no_declaration ≡ a
-with_none a = λ i. record { includes = append-nil a.includes i; usings = append-nil a.usings i; structs = append-nil a.structs i; unions = append-nil a.unions i }
-
 -- the pieces in a namespace declare what the form declares
 declares_inside : (a : Inside) (more : List Piece) → declared_row (pieces_inside a more) ≡ declared_inside a & declared_row more
 declares_inside inside_end more = refl
@@ -93,7 +80,7 @@ declares_inside (inside_union u rest) more = ap (λ (x : Declared). a_union u & 
 declares_inside (inside_namespace name held rest) more =
     declares_inside held (closing ∷ pieces_inside rest more)
     ∙ ap (λ (x : Declared). declared_inside held & x) (declares_inside rest more)
-    ∙ sym (in_order (declared_inside held) (declared_inside rest) (declared_row more))
+    ∙ sym (and_assoc (declared_inside held) (declared_inside rest) (declared_row more))
 
 -- so do those outside of all namespaces
 declares_outside : (a : Outside) (more : List Piece) → declared_row (pieces_outside a more) ≡ declared_outside a & declared_row more
@@ -105,7 +92,7 @@ declares_outside (outside_union u rest) more = ap (λ (x : Declared). a_union u 
 declares_outside (outside_namespace name held rest) more =
     declares_inside held (closing ∷ pieces_outside rest more)
     ∙ ap (λ (x : Declared). declared_inside held & x) (declares_outside rest more)
-    ∙ sym (in_order (declared_inside held) (declared_outside rest) (declared_row more))
+    ∙ sym (and_assoc (declared_inside held) (declared_outside rest) (declared_row more))
 
 -- so do those of the protocol and what is round it
 declares_round : (h : Holder) (more : List Piece) → declared_row (pieces_round h more) ≡ declared_round h & declared_row more
@@ -115,8 +102,8 @@ declares_round (holder_namespace name before held after) more =
     ∙ ap (λ (x : Declared). declared_inside before & x) (
     declares_round held (pieces_inside after (closing ∷ more))
     ∙ ap (λ (x : Declared). declared_round held & x) (declares_inside after (closing ∷ more))
-    ∙ sym (in_order (declared_round held) (declared_inside after) (declared_row more)))
-    ∙ sym (in_order (declared_inside before) (declared_round held & declared_inside after) (declared_row more))
+    ∙ sym (and_assoc (declared_round held) (declared_inside after) (declared_row more)))
+    ∙ sym (and_assoc (declared_inside before) (declared_round held & declared_inside after) (declared_row more))
 
 -- no protocol is among the pieces in a namespace
 none_inside : (a : Inside) (more : List Piece) → protocol_in (pieces_inside a more) ≡ protocol_in more
@@ -153,7 +140,7 @@ is_row : (kind : FileKind) (tokens : List Token) (unit : FileUnit) → Tree kind
 is_row file.Header tokens unit (all, d, e) = (
   pieces_outside all [],
   row_outside all [] tokens [] [] d refl,
-  e ∙ sym (same_unit (declared_row (pieces_outside all [])) (declared_outside all) (protocol_in (pieces_outside all [])) None (declares_outside all [] ∙ with_none (declared_outside all)) (none_outside all [])),
+  e ∙ sym (same_unit (declared_row (pieces_outside all [])) (declared_outside all) (protocol_in (pieces_outside all [])) None (declares_outside all [] ∙ and_none (declared_outside all)) (none_outside all [])),
 )
 is_row file.Protocol tokens unit (before, one, after, (m, bd, (n, od, ad)), e) =
     let last : List Piece = pieces_outside after [] in
@@ -162,7 +149,7 @@ is_row file.Protocol tokens unit (before, one, after, (m, bd, (n, od, ad)), e) =
     let same : declared_row pieces ≡ all =
     declares_outside before (pieces_round one last)
     ∙ ap (λ (x : Declared). declared_outside before & x) (
-    declares_round one last ∙ ap (λ (x : Declared). declared_round one & x) (declares_outside after [] ∙ with_none (declared_outside after))) in
+    declares_round one last ∙ ap (λ (x : Declared). declared_round one & x) (declares_outside after [] ∙ and_none (declared_outside after))) in
     let held : protocol_in pieces ≡ Some (protocol_of one) = none_outside before (pieces_round one last) ∙ one_round one last in
     (pieces, row_outside before (pieces_round one last) tokens m [] bd (row_round one 16 [] last m n [] od (row_outside after [] n [] [] ad refl)), e ∙ sym (same_unit (declared_row pieces) all (protocol_in pieces) (Some (protocol_of one)) same held))
 

@@ -17,8 +17,8 @@ use Rattle.tree_reader.specs.Spelling.{spelled}
 use Rattle.tree_reader.proofs.Turns.{split_turn, turn, turns, stops_before, stops_behind, is_spelled}
 
 -- What a reader that may have skipped a token says where it did not: there was another one, and nothing is gone.
-abbrev pub IsOther : Symbol → List Token → List Token → Type 0
-IsOther s from here = (first_symbol from ≢ s) × (here ≡ from)
+abbrev pub IsUntaken : Symbol → List Token → List Token → Type 0
+IsUntaken s from here = (first_symbol from ≢ s) × (here ≡ from)
 
 -- Fields
 
@@ -45,7 +45,7 @@ unfolding production
 fielded_closes = refl
 
 -- where no closing brace comes, a field does
-field_turn : (start from here : List Token) → IsOther CloseBrace from here → Turns (fielded ∷ []) start (fielded ∷ []) from → Turns (fielded ∷ []) start (typed 4 ending.Name ∷ take Semicolon ∷ fielded ∷ []) here
+field_turn : (start from here : List Token) → IsUntaken CloseBrace from here → Turns (fielded ∷ []) start (fielded ∷ []) from → Turns (fielded ∷ []) start (typed 4 ending.Name ∷ take Semicolon ∷ fielded ∷ []) here
 field_turn start from here (n, is) so_far =
     let P : List Token → Type 0 = λ x. Turns (fielded ∷ []) start (typed 4 ending.Name ∷ take Semicolon ∷ fielded ∷ []) x in
     subst P (sym is)
@@ -53,11 +53,11 @@ field_turn start from here (n, is) so_far =
     (split_turn fielded (typed 4 ending.Name) (take Semicolon ∷ fielded ∷ []) from (field_table (first_symbol from) n)))
 
 -- one more field
-pub field_turned : (start from here to : List Token) → IsOther CloseBrace from here → Turns (fielded ∷ []) start (fielded ∷ []) from → Turns (typed 4 ending.Name ∷ take Semicolon ∷ []) here [] to → Turns (fielded ∷ []) start (fielded ∷ []) to
+pub field_turned : (start from here to : List Token) → IsUntaken CloseBrace from here → Turns (fielded ∷ []) start (fielded ∷ []) from → Turns (typed 4 ending.Name ∷ take Semicolon ∷ []) here [] to → Turns (fielded ∷ []) start (fielded ∷ []) to
 field_turned start from here to other so_far one = λ more at. field_turn start from here other so_far more at ∙ one (fielded ∷ more) at
 
 -- a refused field
-pub field_stops : (start from here : List Token) (e : Refusal) → IsOther CloseBrace from here → Turns (fielded ∷ []) start (fielded ∷ []) from → Stops (typed 4 ending.Name ∷ take Semicolon ∷ []) here e → Stops (fielded ∷ []) start e
+pub field_stops : (start from here : List Token) (e : Refusal) → IsUntaken CloseBrace from here → Turns (fielded ∷ []) start (fielded ∷ []) from → Stops (typed 4 ending.Name ∷ take Semicolon ∷ []) here e → Stops (fielded ∷ []) start e
 field_stops start from here e other so_far one =
     stops_behind (fielded ∷ []) (typed 4 ending.Name ∷ take Semicolon ∷ fielded ∷ []) start here e (field_turn start from here other so_far) (stops_before (typed 4 ending.Name ∷ take Semicolon ∷ []) (fielded ∷ []) here e one)
 
@@ -90,7 +90,7 @@ unfolding production
 componented_closes = refl
 
 -- where no closing brace comes, a component does
-component_turn : (forms : List Form) (start from here : List Token) → IsOther CloseBrace from here → Turns forms start (componented ∷ []) from → Turns forms start (typed 4 ending.Semicolon ∷ componented ∷ []) here
+component_turn : (forms : List Form) (start from here : List Token) → IsUntaken CloseBrace from here → Turns forms start (componented ∷ []) from → Turns forms start (typed 4 ending.Semicolon ∷ componented ∷ []) here
 component_turn forms start from here (n, is) so_far =
     let P : List Token → Type 0 = λ x. Turns forms start (typed 4 ending.Semicolon ∷ componented ∷ []) x in
     subst P (sym is)
@@ -98,11 +98,11 @@ component_turn forms start from here (n, is) so_far =
     (split_turn componented (typed 4 ending.Semicolon) (componented ∷ []) from (component_table (first_symbol from) n)))
 
 -- one more component
-pub component_turned : (forms : List Form) (start from here to : List Token) → IsOther CloseBrace from here → Turns forms start (componented ∷ []) from → Turns (typed 4 ending.Semicolon ∷ []) here [] to → Turns forms start (componented ∷ []) to
+pub component_turned : (forms : List Form) (start from here to : List Token) → IsUntaken CloseBrace from here → Turns forms start (componented ∷ []) from → Turns (typed 4 ending.Semicolon ∷ []) here [] to → Turns forms start (componented ∷ []) to
 component_turned forms start from here to other so_far one = λ more at. component_turn forms start from here other so_far more at ∙ one (componented ∷ more) at
 
 -- a refused component
-pub component_stops : (forms : List Form) (start from here : List Token) (e : Refusal) → IsOther CloseBrace from here → Turns forms start (componented ∷ []) from → Stops (typed 4 ending.Semicolon ∷ []) here e → Stops forms start e
+pub component_stops : (forms : List Form) (start from here : List Token) (e : Refusal) → IsUntaken CloseBrace from here → Turns forms start (componented ∷ []) from → Stops (typed 4 ending.Semicolon ∷ []) here e → Stops forms start e
 component_stops forms start from here e other so_far one =
     stops_behind forms (typed 4 ending.Semicolon ∷ componented ∷ []) start here e (component_turn forms start from here other so_far) (stops_before (typed 4 ending.Semicolon ∷ []) (componented ∷ []) here e one)
 

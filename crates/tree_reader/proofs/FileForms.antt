@@ -21,6 +21,7 @@ use Rattle.ipdl_syntax.specs.declared.tree.Using.{Using as UsingDecl}
 use Rattle.ipdl_syntax.specs.Parts.{◌⨾◌, mark, word}
 use Rattle.ipdl_syntax.specs.Grammar.{attributes, declared, fields, components, included, struct_decl, union_decl, using_decl, protocol, protocol_semantics}
 use Rattle.ipdl_syntax.specs.Program.{Tree, Declared, ◌&◌, no_declaration, an_include, a_using, a_struct, a_union, declared_outside, declared_round, unit_of}
+use Rattle.ipdl_syntax.proofs.Declarations.{and_assoc, and_none}
 use Rattle.tree_reader.specs.declared.file.Draft.{Draft}
 use Rattle.tree_reader.specs.declared.refusal.Refusal.{Refusal}
 use Rattle.tree_reader.specs.declared.refusal.Refusal.TheVariants.{Left, NoMemory}
@@ -32,7 +33,7 @@ use Rattle.tree_reader.specs.Machine.{Form, take, typed, attributed, managing, f
 use Rattle.tree_reader.specs.Reading.{Turns, Stops, IsNext, closed, IsBracketed, IsStructBehind, IsUnionBehind, IsUsingBehind, IsProtocolBehind}
 use Rattle.tree_reader.specs.Spelling.{spelled}
 use Rattle.tree_reader.specs.Files.{FileStops, scope_of, room_of, Makes, may_come, begins_protocol, declared_of, IsDraft, IsHeadedDraft, IsProtocolDraft}
-use Rattle.tree_reader.proofs.Rests.{and_assoc, and_none, Prepends, struct_before, union_before, using_before, include_before, Opens, opened_closed, opened_open, end_closed, end_open, protocol_before, nothing_left, scope_length, room_left, none_open}
+use Rattle.tree_reader.proofs.Rests.{Prepends, struct_before, union_before, using_before, include_before, Opens, opened_closed, opened_open, end_closed, end_open, protocol_before, nothing_left, scope_length, room_left, none_open}
 use Rattle.tree_reader.proofs.Symbols.{means}
 use Rattle.tree_reader.proofs.Turns.{is_spelled}
 
@@ -54,11 +55,12 @@ pub stopped : (kind : FileKind) (tokens : List Token) (forms : List Form) (at : 
 stopped kind tokens forms at from (Left n) goes stop = goes ∙ ap (λ (x : List Form). refusal x at from) (sym (append-nil forms)) ∙ stop [] at
 stopped kind tokens forms at from NoMemory goes stop = tt
 
--- a refusal where no declaration begins
+-- the end is refused where no file may end
 end_refused : (b : Bool) → (b ≡ true → ⊥) → cond {A = Option ℕ} b None (Some 0) ≡ Some 0
 end_refused true no_end = absurd (no_end refl)
 end_refused false no_end = refl
 
+-- a refusal where no declaration begins
 pub refused_at : (at : Stand) (from : List Token) → step at (first_symbol from) ≡ None → (is_end [] at ≡ true → first_symbol from ≢ symbols.End) → refusal [] at from ≡ Some (length from)
 unfolding refusal
 refused_at at [] e more = end_refused (is_end [] at) (λ h. more h refl)
@@ -66,16 +68,19 @@ refused_at at (t ∷ rest) e more = ap (λ (o : Option (List Form × Stand)). go
 
 -- What a draft makes with what is left
 
+-- with declarations read, what is left makes the same tree
 makes_more : (kind : FileKind) (tokens : List Token) (may : Bool) (path : List (List ℕ)) (so_far d : Declared) (held : Option ProtocolDecl) (from to : List Token) → Prepends path d from to → Makes kind tokens may path so_far held from → Makes kind tokens may path (so_far & d) held to
 makes_more kind tokens true path so_far d held from to one makes = λ rest p r.
     subst (λ (x : Declared). Tree kind tokens (unit_of x (Some p))) (sym (and_assoc so_far d rest)) (makes (d & rest) p (one.when_open rest p r))
 makes_more kind tokens false path so_far d held from to one makes = λ rest r.
     subst (λ (x : Declared). Tree kind tokens (unit_of x held)) (sym (and_assoc so_far d rest)) (makes (d & rest) (one.when_closed rest r))
 
+-- so it does in a namespace that is opened
 makes_inner : (kind : FileKind) (tokens : List Token) (may : Bool) (path : List (List ℕ)) (so_far : Declared) (held : Option ProtocolDecl) (name : List ℕ) (from inner : List Token) → 0 < room_of path → Opens name from inner → Makes kind tokens may path so_far held from → Makes kind tokens may (name ∷ path) so_far held inner
 makes_inner kind tokens true path so_far held name from inner room o makes = λ rest p r. makes rest p (opened_open path name from inner room o rest p r)
 makes_inner kind tokens false path so_far held name from inner room o makes = λ rest r. makes rest (opened_closed path name from inner room o rest r)
 
+-- and behind one that is closed
 makes_outer : (kind : FileKind) (tokens : List Token) (may : Bool) (path : List (List ℕ)) (so_far : Declared) (held : Option ProtocolDecl) (name : List ℕ) (from to : List Token) → mark (codes "}") from to → Makes kind tokens may (name ∷ path) so_far held from → Makes kind tokens may path so_far held to
 makes_outer kind tokens true path so_far held name from to m makes = λ rest p r. makes rest p (end_open path name from to m rest p r)
 makes_outer kind tokens false path so_far held name from to m makes = λ rest r. makes rest (end_closed path name from to m rest r)
@@ -85,10 +90,12 @@ begins_empty : (kind : FileKind) (tokens : List Token) → Makes kind tokens (ma
 begins_empty file.Header tokens = λ rest (x, e, d). (x, d, ap (λ (r : Declared). unit_of r None) e)
 begins_empty file.Protocol tokens = λ rest p (x, one, y, e, q, d). (x, one, y, d, ap (λ (r : Declared). unit_of r (Some p)) e ∙ ap (λ (r : ProtocolDecl). unit_of (declared_outside x & declared_round one & declared_outside y) (Some r)) q)
 
+-- the machine begins where a draft does
 begin_is : (kind : FileKind) → begin kind ≡ stand (may_come kind None) 0 false
 begin_is file.Header = refl
 begin_is file.Protocol = refl
 
+-- the draft of which nothing was read
 pub nothing_read : (kind : FileKind) (tokens : List Token) (draft : Draft) → draft.includes.items ≡ [] → draft.usings.items ≡ [] → draft.structs.items ≡ [] → draft.unions.items ≡ [] → draft.protocol ≡ None → draft.scope.items ≡ [] → IsDraft kind tokens draft tokens
 nothing_read kind tokens draft includes usings structs unions held scope = record {
   path = [];
@@ -100,11 +107,38 @@ nothing_read kind tokens draft includes usings structs unions held scope = recor
   goes = ap (λ (x : Stand). refusal [] x tokens) (begin_is kind) ∙ ap (λ (h : Option ProtocolDecl). refusal [] (stand (may_come kind h) 0 false) tokens) (sym held);
 }
 
--- A struct
+-- The first word of a declaration
 
-struct_forms : List Form
+-- where the machine stands between two declarations of a draft
+abbrev between : FileKind → Draft → List (List ℕ) → Bool → Stand
+between kind draft path headed = stand (may_come kind draft.protocol) (length path) headed
+
+-- a refusal behind that word is the file's
+first_stopped : (kind : FileKind) (tokens : List Token) (at to_at : Stand) (s : Symbol) (forms : List Form) (from behind : List Token) (e : Refusal) → refusal [] (begin kind) tokens ≡ refusal [] at from → IsNext s from behind → step at s ≡ Some (forms, to_at) → Stops forms behind e → FileStops kind tokens e
+first_stopped kind tokens at to_at s forms from behind e goes next is stop = stopped kind tokens forms to_at behind e (goes ∙ stood at to_at s forms from behind next is) stop
+
+-- where the machine stands behind the declaration
+first_went : (kind : FileKind) (tokens : List Token) (at to_at : Stand) (s : Symbol) (forms : List Form) (from behind to : List Token) → refusal [] (begin kind) tokens ≡ refusal [] at from → IsNext s from behind → step at s ≡ Some (forms, to_at) → Turns forms behind [] to → refusal [] (begin kind) tokens ≡ refusal [] to_at to
+first_went kind tokens at to_at s forms from behind to goes next is turn = goes ∙ stood at to_at s forms from behind next is ∙ went forms to_at behind to turn
+
+-- a draft with more declarations
+grows : (kind : FileKind) (tokens : List Token) (draft grown : Draft) (d : Declared) (path : List (List ℕ)) (before to : List Token) → grown.protocol ≡ draft.protocol → grown.scope.items ≡ scope_of path → declared_of grown ≡ (declared_of draft & d) → Prepends path d before to → Makes kind tokens (may_come kind draft.protocol) path (declared_of draft) draft.protocol before → refusal [] (begin kind) tokens ≡ refusal [] (between kind draft path false) to → IsDraft kind tokens grown to
+grows kind tokens draft grown d path before to held scope more one makes goes = record {
+  path = path;
+  scope = scope;
+  makes = subst (λ (p : Option ProtocolDecl). Makes kind tokens (may_come kind p) path (declared_of grown) p to) (sym held)
+      (subst (λ (x : Declared). Makes kind tokens (may_come kind draft.protocol) path x draft.protocol to) (sym more)
+      (makes_more kind tokens (may_come kind draft.protocol) path (declared_of draft) d draft.protocol before to one makes));
+  goes = goes ∙ ap (λ (p : Option ProtocolDecl). refusal [] (stand (may_come kind p) (length path) false) to) (sym held);
+}
+
+-- Structs
+
+-- what comes behind the word `struct`
+abbrev struct_forms : List Form
 struct_forms = take symbols.Word ∷ take symbols.OpenBrace ∷ fielded ∷ []
 
+-- one struct more
 with_struct : (d : Declared) (s : StructDecl) (items : List StructDecl) → items ≡ d.structs ++ s ∷ [] → record d { structs = items } ≡ (d & a_struct s)
 with_struct d s items e = λ i. record {
   includes = sym (append-nil d.includes) i;
@@ -113,42 +147,39 @@ with_struct d s items e = λ i. record {
   unions = sym (append-nil d.unions) i;
 }
 
+-- a struct may come anywhere
 struct_step : (may : Bool) (depth : ℕ) (headed : Bool) → step (stand may depth headed) symbols.Struct ≡ Some (struct_forms, stand may depth false)
-unfolding step struct_forms
+unfolding step
 struct_step may depth headed = refl
 
-struct_stood : (kind : FileKind) (tokens : List Token) (list : List Attribute) (draft : Draft) (from behind : List Token) → IsNext symbols.Struct from behind → (h : IsHeadedDraft kind tokens list draft from) →
-    refusal [] (begin kind) tokens ≡ refusal struct_forms (stand (may_come kind draft.protocol) (length h.path) false) behind
-struct_stood kind tokens list draft from behind next h =
-    h.goes ∙ stood (stand (may_come kind draft.protocol) (length h.path) h.headed) (stand (may_come kind draft.protocol) (length h.path) false) symbols.Struct struct_forms from behind next (struct_step (may_come kind draft.protocol) (length h.path) h.headed)
-
-pub struct_stopped : (kind : FileKind) (tokens : List Token) (list : List Attribute) (draft : Draft) (from behind : List Token) (e : Refusal) → IsNext symbols.Struct from behind → Stops (take symbols.Word ∷ take symbols.OpenBrace ∷ fielded ∷ []) behind e → IsHeadedDraft kind tokens list draft from → FileStops kind tokens e
-unfolding struct_forms
+-- a refusal in a struct
+pub struct_stopped : (kind : FileKind) (tokens : List Token) (list : List Attribute) (draft : Draft) (from behind : List Token) (e : Refusal) → IsNext symbols.Struct from behind → Stops struct_forms behind e → IsHeadedDraft kind tokens list draft from → FileStops kind tokens e
 struct_stopped kind tokens list draft from behind e next stop h =
-    stopped kind tokens struct_forms (stand (may_come kind draft.protocol) (length h.path) false) behind e (struct_stood kind tokens list draft from behind next h) stop
+    first_stopped kind tokens (between kind draft h.path h.headed) (between kind draft h.path false) symbols.Struct struct_forms from behind e h.goes next
+    (struct_step (may_come kind draft.protocol) (length h.path) h.headed) stop
 
+-- the attributes, the word and what stands behind it are a struct
 struct_whole : (path : List (List ℕ)) (scope : List (List ℕ)) (list : List Attribute) (s : StructDecl) (before from behind to : List Token) → scope ≡ scope_of path → attributes list before from → IsNext symbols.Struct from behind → IsStructBehind scope list s behind to → struct_decl (scope_of path) s before to
 struct_whole path scope list s before from behind to same head next (att, read) =
     let first = subst (λ (x : List Attribute). attributes x before from) (sym att) head in
     let last = subst (λ (x : List (List ℕ)). (declared x s.full s.place ⨾ mark (codes "{") ⨾ fields s.fields ⨾ closed) behind to) same read in
     (from, first, (behind, is_spelled symbols.Struct from behind next, last))
 
-pub struct_added : (kind : FileKind) (tokens : List Token) (list : List Attribute) (draft : Draft) (from behind to : List Token) (s : StructDecl) (pushed : Vec StructDecl Global) (scope : List (List ℕ)) → scope ≡ draft.scope.items → pushed.items ≡ draft.structs.items ++ s ∷ [] → IsNext symbols.Struct from behind → IsStructBehind scope list s behind to → Turns (take symbols.Word ∷ take symbols.OpenBrace ∷ fielded ∷ []) behind [] to → IsHeadedDraft kind tokens list draft from → IsDraft kind tokens (record draft { structs = pushed }) to
-unfolding struct_forms
-struct_added kind tokens list draft from behind to s pushed scope same grown next read turn h = record {
-  path = h.path;
-  scope = h.scope;
-  makes = subst (λ (x : Declared). Makes kind tokens (may_come kind draft.protocol) h.path x draft.protocol to) (sym (with_struct (declared_of draft) s pushed.items grown))
-      (makes_more kind tokens (may_come kind draft.protocol) h.path (declared_of draft) (a_struct s) draft.protocol h.before to
-      (struct_before h.path s h.before to (struct_whole h.path scope list s h.before from behind to (same ∙ h.scope) h.head next read)) h.makes);
-  goes = struct_stood kind tokens list draft from behind next h ∙ went struct_forms (stand (may_come kind draft.protocol) (length h.path) false) behind to turn;
-}
+-- a draft with a struct more
+pub struct_added : (kind : FileKind) (tokens : List Token) (list : List Attribute) (draft : Draft) (from behind to : List Token) (s : StructDecl) (pushed : Vec StructDecl Global) (scope : List (List ℕ)) → scope ≡ draft.scope.items → pushed.items ≡ draft.structs.items ++ s ∷ [] → IsNext symbols.Struct from behind → IsStructBehind scope list s behind to → Turns struct_forms behind [] to → IsHeadedDraft kind tokens list draft from → IsDraft kind tokens (record draft { structs = pushed }) to
+struct_added kind tokens list draft from behind to s pushed scope same grown next read turn h =
+    grows kind tokens draft (record draft { structs = pushed }) (a_struct s) h.path h.before to refl h.scope (with_struct (declared_of draft) s pushed.items grown)
+    (struct_before h.path s h.before to (struct_whole h.path scope list s h.before from behind to (same ∙ h.scope) h.head next read)) h.makes
+    (first_went kind tokens (between kind draft h.path h.headed) (between kind draft h.path false) symbols.Struct struct_forms from behind to h.goes next
+    (struct_step (may_come kind draft.protocol) (length h.path) h.headed) turn)
 
--- A union
+-- Unions
 
-union_forms : List Form
+-- what comes behind the word `union`
+abbrev union_forms : List Form
 union_forms = take symbols.Word ∷ take symbols.OpenBrace ∷ typed 4 ending.Semicolon ∷ componented ∷ []
 
+-- one union more
 with_union : (d : Declared) (u : UnionDecl) (items : List UnionDecl) → items ≡ d.unions ++ u ∷ [] → record d { unions = items } ≡ (d & a_union u)
 with_union d u items e = λ i. record {
   includes = sym (append-nil d.includes) i;
@@ -157,39 +188,35 @@ with_union d u items e = λ i. record {
   unions = e i;
 }
 
+-- a union may come anywhere
 union_step : (may : Bool) (depth : ℕ) (headed : Bool) → step (stand may depth headed) symbols.Union ≡ Some (union_forms, stand may depth false)
-unfolding step union_forms
+unfolding step
 union_step may depth headed = refl
 
-union_stood : (kind : FileKind) (tokens : List Token) (list : List Attribute) (draft : Draft) (from behind : List Token) → IsNext symbols.Union from behind → (h : IsHeadedDraft kind tokens list draft from) →
-    refusal [] (begin kind) tokens ≡ refusal union_forms (stand (may_come kind draft.protocol) (length h.path) false) behind
-union_stood kind tokens list draft from behind next h =
-    h.goes ∙ stood (stand (may_come kind draft.protocol) (length h.path) h.headed) (stand (may_come kind draft.protocol) (length h.path) false) symbols.Union union_forms from behind next (union_step (may_come kind draft.protocol) (length h.path) h.headed)
-
-pub union_stopped : (kind : FileKind) (tokens : List Token) (list : List Attribute) (draft : Draft) (from behind : List Token) (e : Refusal) → IsNext symbols.Union from behind → Stops (take symbols.Word ∷ take symbols.OpenBrace ∷ typed 4 ending.Semicolon ∷ componented ∷ []) behind e → IsHeadedDraft kind tokens list draft from → FileStops kind tokens e
-unfolding union_forms
+-- a refusal in a union
+pub union_stopped : (kind : FileKind) (tokens : List Token) (list : List Attribute) (draft : Draft) (from behind : List Token) (e : Refusal) → IsNext symbols.Union from behind → Stops union_forms behind e → IsHeadedDraft kind tokens list draft from → FileStops kind tokens e
 union_stopped kind tokens list draft from behind e next stop h =
-    stopped kind tokens union_forms (stand (may_come kind draft.protocol) (length h.path) false) behind e (union_stood kind tokens list draft from behind next h) stop
+    first_stopped kind tokens (between kind draft h.path h.headed) (between kind draft h.path false) symbols.Union union_forms from behind e h.goes next
+    (union_step (may_come kind draft.protocol) (length h.path) h.headed) stop
 
+-- the attributes, the word and what stands behind it are a union
 union_whole : (path : List (List ℕ)) (scope : List (List ℕ)) (list : List Attribute) (u : UnionDecl) (before from behind to : List Token) → scope ≡ scope_of path → attributes list before from → IsNext symbols.Union from behind → IsUnionBehind scope list u behind to → union_decl (scope_of path) u before to
 union_whole path scope list u before from behind to same head next (att, (some, read)) =
     let first = subst (λ (x : List Attribute). attributes x before from) (sym att) head in
     let last = subst (λ (x : List (List ℕ)). (declared x u.full u.place ⨾ mark (codes "{") ⨾ components u.components ⨾ closed) behind to) same read in
     (some, (from, first, (behind, is_spelled symbols.Union from behind next, last)))
 
-pub union_added : (kind : FileKind) (tokens : List Token) (list : List Attribute) (draft : Draft) (from behind to : List Token) (u : UnionDecl) (pushed : Vec UnionDecl Global) (scope : List (List ℕ)) → scope ≡ draft.scope.items → pushed.items ≡ draft.unions.items ++ u ∷ [] → IsNext symbols.Union from behind → IsUnionBehind scope list u behind to → Turns (take symbols.Word ∷ take symbols.OpenBrace ∷ typed 4 ending.Semicolon ∷ componented ∷ []) behind [] to → IsHeadedDraft kind tokens list draft from → IsDraft kind tokens (record draft { unions = pushed }) to
-unfolding union_forms
-union_added kind tokens list draft from behind to u pushed scope same grown next read turn h = record {
-  path = h.path;
-  scope = h.scope;
-  makes = subst (λ (x : Declared). Makes kind tokens (may_come kind draft.protocol) h.path x draft.protocol to) (sym (with_union (declared_of draft) u pushed.items grown))
-      (makes_more kind tokens (may_come kind draft.protocol) h.path (declared_of draft) (a_union u) draft.protocol h.before to
-      (union_before h.path u h.before to (union_whole h.path scope list u h.before from behind to (same ∙ h.scope) h.head next read)) h.makes);
-  goes = union_stood kind tokens list draft from behind next h ∙ went union_forms (stand (may_come kind draft.protocol) (length h.path) false) behind to turn;
-}
+-- a draft with a union more
+pub union_added : (kind : FileKind) (tokens : List Token) (list : List Attribute) (draft : Draft) (from behind to : List Token) (u : UnionDecl) (pushed : Vec UnionDecl Global) (scope : List (List ℕ)) → scope ≡ draft.scope.items → pushed.items ≡ draft.unions.items ++ u ∷ [] → IsNext symbols.Union from behind → IsUnionBehind scope list u behind to → Turns union_forms behind [] to → IsHeadedDraft kind tokens list draft from → IsDraft kind tokens (record draft { unions = pushed }) to
+union_added kind tokens list draft from behind to u pushed scope same grown next read turn h =
+    grows kind tokens draft (record draft { unions = pushed }) (a_union u) h.path h.before to refl h.scope (with_union (declared_of draft) u pushed.items grown)
+    (union_before h.path u h.before to (union_whole h.path scope list u h.before from behind to (same ∙ h.scope) h.head next read)) h.makes
+    (first_went kind tokens (between kind draft h.path h.headed) (between kind draft h.path false) symbols.Union union_forms from behind to h.goes next
+    (union_step (may_come kind draft.protocol) (length h.path) h.headed) turn)
 
--- A using
+-- Usings
 
+-- one using more
 with_using : (d : Declared) (u : UsingDecl) (items : List UsingDecl) → items ≡ d.usings ++ u ∷ [] → record d { usings = items } ≡ (d & a_using u)
 with_using d u items e = λ i. record {
   includes = sym (append-nil d.includes) i;
@@ -198,39 +225,34 @@ with_using d u items e = λ i. record {
   unions = sym (append-nil d.unions) i;
 }
 
+-- a using may come where no namespace is open
 using_step : (may : Bool) (path : List (List ℕ)) (headed : Bool) → path ≡ [] → step (stand may (length path) headed) symbols.Using ≡ Some (using_named ∷ [], stand may (length path) false)
 unfolding step
 using_step may [] headed e = refl
 using_step may (name ∷ outer) headed e = absurd (cc)
 
-using_stood : (kind : FileKind) (tokens : List Token) (list : List Attribute) (draft : Draft) (from behind : List Token) → length draft.scope.items ≡ 0 → IsNext symbols.Using from behind → (h : IsHeadedDraft kind tokens list draft from) →
-    refusal [] (begin kind) tokens ≡ refusal (using_named ∷ []) (stand (may_come kind draft.protocol) (length h.path) false) behind
-using_stood kind tokens list draft from behind out next h =
-    h.goes ∙ stood (stand (may_come kind draft.protocol) (length h.path) h.headed) (stand (may_come kind draft.protocol) (length h.path) false) symbols.Using (using_named ∷ []) from behind next
-    (using_step (may_come kind draft.protocol) h.path h.headed (none_open h.path draft.scope.items h.scope out))
-
+-- a refusal in a using
 pub using_stopped : (kind : FileKind) (tokens : List Token) (list : List Attribute) (draft : Draft) (from behind : List Token) (e : Refusal) → length draft.scope.items ≡ 0 → IsNext symbols.Using from behind → Stops (using_named ∷ []) behind e → IsHeadedDraft kind tokens list draft from → FileStops kind tokens e
 using_stopped kind tokens list draft from behind e out next stop h =
-    stopped kind tokens (using_named ∷ []) (stand (may_come kind draft.protocol) (length h.path) false) behind e (using_stood kind tokens list draft from behind out next h) stop
+    first_stopped kind tokens (between kind draft h.path h.headed) (between kind draft h.path false) symbols.Using (using_named ∷ []) from behind e h.goes next
+    (using_step (may_come kind draft.protocol) h.path h.headed (none_open h.path draft.scope.items h.scope out)) stop
 
+-- the attributes, the word and what stands behind it are a using
 using_whole : (list : List Attribute) (u : UsingDecl) (before from behind to : List Token) → attributes list before from → IsNext symbols.Using from behind → IsUsingBehind list u behind to → using_decl u before to
 using_whole list u before from behind to head next (att, read) =
     (from, subst (λ (x : List Attribute). attributes x before from) (sym att) head, (behind, is_spelled symbols.Using from behind next, read))
 
+-- a draft with a using more
 pub using_added : (kind : FileKind) (tokens : List Token) (list : List Attribute) (draft : Draft) (from behind to : List Token) (u : UsingDecl) (pushed : Vec UsingDecl Global) → length draft.scope.items ≡ 0 → pushed.items ≡ draft.usings.items ++ u ∷ [] → IsNext symbols.Using from behind → IsUsingBehind list u behind to → Turns (using_named ∷ []) behind [] to → IsHeadedDraft kind tokens list draft from → IsDraft kind tokens (record draft { usings = pushed }) to
 using_added kind tokens list draft from behind to u pushed out grown next read turn h =
     let top = none_open h.path draft.scope.items h.scope out in
-    record {
-      path = h.path;
-      scope = h.scope;
-      makes = subst (λ (x : Declared). Makes kind tokens (may_come kind draft.protocol) h.path x draft.protocol to) (sym (with_using (declared_of draft) u pushed.items grown))
-          (makes_more kind tokens (may_come kind draft.protocol) h.path (declared_of draft) (a_using u) draft.protocol h.before to
-          (subst (λ (x : List (List ℕ)). Prepends x (a_using u) h.before to) (sym top) (using_before u h.before to (using_whole list u h.before from behind to h.head next read))) h.makes);
-      goes = using_stood kind tokens list draft from behind out next h ∙ went (using_named ∷ []) (stand (may_come kind draft.protocol) (length h.path) false) behind to turn;
-    }
+    grows kind tokens draft (record draft { usings = pushed }) (a_using u) h.path h.before to refl h.scope (with_using (declared_of draft) u pushed.items grown)
+    (subst (λ (x : List (List ℕ)). Prepends x (a_using u) h.before to) (sym top) (using_before u h.before to (using_whole list u h.before from behind to h.head next read))) h.makes
+    (first_went kind tokens (between kind draft h.path h.headed) (between kind draft h.path false) symbols.Using (using_named ∷ []) from behind to h.goes next (using_step (may_come kind draft.protocol) h.path h.headed top) turn)
 
--- An include
+-- Includes
 
+-- one include more
 with_include : (d : Declared) (x : IncludeDecl) (items : List IncludeDecl) → items ≡ d.includes ++ x ∷ [] → record d { includes = items } ≡ (d & an_include x)
 with_include d x items e = λ i. record {
   includes = e i;
@@ -239,32 +261,25 @@ with_include d x items e = λ i. record {
   unions = sym (append-nil d.unions) i;
 }
 
+-- an include may come where no namespace is open and no attributes have stood
 include_step : (may : Bool) (path : List (List ℕ)) → path ≡ [] → step (stand may (length path) false) symbols.Include ≡ Some (include_named ∷ [], stand may (length path) false)
 unfolding step
 include_step may [] e = refl
 include_step may (name ∷ outer) e = absurd (cc)
 
-include_stood : (kind : FileKind) (tokens : List Token) (draft : Draft) (from behind : List Token) → length draft.scope.items ≡ 0 → IsNext symbols.Include from behind → (h : IsDraft kind tokens draft from) →
-    refusal [] (begin kind) tokens ≡ refusal (include_named ∷ []) (stand (may_come kind draft.protocol) (length h.path) false) behind
-include_stood kind tokens draft from behind out next h =
-    h.goes ∙ stood (stand (may_come kind draft.protocol) (length h.path) false) (stand (may_come kind draft.protocol) (length h.path) false) symbols.Include (include_named ∷ []) from behind next
-    (include_step (may_come kind draft.protocol) h.path (none_open h.path draft.scope.items h.scope out))
-
+-- a refusal in an include
 pub include_stopped : (kind : FileKind) (tokens : List Token) (draft : Draft) (from behind : List Token) (e : Refusal) → length draft.scope.items ≡ 0 → IsNext symbols.Include from behind → Stops (include_named ∷ []) behind e → IsDraft kind tokens draft from → FileStops kind tokens e
 include_stopped kind tokens draft from behind e out next stop h =
-    stopped kind tokens (include_named ∷ []) (stand (may_come kind draft.protocol) (length h.path) false) behind e (include_stood kind tokens draft from behind out next h) stop
+    first_stopped kind tokens (between kind draft h.path false) (between kind draft h.path false) symbols.Include (include_named ∷ []) from behind e h.goes next
+    (include_step (may_come kind draft.protocol) h.path (none_open h.path draft.scope.items h.scope out)) stop
 
+-- a draft with an include more
 pub include_added : (kind : FileKind) (tokens : List Token) (draft : Draft) (from behind to : List Token) (x : IncludeDecl) (pushed : Vec IncludeDecl Global) → length draft.scope.items ≡ 0 → pushed.items ≡ draft.includes.items ++ x ∷ [] → IsNext symbols.Include from behind → (included x.kind x.name x.place ⨾ mark (codes ";")) behind to → Turns (include_named ∷ []) behind [] to → IsDraft kind tokens draft from → IsDraft kind tokens (record draft { includes = pushed }) to
 include_added kind tokens draft from behind to x pushed out grown next read turn h =
     let top = none_open h.path draft.scope.items h.scope out in
-    record {
-      path = h.path;
-      scope = h.scope;
-      makes = subst (λ (d : Declared). Makes kind tokens (may_come kind draft.protocol) h.path d draft.protocol to) (sym (with_include (declared_of draft) x pushed.items grown))
-          (makes_more kind tokens (may_come kind draft.protocol) h.path (declared_of draft) (an_include x) draft.protocol from to
-          (subst (λ (p : List (List ℕ)). Prepends p (an_include x) from to) (sym top) (include_before x from to (behind, is_spelled symbols.Include from behind next, read))) h.makes);
-      goes = include_stood kind tokens draft from behind out next h ∙ went (include_named ∷ []) (stand (may_come kind draft.protocol) (length h.path) false) behind to turn;
-    }
+    grows kind tokens draft (record draft { includes = pushed }) (an_include x) h.path from to refl h.scope (with_include (declared_of draft) x pushed.items grown)
+    (subst (λ (p : List (List ℕ)). Prepends p (an_include x) from to) (sym top) (include_before x from to (behind, is_spelled symbols.Include from behind next, read))) h.makes
+    (first_went kind tokens (between kind draft h.path false) (between kind draft h.path false) symbols.Include (include_named ∷ []) from behind to h.goes next (include_step (may_come kind draft.protocol) h.path top) turn)
 
 -- Namespaces
 
@@ -276,31 +291,29 @@ not_zero depth h = grind (arith, nat_tests)
 abbrev reached : List Form → Bool → ℕ → Option (List Form × Stand)
 reached forms may depth = Some (forms, stand may depth false)
 
-open_forms : List Form
+-- what comes behind the word `namespace`
+abbrev open_forms : List Form
 open_forms = take symbols.Word ∷ take symbols.OpenBrace ∷ []
 
+-- a namespace may be opened where fewer than 16 are open
 open_step : (may : Bool) (depth : ℕ) → depth < 16 → step (stand may depth false) symbols.Namespace ≡ Some (open_forms, stand may (suc depth) false)
-unfolding step open_forms
+unfolding step
 open_step may depth lt =
-    ap (λ (b : Bool). stepped b (take symbols.Word ∷ take symbols.OpenBrace ∷ []) (stand may (depth + 1) false)) (lt-ltb depth 16 lt)
-    ∙ ap (λ (n : ℕ). reached (take symbols.Word ∷ take symbols.OpenBrace ∷ []) may n) (add-one depth)
+    ap (λ (b : Bool). stepped b open_forms (stand may (depth + 1) false)) (lt-ltb depth 16 lt)
+    ∙ ap (λ (n : ℕ). reached open_forms may n) (add-one depth)
 
+-- the names of the open namespaces are as many as these
 open_room : (path : List (List ℕ)) (names : List (List ℕ)) → names ≡ scope_of path → length names < 16 → length path < 16
 open_room path names e lt = omega (arith, ap (λ (x : List (List ℕ)). length x) e, scope_length path)
 
-open_stood : (kind : FileKind) (tokens : List Token) (draft : Draft) (from behind : List Token) → length draft.scope.items < 16 → IsNext symbols.Namespace from behind → (h : IsDraft kind tokens draft from) →
-    refusal [] (begin kind) tokens ≡ refusal open_forms (stand (may_come kind draft.protocol) (suc (length h.path)) false) behind
-open_stood kind tokens draft from behind room next h =
-    h.goes ∙ stood (stand (may_come kind draft.protocol) (length h.path) false) (stand (may_come kind draft.protocol) (suc (length h.path)) false) symbols.Namespace open_forms from behind next
-    (open_step (may_come kind draft.protocol) (length h.path) (open_room h.path draft.scope.items h.scope room))
-
-pub open_stopped : (kind : FileKind) (tokens : List Token) (draft : Draft) (from behind : List Token) (e : Refusal) → length draft.scope.items < 16 → IsNext symbols.Namespace from behind → Stops (take symbols.Word ∷ take symbols.OpenBrace ∷ []) behind e → IsDraft kind tokens draft from → FileStops kind tokens e
-unfolding open_forms
+-- a refusal in the begin of a namespace
+pub open_stopped : (kind : FileKind) (tokens : List Token) (draft : Draft) (from behind : List Token) (e : Refusal) → length draft.scope.items < 16 → IsNext symbols.Namespace from behind → Stops open_forms behind e → IsDraft kind tokens draft from → FileStops kind tokens e
 open_stopped kind tokens draft from behind e room next stop h =
-    stopped kind tokens open_forms (stand (may_come kind draft.protocol) (suc (length h.path)) false) behind e (open_stood kind tokens draft from behind room next h) stop
+    first_stopped kind tokens (between kind draft h.path false) (stand (may_come kind draft.protocol) (suc (length h.path)) false) symbols.Namespace open_forms from behind e h.goes next
+    (open_step (may_come kind draft.protocol) (length h.path) (open_room h.path draft.scope.items h.scope room)) stop
 
-pub namespace_opened : (kind : FileKind) (tokens : List Token) (draft : Draft) (from behind to : List Token) (name : List ℕ) (pushed : Vec (List ℕ) Global) → length draft.scope.items < 16 → pushed.items ≡ draft.scope.items ++ name ∷ [] → IsNext symbols.Namespace from behind → (word name ⨾ mark (codes "{")) behind to → Turns (take symbols.Word ∷ take symbols.OpenBrace ∷ []) behind [] to → IsDraft kind tokens draft from → IsDraft kind tokens (record draft { scope = pushed }) to
-unfolding open_forms
+-- a draft with a namespace more open
+pub namespace_opened : (kind : FileKind) (tokens : List Token) (draft : Draft) (from behind to : List Token) (name : List ℕ) (pushed : Vec (List ℕ) Global) → length draft.scope.items < 16 → pushed.items ≡ draft.scope.items ++ name ∷ [] → IsNext symbols.Namespace from behind → (word name ⨾ mark (codes "{")) behind to → Turns open_forms behind [] to → IsDraft kind tokens draft from → IsDraft kind tokens (record draft { scope = pushed }) to
 namespace_opened kind tokens draft from behind to name pushed room grown next read turn h =
     let few = open_room h.path draft.scope.items h.scope room in
     let some : 0 < room_of h.path = omega (arith, room_left h.path) in
@@ -308,12 +321,15 @@ namespace_opened kind tokens draft from behind to name pushed room grown next re
       path = name ∷ h.path;
       scope = grown ∙ ap (λ (x : List (List ℕ)). x ++ name ∷ []) h.scope;
       makes = makes_inner kind tokens (may_come kind draft.protocol) h.path (declared_of draft) draft.protocol name from to some (behind, is_spelled symbols.Namespace from behind next, read) h.makes;
-      goes = open_stood kind tokens draft from behind room next h ∙ went open_forms (stand (may_come kind draft.protocol) (suc (length h.path)) false) behind to turn;
+      goes = first_went kind tokens (between kind draft h.path false) (stand (may_come kind draft.protocol) (suc (length h.path)) false) symbols.Namespace open_forms from behind to h.goes next
+          (open_step (may_come kind draft.protocol) (length h.path) few) turn;
     }
 
+-- one namespace less is open
 one_less : (depth : ℕ) → suc depth - 1 ≡ depth
 one_less depth = omega arith
 
+-- a namespace may be closed where one is open
 close_step : (may : Bool) (depth : ℕ) → step (stand may (suc depth) false) symbols.CloseBrace ≡ Some ([], stand may depth false)
 unfolding step
 close_step may depth =
@@ -345,29 +361,32 @@ module _ (kind : FileKind) (tokens : List Token) (draft : Draft) (from to : List
     goes = goes ∙ stood (stand (may_come kind draft.protocol) (suc (length outer)) false) (stand (may_come kind draft.protocol) (length outer) false) symbols.CloseBrace [] from to next (close_step (may_come kind draft.protocol) (length outer));
   }
 
+-- a draft with the innermost namespace closed
 pub namespace_closed : (kind : FileKind) (tokens : List Token) (draft : Draft) (from to : List Token) (popped : Vec (List ℕ) Global) (last : List (List ℕ)) → 0 < length draft.scope.items → draft.scope.items ≡ popped.items ++ last → length last ≡ 1 → IsNext symbols.CloseBrace from to → IsDraft kind tokens draft from → IsDraft kind tokens (record draft { scope = popped }) to
 namespace_closed kind tokens draft from to popped last some split single next h = closed_at kind tokens draft from to popped last h.path some split single next h.scope h.makes h.goes
 
 -- The protocol
 
-protocol_forms : List Form
+-- what comes behind the word `protocol`
+abbrev protocol_forms : List Form
 protocol_forms = take symbols.Word ∷ take symbols.OpenBrace ∷ managing ∷ []
 
+-- a word that says how the messages are sent may come where the protocol may
 worded_step : (s : Symbol) (may : Bool) (depth : ℕ) (headed : Bool) → (s ≡ symbols.Async) ⊎ (s ≡ symbols.Sync) → may ≡ true → step (stand may depth headed) s ≡ Some (take symbols.Protocol ∷ protocol_forms, stand false depth false)
-unfolding step protocol_forms
+unfolding step
 worded_step symbols.Async true depth headed w m = refl
 worded_step symbols.Sync true depth headed w m = refl
 worded_step s false depth headed w m = absurd (cc)
 worded_step _ true depth headed (inl e) m = absurd (cc)
 worded_step _ true depth headed (inr e) m = absurd (cc)
 
+-- where the protocol may come, there is none so far
 makes_true : (kind : FileKind) (tokens : List Token) (may : Bool) (path : List (List ℕ)) (so_far : Declared) (held : Option ProtocolDecl) (from : List Token) → may ≡ true → Makes kind tokens may path so_far held from → Makes kind tokens true path so_far None from
 makes_true kind tokens true path so_far held from e makes = makes
 makes_true kind tokens false path so_far held from e makes = absurd (cc)
 
 -- a word that says how the messages are sent, and the protocol behind it
 pub word_read : (kind : FileKind) (tokens : List Token) (list : List Attribute) (draft : Draft) (from to : List Token) (s : Symbol) (how : Semantics) → (s ≡ symbols.Async) ⊎ (s ≡ symbols.Sync) → protocol_semantics how from to → IsNext s from to → may_come kind draft.protocol ≡ true → IsHeadedDraft kind tokens list draft from → IsProtocolDraft kind tokens list how draft to
-unfolding protocol_forms
 word_read kind tokens list draft from to s how which word next may h = record {
   path = h.path;
   scope = h.scope;
@@ -382,15 +401,15 @@ word_read kind tokens list draft from to s how which word next may h = record {
 
 -- no word, and the protocol
 bare_protocol : (may : Bool) (depth : ℕ) (headed : Bool) (from : List Token) → may ≡ true → first_symbol from ≡ symbols.Protocol → refusal [] (stand may depth headed) from ≡ refusal (take symbols.Protocol ∷ protocol_forms) (stand false depth false) from
-unfolding refusal step production protocol_forms
+unfolding refusal step production
 bare_protocol may depth headed [] m e = absurd (cc)
 bare_protocol false depth headed (t ∷ rest) m e = absurd (cc)
 bare_protocol true depth headed (t ∷ rest) m e =
     ap (λ (x : Symbol). gone_at (step (stand true depth headed) x) (length rest + 1) (λ fs y. refusal fs y rest)) e
     ∙ sym (ap (λ (x : Symbol). gone_in (production (take symbols.Protocol) x) (length rest + 1) (λ new. refusal (new ++ protocol_forms) (stand false depth false) rest)) e)
 
+-- the protocol with no such word
 pub no_word_read : (kind : FileKind) (tokens : List Token) (list : List Attribute) (draft : Draft) (from : List Token) → first_symbol from ≡ symbols.Protocol → may_come kind draft.protocol ≡ true → IsHeadedDraft kind tokens list draft from → IsProtocolDraft kind tokens list semantics.Async draft from
-unfolding protocol_forms
 no_word_read kind tokens list draft from is may h = record {
   path = h.path;
   scope = h.scope;
@@ -403,6 +422,7 @@ no_word_read kind tokens list draft from is may h = record {
   goes = h.goes ∙ bare_protocol (may_come kind draft.protocol) (length h.path) h.headed from may is;
 }
 
+-- the attributes, the word, the keyword and what stands behind it are a protocol
 protocol_whole : (path : List (List ℕ)) (scope : List (List ℕ)) (list : List Attribute) (how : Semantics) (p : ProtocolDecl) (before middle from behind to : List Token) → scope ≡ scope_of path → attributes list before middle → protocol_semantics how middle from → spelled symbols.Protocol from behind → IsProtocolBehind scope list how p behind to → protocol (scope_of path) p before to
 protocol_whole path scope list how p before middle from behind to same head word keyword (att, (sem, (m1, name, (m2, brace, body)))) = (
   body.statements,
@@ -421,22 +441,23 @@ protocol_whole path scope list how p before middle from behind to same head word
   ),
 )
 
+-- no protocol comes behind one
 none_comes : (kind : FileKind) (p : ProtocolDecl) → may_come kind (Some p) ≡ false
 none_comes file.Protocol p = refl
 none_comes file.Header p = refl
 
+-- a refusal behind the keyword of a protocol
 pub protocol_stopped : (kind : FileKind) (tokens : List Token) (list : List Attribute) (how : Semantics) (draft : Draft) (from behind : List Token) (e : Refusal) → Turns (take symbols.Protocol ∷ []) from [] behind → Stops (take symbols.Word ∷ take symbols.OpenBrace ∷ managing ∷ []) behind e → IsProtocolDraft kind tokens list how draft from → FileStops kind tokens e
-unfolding protocol_forms
 protocol_stopped kind tokens list how draft from behind e turn stop h =
     stopped kind tokens protocol_forms (stand false (length h.path) false) behind e (h.goes ∙ turn protocol_forms (stand false (length h.path) false)) stop
 
+-- a refusal where the keyword is to come
 pub keyword_stopped : (kind : FileKind) (tokens : List Token) (list : List Attribute) (how : Semantics) (draft : Draft) (from : List Token) (e : Refusal) → Stops (take symbols.Protocol ∷ []) from e → IsProtocolDraft kind tokens list how draft from → FileStops kind tokens e
-unfolding protocol_forms
 keyword_stopped kind tokens list how draft from (Left n) stop h = h.goes ∙ stop protocol_forms (stand false (length h.path) false)
 keyword_stopped kind tokens list how draft from NoMemory stop h = tt
 
+-- a draft with its protocol
 pub protocol_added : (kind : FileKind) (tokens : List Token) (list : List Attribute) (how : Semantics) (draft : Draft) (from behind to : List Token) (p : ProtocolDecl) (scope : List (List ℕ)) → scope ≡ draft.scope.items → spelled symbols.Protocol from behind → IsProtocolBehind scope list how p behind to → Turns (take symbols.Protocol ∷ []) from [] behind → Turns (take symbols.Word ∷ take symbols.OpenBrace ∷ managing ∷ []) behind [] to → IsProtocolDraft kind tokens list how draft from → IsDraft kind tokens (record draft { protocol = Some p }) to
-unfolding protocol_forms
 protocol_added kind tokens list how draft from behind to p scope same keyword read one two h =
     let whole = protocol_whole h.path scope list how p h.before h.middle from behind to (same ∙ h.scope) h.head h.word keyword read in
     record {
@@ -468,6 +489,7 @@ other_word_read false kind tokens list draft from middle to begins not_sync same
 
 -- What may not come
 
+-- the machine has no declaration with such a first word
 none_step : (may : Bool) (depth : ℕ) (headed : Bool) (s : Symbol) → s ≢ symbols.Struct → s ≢ symbols.Union → (s ≡ symbols.Using → depth ≢ 0) → (begins_protocol s ≡ true → may ≡ false) → unheaded_step headed may depth s ≡ None → step (stand may depth headed) s ≡ None
 unfolding step
 none_step may depth headed symbols.Struct a b c d e = absurd (a refl)
@@ -482,6 +504,7 @@ none_step false depth headed symbols.Sync a b c d e = refl
 none_step true depth headed symbols.Sync a b c d e = absurd (cc (d refl))
 none_step may depth headed _ a b c d e = e
 
+-- a file does not end behind attributes
 not_end : (may : Bool) (depth : ℕ) (headed : Bool) → is_end [] (stand may depth headed) ≡ true → headed ≡ false
 not_end true depth headed e = absurd (cc)
 not_end false zero true e = absurd (cc)
@@ -489,30 +512,35 @@ not_end false zero false e = refl
 not_end false (suc n) headed e = absurd (grind arith)
 
 -- No declaration that may have attributes begins with this symbol, with so many namespaces open.
-pub record IsOther (s : Symbol) (count : ℕ) (may : Bool) : Type 0 where
+pub record IsNoHead (s : Symbol) (count : ℕ) (may : Bool) : Type 0 where
   pub not_struct : s ≢ symbols.Struct
   pub not_union : s ≢ symbols.Union
   pub not_using : s ≡ symbols.Using → count ≢ 0
   pub not_protocol : begins_protocol s ≡ true → may ≡ false
 
-pub other_using : (s : Symbol) (n : ℕ) (may : Bool) → s ≡ symbols.Using → n ≢ 0 → IsOther s n may
+-- a using where a namespace is open
+pub other_using : (s : Symbol) (n : ℕ) (may : Bool) → s ≡ symbols.Using → n ≢ 0 → IsNoHead s n may
 other_using s n may e h = record { not_struct = λ x. cc; not_union = λ x. cc; not_using = λ x. h; not_protocol = λ b. absurd (cc (ap (λ (x : Symbol). begins_protocol x) e)) }
 
-pub other_protocol : (s : Symbol) (n : ℕ) (may : Bool) → (s ≡ symbols.Protocol) ⊎ ((s ≡ symbols.Async) ⊎ (s ≡ symbols.Sync)) → may ≡ false → IsOther s n may
+-- a protocol where none may come
+pub other_protocol : (s : Symbol) (n : ℕ) (may : Bool) → (s ≡ symbols.Protocol) ⊎ ((s ≡ symbols.Async) ⊎ (s ≡ symbols.Sync)) → may ≡ false → IsNoHead s n may
 other_protocol s n may (inl e) h = record { not_struct = λ x. cc; not_union = λ x. cc; not_using = λ x. absurd (cc); not_protocol = λ b. h }
 other_protocol s n may (inr (inl e)) h = record { not_struct = λ x. cc; not_union = λ x. cc; not_using = λ x. absurd (cc); not_protocol = λ b. h }
 other_protocol s n may (inr (inr e)) h = record { not_struct = λ x. cc; not_union = λ x. cc; not_using = λ x. absurd (cc); not_protocol = λ b. h }
 
+-- no protocol begins with another symbol
 begins_none : (s : Symbol) → s ≢ symbols.Protocol → s ≢ symbols.Async → s ≢ symbols.Sync → begins_protocol s ≡ true → ⊥
 begins_none symbols.Protocol p a b e = p refl
 begins_none symbols.Async p a b e = a refl
 begins_none symbols.Sync p a b e = b refl
 begins_none _ p a b e = cc
 
-pub other_none : (s : Symbol) (n : ℕ) (may : Bool) → s ≢ symbols.Struct → s ≢ symbols.Union → s ≢ symbols.Using → s ≢ symbols.Protocol → s ≢ symbols.Async → s ≢ symbols.Sync → IsOther s n may
+-- any other symbol
+pub other_none : (s : Symbol) (n : ℕ) (may : Bool) → s ≢ symbols.Struct → s ≢ symbols.Union → s ≢ symbols.Using → s ≢ symbols.Protocol → s ≢ symbols.Async → s ≢ symbols.Sync → IsNoHead s n may
 other_none s n may a b c d e f = record { not_struct = a; not_union = b; not_using = λ x. absurd (c x); not_protocol = λ h. absurd (begins_none s d e f h) }
 
-pub none_comes_next : (kind : FileKind) (tokens : List Token) (list : List Attribute) (draft : Draft) (from : List Token) (e : Refusal) → e ≡ Left (length from) → IsOther (first_symbol from) (length draft.scope.items) (may_come kind draft.protocol) → IsHeadedDraft kind tokens list draft from → FileStops kind tokens e
+-- a refusal of what begins no declaration
+pub none_comes_next : (kind : FileKind) (tokens : List Token) (list : List Attribute) (draft : Draft) (from : List Token) (e : Refusal) → e ≡ Left (length from) → IsNoHead (first_symbol from) (length draft.scope.items) (may_come kind draft.protocol) → IsHeadedDraft kind tokens list draft from → FileStops kind tokens e
 none_comes_next kind tokens list draft from e is other h =
     let at = stand (may_come kind draft.protocol) (length h.path) h.headed in
     let same : length draft.scope.items ≡ length h.path = ap (λ (x : List (List ℕ)). length x) h.scope ∙ scope_length h.path in
@@ -522,22 +550,22 @@ none_comes_next kind tokens list draft from e is other h =
 
 -- Attributes
 
+-- attributes may come anywhere between declarations
 attributes_step : (may : Bool) (depth : ℕ) → step (stand may depth false) symbols.OpenBracket ≡ Some (attributed ∷ [], stand may depth true)
 unfolding step
 attributes_step may depth = refl
 
-attributes_stood : (kind : FileKind) (tokens : List Token) (draft : Draft) (from behind : List Token) → IsNext symbols.OpenBracket from behind → (h : IsDraft kind tokens draft from) → refusal [] (begin kind) tokens ≡ refusal (attributed ∷ []) (stand (may_come kind draft.protocol) (length h.path) true) behind
-attributes_stood kind tokens draft from behind next h =
-    h.goes ∙ stood (stand (may_come kind draft.protocol) (length h.path) false) (stand (may_come kind draft.protocol) (length h.path) true) symbols.OpenBracket (attributed ∷ []) from behind next (attributes_step (may_come kind draft.protocol) (length h.path))
-
+-- a refusal in attributes
 pub attributes_stopped : (kind : FileKind) (tokens : List Token) (draft : Draft) (from behind : List Token) (e : Refusal) → IsNext symbols.OpenBracket from behind → Stops (attributed ∷ []) behind e → IsDraft kind tokens draft from → FileStops kind tokens e
 attributes_stopped kind tokens draft from behind e next stop h =
-    stopped kind tokens (attributed ∷ []) (stand (may_come kind draft.protocol) (length h.path) true) behind e (attributes_stood kind tokens draft from behind next h) stop
+    first_stopped kind tokens (between kind draft h.path false) (between kind draft h.path true) symbols.OpenBracket (attributed ∷ []) from behind e h.goes next (attributes_step (may_come kind draft.protocol) (length h.path)) stop
 
+-- the bracket and what stands behind it are attributes
 bracketed_whole : (list : List Attribute) (from behind to : List Token) → IsNext symbols.OpenBracket from behind → IsBracketed list behind to → attributes list from to
 bracketed_whole [] from behind to next read = absurd read
 bracketed_whole (a ∷ rest) from behind to next read = (behind, is_spelled symbols.OpenBracket from behind next, read)
 
+-- a draft behind attributes
 pub attributes_read : (kind : FileKind) (tokens : List Token) (list : List Attribute) (draft : Draft) (from behind to : List Token) → IsNext symbols.OpenBracket from behind → IsBracketed list behind to → Turns (attributed ∷ []) behind [] to → IsDraft kind tokens draft from → IsHeadedDraft kind tokens list draft to
 attributes_read kind tokens list draft from behind to next read turn h = record {
   path = h.path;
@@ -546,16 +574,18 @@ attributes_read kind tokens list draft from behind to next read turn h = record 
   head = bracketed_whole list from behind to next read;
   makes = h.makes;
   headed = true;
-  goes = attributes_stood kind tokens draft from behind next h ∙ went (attributed ∷ []) (stand (may_come kind draft.protocol) (length h.path) true) behind to turn;
+  goes = first_went kind tokens (between kind draft h.path false) (between kind draft h.path true) symbols.OpenBracket (attributed ∷ []) from behind to h.goes next (attributes_step (may_come kind draft.protocol) (length h.path)) turn;
   bare = refl;
   more = λ e. absurd (cc);
 }
 
 -- No attributes
 
+-- 16 namespaces are open
 full : (depth : ℕ) → 16 ≤ depth → nat_lt depth 16 ≡ false
 full depth h = grind (arith, nat_tests)
 
+-- the machine has nothing without attributes there
 none_bare : (may : Bool) (depth : ℕ) (s : Symbol) → s ≢ symbols.OpenBracket → (s ≡ symbols.Include → depth ≢ 0) → (s ≡ symbols.Namespace → 16 ≤ depth) → (s ≡ symbols.CloseBrace → depth ≡ 0) → bare_step may depth s ≡ None
 none_bare may depth symbols.OpenBracket a b c d = absurd (a refl)
 none_bare may zero symbols.Include a b c d = absurd (b refl refl)
@@ -572,18 +602,23 @@ pub record IsBare (s : Symbol) (count : ℕ) : Type 0 where
   pub not_namespace : s ≡ symbols.Namespace → 16 ≤ count
   pub not_close : s ≡ symbols.CloseBrace → count ≡ 0
 
+-- an include where a namespace is open
 pub bare_include : (s : Symbol) (n : ℕ) → s ≡ symbols.Include → n ≢ 0 → IsBare s n
 bare_include s n e h = record { not_bracket = λ x. cc; not_include = λ x. h; not_namespace = λ x. absurd (cc); not_close = λ x. absurd (cc) }
 
+-- a namespace where 16 are open
 pub bare_namespace : (s : Symbol) (n : ℕ) → s ≡ symbols.Namespace → 16 ≤ n → IsBare s n
 bare_namespace s n e h = record { not_bracket = λ x. cc; not_include = λ x. absurd (cc); not_namespace = λ x. h; not_close = λ x. absurd (cc) }
 
+-- a closing brace where no namespace is open
 pub bare_close : (s : Symbol) (n : ℕ) → s ≡ symbols.CloseBrace → n ≡ 0 → IsBare s n
 bare_close s n e h = record { not_bracket = λ x. cc; not_include = λ x. absurd (cc); not_namespace = λ x. absurd (cc); not_close = λ x. h }
 
+-- any other symbol
 pub bare_none : (s : Symbol) (n : ℕ) → s ≢ symbols.OpenBracket → s ≢ symbols.Include → s ≢ symbols.Namespace → s ≢ symbols.CloseBrace → IsBare s n
 bare_none s n a b c d = record { not_bracket = a; not_include = λ x. absurd (b x); not_namespace = λ x. absurd (c x); not_close = λ x. absurd (d x) }
 
+-- a draft before a declaration that has no attributes
 pub no_attributes : (kind : FileKind) (tokens : List Token) (list : List Attribute) (draft : Draft) (from : List Token) → list ≡ [] → first_symbol from ≢ symbols.End → IsBare (first_symbol from) (length draft.scope.items) → IsDraft kind tokens draft from → IsHeadedDraft kind tokens list draft from
 no_attributes kind tokens list draft from none more other h =
     let same : length draft.scope.items ≡ length h.path = ap (λ (x : List (List ℕ)). length x) h.scope ∙ scope_length h.path in
@@ -606,16 +641,19 @@ pub no_token : (from : List Token) → first_symbol from ≡ symbols.End → fro
 no_token [] e = refl
 no_token (t ∷ rest) e = absurd (means t symbols.End e)
 
+-- a file does not end where the protocol is to come or a namespace is open
 end_step : (may : Bool) (depth : ℕ) → (may ≡ true) ⊎ (depth ≢ 0) → is_end [] (stand may depth false) ≡ false
 end_step true depth w = refl
 end_step false zero (inl e) = absurd (cc)
 end_step false zero (inr n) = absurd (n refl)
 end_step false (suc n) w = grind arith
 
+-- the machine refuses such an end
 ended : (at : Stand) → is_end [] at ≡ false → refusal [] at [] ≡ Some 0
 unfolding refusal
 ended at e = ap (λ (b : Bool). cond {A = Option ℕ} b None (Some 0)) e
 
+-- so does the file
 pub not_ended : (kind : FileKind) (tokens : List Token) (draft : Draft) → (may_come kind draft.protocol ≡ true) ⊎ (length draft.scope.items ≢ 0) → IsDraft kind tokens draft [] → refusal [] (begin kind) tokens ≡ Some 0
 not_ended kind tokens draft (inl m) h = h.goes ∙ ended (stand (may_come kind draft.protocol) (length h.path) false) (end_step (may_come kind draft.protocol) (length h.path) (inl m))
 not_ended kind tokens draft (inr n) h =
@@ -628,6 +666,7 @@ makes_whole kind tokens false [] all held m e makes = subst (λ (x : Declared). 
 makes_whole kind tokens true path all held m e makes = absurd (cc)
 makes_whole kind tokens false (name ∷ outer) all held m e makes = absurd (cc)
 
+-- a draft of which all is read, and its tree
 pub all_read : (kind : FileKind) (tokens : List Token) (draft : Draft) (unit : FileUnit) → may_come kind draft.protocol ≡ false → length draft.scope.items ≡ 0 → unit ≡ unit_of (declared_of draft) draft.protocol → IsDraft kind tokens draft [] → Tree kind tokens unit
 all_read kind tokens draft unit m n same h =
     subst (λ (x : FileUnit). Tree kind tokens x) (sym same)

@@ -15,7 +15,7 @@ use Rattle.tree_reader.specs.Reading.{Turns, Stops, IsNext, IsNextAt, IsNextText
 use Rattle.tree_reader.proofs.Symbols.{means}
 use Rattle.tree_reader.proofs.Tokens.{is_identifier, next_word}
 use Rattle.tree_reader.proofs.Turns.{split_turn, turn, turns, turn_before, refused, same_turn, stops_behind, stops_before, is_spelled}
-use Rattle.tree_reader.proofs.FieldForms.{IsOther}
+use Rattle.tree_reader.proofs.FieldForms.{IsUntaken}
 
 -- Usings
 
@@ -28,7 +28,7 @@ pub class_read : (from to : List Token) → IsNext Class from to → kind_part f
 class_read from to is = inr (inl (is_spelled Class from to is))
 
 -- so is `struct`, and where neither comes there is none
-pub struct_read : (b : Bool) (from here to : List Token) → IsOther Class from here → (b ≡ true → IsNext Struct here to) → (b ≡ false → IsOther Struct here to) → kind_part from to
+pub struct_read : (b : Bool) (from here to : List Token) → IsUntaken Class from here → (b ≡ true → IsNext Struct here to) → (b ≡ false → IsUntaken Struct here to) → kind_part from to
 struct_read true from here to other has lacks =
     let P : List Token → Type 0 = λ x. IsNext Struct x to in
     inr (inr (is_spelled Struct from to (subst P other.1 (has refl))))
@@ -56,7 +56,7 @@ pub class_turn : (from to : List Token) → IsNext Class from to → Turns (usin
 class_turn from to is = turn using_named Class (using_word ∷ []) from to is class_table
 
 -- so it does behind `struct`, and where neither comes
-pub struct_turn : (b : Bool) (from here to : List Token) → IsOther Class from here → (b ≡ true → IsNext Struct here to) → (b ≡ false → IsOther Struct here to) → Turns (using_named ∷ []) from (using_word ∷ []) to
+pub struct_turn : (b : Bool) (from here to : List Token) → IsUntaken Class from here → (b ≡ true → IsNext Struct here to) → (b ≡ false → IsUntaken Struct here to) → Turns (using_named ∷ []) from (using_word ∷ []) to
 struct_turn true from here to other has lacks =
     let P : List Token → Type 0 = λ x. IsNext Struct x to in
     turn using_named Struct (using_word ∷ []) from to (subst P other.1 (has refl)) struct_table

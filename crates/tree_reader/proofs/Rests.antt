@@ -1,6 +1,5 @@
 -- What is left of a file, with one thing more before it.
-use Rattle.std.proofs.Common.{◌≡◌, ℕ, ◌-◌, ◌<◌, inl, inr, List, [], ◌∷◌, length, codes, refl, sym, ap, ◌∙◌, arith, append_assoc, length-append}
-use Rattle.std.proofs.lemmas.List.{append-nil}
+use Rattle.std.proofs.Common.{◌≡◌, ℕ, ◌-◌, ◌<◌, inl, inr, List, [], ◌∷◌, length, codes, refl, sym, ap, ◌∙◌, arith, length-append}
 use Rattle.ipdl_base.specs.declared.token.Token.{Token}
 use Rattle.ipdl_syntax.specs.declared.tree.Include.{Include as IncludeDecl}
 use Rattle.ipdl_syntax.specs.declared.tree.ProtocolDecl.{ProtocolDecl}
@@ -10,25 +9,8 @@ use Rattle.ipdl_syntax.specs.declared.tree.Using.{Using as UsingDecl}
 use Rattle.ipdl_syntax.specs.Parts.{Part, ◌⨾◌, mark, reserved, word}
 use Rattle.ipdl_syntax.specs.Grammar.{struct_decl, union_decl, using_decl, include, protocol, inside_end, inside_struct, inside_union, inside_namespace, outside_end, outside_include, outside_using, outside_struct, outside_union, outside_namespace, holder_protocol, holder_namespace}
 use Rattle.ipdl_syntax.specs.Program.{Declared, ◌&◌, no_declaration, an_include, a_using, a_struct, a_union, declared_inside, declared_outside, declared_round}
+use Rattle.ipdl_syntax.proofs.Declarations.{and_assoc}
 use Rattle.tree_reader.specs.Files.{scope_of, room_of, ClosedRest, OpenRest}
-
--- declarations one behind the other
-
-pub and_assoc : (a b c : Declared) → ((a & b) & c) ≡ (a & b & c)
-and_assoc a b c = λ i. record {
-  includes = append_assoc a.includes b.includes c.includes i;
-  usings = append_assoc a.usings b.usings c.usings i;
-  structs = append_assoc a.structs b.structs c.structs i;
-  unions = append_assoc a.unions b.unions c.unions i;
-}
-
-pub and_none : (a : Declared) → (a & no_declaration) ≡ a
-and_none a = λ i. record {
-  includes = append-nil a.includes i;
-  usings = append-nil a.usings i;
-  structs = append-nil a.structs i;
-  unions = append-nil a.unions i;
-}
 
 -- more declarations before what is split
 before_more : (d rest a b : Declared) → rest ≡ (a & b) → (d & rest) ≡ ((d & a) & b)

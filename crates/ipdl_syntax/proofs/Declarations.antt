@@ -1,0 +1,17 @@
+-- Declarations one behind the other.
+use Rattle.std.proofs.Common.{◌≡◌, append_assoc}
+use Rattle.std.proofs.lemmas.List.{append-nil}
+use Rattle.ipdl_syntax.specs.Program.{Declared, ◌&◌, no_declaration}
+
+-- three lots of declarations are in one order
+pub and_assoc : (a b c : Declared) → ((a & b) & c) ≡ (a & b & c)
+and_assoc a b c = λ i. record {
+  includes = append_assoc a.includes b.includes c.includes i;
+  usings = append_assoc a.usings b.usings c.usings i;
+  structs = append_assoc a.structs b.structs c.structs i;
+  unions = append_assoc a.unions b.unions c.unions i;
+}
+
+-- what is declared before nothing more
+pub and_none : (a : Declared) → (a & no_declaration) ≡ a
+and_none a = λ i. record { includes = append-nil a.includes i; usings = append-nil a.usings i; structs = append-nil a.structs i; unions = append-nil a.unions i }
