@@ -18,19 +18,13 @@ use Rattle.tree_reader.specs.Ending.{Ending}
 use Rattle.tree_reader.specs.Ending as ending
 use Rattle.tree_reader.specs.Symbols.{symbol}
 use Rattle.tree_reader.specs.Machine.{Form, proper, take, any_word, argument_name, argument_words, suffixed, named, based, typed, attributed, behind_attribute, more_attributed, one_param, parameters, more_parameters, behind_parameters, one_message, messaged, managing, more_managing, fielded, componented, using_named, using_word, behind_using, include_named, production, behind, provided_that}
+-- the ends of declarations
+pub use Rattle.tree_reader.specs.Reading.{closed, from_file}
 
 abbrev pub ending_part : Ending → Part
 ending_part ending.Name = token (λ t. t.kind ≡ kind.Word)
 ending_part ending.Semicolon = mark (codes ";")
 ending_part ending.Greater = mark (codes ">")
-
--- the end of a protocol
-abbrev pub closed : Part
-closed = mark (codes "}") ⨾ mark (codes ";")
-
--- the end of a using
-abbrev pub from_file : Part
-from_file = reserved (codes "from") ⨾ token (λ t. t.kind ≡ kind.Quoted) ⨾ mark (codes ";")
 
 -- a message behind its attributes
 abbrev pub bare_message : Semantics → List ℕ → Place → List Param → Option (List Param) → Part

@@ -17,7 +17,8 @@ use Rattle.tree_reader.specs.Ending as ending
 use Rattle.tree_reader.specs.declared.symbol.Symbol.{Symbol}
 use Rattle.tree_reader.specs.declared.symbol.Symbol.TheVariants.{End, Word, Quoted, OtherWord, OtherMark, Colons, OpenBrace, CloseBrace, OpenParen, CloseParen, OpenBracket, CloseBracket, Less, Greater, Semicolon, Comma, Colon, Equals, Question, Async, Both, Child, Class, From, Include, Manager, Manages, Namespace, Nullable, Or, Parent, Protocol, Returns, Struct, Sync, Union, UniquePtr, Using}
 use Rattle.tree_reader.specs.Symbols.{symbol}
-use Rattle.tree_reader.specs.Machine.{Form, proper, take, any_word, argument_name, argument_words, suffixed, named, based, typed, attributed, behind_attribute, more_attributed, one_param, parameters, more_parameters, behind_parameters, one_message, messaged, managing, more_managing, fielded, componented, using_named, using_word, behind_using, include_named, production, behind, ends, suffix_begins, base_begins, type_begins, section_begins}
+use Rattle.tree_reader.specs.Reading.{last}
+use Rattle.tree_reader.specs.Machine.{Form, proper, take, any_word, argument_name, argument_words, suffixed, named, based, typed, attributed, behind_attribute, more_attributed, one_param, parameters, more_parameters, behind_parameters, one_message, messaged, managing, more_managing, fielded, componented, using_named, using_word, behind_using, include_named, production, behind, suffix_begins, base_begins, type_begins, section_begins}
 use Rattle.std.proofs.lemmas.Bool.{lt-ltb}
 use Rattle.tree_reader.proofs.Symbols.{means, is_word, is_quoted, is_colons, is_close_brace, is_open_paren, is_close_paren, is_open_bracket, is_close_bracket, is_less, is_greater, is_semicolon, is_comma, is_colon, is_equals, is_question, is_async, is_both, is_child, is_class, is_from, is_manager, is_manages, is_nullable, is_or, is_parent, is_protocol, is_returns, is_struct, is_sync, is_unique_ptr}
 use Rattle.ipdl_parse.proofs.Meaning.{ending_part, closed, Takes, Behind, Opened, behind_together, allowed}
@@ -29,21 +30,10 @@ open_by f s from to t rest e is d = (t, rest, e, subst (λ (x : Symbol). Behind 
 open_as : (f : Form) (s : Symbol) (o : Option (List Form)) (from to : List Token) (t : Token) (rest : List Token) → from ≡ t ∷ rest → symbol t ≡ s → production f s ≡ o → Behind o rest to → Opened f from to
 open_as f s o from to t rest e is p d = open_by f s from to t rest e is (subst (λ (x : Option (List Form)). Behind x rest to) (sym p) d)
 
--- the symbol that ends a type
-abbrev last : Ending → Symbol
-last ending.Name = Word
-last ending.Semicolon = Semicolon
-last ending.Greater = Greater
-
 last_is : (e : Ending) (from to : List Token) → ending_part e from to → (t : Token) × (from ≡ t ∷ to) × (symbol t ≡ last e)
 last_is ending.Name from to (t, te, k) = (t, te, is_word t k)
 last_is ending.Semicolon from to (t, te, k) = (t, te, is_semicolon t k)
 last_is ending.Greater from to (t, te, k) = (t, te, is_greater t k)
-
-ends_last : (e : Ending) → ends e (last e) ≡ Some []
-ends_last ending.Name = refl
-ends_last ending.Semicolon = refl
-ends_last ending.Greater = refl
 
 suffix_last : (n : ℕ) (e : Ending) → suffix_begins n e (last e) ≡ Some []
 suffix_last n ending.Name = refl

@@ -446,16 +446,6 @@ none_comes : (kind : FileKind) (p : ProtocolDecl) → may_come kind (Some p) ≡
 none_comes file.Protocol p = refl
 none_comes file.Header p = refl
 
--- a refusal behind the keyword of a protocol
-pub protocol_stopped : (kind : FileKind) (tokens : List Token) (list : List Attribute) (how : Semantics) (draft : Draft) (from behind : List Token) (e : Refusal) → Turns (take symbols.Protocol ∷ []) from [] behind → Stops (take symbols.Word ∷ take symbols.OpenBrace ∷ managing ∷ []) behind e → IsProtocolDraft kind tokens list how draft from → FileStops kind tokens e
-protocol_stopped kind tokens list how draft from behind e turn stop h =
-    stopped kind tokens protocol_forms (stand false (length h.path) false) behind e (h.goes ∙ turn protocol_forms (stand false (length h.path) false)) stop
-
--- a refusal where the keyword is to come
-pub keyword_stopped : (kind : FileKind) (tokens : List Token) (list : List Attribute) (how : Semantics) (draft : Draft) (from : List Token) (e : Refusal) → Stops (take symbols.Protocol ∷ []) from e → IsProtocolDraft kind tokens list how draft from → FileStops kind tokens e
-keyword_stopped kind tokens list how draft from (Left n) stop h = h.goes ∙ stop protocol_forms (stand false (length h.path) false)
-keyword_stopped kind tokens list how draft from NoMemory stop h = tt
-
 -- a draft with its protocol
 pub protocol_added : (kind : FileKind) (tokens : List Token) (list : List Attribute) (how : Semantics) (draft : Draft) (from behind to : List Token) (p : ProtocolDecl) (scope : List (List ℕ)) → scope ≡ draft.scope.items → spelled symbols.Protocol from behind → IsProtocolBehind scope list how p behind to → Turns (take symbols.Protocol ∷ []) from [] behind → Turns (take symbols.Word ∷ take symbols.OpenBrace ∷ managing ∷ []) behind [] to → IsProtocolDraft kind tokens list how draft from → IsDraft kind tokens (record draft { protocol = Some p }) to
 protocol_added kind tokens list how draft from behind to p scope same keyword read one two h =
