@@ -2,5 +2,6 @@ pub mod Builtins
 pub mod Deferral
 pub mod Memory
 pub mod Outside
+pub mod Plain
 pub mod Sound
 pub mod Words

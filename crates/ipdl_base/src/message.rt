@@ -1,5 +1,9 @@
+ghost use Rattle.std.specs.Prelude.{◌≡◌, ◌↔◌, IfOk, IsTrue};
+ghost use Rattle.ipdl_base.specs.Plain.{plain_body, plain_message};
+
 use crate::kinds::Reason;
 use crate::value::Values;
+use std::alloc::{AllocError, Global};
 
 /// What one end sends to the other, but for the mark that an end has died.
 #[derive(Debug, Drop, PartialEq)]
@@ -23,4 +27,59 @@ pub enum Body {
     Reply(Values),
     Fault(Reason),
     Goodbye,
+}
+
+impl Message {
+    /// The same message, up to where its boxes lie. The only error is want of memory.
+    pub fn copy(&self, alloc: Global) -> Result<Message, AllocError>
+        ensures { IfOk result (λ copied. plain_message copied ≡ plain_message self.now) }
+    {
+        Ok(Message {
+            route: self.route,
+            number: self.number,
+            seq: self.seq,
+            transaction: self.transaction,
+            made: self.made,
+            body: self.body.copy(alloc)?,
+        })
+    }
+
+    /// Whether both are the same message, up to where their boxes lie.
+    pub fn same(&self, other: &Message) -> bool
+        ensures { IsTrue result ↔ (plain_message self.now ≡ plain_message other.now) }
+    {
+        self.route == other.route
+            && self.number == other.number
+            && self.seq == other.seq
+            && self.transaction == other.transaction
+            && self.made == other.made
+            && self.body.same(&other.body)
+    }
+}
+
+impl Body {
+    /// The same body, up to where its boxes lie. The only error is want of memory.
+    pub fn copy(&self, alloc: Global) -> Result<Body, AllocError>
+        ensures { IfOk result (λ copied. plain_body copied ≡ plain_body self.now) }
+    {
+        match self {
+            Body::Request(parameters) => Ok(Body::Request(parameters.copy(alloc)?)),
+            Body::Reply(returns) => Ok(Body::Reply(returns.copy(alloc)?)),
+            Body::Fault(reason) => Ok(Body::Fault(*reason)),
+            Body::Goodbye => Ok(Body::Goodbye),
+        }
+    }
+
+    /// Whether both are the same body, up to where their boxes lie.
+    pub fn same(&self, other: &Body) -> bool
+        ensures { IsTrue result ↔ (plain_body self.now ≡ plain_body other.now) }
+    {
+        match (self, other) {
+            (Body::Request(a), Body::Request(b)) => a.same(b),
+            (Body::Reply(a), Body::Reply(b)) => a.same(b),
+            (Body::Fault(a), Body::Fault(b)) => *a == *b,
+            (Body::Goodbye, Body::Goodbye) => true,
+            _ => false,
+        }
+    }
 }

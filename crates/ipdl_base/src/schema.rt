@@ -1,8 +1,10 @@
-ghost use Rattle.std.specs.Prelude.{◌≡◌, slice_get, option_map};
+ghost use Rattle.std.specs.Prelude.{◌≡◌, ◌↔◌, slice_get, option_map, IfOk, IsTrue};
+ghost use Rattle.ipdl_base.specs.Plain.{plain_shape};
 
 use crate::builtin::Builtin;
 use crate::items::{Items, Name, Numbers};
 use crate::kinds::{Compress, Direction, Level, Semantics};
+use std::alloc::{AllocError, Global};
 
 /// The protocols and types of a program, by number.
 #[derive(Debug, Drop, PartialEq)]
@@ -74,6 +76,41 @@ pub enum Shape {
     Maybe(Box<Shape>),
     Unique(Box<Shape>),
     Endpoint(u32, bool),
+}
+
+impl Shape {
+    /// The same type, up to where its boxes lie. The only error is want of memory.
+    pub fn copy(&self, alloc: Global) -> Result<Shape, AllocError>
+        ensures { IfOk result (λ copied. plain_shape copied ≡ plain_shape self.now) }
+    {
+        match self {
+            Shape::Builtin(builtin) => Ok(Shape::Builtin(*builtin)),
+            Shape::Using(name) => Ok(Shape::Using(name.copy(alloc)?)),
+            Shape::Actor(protocol, nullable) => Ok(Shape::Actor(*protocol, *nullable)),
+            Shape::Named(number) => Ok(Shape::Named(*number)),
+            Shape::Array(element) => Ok(Shape::Array(Box::new(alloc, element.copy(alloc)?)?)),
+            Shape::Maybe(held) => Ok(Shape::Maybe(Box::new(alloc, held.copy(alloc)?)?)),
+            Shape::Unique(held) => Ok(Shape::Unique(Box::new(alloc, held.copy(alloc)?)?)),
+            Shape::Endpoint(protocol, managed) => Ok(Shape::Endpoint(*protocol, *managed)),
+        }
+    }
+
+    /// Whether both are the same type, up to where their boxes lie.
+    pub fn same(&self, other: &Shape) -> bool
+        ensures { IsTrue result ↔ (plain_shape self.now ≡ plain_shape other.now) }
+    {
+        match (self, other) {
+            (Shape::Builtin(a), Shape::Builtin(b)) => *a == *b,
+            (Shape::Using(a), Shape::Using(b)) => a.as_slice() == b.as_slice(),
+            (Shape::Actor(p, a), Shape::Actor(q, b)) => *p == *q && *a == *b,
+            (Shape::Named(a), Shape::Named(b)) => *a == *b,
+            (Shape::Array(a), Shape::Array(b)) => a.same(b),
+            (Shape::Maybe(a), Shape::Maybe(b)) => a.same(b),
+            (Shape::Unique(a), Shape::Unique(b)) => a.same(b),
+            (Shape::Endpoint(p, a), Shape::Endpoint(q, b)) => *p == *q && *a == *b,
+            _ => false,
+        }
+    }
 }
 
 /// A struct or a union, with its full name and its fields or components.
