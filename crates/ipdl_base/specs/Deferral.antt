@@ -37,3 +37,25 @@ defers_request side w inner false Not transaction = true
 defers_request side w inner false InsideSync transaction = true
 defers_request side w inner true Not transaction = defers_sync side w inner Not transaction
 defers_request side w inner true InsideSync transaction = defers_sync side w inner InsideSync transaction
+
+-- What arrives at an end, as far as deferral looks at it: a request, by its sync, level and transaction; a
+-- reply or fault, by whether it answers a sync request; a goodbye; the mark that the other end has died.
+pub data Arrival : Type 0 where
+  request : Bool → Level → ℤ → Arrival
+  reply : Bool → Arrival
+  goodbye : Arrival
+  mark : Arrival
+
+-- whether an end on this side that waits at level w defers what arrives: a request by the rule of
+-- requests, the reply of an async request always, a goodbye or a mark never
+abbrev pub defers_waiting : Side → Level → Option ℤ → Arrival → Bool
+defers_waiting side w inner (request sync level transaction) = defers_request side w inner sync level transaction
+defers_waiting side w inner (reply sync) = not sync
+defers_waiting side w inner goodbye = false
+defers_waiting side w inner mark = false
+
+-- What an end defers of all that arrives, by its side, the level of the message whose reply it awaits, and
+-- its inner transaction. One that awaits no reply defers nothing.
+abbrev pub defers_arrival : Side → Option Level → Option ℤ → Arrival → Bool
+defers_arrival side None inner arrival = false
+defers_arrival side (Some w) inner arrival = defers_waiting side w inner arrival

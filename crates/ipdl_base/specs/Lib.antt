@@ -3,5 +3,6 @@ pub mod Deferral
 pub mod Memory
 pub mod Outside
 pub mod Plain
+pub mod Rules
 pub mod Sound
 pub mod Words

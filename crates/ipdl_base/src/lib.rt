@@ -1,3 +1,5 @@
+//! What every other crate speaks of: names and lists, places and rules, the outside, the tables of a
+//! program, values and messages. It knows nothing of texts, of the grammar, or of how a channel works.
 #![tactic(auto)]
 
 mod builtin;
