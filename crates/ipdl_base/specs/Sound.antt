@@ -46,7 +46,7 @@ pub data MentionsUncarried (types : List TypeRow) : Shape → Type 0 where
   in_struct : {t : ℕ} (name : List ℕ) (fields : List ParamRow) (field : ParamRow) → slice_get types t ≡ Some (Struct name fields) → Contains fields field → MentionsUncarried types field.shape → MentionsUncarried types (Named t)
   in_union : {t : ℕ} (name : List ℕ) (components : List Shape) (component : Shape) → slice_get types t ≡ Some (Union name components) → Contains components component → MentionsUncarried types component → MentionsUncarried types (Named t)
 
--- A shape is defined: it has a value of finite size. A struct is where all its fields are, a union where one component is.
+-- A shape is defined: that it is has a finite derivation. A struct is where all its fields are, a union where one component is.
 pub data IsDefined (types : List TypeRow) : Shape → Type 0 where
   builtin : {b : _} → IsDefined types (Builtin b)
   using_type : {name : _} → IsDefined types (Using name)
