@@ -1,4 +1,4 @@
-use Rattle.std.proofs.Common.{◌<◌, List, [], ◌∷◌, length, Some, None, arith}
+use Rattle.std.proofs.Common.{List, [], ◌∷◌, length, Some, None, arith}
 use Rattle.nesting_core.specs.declared.frame.Answer.{Answer}
 use Rattle.nesting_core.specs.declared.frame.Frame.{Frame}
 use Rattle.nesting_core.specs.declared.frame.Frame.TheVariants.{Dispatch, Wait}

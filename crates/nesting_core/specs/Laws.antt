@@ -1,5 +1,5 @@
 -- What follows from the definitions, for every list of frames.
-use Rattle.std.specs.Prelude.{◌≡◌, ◌↔◌, ℤ, List, map, Option, option_map}
+use Rattle.std.specs.Prelude.{◌≡◌, ◌↔◌, ℤ, List, map, option_map}
 use Rattle.ipdl_base.specs.declared.kinds.Side.{Side}
 use Rattle.nesting_core.specs.declared.frame.Answer.{Answer}
 use Rattle.nesting_core.specs.declared.frame.Frame.{Frame}
