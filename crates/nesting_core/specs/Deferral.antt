@@ -1,6 +1,7 @@
-use Rattle.std.specs.Prelude.{ℤ, Bool, false, IsTrue, List, Option, option_map, unwrap_or}
+use Rattle.std.specs.Prelude.{ℤ, Bool, IsTrue, List, Option, Some, None, option_map, unwrap_or}
+use Rattle.ipdl_base.specs.declared.kinds.Level.{Level}
 use Rattle.ipdl_base.specs.declared.kinds.Side.{Side}
-use Rattle.ipdl_base.specs.Deferral.{defers_request}
+use Rattle.ipdl_base.specs.Deferral.{defers_arrival, request}
 use Rattle.nesting_core.specs.declared.frame.Frame.{Frame}
 use Rattle.nesting_core.specs.declared.frame.Head.{Head}
 use Rattle.nesting_core.specs.declared.frame.StackTop.{StackTop}
@@ -16,17 +17,21 @@ inner_transaction frames = option_map (λ head. head.transaction) (innermost is_
 abbrev pub transaction_of : List Frame → ℤ → ℤ
 transaction_of frames seq = unwrap_or (inner_transaction frames) seq
 
--- whether an item is deferred under a top and an inner transaction: never but under a wait whose answer has not come
-abbrev pub defers_under : Side → StackTop → Option ℤ → Head → Bool
-defers_under side Empty inner item = false
-defers_under side (Dispatch head) inner item = false
-defers_under side (Answered head) inner item = false
-defers_under side (Unanswered wait) inner item = defers_request side wait.level inner item.sync item.level item.transaction
+-- the level of the message whose reply is awaited under this top: that of a wait whose answer has not come
+abbrev pub level_under : StackTop → Option Level
+level_under Empty = None
+level_under (Dispatch head) = None
+level_under (Unanswered wait) = Some wait.level
+level_under (Answered head) = None
 
--- whether an end on this side with these frames defers an item that arrived
+-- the level of the message whose reply an end with these frames awaits before all else, where there is one
+abbrev pub awaited_level : List Frame → Option Level
+awaited_level frames = level_under (top_of frames)
+
+-- whether an end on this side with these frames defers a request that arrived
 abbrev pub defers : Side → List Frame → Head → Bool
-defers side frames item = defers_under side (top_of frames) (inner_transaction frames) item
+defers side frames head = defers_arrival side (awaited_level frames) (inner_transaction frames) (request head.sync head.level head.transaction)
 
--- an end on this side with these frames defers the item
+-- an end on this side with these frames defers the request
 abbrev pub Defers : Side → List Frame → Head → Type 0
-Defers side frames item = IsTrue (defers side frames item)
+Defers side frames head = IsTrue (defers side frames head)

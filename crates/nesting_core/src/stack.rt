@@ -4,6 +4,7 @@ ghost use Rattle.nesting_core.specs.Answers.{awaited, with_answer};
 ghost use Rattle.nesting_core.specs.Deferral.{defers, inner_transaction, transaction_of};
 ghost use Rattle.nesting_core.specs.Frames.{has_wait};
 ghost use Rattle.nesting_core.specs.Refusals.{refusal_of};
+ghost use Rattle.nesting_core.specs.Room.{FitsRoom, LeavesRoom};
 ghost use Rattle.nesting_core.specs.Top.{after_pop, popped_of, top_of};
 ghost use Rattle.ipdl_base.specs.declared.kinds.Reason.TheVariants.{ChannelClosed};
 ghost use Rattle.nesting_core.specs.declared.frame.Answer.TheVariants.{Fault};
@@ -43,6 +44,7 @@ impl Model for Stack {
     ghost use Rattle.std.specs.Coded.{codes};
     ghost use Rattle.ipdl_base.specs.contracts.value.Values as values;
     ghost use Rattle.nesting_core.specs.declared.frame.Frame.{Frame};
+    ghost use Rattle.nesting_core.specs.Room.{FitsRoom};
 
     ghost Value = { List Frame };
 
@@ -50,7 +52,7 @@ impl Model for Stack {
 
     ghost view = { λ s. reverse (take s.len s.frames) };
 
-    ghost invariant = { λ s. s.len ≤ 64 };
+    ghost invariant = { λ s. (s.len ≤ 64) × FitsRoom (reverse (take s.len s.frames)) };
 }
 
 impl Stack {
@@ -62,24 +64,21 @@ impl Stack {
         Stack { frames, len: 0 }
     }
 
-    /// The number of frames, at most 64.
+    /// The number of frames, at most 64, and fewer where a wait stands above the 62nd.
     pub fn len(&self) -> usize
         ensures count { result ≡ length self.now }
         ensures bound { length self.now ≤ 64 }
+        ensures room { FitsRoom self.now }
     {
         self.outward().len()
     }
 
-    /// The frame on top.
+    /// The frame on top. Unless that is a dispatch, there is room for one.
     pub fn top(&self) -> StackTop
-        ensures { result ≡ top_of self.now }
+        ensures frame { result ≡ top_of self.now }
+        ensures room { LeavesRoom result (length self.now) }
     {
-        match self.outward().last() {
-            None => StackTop::Empty,
-            Some(Frame::Dispatch(head)) => StackTop::Dispatch(*head),
-            Some(Frame::Wait(head, None)) => StackTop::Unanswered(*head),
-            Some(Frame::Wait(head, Some(_))) => StackTop::Answered(*head),
-        }
+        top(self.outward())
     }
 
     /// Whether a wait, answered or not, is on the stack.
@@ -103,7 +102,7 @@ impl Stack {
         self.inner_transaction().unwrap_or(seq)
     }
 
-    /// Whether an end on this side defers an item that arrived. Only an end with a wait on top whose
+    /// Whether an end on this side defers a request that arrived. Only an end with a wait on top whose
     /// answer has not come defers any.
     pub fn defers(&self, side: Side, head: &Head) -> bool
         ensures { result ≡ defers side self.now head.now }
@@ -214,6 +213,7 @@ impl Stack {
     fn outward(&self) -> &[Frame]
         ensures frames { reverse result.now ≡ self.now }
         ensures bound { length result.now ≤ 64 }
+        ensures room { FitsRoom self.now }
     {
         &self.frames[..self.len]
     }
@@ -238,6 +238,18 @@ impl Stack {
     {
         self.len -= 1;
         mem::replace(&mut self.frames[self.len], VACANT)
+    }
+}
+
+/// The last frame, by its head.
+fn top(frames: &[Frame]) -> StackTop
+    ensures { result ≡ top_of (reverse frames.now) }
+{
+    match frames.last() {
+        None => StackTop::Empty,
+        Some(Frame::Dispatch(head)) => StackTop::Dispatch(*head),
+        Some(Frame::Wait(head, None)) => StackTop::Unanswered(*head),
+        Some(Frame::Wait(head, Some(_))) => StackTop::Answered(*head),
     }
 }
 

@@ -1,5 +1,7 @@
 pub mod Arrived
 pub mod Compression
 pub mod Holding
+pub mod Plain
+pub mod Laws
 mod CompressionExamples
 mod HoldingExamples

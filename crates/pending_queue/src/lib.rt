@@ -2,10 +2,12 @@
 
 mod holding;
 mod item;
+mod laws;
 mod pending;
 
 pub use holding::Holding;
 pub use item::{Item, PushFault, Pushed};
+pub use laws::plain_forms_commute;
 pub use pending::Pending;
 
 #[cfg(test)]

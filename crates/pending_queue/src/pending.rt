@@ -1,4 +1,4 @@
-ghost use Rattle.std.specs.Prelude.{◌≡◌, ◌+◌, ◌<◌, ◌≤◌, [], ◌∷◌, ◌++◌, find, position, remove, HoldsAt, vec_len, vec_capacity, IfOk, IfErr, OnOk, OnErr, IfNone, IsOk};
+ghost use Rattle.std.specs.Prelude.{◌≡◌, ◌==◌, ◌+◌, ◌<◌, ◌≤◌, [], ◌∷◌, ◌++◌, find, length, option_map, position, remove, HoldsAt, vec_len, vec_capacity, IfOk, IfErr, OnOk, OnErr, IfNone, IsOk};
 ghost use Rattle.pending_queue.specs.Compression.{replaced, ReplacesAt, staying, pushed_of};
 ghost use Rattle.pending_queue.specs.Holding.{is_free, without_first};
 
@@ -63,6 +63,36 @@ impl Pending {
         ensures spare { self.old.spare ≤ self.new.spare }
     {
         self.items.reserve(n)
+    }
+
+    /// The number of items.
+    pub fn len(&self) -> usize
+        ensures { result ≡ length self.now.items }
+    {
+        self.items.len()
+    }
+
+    /// Whether there are no items.
+    pub fn is_empty(&self) -> bool
+        ensures { result ≡ (length self.now.items == 0) }
+    {
+        self.items.is_empty()
+    }
+
+    /// The item that a push of this one would replace; `None` where it would replace none.
+    pub fn replaced(&self, item: &Item, compress: Compress) -> Option<&Item>
+        ensures { option_map (λ old. old.now) result ≡ replaced compress item.now self.now.items }
+    {
+        let index = replaced_index(self.items.as_slice(), item, compress)?;
+        self.items.get(index)
+    }
+
+    /// The oldest item that is not deferred, which `take_first` would take; `None` exactly where
+    /// there is none.
+    pub fn first(&self, holding: &Holding) -> Option<&Item>
+        ensures { option_map (λ item. item.now) result ≡ find (is_free holding.now) self.now.items }
+    {
+        self.items.iter().find(|item| !defers(holding, item))
     }
 
     /// Takes the oldest item that is not deferred (docs/arrived.md); `None` exactly where there is

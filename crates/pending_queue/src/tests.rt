@@ -56,6 +56,14 @@ fn sync_request(seq: i32, transaction: i32, level: Level) -> Item {
     )
 }
 
+// The number of an item, or 0 where there is none or it has none.
+fn seq_of(item: Option<&Item>) -> i32 {
+    match item {
+        Some(Item::Message { message, .. }) => message.seq,
+        Some(Item::Broken) | None => 0,
+    }
+}
+
 // The number of what is taken first, or 0 where nothing is or it has none.
 fn taken(pending: &mut Pending, holding: &Holding) -> i32 {
     match pending.take_first(holding) {
@@ -80,13 +88,17 @@ fn nine_sends_compress(rt: HostRuntime) -> Result<(), Fail> {
         (ASK, Compress::Last, -9, -8),
     ];
     let mut pending = Pending::new(rt.alloc())?;
+    assert!(rt; pending.is_empty());
     for (number, compress, seq, old) in sends {
-        let replaced = match pending.push(request(number, seq), compress)? {
+        let new = request(number, seq);
+        assert_eq!(rt; seq_of(pending.replaced(&new, compress)), old);
+        let replaced = match pending.push(new, compress)? {
             Pushed::Replaced(Item::Message { message, .. }) => message.seq,
             Pushed::Replaced(Item::Broken) | Pushed::Added => 0,
         };
         assert_eq!(rt; replaced, old);
     }
+    assert_eq!(rt; pending.len(), 6);
     for seq in [-2, -3, -4, -6, -7, -9, 0] {
         assert_eq!(rt; taken(&mut pending, &NOTHING), seq);
     }
@@ -145,6 +157,7 @@ fn a_parent_defers(rt: HostRuntime) -> Result<(), Fail> {
         transaction: 7,
     };
     for seq in [-4, -5, 9, 0] {
+        assert_eq!(rt; seq_of(pending.first(&holding)), seq);
         assert_eq!(rt; taken(&mut pending, &holding), seq);
     }
     let holding = Holding {

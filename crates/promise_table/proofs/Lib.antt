@@ -1,1 +1,2 @@
 mod PromisesLemmas
+pub mod PlainLemmas

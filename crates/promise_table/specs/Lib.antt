@@ -1,2 +1,4 @@
 pub mod Promises
+pub mod Plain
+pub mod Laws
 mod PromisesExamples

@@ -1,8 +1,10 @@
 #![tactic(auto)]
 
+mod laws;
 mod promise;
 mod promises;
 
+pub use laws::plain_forms_commute;
 pub use promise::{Outcome, Promise, Settling};
 pub use promises::Promises;
 

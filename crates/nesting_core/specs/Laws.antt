@@ -1,0 +1,44 @@
+-- What follows from the definitions, for every list of frames.
+use Rattle.std.specs.Prelude.{◌≡◌, ◌↔◌, ℤ, List, map, option_map}
+use Rattle.ipdl_base.specs.declared.kinds.Side.{Side}
+use Rattle.nesting_core.specs.declared.frame.Answer.{Answer}
+use Rattle.nesting_core.specs.declared.frame.Frame.{Frame}
+use Rattle.nesting_core.specs.declared.frame.Head.{Head}
+use Rattle.nesting_core.specs.declared.frame.SendHead.{SendHead}
+use Rattle.nesting_core.specs.Answers as answers
+use Rattle.nesting_core.specs.Deferral as deferral
+use Rattle.nesting_core.specs.Frames as frames
+use Rattle.nesting_core.specs.Refusals as refusals
+use Rattle.nesting_core.specs.Room as room
+use Rattle.nesting_core.specs.Top as top
+use Rattle.nesting_core.specs.Plain.{plain_answer, plain_frame, plain_popped}
+
+-- No definition on frames looks at where a box lies: each gives the same on the plain frames, or its plain form.
+pub record PlainFormsCommute : Type 0 where
+  pub head_of : (f : Frame) → frames.head_of (plain_frame f) ≡ frames.head_of f
+  pub is_dispatch : (f : Frame) → frames.is_dispatch (plain_frame f) ≡ frames.is_dispatch f
+  pub is_sync_dispatch : (f : Frame) → frames.is_sync_dispatch (plain_frame f) ≡ frames.is_sync_dispatch f
+  pub is_wait : (f : Frame) → frames.is_wait (plain_frame f) ≡ frames.is_wait f
+  pub is_unanswered : (f : Frame) → frames.is_unanswered (plain_frame f) ≡ frames.is_unanswered f
+  pub is_inside_sync : (f : Frame) → frames.is_inside_sync (plain_frame f) ≡ frames.is_inside_sync f
+  pub innermost_dispatch : (fs : List Frame) → frames.innermost_dispatch (map plain_frame fs) ≡ frames.innermost_dispatch fs
+  pub innermost_sync_dispatch : (fs : List Frame) → frames.innermost_sync_dispatch (map plain_frame fs) ≡ frames.innermost_sync_dispatch fs
+  pub innermost_wait : (fs : List Frame) → frames.innermost_wait (map plain_frame fs) ≡ frames.innermost_wait fs
+  pub innermost_unanswered : (fs : List Frame) → frames.innermost frames.is_unanswered (map plain_frame fs) ≡ frames.innermost frames.is_unanswered fs
+  pub innermost_inside_sync : (fs : List Frame) → frames.innermost frames.is_inside_sync (map plain_frame fs) ≡ frames.innermost frames.is_inside_sync fs
+  pub has_wait : (fs : List Frame) → frames.has_wait (map plain_frame fs) ≡ frames.has_wait fs
+  pub awaited : (fs : List Frame) → answers.awaited (map plain_frame fs) ≡ answers.awaited fs
+  pub with_answer : (a : Answer) (fs : List Frame) → answers.with_answer (plain_answer a) (map plain_frame fs) ≡ map plain_frame (answers.with_answer a fs)
+  pub top_of : (fs : List Frame) → top.top_of (map plain_frame fs) ≡ top.top_of fs
+  pub popped_of : (fs : List Frame) → top.popped_of (map plain_frame fs) ≡ option_map plain_popped (top.popped_of fs)
+  pub after_pop : (fs : List Frame) → top.after_pop (map plain_frame fs) ≡ map plain_frame (top.after_pop fs)
+  pub fits_room : (fs : List Frame) → room.FitsRoom (map plain_frame fs) ↔ room.FitsRoom fs
+  pub inner_transaction : (fs : List Frame) → deferral.inner_transaction (map plain_frame fs) ≡ deferral.inner_transaction fs
+  pub transaction_of : (fs : List Frame) (seq : ℤ) → deferral.transaction_of (map plain_frame fs) seq ≡ deferral.transaction_of fs seq
+  pub awaited_level : (fs : List Frame) → deferral.awaited_level (map plain_frame fs) ≡ deferral.awaited_level fs
+  pub defers : (side : Side) (fs : List Frame) (head : Head) → deferral.defers side (map plain_frame fs) head ≡ deferral.defers side fs head
+  pub is_nested_in_normal : (fs : List Frame) (send : SendHead) → refusals.is_nested_in_normal (map plain_frame fs) send ≡ refusals.is_nested_in_normal fs send
+  pub is_inside_cpow : (fs : List Frame) (send : SendHead) → refusals.is_inside_cpow (map plain_frame fs) send ≡ refusals.is_inside_cpow fs send
+  pub is_level_too_low : (fs : List Frame) (send : SendHead) → refusals.is_level_too_low (map plain_frame fs) send ≡ refusals.is_level_too_low fs send
+  pub is_too_deep : (fs : List Frame) (send : SendHead) → refusals.is_too_deep (map plain_frame fs) send ≡ refusals.is_too_deep fs send
+  pub refusal_of : (fs : List Frame) (send : SendHead) → refusals.refusal_of (map plain_frame fs) send ≡ refusals.refusal_of fs send
