@@ -1,4 +1,2 @@
 pub mod Declarations
-pub mod Files
-pub mod Limits
 pub mod Worked

@@ -1,5 +1,4 @@
 pub mod Grammar
-pub mod Laws
 pub mod Parts
 pub mod Program
 pub mod Programs

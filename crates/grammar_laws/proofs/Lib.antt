@@ -1,0 +1,13 @@
+pub mod Heads
+pub mod Settling
+pub mod Names
+pub mod Types
+pub mod Messages
+pub mod Protocols
+pub mod Declarations
+pub mod Pieces
+pub mod Sorts
+pub mod Rows
+pub mod Files
+pub mod FileKinds
+pub mod Limits
