@@ -11,3 +11,8 @@ pub mod Rows
 pub mod Files
 pub mod FileKinds
 pub mod Limits
+pub mod Tells
+pub mod Claims
+pub mod ClaimedForms
+pub mod ClaimedDeclarations
+pub mod ClaimedFiles

@@ -1,13 +1,14 @@
 -- What follows from the grammar, for all tokens.
 use Rattle.std.specs.Prelude.{◌≡◌, ℕ, ◌+◌, ◌≤◌, List, length}
 use Rattle.ipdl_base.specs.declared.token.Token.{Token}
+use Rattle.ipdl_base.specs.Tokens.{AreSpelled, StandIn}
 use Rattle.ipdl_syntax.specs.declared.tree.Base.{Base, Named, Unique'}
 use Rattle.ipdl_syntax.specs.declared.tree.FileKind.{FileKind}
 use Rattle.ipdl_syntax.specs.declared.tree.TypeSpec.{TypeSpec}
 use Rattle.ipdl_syntax.specs.declared.tree.Unit.{Unit as FileUnit}
 use Rattle.ipdl_syntax.specs.Grammar.{type_spec}
 use Rattle.ipdl_syntax.specs.Program.{Tree}
-use Rattle.ipdl_syntax.specs.Units.{IsOfKind}
+use Rattle.ipdl_syntax.specs.Units.{IsOfKind, HasWords, HasPlacesOf}
 use Rattle.grammar_laws.specs.Boxes.{unboxed}
 
 -- For each kind of file some tokens have at most one tree, up to where its boxes lie.
@@ -37,3 +38,11 @@ LimitsHold = (spec : TypeSpec) (from to : List Token) → type_spec spec from to
 -- The tree of a header has no protocol, and that of a protocol file has one.
 abbrev pub FilesHold : Type 0
 FilesHold = (kind : FileKind) (tokens : List Token) (unit : FileUnit) → Tree kind tokens unit → IsOfKind kind unit
+
+-- Where the text of each word among some tokens is a word, so are the names in a tree of theirs.
+abbrev pub NamesHold : Type 0
+NamesHold = (kind : FileKind) (tokens : List Token) (unit : FileUnit) → AreSpelled tokens → Tree kind tokens unit → HasWords unit
+
+-- Where some tokens stand in one file, so do all places in a tree of theirs.
+abbrev pub PlacesHold : Type 0
+PlacesHold = (kind : FileKind) (tokens : List Token) (unit : FileUnit) (number : ℕ) → StandIn number tokens → Tree kind tokens unit → HasPlacesOf number unit

@@ -3,4 +3,4 @@
 
 mod laws;
 
-pub use laws::{files_hold, limits_hold, one_tree};
+pub use laws::{files_hold, limits_hold, names_hold, one_tree, places_hold};
