@@ -5,4 +5,5 @@ pub mod Outside
 pub mod Plain
 pub mod Rules
 pub mod Sound
+pub mod Tokens
 pub mod Words

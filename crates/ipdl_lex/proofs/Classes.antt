@@ -1,15 +1,16 @@
 -- What the first byte of a piece says of it.
 use Rattle.std.proofs.Common.{◌≡◌, ℕ, Bool, true, false, ◌&&◌, ◌==◌, ◌⊎◌, List, [], ◌∷◌, ◌++◌, Option, Some, None, Contains, cond, not, refl, subst, sym, ap, ◌∙◌, ⊎_elim}
-use Rattle.std.specs.Prelude.{codes}
+use Rattle.std.specs.Prelude.{codes, IsTrue}
 use Rattle.std.specs.List.{list_any, list_all, AllByRecursion}
 use Rattle.std.proofs.lemmas.Bool.{false≢true, true≢false, eqb-true, or_cases, and_parts, cases_Bool, both_ways, not-true, and_from}
-use Rattle.std.proofs.lemmas.List.Elements.{All-contains}
-use Rattle.std.proofs.lemmas.List.Sums.{AllPass-from_list_all}
+use Rattle.std.proofs.lemmas.List.Elements.{All-contains, All-from_recursion, recursion_from_All}
+use Rattle.std.proofs.lemmas.List.Sums.{AllPass-from_list_all, list_all-from_AllPass}
+use Rattle.ipdl_base.specs.Words.{is_word_start, is_word_byte, is_word, IsWord}
 use Rattle.ipdl_base.specs.declared.token.TokenKind.{TokenKind}
 use Rattle.ipdl_base.specs.declared.token.TokenKind.TheVariants.{Word, Reserved, Quoted, Mark}
 use Rattle.ipdl_lex.specs.declared.scan.Class.{Class}
 use Rattle.ipdl_lex.specs.declared.scan.Class.TheVariants as class
-use Rattle.ipdl_lex.specs.Pieces.{is_blank, is_letter, is_mark, is_word_byte, reserved_words, IsWord, IsQuoted, IsMark, IsLineComment, IsBlockComment, IsPieceOf}
+use Rattle.ipdl_lex.specs.Pieces.{is_blank, is_mark, reserved_words, IsQuoted, IsMark, IsLineComment, IsBlockComment, IsPieceOf}
 use Rattle.ipdl_lex.specs.Scan.{class_of}
 
 -- what holds of each byte of a list holds of one that the test finds among them
@@ -39,26 +40,26 @@ class_of-mark b h =
 letter_from : (a s q m l : Bool) → a ≡ false → s ≡ false → q ≡ false → m ≡ false → l ≡ true → class_from a s q m l ≡ class.Letter
 letter_from a s q m l ha hs hq hm hl = cc
 
-letter_not_blank : (b : ℕ) → is_letter b ≡ true → is_blank b ≡ false
+letter_not_blank : (b : ℕ) → is_word_start b ≡ true → is_blank b ≡ false
 letter_not_blank b h =
     ⊎_elim
-    (λ e. absurd (true≢false (sym h ∙ each_in (λ c. is_letter c ≡ false) (codes " \t\r\n") (refl, (refl, (refl, (refl, tt)))) b e)))
+    (λ e. absurd (true≢false (sym h ∙ each_in (λ c. is_word_start c ≡ false) (codes " \t\r\n") (refl, (refl, (refl, (refl, tt)))) b e)))
     (λ e. e) (cases_Bool (is_blank b))
 
-letter_not_mark : (b : ℕ) → is_letter b ≡ true → is_mark b ≡ false
+letter_not_mark : (b : ℕ) → is_word_start b ≡ true → is_mark b ≡ false
 letter_not_mark b h =
     ⊎_elim
-    (λ e. absurd (true≢false (sym h ∙ each_in (λ c. is_letter c ≡ false) marks
+    (λ e. absurd (true≢false (sym h ∙ each_in (λ c. is_word_start c ≡ false) marks
     (refl, (refl, (refl, (refl, (refl, (refl, (refl, (refl, (refl, (refl, (refl, (refl, (refl, tt))))))))))))) b e)))
     (λ e. e) (cases_Bool (is_mark b))
 
-letter_is_not : (b c : ℕ) → is_letter b ≡ true → is_letter c ≡ false → (b == c) ≡ false
+letter_is_not : (b c : ℕ) → is_word_start b ≡ true → is_word_start c ≡ false → (b == c) ≡ false
 letter_is_not b c h k =
-    ⊎_elim (λ e. absurd (true≢false (sym h ∙ ap is_letter (eqb-true b c e) ∙ k))) (λ e. e) (cases_Bool (b == c))
+    ⊎_elim (λ e. absurd (true≢false (sym h ∙ ap is_word_start (eqb-true b c e) ∙ k))) (λ e. e) (cases_Bool (b == c))
 
-class_of-letter : (b : ℕ) → is_letter b ≡ true → class_of b ≡ class.Letter
+class_of-letter : (b : ℕ) → is_word_start b ≡ true → class_of b ≡ class.Letter
 class_of-letter b h =
-    letter_from (is_blank b) (b == 47) (b == 34) (is_mark b) (is_letter b)
+    letter_from (is_blank b) (b == 47) (b == 34) (is_mark b) (is_word_start b)
     (letter_not_blank b h) (letter_is_not b 47 h refl) (letter_is_not b 34 h refl) (letter_not_mark b h) h
 
 -- each test by its class
@@ -104,35 +105,36 @@ from_letter false false false false true h = refl
 from_letter false false false false false h = cc
 
 pub is_blank-class : (b : ℕ) → class_of b ≡ class.Blank → is_blank b ≡ true
-is_blank-class b h = from_blank (is_blank b) (b == 47) (b == 34) (is_mark b) (is_letter b) h
+is_blank-class b h = from_blank (is_blank b) (b == 47) (b == 34) (is_mark b) (is_word_start b) h
 
 pub slash-class : (b : ℕ) → class_of b ≡ class.Slash → b ≡ 47
-slash-class b h = eqb-true b 47 (from_slash (is_blank b) (b == 47) (b == 34) (is_mark b) (is_letter b) h)
+slash-class b h = eqb-true b 47 (from_slash (is_blank b) (b == 47) (b == 34) (is_mark b) (is_word_start b) h)
 
 pub quote-class : (b : ℕ) → class_of b ≡ class.Quote → b ≡ 34
-quote-class b h = eqb-true b 34 (from_quote (is_blank b) (b == 47) (b == 34) (is_mark b) (is_letter b) h)
+quote-class b h = eqb-true b 34 (from_quote (is_blank b) (b == 47) (b == 34) (is_mark b) (is_word_start b) h)
 
 pub is_mark-class : (b : ℕ) → class_of b ≡ class.Mark → is_mark b ≡ true
-is_mark-class b h = from_mark (is_blank b) (b == 47) (b == 34) (is_mark b) (is_letter b) h
+is_mark-class b h = from_mark (is_blank b) (b == 47) (b == 34) (is_mark b) (is_word_start b) h
 
-pub is_letter-class : (b : ℕ) → class_of b ≡ class.Letter → is_letter b ≡ true
-is_letter-class b h = from_letter (is_blank b) (b == 47) (b == 34) (is_mark b) (is_letter b) h
+pub word_start-class : (b : ℕ) → class_of b ≡ class.Letter → is_word_start b ≡ true
+word_start-class b h = from_letter (is_blank b) (b == 47) (b == 34) (is_mark b) (is_word_start b) h
+
+-- a word begins with a letter, and goes on with letters and digits
+
+word_first : (b : ℕ) (bytes : List ℕ) → IsWord (b ∷ bytes) → is_word_start b ≡ true
+word_first b bytes h = (and_parts (is_word_start b) (list_all is_word_byte bytes) h).0
+
+pub word_rest : (b : ℕ) (bytes : List ℕ) → IsWord (b ∷ bytes) → AllByRecursion (λ c. IsTrue (is_word_byte c)) bytes
+word_rest b bytes h =
+    recursion_from_All (λ c. IsTrue (is_word_byte c)) bytes (AllPass-from_list_all is_word_byte bytes (and_parts (is_word_start b) (list_all is_word_byte bytes) h).1)
+
+pub word_of : (b : ℕ) (bytes : List ℕ) → is_word_start b ≡ true → AllByRecursion (λ c. IsTrue (is_word_byte c)) bytes → IsWord (b ∷ bytes)
+word_of b bytes start rest =
+    and_from (is_word_start b) (list_all is_word_byte bytes) start (list_all-from_AllPass is_word_byte bytes (All-from_recursion (λ c. IsTrue (is_word_byte c)) bytes rest))
 
 -- a reserved word is a word
-
-abbrev is_word : List ℕ → Bool
-is_word [] = false
-is_word (b ∷ bytes) = is_letter b && list_all is_word_byte bytes
-
-IsWord-from_test : (bytes : List ℕ) → is_word bytes ≡ true → IsWord bytes
-IsWord-from_test [] h = absurd (false≢true h)
-IsWord-from_test (b ∷ bytes) h =
-    let parts = and_parts (is_letter b) (list_all is_word_byte bytes) h in
-    (parts.0, AllPass-from_list_all is_word_byte bytes parts.1)
-
 pub IsWord-from_reserved : (bytes : List ℕ) → Contains reserved_words bytes → IsWord bytes
-IsWord-from_reserved bytes h =
-    IsWord-from_test bytes (All-contains (λ w. is_word w ≡ true) reserved_words bytes (AllPass-from_list_all is_word reserved_words refl) h)
+IsWord-from_reserved bytes h = All-contains IsWord reserved_words bytes (AllPass-from_list_all is_word reserved_words refl) h
 
 -- which class the first byte of a piece of each kind has
 
@@ -171,8 +173,8 @@ mark_allows b bs h =
 
 kind_allows : (k : Option TokenKind) (b : ℕ) (bs : List ℕ) → IsPieceOf k (b ∷ bs) → allows k (class_of b) ≡ true
 kind_allows None b bs h = spacing_allows b bs h
-kind_allows (Some Word) b bs h = ap (allows (Some Word)) (class_of-letter b h.0.0)
-kind_allows (Some Reserved) b bs h = ap (allows (Some Reserved)) (class_of-letter b (IsWord-from_reserved (b ∷ bs) h).0)
+kind_allows (Some Word) b bs h = ap (allows (Some Word)) (class_of-letter b (word_first b bs h.0))
+kind_allows (Some Reserved) b bs h = ap (allows (Some Reserved)) (class_of-letter b (word_first b bs (IsWord-from_reserved (b ∷ bs) h)))
 kind_allows (Some Quoted) b bs h = allows_at (Some Quoted) b 34 bs (h.inner ++ 34 ∷ []) h.spelled refl
 kind_allows (Some Mark) b bs h = mark_allows b bs h
 
@@ -239,8 +241,8 @@ other_piece (Some Mark) b bs e h = disallowed (Some Mark) b bs class.Other e ref
 pub piece_nonempty : (k : Option TokenKind) → IsPieceOf k [] → ⊥
 piece_nonempty None h =
     ⊎_elim (λ blank. let is = blank.2 in cc) (λ comment. ⊎_elim (λ line. let is = line.spelled in cc) (λ block. let is = block.spelled in cc) comment) h
-piece_nonempty (Some Word) h = h.0
-piece_nonempty (Some Reserved) h = IsWord-from_reserved [] h
+piece_nonempty (Some Word) h = false≢true h.0
+piece_nonempty (Some Reserved) h = false≢true (IsWord-from_reserved [] h)
 piece_nonempty (Some Quoted) h = let is = h.spelled in cc
 piece_nonempty (Some Mark) h = ⊎_elim (λ double. cc) (λ one. let is = one.2 in cc) h
 

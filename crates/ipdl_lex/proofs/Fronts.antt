@@ -8,10 +8,11 @@ use Rattle.std.proofs.lemmas.List.Elements.{All-from_recursion, recursion_from_A
 use Rattle.ipdl_base.specs.declared.token.TokenKind.{TokenKind}
 use Rattle.ipdl_base.specs.declared.token.TokenKind.TheVariants.{Quoted, Mark}
 use Rattle.ipdl_lex.specs.declared.scan.Class.TheVariants as class
-use Rattle.ipdl_lex.specs.Pieces.{is_letter, is_line_feed, is_word_byte, IsWord, IsBlockComment, Spells, IsPieceOf}
+use Rattle.ipdl_base.specs.Words.{is_word_start, is_word_byte, IsWord}
+use Rattle.ipdl_lex.specs.Pieces.{is_line_feed, IsBlockComment, Spells, IsPieceOf}
 use Rattle.ipdl_lex.specs.Tokens.{Begins, IsStuck, IsOpenComment, IsOpenString, IsBadByte, IsTooLong, IsShortOf}
 use Rattle.ipdl_lex.specs.Scan.{class_of, ends_quoted, ClosesAt, IsFront}
-use Rattle.ipdl_lex.proofs.Classes.{blank_piece, slash_piece, letter_piece, quote_piece, mark_piece, other_piece, piece_nonempty, is_blank-class, slash-class, quote-class, is_mark-class, is_letter-class}
+use Rattle.ipdl_lex.proofs.Classes.{blank_piece, slash_piece, letter_piece, quote_piece, mark_piece, other_piece, piece_nonempty, is_blank-class, slash-class, quote-class, is_mark-class, word_start-class, word_rest, word_of}
 use Rattle.ipdl_lex.proofs.Runs.{StopsAt, Run, run_up_to, cut_by, closes_at, closes_split}
 
 -- a fact that follows from another, of each element
@@ -105,7 +106,7 @@ word_begins : (k : TokenKind) (b : ℕ) (bs rest : List ℕ) → class_of b ≡ 
 word_begins k b bs rest h word stops =
     begins_by (Some k) (b ∷ bs) rest word
     (λ l next tail after piece e.
-    let all = recursion_from_All (λ c. IsTrue (is_word_byte c)) (bs ++ next ∷ tail) (letter_piece l b (bs ++ next ∷ tail) h piece).1 in
+    let all = word_rest b (bs ++ next ∷ tail) (letter_piece l b (bs ++ next ∷ tail) h piece) in
     let goes : is_word_byte next ≡ true = last_of (λ c. IsTrue (is_word_byte c)) bs next tail all in
     let ends : not (is_word_byte next) ≡ true = subst (StopsAt (λ c. not (is_word_byte c))) e stops in
     both_ways (is_word_byte next) (not-true _ ends) goes)
@@ -113,19 +114,15 @@ word_begins k b bs rest h word stops =
 -- what the bytes up to the first that is no word byte are
 word_parts : (b : ℕ) (bs front rest : List ℕ) → class_of b ≡ class.Letter → Run (λ c. not (is_word_byte c)) (b ∷ bs) front rest → (more : List ℕ) × (front ≡ b ∷ more) × IsWord (b ∷ more)
 word_parts b bs [] rest h run =
-    let letter = is_letter-class b h in
+    let letter = word_start-class b h in
     let starts : not (is_word_byte b) ≡ true = subst (StopsAt (λ c. not (is_word_byte c))) (sym run.split) run.stops in
-    absurd (true≢false (sym letter ∙ (or_parts (is_letter b) _ (not-true _ starts)).0))
+    absurd (true≢false (sym letter ∙ (or_parts (is_word_start b) _ (not-true _ starts)).0))
 word_parts b bs (y ∷ ys) rest h run =
     let split = run.split in
     let same : y ≡ b = cc in (
       ys,
       ap (λ x. x ∷ ys) same,
-      (
-        is_letter-class b h,
-        All-from_recursion (λ c. IsTrue (is_word_byte c)) ys
-            (all_weaker (λ c. not (is_word_byte c) ≡ false) (λ c. is_word_byte c ≡ true) (λ c e. not-false _ e) ys run.fails.1),
-      ),
+      word_of b ys (word_start-class b h) (all_weaker (λ c. not (is_word_byte c) ≡ false) (λ c. is_word_byte c ≡ true) (λ c e. not-false _ e) ys run.fails.1),
     )
 
 -- the first bytes of a text up to the first that is no word byte are a word

@@ -4,3 +4,4 @@ pub mod Runs
 pub mod Fronts
 pub mod Steps
 pub mod Unique
+pub mod Spelled

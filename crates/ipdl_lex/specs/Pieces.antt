@@ -1,7 +1,7 @@
 -- What a text is made of: blanks, comments and the spellings of tokens.
-use Rattle.std.specs.Prelude.{◌≡◌, ◌≢◌, ℕ, Bool, ◌==◌, ◌||◌, ◌⊎◌, List, [], ◌∷◌, ◌++◌, Option, Some, None, IsTrue, All, Contains, codes}
+use Rattle.std.specs.Prelude.{◌≡◌, ◌≢◌, ℕ, Bool, ◌==◌, ◌⊎◌, List, [], ◌∷◌, ◌++◌, Option, Some, None, IsTrue, All, Contains, codes}
 use Rattle.std.specs.List.{list_any}
-use Rattle.std.specs.Char.{is_ascii_alphabetic, is_ascii_digit}
+use Rattle.ipdl_base.specs.Words.{IsWord}
 use Rattle.ipdl_base.specs.declared.token.TokenKind.{TokenKind}
 use Rattle.ipdl_base.specs.declared.token.TokenKind.TheVariants.{Word, Reserved, Quoted, Mark}
 
@@ -12,14 +12,6 @@ is_blank b = list_any (λ c. c == b) (codes " \t\r\n")
 -- a line feed
 abbrev pub is_line_feed : ℕ → Bool
 is_line_feed b = b == 10
-
--- a byte with which a word may begin
-abbrev pub is_letter : ℕ → Bool
-is_letter b = is_ascii_alphabetic b || b == 95
-
--- a byte that may follow in a word
-abbrev pub is_word_byte : ℕ → Bool
-is_word_byte b = is_letter b || is_ascii_digit b
 
 -- a byte that is a mark by itself
 abbrev pub is_mark : ℕ → Bool
@@ -32,11 +24,6 @@ reserved_words =
     ∷ codes "manager" ∷ codes "manages" ∷ codes "namespace" ∷ codes "nullable" ∷ codes "or"
     ∷ codes "parent" ∷ codes "protocol" ∷ codes "returns" ∷ codes "struct" ∷ codes "sync"
     ∷ codes "union" ∷ codes "UniquePtr" ∷ codes "using" ∷ []
-
--- a letter, and letters and digits behind it
-abbrev pub IsWord : List ℕ → Type 0
-IsWord [] = ⊥
-IsWord (b ∷ bytes) = IsTrue (is_letter b) × All (λ c. IsTrue (is_word_byte c)) bytes
 
 -- two quotes, and between them no quote and no line feed
 pub record IsQuoted (bytes : List ℕ) : Type 0 where

@@ -4,7 +4,8 @@ use Rattle.ipdl_base.specs.declared.finding.Place.{Place}
 use Rattle.ipdl_base.specs.declared.token.TokenKind.{TokenKind}
 use Rattle.ipdl_lex.specs.declared.scan.Class.{Class}
 use Rattle.ipdl_lex.specs.declared.scan.Class.TheVariants as class
-use Rattle.ipdl_lex.specs.Pieces.{is_blank, is_letter, is_line_feed, is_mark}
+use Rattle.ipdl_base.specs.Words.{is_word_start}
+use Rattle.ipdl_lex.specs.Pieces.{is_blank, is_line_feed, is_mark}
 use Rattle.ipdl_lex.specs.Tokens.{Begins}
 
 -- what a piece that begins with the byte may be
@@ -14,7 +15,7 @@ class_of b =
     else (if b == 47 then class.Slash
     else (if b == 34 then class.Quote
     else (if is_mark b then class.Mark
-    else (if is_letter b then class.Letter
+    else (if is_word_start b then class.Letter
     else class.Other))))
 
 -- a quote or a line feed, which end a quoted text

@@ -1,9 +1,11 @@
 #![tactic(auto)]
 
+mod laws;
 mod scan;
 mod token;
 
 pub use ipdl_base::{Token, TokenKind, Tokens};
+pub use laws::words_hold;
 pub use scan::{lex, one_answer};
 pub use token::{LexFault, Lexed};
 

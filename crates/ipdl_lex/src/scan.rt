@@ -1,5 +1,6 @@
 ghost use Rattle.std.specs.Prelude.{◌≡◌, ◌↔◌, ℕ, ◌+◌, ◌<◌, ◌≤◌, ◌^◌, ◌-◌, ◌⊎◌, ◌++◌, Some, None, IsTrue, IfOk, IfErr, OnOk, IfSome, IfNone, Contains, not, length, position, List, Ok, Err, slice_index, take};
-ghost use Rattle.ipdl_lex.specs.Pieces.{is_blank, is_letter, is_line_feed, is_word_byte, is_mark, reserved_words, Spells, IsWord};
+ghost use Rattle.ipdl_base.specs.Words.{is_word_start, is_word_byte, IsWord};
+ghost use Rattle.ipdl_lex.specs.Pieces.{is_blank, is_line_feed, is_mark, reserved_words, Spells};
 ghost use Rattle.ipdl_lex.specs.Tokens.{FailsAt, IsShortOf, IsTokens, IsFault, Gives, token_at};
 ghost use Rattle.ipdl_lex.specs.declared.token.Lexed.{Lexed};
 ghost use Rattle.ipdl_lex.specs.declared.token.LexFault.{LexFault};
@@ -64,8 +65,8 @@ fn is_blank(b: u8) -> bool
     b" \t\r\n".contains(&b)
 }
 
-fn is_letter(b: u8) -> bool
-    ensures { result ≡ is_letter b }
+fn is_word_start(b: u8) -> bool
+    ensures { result ≡ is_word_start b }
 {
     b.is_ascii_alphabetic() || b == b'_'
 }
@@ -73,7 +74,7 @@ fn is_letter(b: u8) -> bool
 fn is_word_byte(b: u8) -> bool
     ensures { result ≡ is_word_byte b }
 {
-    is_letter(b) || b.is_ascii_digit()
+    is_word_start(b) || b.is_ascii_digit()
 }
 
 fn is_mark(b: u8) -> bool
@@ -100,7 +101,7 @@ fn class_of(b: u8) -> Class
         Class::Quote
     } else if is_mark(b) {
         Class::Mark
-    } else if is_letter(b) {
+    } else if is_word_start(b) {
         Class::Letter
     } else {
         Class::Other

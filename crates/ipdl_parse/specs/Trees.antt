@@ -4,7 +4,7 @@ use Rattle.ipdl_base.specs.declared.token.Token.{Token}
 use Rattle.ipdl_syntax.specs.declared.tree.FileKind.{FileKind}
 use Rattle.ipdl_syntax.specs.declared.tree.Unit.{Unit as FileUnit}
 use Rattle.ipdl_syntax.specs.Program.{Tree}
-use Rattle.tree_laws.specs.Boxes.{unboxed}
+use Rattle.grammar_laws.specs.Boxes.{unboxed}
 
 -- Every tree of the tokens is this one, up to where the boxes of the two lie in memory.
 abbrev pub IsOnlyTree : FileKind → List Token → FileUnit → Type 0

@@ -6,7 +6,7 @@ ghost use Rattle.ipdl_parse.specs.Trees.{IsOnlyTree};
 use ipdl_base::{Place, Token};
 use ipdl_syntax::{FileKind, Unit};
 use std::alloc::Global;
-use tree_laws::one_tree;
+use grammar_laws::one_tree;
 use tree_reader::{Refusal, read_file};
 
 /// Why tokens have no tree.

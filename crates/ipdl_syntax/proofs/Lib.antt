@@ -1,4 +1,3 @@
 pub mod Declarations
-pub mod Files
-pub mod Limits
 pub mod Worked
+pub mod WorkedPrograms

@@ -1,4 +1,5 @@
 pub mod Grammar
-pub mod Laws
 pub mod Parts
 pub mod Program
+pub mod Programs
+pub mod Units

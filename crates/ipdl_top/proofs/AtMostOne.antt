@@ -10,7 +10,7 @@ use Rattle.ipdl_lex.specs.Tokens.{IsTokens, IsFault}
 use Rattle.ipdl_syntax.specs.declared.tree.FileKind.TheVariants as file
 use Rattle.ipdl_syntax.specs.declared.tree.Unit.{Unit as FileUnit}
 use Rattle.ipdl_syntax.specs.Program.{Tree}
-use Rattle.tree_laws.specs.Laws.{HasOneTree}
+use Rattle.grammar_laws.specs.Laws.{HasOneTree}
 use Rattle.narrow_rules.specs.Broken.{IsReport}
 use Rattle.narrow_rules.specs.Laws.{OneReport}
 use Rattle.narrow_rules.specs.Narrow.{IsNarrow}

@@ -10,7 +10,7 @@ use Rattle.ipdl_syntax.specs.declared.tree.ProtocolDecl.{ProtocolDecl}
 use Rattle.ipdl_syntax.specs.declared.tree.TypeSpec.{TypeSpec}
 use Rattle.ipdl_syntax.specs.declared.tree.Unit.{Unit as FileUnit}
 use Rattle.narrow_rules.specs.Narrow.{IsWordBase, IsNarrowParam, IsNarrowMessage, IsNarrowProtocol, IsNarrow}
-use Rattle.tree_laws.specs.Boxes.{unboxed_base, unboxed_type, unboxed_param, unboxed_returns, unboxed_message, unboxed_protocol, unboxed_struct, unboxed_union, unboxed_held, unboxed}
+use Rattle.grammar_laws.specs.Boxes.{unboxed_base, unboxed_type, unboxed_param, unboxed_returns, unboxed_message, unboxed_protocol, unboxed_struct, unboxed_union, unboxed_held, unboxed}
 
 -- lists with equal heads and equal tails are equal
 cells : {X : Type 0} (a b : X) (as' bs : List X) → a ≡ b → as' ≡ bs → a ∷ as' ≡ b ∷ bs

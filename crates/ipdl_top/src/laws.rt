@@ -3,7 +3,7 @@ ghost use Rattle.ipdl_top.specs.Laws.{OneAnswer};
 use actor_tables::one_schema;
 use ipdl_lex::one_answer;
 use narrow_rules::one_report;
-use tree_laws::one_tree;
+use grammar_laws::one_tree;
 
 /// The law of the answer: for the same files, words have at most one. So the files and the words
 /// determine an answer's status, its text for `out` and its text for `err`.
