@@ -11,7 +11,7 @@ use Rattle.ipdl_syntax.specs.declared.tree.StructDecl.{StructDecl}
 use Rattle.ipdl_syntax.specs.declared.tree.UnionDecl.{UnionDecl}
 use Rattle.ipdl_syntax.specs.declared.tree.Unit.{Unit as FileUnit}
 use Rattle.ipdl_syntax.specs.declared.tree.Using.{Using}
-use Rattle.ipdl_syntax.specs.Parts.{Part, ◌⨾◌}
+use Rattle.ipdl_syntax.specs.Parts.{Part}
 use Rattle.ipdl_syntax.specs.Grammar.{in_namespace, Inside, inside_end, inside_struct, inside_union, inside_namespace, Outside, outside_end, outside_include, outside_using, outside_struct, outside_union, outside_namespace, Holder, holder_protocol, holder_namespace, inside, outside, holder, protocol_file}
 use Rattle.ipdl_syntax.specs.Program.{Declared, ◌&◌, no_declaration, an_include, a_using, a_struct, a_union, declared_inside, declared_outside, declared_round, protocol_of, unit_of, Tree}
 use Rattle.grammar_laws.specs.Laws.{NamesHold, PlacesHold}

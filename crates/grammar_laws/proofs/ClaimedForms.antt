@@ -1,10 +1,9 @@
 -- What the forms of the grammar claim that are read from tokens with that claim: names, attributes, types and messages.
-use Rattle.std.proofs.Common.{◌≡◌, ℕ, ◌-◌, Bool, true, false, List, [], ◌∷◌, ◌++◌, Option, Some, None, codes, subst}
+use Rattle.std.proofs.Common.{◌≡◌, ℕ, ◌-◌, Bool, true, false, List, [], ◌∷◌, ◌++◌, Option, Some, None, subst}
 use Rattle.std.specs.Prelude.{IfSome}
 use Rattle.std.specs.List.{AllByRecursion}
 use Rattle.ipdl_base.specs.declared.finding.Place.{Place}
 use Rattle.ipdl_base.specs.declared.kinds.Direction.{Direction}
-use Rattle.ipdl_base.specs.declared.token.Token.{Token}
 use Rattle.ipdl_base.specs.Words.{IsWord, IsFullName, joined}
 use Rattle.ipdl_syntax.specs.declared.tree.Attribute.{Attribute}
 use Rattle.ipdl_syntax.specs.declared.tree.Base.{Base, Named, Unique'}
