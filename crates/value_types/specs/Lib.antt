@@ -1,3 +1,3 @@
-pub mod Shapes
 pub mod HasType
-pub mod HasTypeExamples
+pub mod Shapes
+pub mod Sizes

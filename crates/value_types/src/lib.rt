@@ -3,6 +3,10 @@
 #![tactic(auto)]
 
 mod fits;
+mod layout;
 mod shapes;
+mod sizes;
 
 pub use fits::{value_fits, values_fit};
+pub use layout::{Layout, MARK, NEW, OLD};
+pub use sizes::{payload_size, value_size, values_size};
