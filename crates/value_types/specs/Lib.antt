@@ -1,3 +1,5 @@
+pub mod Fits
 pub mod HasType
 pub mod Shapes
 pub mod Sizes
+pub mod ValueText

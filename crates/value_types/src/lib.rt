@@ -6,7 +6,9 @@ mod fits;
 mod layout;
 mod shapes;
 mod sizes;
+mod text;
 
 pub use fits::{value_fits, values_fit};
 pub use layout::{Layout, MARK, NEW, OLD};
 pub use sizes::{payload_size, value_size, values_size};
+pub use text::{push_value, push_values};

@@ -122,7 +122,7 @@ pub fn value_size(schema: &Schema, layout: Layout, shape: &Shape, value: &Value)
 
 /// How many bytes values take in a payload, or the greatest `usize` where they take more. Takes no
 /// memory.
-pub fn values_size(layout: Layout, schema: &Schema, params: &[ParamRow], values: &Values) -> usize
+pub fn values_size(schema: &Schema, layout: Layout, params: &[ParamRow], values: &Values) -> usize
     ensures { result ≡ min (size.values_size layout schema.now params.now values.now) size.greatest_size }
 {
     size_of_values(values, layout, schema, params)
