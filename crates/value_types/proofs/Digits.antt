@@ -1,4 +1,4 @@
-use Rattle.std.proofs.Common.{◌≡◌, ℕ, zero, suc, ◌-◌, ◌/◌, ◌%◌, ◌≢◌, List, [], ◌∷◌, ◌++◌, refl, ap, sub-one, arith}
+use Rattle.std.proofs.Common.{◌≡◌, ℕ, zero, suc, ◌-◌, ◌/◌, ◌%◌, ◌≢◌, [], ◌∷◌, ◌++◌, refl, ap, arith}
 use Rattle.value_types.specs.ValueText.{hex_digit, hex_digits}
 
 -- no digit is asked for

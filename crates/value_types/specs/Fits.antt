@@ -1,5 +1,5 @@
 -- Which messages a channel may carry under a schema.
-use Rattle.std.specs.Prelude.{◌≡◌, ◌≢◌, ℕ, ◌+◌, ℤ, pos, negsuc, ◌≤ℤ◌, true, IsTrue, List, [], ◌∷◌, ◌++◌, Option, Some, None, unwrap_or}
+use Rattle.std.specs.Prelude.{◌≡◌, ◌≢◌, ◌+◌, ℤ, pos, negsuc, ◌≤ℤ◌, IsTrue, List, [], ◌∷◌, ◌++◌, Some, unwrap_or}
 use Rattle.std.specs.List.{All}
 use Rattle.ipdl_base.specs.declared.kinds.Reason.{Reason}
 use Rattle.ipdl_base.specs.declared.kinds.Reason.TheVariants.{ChannelClosed, HandlerRejected, ActorDestroyed, ResolverDestroyed}

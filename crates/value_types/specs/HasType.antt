@@ -1,10 +1,10 @@
 -- Which values a type has.
-use Rattle.std.specs.Prelude.{◌≡◌, ◌≢◌, ℕ, ◌<◌, ◌^◌, ℤ, pos, ◌≤ℤ◌, IsTrue, List, [], ◌∷◌, Option, Some, None, IsSomeAnd, option_and_then}
+use Rattle.std.specs.Prelude.{◌≡◌, ℕ, ◌<◌, ◌^◌, ℤ, pos, ◌≤ℤ◌, IsTrue, List, [], ◌∷◌, Some, IsSomeAnd, option_and_then}
 use Rattle.std.specs.Str.{IsUtf8}
 use Rattle.ipdl_base.specs.declared.builtin.Builtin.TheVariants as builtin
 use Rattle.ipdl_base.specs.declared.schema.Schema.{Schema}
 use Rattle.ipdl_base.specs.declared.schema.ParamRow.{ParamRow}
-use Rattle.ipdl_base.specs.declared.schema.Shape.{Shape, Builtin, Actor}
+use Rattle.ipdl_base.specs.declared.schema.Shape.{Shape, Actor}
 use Rattle.ipdl_base.specs.declared.value.Value.{Value, Union', Maybe', Held-Value-Maybe-0, None', Some'}
 use Rattle.ipdl_base.specs.declared.value.Value.TheVariants as value
 use Rattle.ipdl_base.specs.declared.value.Values.{Values, First'}

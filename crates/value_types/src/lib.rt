@@ -3,12 +3,14 @@
 #![tactic(auto)]
 
 mod fits;
+mod laws;
 mod layout;
 mod shapes;
 mod sizes;
 mod text;
 
 pub use fits::{value_fits, values_fit};
+pub use laws::{boxes_say_nothing, new_is_at_most_four_times};
 pub use layout::{Layout, MARK, NEW, OLD};
 pub use sizes::{payload_size, value_size, values_size};
 pub use text::{push_value, push_values};
