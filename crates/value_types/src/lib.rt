@@ -12,5 +12,8 @@ mod text;
 pub use fits::{value_fits, values_fit};
 pub use laws::{boxes_say_nothing, new_is_at_most_four_times};
 pub use layout::{Layout, MARK, NEW, OLD};
-pub use sizes::{payload_size, value_size, values_size};
+pub use sizes::{body_size, payload_size, value_size, values_size};
 pub use text::{push_value, push_values};
+
+#[cfg(test)]
+mod tests;

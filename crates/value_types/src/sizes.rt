@@ -1,4 +1,4 @@
-ghost use Rattle.std.specs.Prelude.{◌≡◌, ◌+◌, min, length, unwrap_or};
+ghost use Rattle.std.specs.Prelude.{◌≡◌, ◌+◌, min, length, unwrap_or, option_map};
 ghost use Rattle.ipdl_base.specs.Sound.{IsSound};
 ghost use Rattle.value_types.specs.Sizes as size;
 
@@ -149,16 +149,29 @@ fn reply_size(layout: Layout, schema: &Schema, values: &Values, row: &MessageRow
     }
 }
 
+/// How many bytes what a message carries takes, by the row of its number, or the greatest `usize`
+/// where it takes more. Values of a message of which there is no row take none. Takes no memory.
+pub fn body_size(schema: &Schema, layout: Layout, row: Option<&MessageRow>, body: &Body) -> usize
+    ensures { result ≡ min (size.body_size layout schema.now (option_map (λ r. r.now) row.entry) body.now) size.greatest_size }
+{
+    match (body, row) {
+        (Body::Request(values), Some(row)) => request_size(layout, schema, values, row),
+        (Body::Reply(values), Some(row)) => reply_size(layout, schema, values, row),
+        (Body::Request(_) | Body::Reply(_), None) | (Body::Goodbye, _) => 0,
+        (Body::Fault(_), _) => padded(layout, 1),
+    }
+}
+
 /// How many bytes the payload of a message takes, or the greatest `usize` where it takes more. Takes
 /// no memory.
 pub fn payload_size(schema: &Schema, layout: Layout, message: &Message) -> usize
     requires { IsSound schema.now }
     ensures { result ≡ min (size.payload_size layout schema.now message.now) size.greatest_size }
 {
-    match (&message.body, schema.message(message.number)) {
-        (Body::Request(values), Some(row)) => request_size(layout, schema, values, row),
-        (Body::Reply(values), Some(row)) => reply_size(layout, schema, values, row),
-        (Body::Fault(_), _) => padded(layout, 1),
-        _ => 0,
-    }
+    body_size(
+        schema,
+        layout,
+        schema.message(message.number),
+        &message.body,
+    )
 }
