@@ -4,3 +4,4 @@ pub mod Laws
 pub mod Shapes
 pub mod Sizes
 pub mod ValueText
+mod ValuesExamples

@@ -71,10 +71,7 @@ fn check(rt: &impl Abort, alloc: Global, schema: &Schema, case: &Case) -> Result
 }
 
 /// The least and the greatest value of each builtin with numbers, and those next to them.
-#[test]
-fn numbers(rt: HostRuntime) -> Result<(), Fail> {
-    let alloc = rt.alloc();
-    let schema = schema(alloc)?;
+fn numbers(rt: &impl Abort, alloc: Global, schema: &Schema) -> Result<(), AllocError> {
     let rows = [
         (Builtin::Char, -128, "-128", 127, "127", 1),
         (Builtin::Int8, -128, "-128", 127, "127", 1),
@@ -147,9 +144,9 @@ fn numbers(rt: HostRuntime) -> Result<(), Fail> {
             let value = Value::Int(number);
             let shape = Shape::Builtin(builtin);
             check(
-                &rt,
+                rt,
                 alloc,
-                &schema,
+                schema,
                 &Case {
                     shape,
                     value,
@@ -163,7 +160,7 @@ fn numbers(rt: HostRuntime) -> Result<(), Fail> {
         for beyond in [least.wrapping_sub(1), greatest.wrapping_add(1)] {
             let shape = Shape::Builtin(builtin);
             assert!(rt;
-                !value_fits(&schema, &shape, &Value::Int(beyond)),
+                !value_fits(schema, &shape, &Value::Int(beyond)),
                 "{beyond}"
             );
         }
@@ -172,10 +169,7 @@ fn numbers(rt: HostRuntime) -> Result<(), Fail> {
 }
 
 /// Bits, texts and bytes.
-#[test]
-fn plain_values(rt: HostRuntime) -> Result<(), Fail> {
-    let alloc = rt.alloc();
-    let schema = schema(alloc)?;
+fn bits_and_bytes(rt: &impl Abort, alloc: Global, schema: &Schema) -> Result<(), AllocError> {
     let rows = [
         (Builtin::Float, 0, "h\"00000000\"", 4),
         (Builtin::Float, 0x3f80_0000, "h\"3f800000\"", 4),
@@ -192,9 +186,9 @@ fn plain_values(rt: HostRuntime) -> Result<(), Fail> {
         let value = Value::Bits(bits);
         let shape = Shape::Builtin(builtin);
         check(
-            &rt,
+            rt,
             alloc,
-            &schema,
+            schema,
             &Case {
                 shape,
                 value,
@@ -217,9 +211,9 @@ fn plain_values(rt: HostRuntime) -> Result<(), Fail> {
         let value = Value::Text(name(alloc, bytes)?);
         let shape = Shape::Builtin(Builtin::NsString);
         check(
-            &rt,
+            rt,
             alloc,
-            &schema,
+            schema,
             &Case {
                 shape,
                 value,
@@ -255,9 +249,9 @@ fn plain_values(rt: HostRuntime) -> Result<(), Fail> {
     for (shape, bytes, text, old, new) in rows {
         let value = Value::Bytes(name(alloc, bytes)?);
         check(
-            &rt,
+            rt,
             alloc,
-            &schema,
+            schema,
             &Case {
                 shape,
                 value,
@@ -294,10 +288,7 @@ fn text(alloc: Global, bytes: &[u8]) -> Result<Value, AllocError> {
 }
 
 /// Values that are made of others, and actors.
-#[test]
-fn compound_values(rt: HostRuntime) -> Result<(), Fail> {
-    let alloc = rt.alloc();
-    let schema = schema(alloc)?;
+fn compound_values(rt: &impl Abort, alloc: Global, schema: &Schema) -> Result<(), AllocError> {
     let byte = Shape::Builtin(Builtin::Int16);
     let rows = [
         (
@@ -376,9 +367,9 @@ fn compound_values(rt: HostRuntime) -> Result<(), Fail> {
     ];
     for (shape, value, text, old, new) in rows {
         check(
-            &rt,
+            rt,
             alloc,
-            &schema,
+            schema,
             &Case {
                 shape,
                 value,
@@ -388,6 +379,17 @@ fn compound_values(rt: HostRuntime) -> Result<(), Fail> {
             },
         )?;
     }
+    Ok(())
+}
+
+/// Values of every type: that they have it, their texts and their sizes.
+#[test]
+fn values(rt: HostRuntime) -> Result<(), Fail> {
+    let alloc = rt.alloc();
+    let schema = schema(alloc)?;
+    numbers(&rt, alloc, &schema)?;
+    bits_and_bytes(&rt, alloc, &schema)?;
+    compound_values(&rt, alloc, &schema)?;
     Ok(())
 }
 
@@ -460,6 +462,23 @@ fn constructor(alloc: Global) -> Result<MessageRow, AllocError> {
     })
 }
 
+/// A goodbye under a schema of nothing.
+fn goodbye(rt: &impl Abort, alloc: Global) {
+    let schema = Schema {
+        protocols: Items::from_vec(Vec::new(alloc)),
+        types: Items::from_vec(Vec::new(alloc)),
+    };
+    let message = Message {
+        route: 0,
+        number: 4294901760,
+        seq: 0,
+        transaction: 0,
+        made: 0,
+        body: Body::Goodbye,
+    };
+    assert_eq!(rt; payload_size(&schema, NEW, &message), 0);
+}
+
 /// Values of parameters, and payloads.
 #[test]
 fn payloads(rt: HostRuntime) -> Result<(), Fail> {
@@ -488,24 +507,6 @@ fn payloads(rt: HostRuntime) -> Result<(), Fail> {
         assert_eq!(rt; body_size(&schema, OLD, row, &body), old);
         assert_eq!(rt; body_size(&schema, NEW, row, &body), new);
     }
+    goodbye(&rt, alloc);
     Ok(())
-}
-
-/// A goodbye under a schema of nothing.
-#[test]
-fn goodbye(rt: HostRuntime) {
-    let alloc = rt.alloc();
-    let schema = Schema {
-        protocols: Items::from_vec(Vec::new(alloc)),
-        types: Items::from_vec(Vec::new(alloc)),
-    };
-    let message = Message {
-        route: 0,
-        number: 4294901760,
-        seq: 0,
-        transaction: 0,
-        made: 0,
-        body: Body::Goodbye,
-    };
-    assert_eq!(rt; payload_size(&schema, NEW, &message), 0);
 }
