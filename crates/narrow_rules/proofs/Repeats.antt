@@ -13,9 +13,9 @@ use Rattle.std.proofs.lemmas.Option.{slice_get_cases, slice_get_within, get_or_f
 use Rattle.ipdl_base.specs.declared.finding.Finding.{Finding}
 use Rattle.ipdl_base.specs.declared.finding.Place.{Place}
 use Rattle.ipdl_syntax.specs.declared.tree.MessageDecl.{MessageDecl}
-use Rattle.narrow_rules.specs.Adds.{Adds}
+use Rattle.findings.specs.Adds.{Adds}
 use Rattle.narrow_rules.specs.Broken.{IsRepeatedIn, repeated_name}
-use Rattle.narrow_rules.proofs.Gains.{Adds-like, Adds-then, Adds-push}
+use Rattle.findings.proofs.Gains.{Adds-like, Adds-then, Adds-push}
 use Rattle.narrow_rules.proofs.Same.{decided}
 
 -- whether one of these has the name

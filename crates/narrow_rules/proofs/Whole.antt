@@ -7,7 +7,7 @@ use Rattle.std.proofs.lemmas.Result.{IfOk-weaker}
 use Rattle.ipdl_base.specs.declared.finding.Finding.{Finding}
 use Rattle.ipdl_syntax.specs.declared.tree.ProtocolDecl.{ProtocolDecl}
 use Rattle.ipdl_syntax.specs.declared.tree.Unit.{Unit as FileUnit}
-use Rattle.narrow_rules.specs.Adds.{Adds}
+use Rattle.findings.specs.Adds.{Adds}
 use Rattle.narrow_rules.specs.Broken.{Broken, IsUnknownIn, IsRepeatedIn, unknown_type, repeated_name}
 use Rattle.narrow_rules.specs.Heads.{HasProtocolAlone}
 use Rattle.narrow_rules.specs.Narrow.{IsNarrow, IsNarrowProtocol}

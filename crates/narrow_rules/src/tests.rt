@@ -1,4 +1,4 @@
-use super::{clean, is_narrow, narrow_findings, one_report};
+use super::{clean, is_narrow, narrow_findings};
 use ipdl_base::{Direction, Finding, Items, Name, Place, Rule, Semantics};
 use ipdl_syntax::{Base, MessageDecl, Param, ProtocolDecl, TypeSpec, Unit};
 use std::alloc::{AllocError, Global};
@@ -117,7 +117,6 @@ fn finding(line: u32, column: u32, rule: Rule) -> Option<Finding> {
 
 #[test]
 fn reports(rt: HostRuntime) -> Result<(), Fail> {
-    one_report();
     clean();
     let alloc = rt.alloc();
     let both = (true, 2, finding(4, 9, REPEATED), finding(4, 15, UNKNOWN));
