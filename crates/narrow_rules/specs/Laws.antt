@@ -1,5 +1,5 @@
 -- What follows from the definitions, for every tree.
-use Rattle.std.specs.Prelude.{◌≡◌, ℕ, List, [], IsSomeAnd}
+use Rattle.std.specs.Prelude.{ℕ, List, [], IsSomeAnd}
 use Rattle.ipdl_syntax.specs.declared.tree.Unit.{Unit as FileUnit}
 use Rattle.narrow_rules.specs.Broken.{IsReport}
 use Rattle.narrow_rules.specs.Narrow.{IsNarrow, IsClean}
