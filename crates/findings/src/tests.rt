@@ -3,14 +3,14 @@ use ipdl_base::{Finding, Place, Rule};
 use std::alloc::{AllocError, Global};
 use std::test::Fail;
 
-/// File, line, column, letter and number.
-type Row = (u32, u32, u32, u8, u8);
+/// File, line, column and rule.
+type Row = (u32, u32, u32, Rule);
 
 fn finding(row: Row) -> Finding {
-    let (file, line, column, letter, number) = row;
+    let (file, line, column, rule) = row;
     Finding {
         place: Place { file, line, column },
-        rule: Rule { letter, number },
+        rule,
     }
 }
 
@@ -25,26 +25,27 @@ fn findings(alloc: Global, rows: &[Row]) -> Result<Vec<Finding>, AllocError> {
 #[test]
 fn orders(rt: HostRuntime) -> Result<(), Fail> {
     one_report();
+    let token = Rule::BAD_TOKEN;
     let rows: [(&[Row], &[Row]); 3] = [
         (&[], &[]),
         (
-            &[(0, 2, 1, 65, 1), (0, 1, 9, 65, 1), (0, 2, 1, 65, 1)],
-            &[(0, 1, 9, 65, 1), (0, 2, 1, 65, 1)],
+            &[(0, 2, 1, token), (0, 1, 9, token), (0, 2, 1, token)],
+            &[(0, 1, 9, token), (0, 2, 1, token)],
         ),
         (
             &[
-                (1, 1, 1, 65, 1),
-                (0, 3, 3, 66, 2),
-                (0, 3, 3, 66, 1),
-                (0, 3, 3, 65, 9),
-                (0, 3, 2, 78, 9),
+                (1, 1, 1, token),
+                (0, 3, 3, Rule::REPEATED_NAME),
+                (0, 3, 3, Rule::AMBIGUOUS_TYPE),
+                (0, 3, 3, Rule::SYNTAX_FAULT),
+                (0, 3, 2, Rule::NOT_BUILT),
             ],
             &[
-                (0, 3, 2, 78, 9),
-                (0, 3, 3, 65, 9),
-                (0, 3, 3, 66, 1),
-                (0, 3, 3, 66, 2),
-                (1, 1, 1, 65, 1),
+                (0, 3, 2, Rule::NOT_BUILT),
+                (0, 3, 3, Rule::SYNTAX_FAULT),
+                (0, 3, 3, Rule::AMBIGUOUS_TYPE),
+                (0, 3, 3, Rule::REPEATED_NAME),
+                (1, 1, 1, token),
             ],
         ),
     ];

@@ -4,20 +4,13 @@ use Rattle.std.specs.List.{Any}
 use Rattle.ipdl_base.specs.declared.finding.Finding.{Finding}
 use Rattle.ipdl_base.specs.declared.finding.Place.{Place}
 use Rattle.ipdl_base.specs.declared.finding.Rule.{Rule}
+use Rattle.ipdl_base.specs.declared.finding.TheConstants.Rule as rule
 use Rattle.ipdl_syntax.specs.declared.tree.Base.{Base, Named, Unique'}
 use Rattle.ipdl_syntax.specs.declared.tree.MessageDecl.{MessageDecl}
 use Rattle.ipdl_syntax.specs.declared.tree.Param.{Param}
 use Rattle.ipdl_syntax.specs.declared.tree.Unit.{Unit as FileUnit}
 use Rattle.findings.specs.Report as report
 use Rattle.narrow_rules.specs.Narrow.{IsBuiltinName}
-
--- B1 unknown type
-abbrev pub unknown_type : Rule
-unknown_type = record { letter = 66; number = 1 }
-
--- B21 repeated name
-abbrev pub repeated_name : Rule
-repeated_name = record { letter = 66; number = 21 }
 
 -- the type's name is no builtin's, where the type is a name
 abbrev pub IsUnknownBase : Base → Type 0
@@ -52,7 +45,7 @@ IsRepeatedName unit place = IsSomeAnd unit.protocol (λ p. IsRepeatedIn p.messag
 -- the finding holds of the tree: its rule is broken at its place
 abbrev pub Broken : FileUnit → Finding → Type 0
 Broken unit finding =
-    ((finding.rule ≡ unknown_type) × IsUnknownType unit finding.place) ⊎ ((finding.rule ≡ repeated_name) × IsRepeatedName unit finding.place)
+    ((finding.rule ≡ rule.UNKNOWN_TYPE) × IsUnknownType unit finding.place) ⊎ ((finding.rule ≡ rule.REPEATED_NAME) × IsRepeatedName unit finding.place)
 
 -- the report of a tree
 abbrev pub IsReport : FileUnit → List Finding → Type 0

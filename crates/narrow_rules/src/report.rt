@@ -2,7 +2,7 @@ ghost use Rattle.std.specs.Prelude.{◌↔◌, IfOk, OnOk, IsTrue};
 ghost use Rattle.std.specs.List.{Any, Contains};
 ghost use Rattle.ipdl_base.specs.declared.finding.Finding.{Finding};
 ghost use Rattle.findings.specs.Adds.{Adds};
-ghost use Rattle.narrow_rules.specs.Broken.{unknown_type, repeated_name, IsUnknownBase, IsUnknownAt, IsUnknownIn, IsRepeatedIn, Broken, IsReport};
+ghost use Rattle.narrow_rules.specs.Broken.{IsUnknownBase, IsUnknownAt, IsUnknownIn, IsRepeatedIn, Broken, IsReport};
 
 use crate::names::is_builtin;
 use findings::sorted;
@@ -10,18 +10,6 @@ use ipdl_base::{Finding, Findings, Rule};
 use ipdl_syntax::{Base, MessageDecl, Param, Unit};
 use std::alloc::{AllocError, Global};
 use std::collections::HashSet;
-
-/// B1 unknown type: a type whose name is none that the file knows.
-const UNKNOWN_TYPE: Rule = Rule {
-    letter: b'B',
-    number: 1,
-};
-
-/// B21 repeated name: a message with the name of one before it.
-const REPEATED_NAME: Rule = Rule {
-    letter: b'B',
-    number: 21,
-};
 
 fn is_unknown(base: &Base) -> bool
     ensures { IsTrue result ↔ IsUnknownBase base.now }
@@ -34,13 +22,13 @@ fn is_unknown(base: &Base) -> bool
 
 /// Adds a finding at each type of a parameter that is unknown.
 fn add_unknown_of(params: &[Param], found: &mut Vec<Finding>) -> Result<(), AllocError>
-    ensures { OnOk result (Adds unknown_type (λ place. Any (IsUnknownAt place) params.now) found.old.items found.new.items) }
+    ensures { OnOk result (Adds Rule.UNKNOWN_TYPE (λ place. Any (IsUnknownAt place) params.now) found.old.items found.new.items) }
 {
     for param in params {
         if is_unknown(&param.spec.base) {
             found.push(Finding {
                 place: param.spec.place,
-                rule: UNKNOWN_TYPE,
+                rule: Rule::UNKNOWN_TYPE,
             })?;
         }
     }
@@ -49,7 +37,7 @@ fn add_unknown_of(params: &[Param], found: &mut Vec<Finding>) -> Result<(), Allo
 
 /// Adds a finding at each type of a parameter of the messages that is unknown.
 fn add_unknown(messages: &[MessageDecl], found: &mut Vec<Finding>) -> Result<(), AllocError>
-    ensures { OnOk result (Adds unknown_type (IsUnknownIn messages.now) found.old.items found.new.items) }
+    ensures { OnOk result (Adds Rule.UNKNOWN_TYPE (IsUnknownIn messages.now) found.old.items found.new.items) }
 {
     for message in messages {
         add_unknown_of(message.params.as_slice(), found)?;
@@ -63,14 +51,14 @@ fn add_repeated(
     messages: &[MessageDecl],
     found: &mut Vec<Finding>,
 ) -> Result<(), AllocError>
-    ensures { OnOk result (Adds repeated_name (IsRepeatedIn messages.now) found.old.items found.new.items) }
+    ensures { OnOk result (Adds Rule.REPEATED_NAME (IsRepeatedIn messages.now) found.old.items found.new.items) }
 {
     let mut seen = HashSet::new(alloc);
     for message in messages {
         if !seen.insert(message.name.as_slice())? {
             found.push(Finding {
                 place: message.place,
-                rule: REPEATED_NAME,
+                rule: Rule::REPEATED_NAME,
             })?;
         }
     }

@@ -4,15 +4,9 @@ use ipdl_syntax::{Base, MessageDecl, Param, ProtocolDecl, TypeSpec, Unit};
 use std::alloc::{AllocError, Global};
 use std::test::Fail;
 
-const UNKNOWN: Rule = Rule {
-    letter: 66,
-    number: 1,
-};
+const UNKNOWN: Rule = Rule::UNKNOWN_TYPE;
 
-const REPEATED: Rule = Rule {
-    letter: 66,
-    number: 21,
-};
+const REPEATED: Rule = Rule::REPEATED_NAME;
 
 fn at(line: u32, column: u32) -> Place {
     Place {
