@@ -2,7 +2,6 @@ ghost use Rattle.ipdl_top.specs.Laws.{OneAnswer};
 
 use actor_tables::one_schema;
 use ipdl_lex::one_answer;
-use narrow_rules::one_report;
 use tree_laws::one_tree;
 
 /// The law of the answer: for the same files, words have at most one. So the files and the words
@@ -11,7 +10,6 @@ pub fn determined()
     ensures { OneAnswer }
 {
     one_tree();
-    one_report();
     one_schema();
     one_answer();
 }
