@@ -24,12 +24,7 @@ fn not_built(alloc: Global, name: &str) -> Result<Answer, Failure>
 }
 
 /// The answer of the compilation of a file of this name, and so of this key, that has these bytes.
-fn compile_bytes(
-    alloc: Global,
-    name: &str,
-    key: &[u8],
-    bytes: &[u8],
-) -> Result<Answer, Failure>
+fn compile_bytes(alloc: Global, name: &str, key: &[u8], bytes: &[u8]) -> Result<Answer, Failure>
     requires { IsKeyOf name.now key.now }
     ensures answer { IfOk result (IsCompilation name.now (Some bytes.now)) }
     ensures memory { IsOkUnless result Failure.NoMemory }

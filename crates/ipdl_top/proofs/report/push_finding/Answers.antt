@@ -14,6 +14,6 @@ returns c =
     let f = c.args.finding.now in
     let P : List ℕ → Type 0 = λ line. OnOk c.extend_from_slice.result (c.extend_from_slice.new.self.items ≡ c.args.text.now.items ++ line) in
     let e : c.as_bytes.result.now ≡ finding_line c.args.name.now f =
-        c.as_bytes.ensures.value ∙ c.in_ok-printed.ensures.ok ∙ line_of c.args.name.now (decimal f.place.line) (decimal f.place.column) (rule_line f.rule) in
+    c.as_bytes.ensures.value ∙ c.in_ok-printed.ensures.ok ∙ line_of c.args.name.now (decimal f.place.line) (decimal f.place.column) (rule_line f.rule) in
     let pushed : P c.as_bytes.result.now = search rules in
     subst P e pushed
