@@ -3,6 +3,7 @@ use Rattle.std.proofs.Common.{◌≡◌, ◌≤◌, ◌<◌, ℕ, List, [], ◌�
 use Rattle.std.specs.Prelude.{Option, Some, None}
 use Rattle.std.proofs.lemmas.Option.{same_Some}
 use Rattle.ipdl_base.specs.declared.finding.Finding.{Finding}
+use Rattle.ipdl_base.specs.declared.finding.TheConstants.Rule as rule
 use Rattle.ipdl_base.specs.declared.token.Token.{Token}
 use Rattle.ipdl_lex.specs.declared.token.Lexed.{Lexed}
 use Rattle.ipdl_lex.specs.declared.token.LexFault.{LexFault}
@@ -12,16 +13,16 @@ use Rattle.ipdl_syntax.specs.declared.tree.Unit.{Unit as FileUnit}
 use Rattle.ipdl_syntax.specs.Program.{Tree}
 use Rattle.grammar_laws.specs.Laws.{HasOneTree}
 use Rattle.narrow_rules.specs.Broken.{IsReport}
-use Rattle.narrow_rules.specs.Laws.{OneReport}
 use Rattle.narrow_rules.specs.Narrow.{IsNarrow}
 use Rattle.actor_tables.specs.Laws.{OneSchema}
 use Rattle.actor_tables.specs.SchemaOf.{IsSchemaOf}
 use Rattle.actor_tables.specs.TableText.{table_text}
-use Rattle.ipdl_top.specs.declared.status.Status.TheVariants.{Done, Broken, Usage}
-use Rattle.ipdl_top.specs.Answer.{IsTableOfTokens, IsTable, IsTableOf, IsReportTextOf}
+use Rattle.findings.proofs.Reports.{same_report}
+use Rattle.ipdl_top.specs.declared.answer.Answer.{Answer}
+use Rattle.ipdl_top.specs.Answer.{IsTableOfTokens, IsTable, IsTableOf, IsReportedOf, IsCompilation, table_answer, report_answer}
 use Rattle.ipdl_top.specs.Command.{IsCommand, IsKeyOf}
 use Rattle.ipdl_top.specs.Laws.{OneAnswer}
-use Rattle.ipdl_top.specs.Report.{finding_at, place_of, IsReportOfLexed, IsReportOfBytes, IsReportOf, report_text}
+use Rattle.ipdl_top.specs.Report.{finding_at, place_of, IsReportOfLexed, IsReportOfBytes, IsReportOf}
 use Rattle.ipdl_top.proofs.OneKey.{one_key}
 use Rattle.ipdl_top.proofs.Unboxing.{same_unit}
 use Rattle.ipdl_top.proofs.OneFault.{one_syntax_fault}
@@ -29,7 +30,6 @@ use Rattle.ipdl_top.proofs.OneFault.{one_syntax_fault}
 -- the laws of what the program is made of
 pub record TheLaws : Type 0 where
   pub one_tree : HasOneTree
-  pub one_report : OneReport
   pub one_schema : OneSchema
   pub one_tokens : (file : ℕ) (text : List ℕ) (a b : Lexed) → IsTokens file text a → IsTokens file text b → a ≡ b
   pub one_fault : (file : ℕ) (text : List ℕ) (a b : LexFault) → IsFault file text a → IsFault file text b → a ≡ b
@@ -48,7 +48,7 @@ lexed_report laws key lexed a b (inr (inl x)) (inl y) = absurd (y.none (x.unit, 
 lexed_report laws key lexed a b (inr (inr x)) (inl y) = absurd (y.none (x.unit, x.tree))
 lexed_report laws key lexed a b (inr (inl x)) (inr (inl y)) =
     let same : y.unit ≡ x.unit = one_unit laws key lexed.tokens x.unit y.unit x.narrow x.tree y.tree in
-    laws.one_report x.unit a b x.reported (subst (λ (u : FileUnit). IsReport u b) same y.reported)
+    same_report a b x.reported (subst (λ (u : FileUnit). IsReport u b) same y.reported)
 lexed_report laws key lexed a b (inr (inl x)) (inr (inr y)) =
     absurd (y.other (subst (IsNarrow key) (sym (one_unit laws key lexed.tokens x.unit y.unit x.narrow x.tree y.tree)) x.narrow))
 lexed_report laws key lexed a b (inr (inr x)) (inr (inl y)) =
@@ -59,7 +59,7 @@ lexed_report laws key lexed a b (inr (inr x)) (inr (inr y)) = x.reported ∙ sym
 bytes_report : TheLaws → (key bytes : List ℕ) (a b : List Finding) → IsReportOfBytes key bytes a → IsReportOfBytes key bytes b → a ≡ b
 bytes_report laws key bytes a b (inl x) (inl y) =
     let fault : x.fault ≡ y.fault = laws.one_fault 0 bytes x.fault y.fault x.is_fault y.is_fault in
-    x.reported ∙ ap (λ p. finding_at 65 1 p ∷ []) (same_Some _ _ (sym x.here ∙ ap place_of fault ∙ y.here)) ∙ sym y.reported
+    x.reported ∙ ap (λ p. finding_at rule.BAD_TOKEN p ∷ []) (same_Some _ _ (sym x.here ∙ ap place_of fault ∙ y.here)) ∙ sym y.reported
 bytes_report laws key bytes a b (inl x) (inr y) = absurd (laws.never_both 0 bytes y.lexed x.fault y.tokens x.is_fault)
 bytes_report laws key bytes a b (inr x) (inl y) = absurd (laws.never_both 0 bytes x.lexed y.fault x.tokens y.is_fault)
 bytes_report laws key bytes a b (inr x) (inr y) =
@@ -79,23 +79,23 @@ named_report : TheLaws → (name : List ℕ) (found : Option (List ℕ)) (key ke
 named_report laws name found key key' a b p q x y =
     found_report laws key found a b x (subst (λ (k : List ℕ). IsReportOf k found b) (one_key name key' key q p) y)
 
--- and one text of a report
-report_texts : TheLaws → (name : List ℕ) (found : Option (List ℕ)) (err err' : List ℕ) → IsReportTextOf name found err → IsReportTextOf name found err' → err ≡ err'
-report_texts laws name found err err' x y =
-    x.text ∙ ap (report_text name) (named_report laws name found x.key y.key x.report y.report x.is_key y.is_key x.is_report y.is_report) ∙ sym y.text
+-- and one answer that is a report
+report_answers : TheLaws → (name : List ℕ) (found : Option (List ℕ)) (one other : Answer) → IsReportedOf name found one → IsReportedOf name found other → one ≡ other
+report_answers laws name found one other x y =
+    x.says ∙ ap (report_answer name) (named_report laws name found x.key y.key x.report y.report x.is_key y.is_key x.is_report y.is_report) ∙ sym y.says
 
 -- where there is a table, the report is empty
-empty_report : (name : List ℕ) (found : Option (List ℕ)) (out : List ℕ) → (x : IsTableOf name found out) → IsReportOf x.key found []
-empty_report name found out x =
-    let t : IsTableOfTokens x.key x.table.lexed out = x.table.table in
+empty_report : (name : List ℕ) (found : Option (List ℕ)) (answer : Answer) → (x : IsTableOf name found answer) → IsReportOf x.key found []
+empty_report name found answer x =
+    let t : IsTableOfTokens x.key x.table.lexed x.text = x.table.table in
     let reported : IsReportOfLexed x.key x.table.lexed [] = inr (inl (record { unit = t.unit; tree = t.tree; narrow = t.narrow; reported = t.clean })) in
     let of_bytes : IsReportOfBytes x.key x.bytes [] = inr (record { lexed = x.table.lexed; tokens = x.table.tokens; reported = reported }) in
     subst (λ (f : Option (List ℕ)). IsReportOf x.key f []) (sym x.read) (inr (x.small, of_bytes))
 
 -- so no file has both a table and a report that is not empty
-not_both : TheLaws → (name : List ℕ) (found : Option (List ℕ)) (out err : List ℕ) → IsTableOf name found out → ¬ IsReportTextOf name found err
-not_both laws name found out err x y =
-    y.some (named_report laws name found y.key x.key y.report [] y.is_key x.is_key y.is_report (empty_report name found out x))
+not_both : TheLaws → (name : List ℕ) (found : Option (List ℕ)) (one other : Answer) → IsTableOf name found one → ¬ IsReportedOf name found other
+not_both laws name found one other x y =
+    y.some (named_report laws name found y.key x.key y.report [] y.is_key x.is_key y.is_report (empty_report name found one x))
 
 -- tokens have one table
 lexed_tables : TheLaws → (key : List ℕ) (lexed : Lexed) (out out' : List ℕ) → IsTableOfTokens key lexed out → IsTableOfTokens key lexed out' → out ≡ out'
@@ -111,12 +111,20 @@ bytes_tables laws key bytes out out' x y =
     lexed_tables laws key x.lexed out out' x.table (subst (λ (l : Lexed). IsTableOfTokens key l out') same y.table)
 
 -- and files of a name
-named_tables : TheLaws → (name : List ℕ) (found : Option (List ℕ)) (out out' : List ℕ) → IsTableOf name found out → IsTableOf name found out' → out ≡ out'
-named_tables laws name found out out' x y =
+table_answers : TheLaws → (name : List ℕ) (found : Option (List ℕ)) (one other : Answer) → IsTableOf name found one → IsTableOf name found other → one ≡ other
+table_answers laws name found one other x y =
     let key : y.key ≡ x.key = one_key name y.key x.key y.is_key x.is_key in
     let bytes : y.bytes ≡ x.bytes = same_Some _ _ (sym y.read ∙ x.read) in
-    let of_key : IsTable x.key y.bytes out' = subst (λ (k : List ℕ). IsTable k y.bytes out') key y.table in
-    bytes_tables laws x.key x.bytes out out' x.table (subst (λ (b : List ℕ). IsTable x.key b out') bytes of_key)
+    let of_key : IsTable x.key y.bytes y.text = subst (λ (k : List ℕ). IsTable k y.bytes y.text) key y.table in
+    let text : x.text ≡ y.text = bytes_tables laws x.key x.bytes x.text y.text x.table (subst (λ (b : List ℕ). IsTable x.key b y.text) bytes of_key) in
+    x.says ∙ ap table_answer text ∙ sym y.says
+
+-- a compilation has one answer
+compilations : TheLaws → (name : List ℕ) (found : Option (List ℕ)) (one other : Answer) → IsCompilation name found one → IsCompilation name found other → one ≡ other
+compilations laws name found one other (inl x) (inl y) = table_answers laws name found one other x y
+compilations laws name found one other (inl x) (inr y) = absurd (not_both laws name found one other x y)
+compilations laws name found one other (inr x) (inl y) = absurd (not_both laws name found other one y x)
+compilations laws name found one other (inr x) (inr y) = report_answers laws name found one other x y
 
 -- words are the command of one file
 one_name : (words : List (List ℕ)) (name name' : List ℕ) → IsCommand words name → IsCommand words name' → name' ≡ name
@@ -124,26 +132,10 @@ one_name words name name' x y =
     let same : name' ∷ [] ≡ name ∷ [] = sym y.one ∙ x.one in
     cc
 
--- a command and no command exclude each other, and so do a table and a report of one file
+-- words are a command or none
 pub determined : TheLaws → OneAnswer
-determined laws files words Done Done out out' err err' (name, command, table, nothing) (name', command', table', nothing') =
-    let same : IsTableOf name (files name) out' = subst (λ (n : List ℕ). IsTableOf n (files n) out') (one_name words name name' command command') table' in
-    (refl, named_tables laws name (files name) out out' table same, nothing ∙ sym nothing')
-determined laws files words Done Broken out out' err err' (name, command, table, nothing) (name', command', report, nothing') =
-    let same : IsReportTextOf name (files name) err' = subst (λ (n : List ℕ). IsReportTextOf n (files n) err') (one_name words name name' command command') report in
-    absurd (not_both laws name (files name) out err' table same)
-determined laws files words Done Usage out out' err err' (name, command, table, nothing) y = absurd (y.0 name command)
-determined laws files words Done _ out out' err err' x y = absurd y
-determined laws files words Broken Done out out' err err' (name, command, report, nothing) (name', command', table, nothing') =
-    let same : IsTableOf name (files name) out' = subst (λ (n : List ℕ). IsTableOf n (files n) out') (one_name words name name' command command') table in
-    absurd (not_both laws name (files name) out' err same report)
-determined laws files words Broken Broken out out' err err' (name, command, report, nothing) (name', command', report', nothing') =
-    let same : IsReportTextOf name (files name) err' = subst (λ (n : List ℕ). IsReportTextOf n (files n) err') (one_name words name name' command command') report' in
-    (refl, nothing ∙ sym nothing', report_texts laws name (files name) err err' report same)
-determined laws files words Broken Usage out out' err err' (name, command, report, nothing) y = absurd (y.0 name command)
-determined laws files words Broken _ out out' err err' x y = absurd y
-determined laws files words Usage Done out out' err err' x (name, command, table, nothing) = absurd (x.0 name command)
-determined laws files words Usage Broken out out' err err' x (name, command, report, nothing) = absurd (x.0 name command)
-determined laws files words Usage Usage out out' err err' x y = (refl, x.1 ∙ sym y.1, x.2 ∙ sym y.2)
-determined laws files words Usage _ out out' err err' x y = absurd y
-determined laws files words _ _ out out' err err' x y = absurd x
+determined laws files words one other (inl (name, command, x)) (inl (name', command', y)) =
+    compilations laws name (files name) one other x (subst (λ (n : List ℕ). IsCompilation n (files n) other) (one_name words name name' command command') y)
+determined laws files words one other (inl (name, command, x)) (inr y) = absurd (y.0 name command)
+determined laws files words one other (inr x) (inl (name, command, y)) = absurd (x.0 name command)
+determined laws files words one other (inr x) (inr y) = x.1 ∙ sym y.1

@@ -4,6 +4,7 @@ use Rattle.std.specs.Prelude.{Option, Some, None, MatchOption}
 use Rattle.std.proofs.lemmas.List.{take-append-drop}
 use Rattle.ipdl_base.specs.declared.finding.Finding.{Finding}
 use Rattle.ipdl_base.specs.declared.finding.Place.{Place}
+use Rattle.ipdl_base.specs.declared.finding.TheConstants.Rule as rule
 use Rattle.ipdl_base.specs.declared.token.Token.{Token}
 use Rattle.ipdl_lex.specs.declared.token.Lexed.{Lexed}
 use Rattle.ipdl_syntax.specs.declared.tree.FileKind.{FileKind}
@@ -51,4 +52,4 @@ one_syntax_fault lexed a b x y =
     let index : y.index ≡ x.index = one_index file.Protocol lexed.tokens y.index x.index y.longest x.longest in
     let here : IsPlaceAt lexed.tokens lexed.end x.index y.place = subst (λ (i : ℕ). IsPlaceAt lexed.tokens lexed.end i y.place) index y.here in
     let place : x.place ≡ y.place = one_place _ lexed.end x.place y.place x.here here in
-    x.reported ∙ ap (λ p. finding_at 65 2 p ∷ []) place ∙ sym y.reported
+    x.reported ∙ ap (λ p. finding_at rule.SYNTAX_FAULT p ∷ []) place ∙ sym y.reported

@@ -2,6 +2,7 @@
 use Rattle.std.proofs.Common.{◌≡◌, ◌≢◌, ℕ, List, [], ◌∷◌, inl, inr}
 use Rattle.ipdl_base.specs.declared.finding.Finding.{Finding}
 use Rattle.ipdl_base.specs.declared.finding.Place.{Place}
+use Rattle.ipdl_base.specs.declared.finding.TheConstants.Rule as rule
 use Rattle.ipdl_lex.specs.declared.token.Lexed.{Lexed}
 use Rattle.ipdl_syntax.specs.declared.tree.FileKind.TheVariants as file
 use Rattle.ipdl_parse.specs.Place.{HasTree, IsSyntaxPlace, IsPlaceAt}
@@ -17,9 +18,9 @@ pub not_empty : (report : List Finding) (f : Finding) → report ≡ f ∷ [] �
 not_empty report f one none = cc
 
 -- the report of a syntax fault
-pub fault_report : (lexed : Lexed) (index : ℕ) (place : Place) (report : List Finding) → (¬ HasTree file.Protocol lexed.tokens) × IsSyntaxPlace file.Protocol lexed.tokens index × IsPlaceAt lexed.tokens lexed.end index place → report ≡ finding_at 65 2 place ∷ [] → IsNonEmpty (IsSyntaxFault lexed) report
+pub fault_report : (lexed : Lexed) (index : ℕ) (place : Place) (report : List Finding) → (¬ HasTree file.Protocol lexed.tokens) × IsSyntaxPlace file.Protocol lexed.tokens index × IsPlaceAt lexed.tokens lexed.end index place → report ≡ finding_at rule.SYNTAX_FAULT place ∷ [] → IsNonEmpty (IsSyntaxFault lexed) report
 fault_report lexed index place report (none, longest, here) one = record {
-  some = not_empty report (finding_at 65 2 place) one;
+  some = not_empty report (finding_at rule.SYNTAX_FAULT place) one;
   is = record { none = none; index = index; longest = longest; place = place; here = here; reported = one };
 }
 
@@ -28,4 +29,4 @@ pub tree_check : (key : List ℕ) (lexed : Lexed) (unit : FileUnit) → Tree fil
 tree_check key lexed unit tree (Table text) (inl (narrow, h)) = record { unit = unit; tree = tree; narrow = narrow; clean = h.clean; schema = h.schema; schema_of = h.schema_of; text = h.text }
 tree_check key lexed unit tree (Report report) (inl (narrow, h)) = record { some = h.some; is = inr (inl (record { unit = unit; tree = tree; narrow = narrow; reported = h.is })) }
 tree_check key lexed unit tree (Table text) (inr (other, h)) = absurd h
-tree_check key lexed unit tree (Report report) (inr (other, h)) = record { some = not_empty report (finding_at 78 1 whole_file) h; is = inr (inr (record { unit = unit; tree = tree; other = other; reported = h })) }
+tree_check key lexed unit tree (Report report) (inr (other, h)) = record { some = not_empty report (finding_at rule.NOT_BUILT whole_file) h; is = inr (inr (record { unit = unit; tree = tree; other = other; reported = h })) }

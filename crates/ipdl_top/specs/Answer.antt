@@ -1,5 +1,5 @@
 -- What the program answers.
-use Rattle.std.specs.Prelude.{◌≡◌, ◌≢◌, ℕ, ◌≤◌, List, [], length, Option, Some}
+use Rattle.std.specs.Prelude.{◌≡◌, ◌≢◌, ◌⊎◌, ℕ, ◌≤◌, List, [], length, Option, Some}
 use Rattle.ipdl_base.specs.Outside.{FileMap}
 use Rattle.ipdl_base.specs.declared.finding.Finding.{Finding}
 use Rattle.ipdl_base.specs.declared.schema.Schema.{Schema}
@@ -12,8 +12,8 @@ use Rattle.narrow_rules.specs.Broken.{IsReport}
 use Rattle.narrow_rules.specs.Narrow.{IsNarrow}
 use Rattle.actor_tables.specs.SchemaOf.{IsSchemaOf}
 use Rattle.actor_tables.specs.TableText.{table_text}
-use Rattle.ipdl_top.specs.declared.status.Status.{Status}
-use Rattle.ipdl_top.specs.declared.status.Status.TheVariants.{Done, Broken, Usage, ReadFault, WriteFault, Spent, NoMemory, BadScript, BadFrames}
+use Rattle.ipdl_top.specs.declared.answer.Answer.{Answer}
+use Rattle.ipdl_top.specs.declared.status.Status.TheVariants.{Done, Broken, Usage}
 use Rattle.ipdl_top.specs.Command.{IsCommand, IsNoCommand, IsKeyOf, usage_text}
 use Rattle.ipdl_top.specs.Report.{IsReportOf, report_text}
 
@@ -33,32 +33,43 @@ pub record IsTable (key bytes out : List ℕ) : Type 0 where
   pub tokens : IsTokens 0 bytes lexed
   pub table : IsTableOfTokens key lexed out
 
--- the text is the table of what a file of this name has
-pub record IsTableOf (name : List ℕ) (found : Option (List ℕ)) (out : List ℕ) : Type 0 where
+-- the answer that is a table
+abbrev pub table_answer : List ℕ → Answer
+table_answer text = record { status = Done; out = text; err = [] }
+
+-- the answer that is a report on a file of this name
+abbrev pub report_answer : List ℕ → List Finding → Answer
+report_answer name report = record { status = Broken; out = []; err = report_text name report }
+
+-- the answer to words that are no command
+abbrev pub usage_answer : Answer
+usage_answer = record { status = Usage; out = []; err = usage_text }
+
+-- the answer is the table of what a file of this name has
+pub record IsTableOf (name : List ℕ) (found : Option (List ℕ)) (answer : Answer) : Type 0 where
   pub bytes : List ℕ
   pub read : found ≡ Some bytes
   pub small : length bytes ≤ 1048576
   pub key : List ℕ
   pub is_key : IsKeyOf name key
-  pub table : IsTable key bytes out
+  pub text : List ℕ
+  pub table : IsTable key bytes text
+  pub says : answer ≡ table_answer text
 
--- the text is that of the report, which is not empty, on what a file of this name has
-pub record IsReportTextOf (name : List ℕ) (found : Option (List ℕ)) (err : List ℕ) : Type 0 where
+-- the answer is the report, which is not empty, on what a file of this name has
+pub record IsReportedOf (name : List ℕ) (found : Option (List ℕ)) (answer : Answer) : Type 0 where
   pub key : List ℕ
   pub is_key : IsKeyOf name key
   pub report : List Finding
   pub is_report : IsReportOf key found report
   pub some : report ≢ []
-  pub text : err ≡ report_text name report
+  pub says : answer ≡ report_answer name report
 
--- The answer to words, with these files: the status, and what is written to `out` and to `err`. No other status is an answer so far.
-abbrev pub IsAnswer : FileMap → List (List ℕ) → Status → List ℕ → List ℕ → Type 0
-IsAnswer files words Done out err = (name : List ℕ) × IsCommand words name × IsTableOf name (files name) out × (err ≡ [])
-IsAnswer files words Broken out err = (name : List ℕ) × IsCommand words name × IsReportTextOf name (files name) err × (out ≡ [])
-IsAnswer files words Usage out err = IsNoCommand words × (out ≡ []) × (err ≡ usage_text)
-IsAnswer files words ReadFault out err = ⊥
-IsAnswer files words WriteFault out err = ⊥
-IsAnswer files words Spent out err = ⊥
-IsAnswer files words NoMemory out err = ⊥
-IsAnswer files words BadScript out err = ⊥
-IsAnswer files words BadFrames out err = ⊥
+-- the answer of the command that compiles a file of this name, by what the file has: its table, or the report on it
+abbrev pub IsCompilation : List ℕ → Option (List ℕ) → Answer → Type 0
+IsCompilation name found answer = IsTableOf name found answer ⊎ IsReportedOf name found answer
+
+-- The answer to words, with these files: that of the command that they are, or how the program is called where they are none.
+abbrev pub IsAnswer : FileMap → List (List ℕ) → Answer → Type 0
+IsAnswer files words answer =
+    ((name : List ℕ) × IsCommand words name × IsCompilation name (files name) answer) ⊎ (IsNoCommand words × (answer ≡ usage_answer))

@@ -1,11 +1,9 @@
 -- What follows from the definitions, for all files and words.
 use Rattle.std.specs.Prelude.{◌≡◌, ℕ, List}
 use Rattle.ipdl_base.specs.Outside.{FileMap}
-use Rattle.ipdl_top.specs.declared.status.Status.{Status}
+use Rattle.ipdl_top.specs.declared.answer.Answer.{Answer}
 use Rattle.ipdl_top.specs.Answer.{IsAnswer}
 
 -- Words have at most one answer with some files: one status, one text for `out` and one for `err`.
 abbrev pub OneAnswer : Type 0
-OneAnswer =
-    (files : FileMap) (words : List (List ℕ)) (one other : Status) (out out' err err' : List ℕ) → IsAnswer files words one out err → IsAnswer files words other out' err'
-    → (one ≡ other) × (out ≡ out') × (err ≡ err')
+OneAnswer = (files : FileMap) (words : List (List ℕ)) (one other : Answer) → IsAnswer files words one → IsAnswer files words other → one ≡ other

@@ -1,10 +1,12 @@
 -- The report on a file, and its text.
-use Rattle.std.specs.Prelude.{◌≡◌, ◌⊎◌, ℕ, ◌≤◌, ◌<◌, List, [], ◌∷◌, ◌++◌, length, codes, Option, Some, None, if◌then◌else◌, ◌==◌, ◌&&◌}
+use Rattle.std.specs.Prelude.{◌≡◌, ◌⊎◌, ℕ, ◌≤◌, ◌<◌, List, [], ◌∷◌, ◌++◌, length, codes, Option, Some, None}
 use Rattle.std.specs.List.{flat_map}
 use Rattle.std.specs.Fmt.{decimal}
 use Rattle.ipdl_base.specs.declared.finding.Finding.{Finding}
 use Rattle.ipdl_base.specs.declared.finding.Place.{Place}
+use Rattle.ipdl_base.specs.Rules.{rule_line}
 use Rattle.ipdl_base.specs.declared.finding.Rule.{Rule}
+use Rattle.ipdl_base.specs.declared.finding.TheConstants.Rule as rule
 use Rattle.ipdl_lex.specs.declared.token.Lexed.{Lexed}
 use Rattle.ipdl_lex.specs.declared.token.LexFault.{LexFault}
 use Rattle.ipdl_lex.specs.declared.token.LexFault.TheVariants.{BadByte, OpenComment, OpenString, TooLong, NoMemory}
@@ -17,8 +19,8 @@ use Rattle.narrow_rules.specs.Broken.{IsReport}
 use Rattle.narrow_rules.specs.Narrow.{IsNarrow}
 
 -- a finding of a rule at a place
-abbrev pub finding_at : ℕ → ℕ → Place → Finding
-finding_at letter number place = record { place = place; rule = record { letter = letter; number = number } }
+abbrev pub finding_at : Rule → Place → Finding
+finding_at rule place = record { place = place; rule = rule }
 
 -- the first file as a whole
 abbrev pub whole_file : Place
@@ -26,7 +28,7 @@ whole_file = record { file = 0; line = 0; column = 0 }
 
 -- the one finding of a file that is not built yet
 abbrev pub not_built : List Finding
-not_built = finding_at 78 1 whole_file ∷ []
+not_built = finding_at rule.NOT_BUILT whole_file ∷ []
 
 -- the place of a fault of the text
 abbrev pub place_of : LexFault → Option Place
@@ -42,7 +44,7 @@ pub record IsBadToken (bytes : List ℕ) (report : List Finding) : Type 0 where
   pub is_fault : IsFault 0 bytes fault
   pub place : Place
   pub here : place_of fault ≡ Some place
-  pub reported : report ≡ finding_at 65 1 place ∷ []
+  pub reported : report ≡ finding_at rule.BAD_TOKEN place ∷ []
 
 -- a syntax fault: the tokens have no tree, and cannot go on to one from this place on
 pub record IsSyntaxFault (lexed : Lexed) (report : List Finding) : Type 0 where
@@ -51,7 +53,7 @@ pub record IsSyntaxFault (lexed : Lexed) (report : List Finding) : Type 0 where
   pub longest : IsSyntaxPlace file.Protocol lexed.tokens index
   pub place : Place
   pub here : IsPlaceAt lexed.tokens lexed.end index place
-  pub reported : report ≡ finding_at 65 2 place ∷ []
+  pub reported : report ≡ finding_at rule.SYNTAX_FAULT place ∷ []
 
 -- the report on a narrow file: the rules that its tree breaks
 pub record IsReportOfNarrow (key : List ℕ) (lexed : Lexed) (report : List Finding) : Type 0 where
@@ -86,26 +88,9 @@ abbrev pub IsReportOf : List ℕ → Option (List ℕ) → List Finding → Type
 IsReportOf key None report = report ≡ not_built
 IsReportOf key (Some bytes) report = ((1048576 < length bytes) × (report ≡ not_built)) ⊎ ((length bytes ≤ 1048576) × IsReportOfBytes key bytes report)
 
--- the text of a rule
-abbrev pub rule_text : Rule → List ℕ
-rule_text rule =
-    if rule.letter == 65 && rule.number == 1 then codes "bad token" else
-    (if rule.letter == 65 && rule.number == 2 then codes "syntax fault" else
-    (if rule.letter == 66 && rule.number == 1 then codes "unknown type" else
-    (if rule.letter == 66 && rule.number == 21 then codes "repeated name" else
-    (if rule.letter == 78 && rule.number == 1 then codes "not built yet" else []))))
-
--- the line and the column of a place
-abbrev pub place_text : Place → List ℕ
-place_text place = decimal place.line ++ codes ":" ++ decimal place.column
-
--- the rule of a finding and its text, to the end of the line
-abbrev pub rule_line : Rule → List ℕ
-rule_line rule = (rule.letter ∷ decimal rule.number) ++ codes " " ++ rule_text rule ++ codes "\n"
-
 -- the line of a finding in a file of this name
 abbrev pub finding_line : List ℕ → Finding → List ℕ
-finding_line name f = name ++ codes ":" ++ place_text f.place ++ codes ": " ++ rule_line f.rule
+finding_line name f = name ++ codes ":" ++ decimal f.place.line ++ codes ":" ++ decimal f.place.column ++ codes ": " ++ rule_line f.rule ++ codes "\n"
 
 -- the text of a report
 abbrev pub report_text : List ℕ → List Finding → List ℕ

@@ -24,14 +24,11 @@ pub enum Checked {
 }
 
 /// The report of one finding.
-fn one_finding(alloc: Global, letter: u8, number: u8, place: Place) -> Result<Findings, AllocError>
-    ensures { IfOk result (λ report. report ≡ finding_at letter number place ∷ []) }
+fn one_finding(alloc: Global, rule: Rule, place: Place) -> Result<Findings, AllocError>
+    ensures { IfOk result (λ report. report ≡ finding_at rule place ∷ []) }
 {
     let mut report = Vec::new(alloc);
-    report.push(Finding {
-        place,
-        rule: Rule { letter, number },
-    })?;
+    report.push(Finding { place, rule })?;
     Ok(Items::from_vec(report))
 }
 
@@ -44,7 +41,7 @@ pub fn not_built_report(alloc: Global) -> Result<Findings, AllocError>
         line: 0,
         column: 0,
     };
-    one_finding(alloc, b'N', 1, whole)
+    one_finding(alloc, Rule::NOT_BUILT, whole)
 }
 
 /// Checks a narrow file by its tree.
@@ -80,7 +77,7 @@ fn syntax_report(alloc: Global, lexed: &Lexed, fault: SyntaxFault) -> Result<Fin
 {
     match fault {
         SyntaxFault::NoMemory => Err(AllocError),
-        SyntaxFault::Fault { place, .. } => one_finding(alloc, b'A', 2, place),
+        SyntaxFault::Fault { place, .. } => one_finding(alloc, Rule::SYNTAX_FAULT, place),
     }
 }
 
@@ -112,6 +109,6 @@ pub fn check_bytes(alloc: Global, bytes: &[u8], key: &[u8]) -> Result<Checked, A
             | LexFault::OpenComment(place)
             | LexFault::OpenString(place)
             | LexFault::TooLong(place),
-        ) => Ok(Checked::Report(one_finding(alloc, b'A', 1, place)?)),
+        ) => Ok(Checked::Report(one_finding(alloc, Rule::BAD_TOKEN, place)?)),
     }
 }

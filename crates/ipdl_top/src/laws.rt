@@ -1,9 +1,8 @@
 ghost use Rattle.ipdl_top.specs.Laws.{OneAnswer};
 
 use actor_tables::one_schema;
-use ipdl_lex::one_answer;
-use narrow_rules::one_report;
 use grammar_laws::one_tree;
+use ipdl_lex::one_answer;
 
 /// The law of the answer: for the same files, words have at most one. So the files and the words
 /// determine an answer's status, its text for `out` and its text for `err`.
@@ -11,7 +10,6 @@ pub fn determined()
     ensures { OneAnswer }
 {
     one_tree();
-    one_report();
     one_schema();
     one_answer();
 }

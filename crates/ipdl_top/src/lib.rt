@@ -1,6 +1,9 @@
+//! The program over files and sinks of any kind: its words, its answer, and the writing of it.
 #![tactic(auto)]
 
+mod answer;
 mod check;
+mod compile;
 mod laws;
 mod program;
 mod report;

@@ -11,14 +11,8 @@ pub enum Status {
     ReadFault,
     /// A write failed.
     WriteFault,
-    /// A run came to its limit.
-    Spent,
     /// Memory ran out.
     NoMemory,
-    /// The script breaks a rule.
-    BadScript,
-    /// The file of frames is not a list of frames.
-    BadFrames,
 }
 
 impl Status {
@@ -35,10 +29,7 @@ impl Status {
             Status::Usage => 2,
             Status::ReadFault => 3,
             Status::WriteFault => 4,
-            Status::Spent => 5,
             Status::NoMemory => 6,
-            Status::BadScript => 7,
-            Status::BadFrames => 8,
         }
     }
 }

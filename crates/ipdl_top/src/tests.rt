@@ -237,12 +237,9 @@ fn codes(rt: HostRuntime) {
         Status::Usage,
         Status::ReadFault,
         Status::WriteFault,
-        Status::Spent,
         Status::NoMemory,
-        Status::BadScript,
-        Status::BadFrames,
     ];
-    for (status, code) in statuses.into_iter().zip(0..9) {
+    for (status, code) in statuses.into_iter().zip([0, 1, 2, 3, 4, 6]) {
         assert_eq!(rt; status.code(), code);
     }
 }

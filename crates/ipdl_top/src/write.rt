@@ -1,7 +1,8 @@
-ghost use Rattle.std.specs.Prelude.{◌≡◌, ◌≤◌, OnOk, OnErr};
+ghost use Rattle.std.specs.Prelude.{◌≡◌, ◌⊎◌, OnOk, OnErr};
 ghost use Rattle.ipdl_base.specs.Outside.{Appends, Rose};
-ghost use Rattle.ipdl_top.specs.Written.{AppendsFront};
+ghost use Rattle.ipdl_top.specs.Written.{AppendsFront, WritesAll, WritesFront};
 
+use crate::answer::Answer;
 use ipdl_base::{Sink, WriteAnswer};
 
 /// A write failed.
@@ -9,11 +10,10 @@ use ipdl_base::{Sink, WriteAnswer};
 pub struct WriteFailed;
 
 /// Writes all of a text, piece by piece, or a front of it where a write fails.
-pub fn write_all<S: Sink>(sink: &mut S, text: &[u8]) -> Result<(), WriteFailed>
+fn write_all<S: Sink>(sink: &mut S, text: &[u8]) -> Result<(), WriteFailed>
     ensures ok { OnOk result (Appends (S.written sink.old) (S.written sink.new) text.now) }
     ensures front { OnErr result (AppendsFront (S.written sink.old) (S.written sink.new) text.now) }
     ensures failed { OnErr result (Rose (S.faults sink.old) (S.faults sink.new)) }
-    ensures count { S.faults sink.old ≤ S.faults sink.new }
 {
     let mut rest = text;
     'pieces: while !rest.is_empty() {
@@ -26,4 +26,23 @@ pub fn write_all<S: Sink>(sink: &mut S, text: &[u8]) -> Result<(), WriteFailed>
         }
     }
     Ok(())
+}
+
+/// Writes an answer: its text for `out`, and then its text for `err`. Where a write fails, nothing
+/// is written from there on.
+pub fn write_answer<O: Sink, E: Sink>(
+    answer: &Answer,
+    out: &mut O,
+    err: &mut E,
+) -> Result<(), WriteFailed>
+    ensures all { OnOk result (WritesAll answer.now
+        (record { old = O.written out.old; new = O.written out.new })
+        (record { old = E.written err.old; new = E.written err.new })) }
+    ensures front { OnErr result (WritesFront answer.now
+        (record { old = O.written out.old; new = O.written out.new })
+        (record { old = E.written err.old; new = E.written err.new })) }
+    ensures failed { OnErr result (Rose (O.faults out.old) (O.faults out.new) ⊎ Rose (E.faults err.old) (E.faults err.new)) }
+{
+    write_all(out, answer.out.as_slice())?;
+    write_all(err, answer.err.as_slice())
 }

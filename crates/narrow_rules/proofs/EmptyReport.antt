@@ -10,11 +10,12 @@ use Rattle.ipdl_base.specs.Builtins.{builtin_name, is_carried}
 use Rattle.ipdl_base.specs.declared.builtin.Builtin.{Builtin}
 use Rattle.ipdl_base.specs.declared.builtin.Builtin.TheVariants as builtin
 use Rattle.ipdl_base.specs.declared.finding.Place.{Place}
+use Rattle.ipdl_base.specs.declared.finding.TheConstants.Rule as rule
 use Rattle.ipdl_syntax.specs.declared.tree.Base.{Base, Named, Unique'}
 use Rattle.ipdl_syntax.specs.declared.tree.MessageDecl.{MessageDecl}
 use Rattle.ipdl_syntax.specs.declared.tree.Param.{Param}
 use Rattle.ipdl_syntax.specs.declared.tree.ProtocolDecl.{ProtocolDecl}
-use Rattle.narrow_rules.specs.Broken.{IsUnknownBase, IsUnknownAt, IsUnknownIn, IsRepeatedIn, unknown_type, repeated_name}
+use Rattle.narrow_rules.specs.Broken.{IsUnknownBase, IsUnknownAt, IsUnknownIn, IsRepeatedIn}
 use Rattle.narrow_rules.specs.Laws.{CleanWhereEmpty}
 use Rattle.narrow_rules.specs.Narrow.{IsBuiltinName, IsWordBase, IsNarrowParam, IsNarrowMessage, IsNarrowProtocol, IsCarriedName, IsPlainParam, IsClean}
 use Rattle.narrow_rules.proofs.Repeats.{is_among, found_among, none_among}
@@ -124,5 +125,5 @@ clean_option key (Some p) h unknown repeated = record {
 pub clean : CleanWhereEmpty
 clean key unit narrow report =
     clean_option key unit.protocol narrow.protocol
-    (λ place h. let x = (report.exact (record { place = place; rule = unknown_type })).1 (inl (refl, h)) in let no : ⊥ = omega (arith, x.1) in no)
-    (λ place h. let x = (report.exact (record { place = place; rule = repeated_name })).1 (inr (refl, h)) in let no : ⊥ = omega (arith, x.1) in no)
+    (λ place h. let x = (report.exact (record { place = place; rule = rule.UNKNOWN_TYPE })).1 (inl (refl, h)) in let no : ⊥ = omega (arith, x.1) in no)
+    (λ place h. let x = (report.exact (record { place = place; rule = rule.REPEATED_NAME })).1 (inr (refl, h)) in let no : ⊥ = omega (arith, x.1) in no)

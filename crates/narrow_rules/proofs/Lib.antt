@@ -1,9 +1,6 @@
-pub mod Elements
 pub mod Same
 pub mod Gains
 pub mod Endings
 pub mod Repeats
-pub mod Order
-pub mod One
 pub mod EmptyReport
 pub mod Whole

@@ -12,10 +12,11 @@ use Rattle.std.proofs.lemmas.List.Quantifiers.{all_pairs_push}
 use Rattle.std.proofs.lemmas.Option.{slice_get_cases, slice_get_within, get_or_from_slice_get, slice_get_read}
 use Rattle.ipdl_base.specs.declared.finding.Finding.{Finding}
 use Rattle.ipdl_base.specs.declared.finding.Place.{Place}
+use Rattle.ipdl_base.specs.declared.finding.TheConstants.Rule as rule
 use Rattle.ipdl_syntax.specs.declared.tree.MessageDecl.{MessageDecl}
-use Rattle.narrow_rules.specs.Adds.{Adds}
-use Rattle.narrow_rules.specs.Broken.{IsRepeatedIn, repeated_name}
-use Rattle.narrow_rules.proofs.Gains.{Adds-like, Adds-then, Adds-push}
+use Rattle.findings.specs.Adds.{Adds}
+use Rattle.narrow_rules.specs.Broken.{IsRepeatedIn}
+use Rattle.findings.proofs.Gains.{Adds-like, Adds-then, Adds-push}
 use Rattle.narrow_rules.proofs.Same.{decided}
 
 -- whether one of these has the name
@@ -118,28 +119,28 @@ repeated_last xs y place at any = record {
 }
 
 -- a finding at a message that has the name of an earlier one
-pub Adds-repeated : (xs : List MessageDecl) (i : ℕ) (d : MessageDecl) (a b : List Finding) → i < length xs → is_among (λ m. m.name) (take i xs) (get_or xs i d).name ≡ true → Adds repeated_name (IsRepeatedIn (take i xs)) a b → Adds repeated_name (IsRepeatedIn (take (i + 1) xs)) a (b ++ record { place = (get_or xs i d).place; rule = repeated_name } ∷ [])
+pub Adds-repeated : (xs : List MessageDecl) (i : ℕ) (d : MessageDecl) (a b : List Finding) → i < length xs → is_among (λ m. m.name) (take i xs) (get_or xs i d).name ≡ true → Adds rule.REPEATED_NAME (IsRepeatedIn (take i xs)) a b → Adds rule.REPEATED_NAME (IsRepeatedIn (take (i + 1) xs)) a (b ++ record { place = (get_or xs i d).place; rule = rule.REPEATED_NAME } ∷ [])
 Adds-repeated xs i d a b lt among old =
     let y = get_or xs i d in
-    let c : List Finding = b ++ record { place = y.place; rule = repeated_name } ∷ [] in
+    let c : List Finding = b ++ record { place = y.place; rule = rule.REPEATED_NAME } ∷ [] in
     let any = found_among (λ (m : MessageDecl). m.name) (take i xs) y.name among in
     rw (take_more xs i d lt)
-    (Adds-like repeated_name (λ place. IsRepeatedIn (take i xs) place ⊎ (y.place ≡ place)) (IsRepeatedIn (take i xs ++ y ∷ [])) a c
-    (Adds-then repeated_name (IsRepeatedIn (take i xs)) (λ place. y.place ≡ place) a b c old (Adds-push repeated_name y.place b))
+    (Adds-like rule.REPEATED_NAME (λ place. IsRepeatedIn (take i xs) place ⊎ (y.place ≡ place)) (IsRepeatedIn (take i xs ++ y ∷ [])) a c
+    (Adds-then rule.REPEATED_NAME (IsRepeatedIn (take i xs)) (λ place. y.place ≡ place) a b c old (Adds-push rule.REPEATED_NAME y.place b))
     (λ place h. elim h [ inl r ↦ repeated_left (take i xs) y place r | inr e ↦ repeated_last (take i xs) y place e any ])
     (λ place h. elim (repeated_cases (take i xs) y place h) [ inl r ↦ inl r | inr e ↦ inr e.1 ]))
 
 -- no finding at a message that has a new name
-pub Adds-new : (xs : List MessageDecl) (i : ℕ) (d : MessageDecl) (a b : List Finding) → i < length xs → is_among (λ m. m.name) (take i xs) (get_or xs i d).name ≡ false → Adds repeated_name (IsRepeatedIn (take i xs)) a b → Adds repeated_name (IsRepeatedIn (take (i + 1) xs)) a b
+pub Adds-new : (xs : List MessageDecl) (i : ℕ) (d : MessageDecl) (a b : List Finding) → i < length xs → is_among (λ m. m.name) (take i xs) (get_or xs i d).name ≡ false → Adds rule.REPEATED_NAME (IsRepeatedIn (take i xs)) a b → Adds rule.REPEATED_NAME (IsRepeatedIn (take (i + 1) xs)) a b
 Adds-new xs i d a b lt among old =
     let y = get_or xs i d in
     rw (take_more xs i d lt)
-    (Adds-like repeated_name (IsRepeatedIn (take i xs)) (IsRepeatedIn (take i xs ++ y ∷ [])) a b old
+    (Adds-like rule.REPEATED_NAME (IsRepeatedIn (take i xs)) (IsRepeatedIn (take i xs ++ y ∷ [])) a b old
     (λ place r. repeated_left (take i xs) y place r)
     (λ place h. elim (repeated_cases (take i xs) y place h) [ inl r ↦ r | inr e ↦ absurd (none_among (λ (m : MessageDecl). m.name) (take i xs) y.name among e.0) ]))
 
 -- the same finding, said by the place that it is given at
-pub Adds-repeated_at : (xs : List MessageDecl) (i : ℕ) (d : MessageDecl) (a b c : List Finding) → i < length xs → is_among (λ m. m.name) (take i xs) (get_or xs i d).name ≡ true → d.place ≡ (get_or xs i d).place → c ≡ b ++ record { place = d.place; rule = repeated_name } ∷ [] → Adds repeated_name (IsRepeatedIn (take i xs)) a b → Adds repeated_name (IsRepeatedIn (take (i + 1) xs)) a c
+pub Adds-repeated_at : (xs : List MessageDecl) (i : ℕ) (d : MessageDecl) (a b c : List Finding) → i < length xs → is_among (λ m. m.name) (take i xs) (get_or xs i d).name ≡ true → d.place ≡ (get_or xs i d).place → c ≡ b ++ record { place = d.place; rule = rule.REPEATED_NAME } ∷ [] → Adds rule.REPEATED_NAME (IsRepeatedIn (take i xs)) a b → Adds rule.REPEATED_NAME (IsRepeatedIn (take (i + 1) xs)) a c
 Adds-repeated_at xs i d a b c lt among at more old =
-    let P : Place → Type 0 = λ q. c ≡ b ++ record { place = q; rule = repeated_name } ∷ [] in
+    let P : Place → Type 0 = λ q. c ≡ b ++ record { place = q; rule = rule.REPEATED_NAME } ∷ [] in
     rw (subst P at more) (Adds-repeated xs i d a b lt among old)

@@ -5,10 +5,11 @@ use Rattle.std.specs.Prelude.{◌↔◌, IfOk, IsTrue, IsSomeAnd}
 use Rattle.std.specs.List.{Contains}
 use Rattle.std.proofs.lemmas.Result.{IfOk-weaker}
 use Rattle.ipdl_base.specs.declared.finding.Finding.{Finding}
+use Rattle.ipdl_base.specs.declared.finding.TheConstants.Rule as rule
 use Rattle.ipdl_syntax.specs.declared.tree.ProtocolDecl.{ProtocolDecl}
 use Rattle.ipdl_syntax.specs.declared.tree.Unit.{Unit as FileUnit}
-use Rattle.narrow_rules.specs.Adds.{Adds}
-use Rattle.narrow_rules.specs.Broken.{Broken, IsUnknownIn, IsRepeatedIn, unknown_type, repeated_name}
+use Rattle.findings.specs.Adds.{Adds}
+use Rattle.narrow_rules.specs.Broken.{Broken, IsUnknownIn, IsRepeatedIn}
 use Rattle.narrow_rules.specs.Heads.{HasProtocolAlone}
 use Rattle.narrow_rules.specs.Narrow.{IsNarrow, IsNarrowProtocol}
 
@@ -19,7 +20,7 @@ from_some : {X : Type 0} (P : X → Type 0) (o : Option X) (x : X) → o ≡ Som
 from_some {X} P o x e h = let Q : Option X → Type 0 = λ o. IsSomeAnd o P in subst Q e h
 
 -- what was added for both rules, to nothing, is what is broken
-pub broken_some : (unit : FileUnit) (p : ProtocolDecl) (old a b : List Finding) → unit.protocol ≡ Some p → old ≡ [] → Adds unknown_type (IsUnknownIn p.messages) old a → Adds repeated_name (IsRepeatedIn p.messages) a b → (f : Finding) → Contains b f ↔ Broken unit f
+pub broken_some : (unit : FileUnit) (p : ProtocolDecl) (old a b : List Finding) → unit.protocol ≡ Some p → old ≡ [] → Adds rule.UNKNOWN_TYPE (IsUnknownIn p.messages) old a → Adds rule.REPEATED_NAME (IsRepeatedIn p.messages) a b → (f : Finding) → Contains b f ↔ Broken unit f
 broken_some unit p old a b e none one two f = (
   λ h. elim ((two.exact f).0 h) [
     | inl x ↦ elim ((one.exact f).0 x) [

@@ -1,25 +1,15 @@
 -- The rules that the tree of a narrow file can break, where it breaks them, and the report of it.
-use Rattle.std.specs.Prelude.{◌≡◌, ℕ, ◌↔◌, ◌⊎◌, List, take, slice_get, Some, IsSomeAnd}
-use Rattle.std.specs.List.{Any, AllPairs, Contains}
-use Rattle.std.specs.declared.cmp.Ordering.{Ordering}
-use Rattle.std.specs.declared.cmp.Ordering.TheVariants.{Less}
-use Rattle.std.specs.Ordering.{nat_cmp, ordering_then}
+use Rattle.std.specs.Prelude.{◌≡◌, ℕ, ◌⊎◌, List, take, slice_get, Some, IsSomeAnd}
+use Rattle.std.specs.List.{Any}
 use Rattle.ipdl_base.specs.declared.finding.Finding.{Finding}
 use Rattle.ipdl_base.specs.declared.finding.Place.{Place}
-use Rattle.ipdl_base.specs.declared.finding.Rule.{Rule}
+use Rattle.ipdl_base.specs.declared.finding.TheConstants.Rule as rule
 use Rattle.ipdl_syntax.specs.declared.tree.Base.{Base, Named, Unique'}
 use Rattle.ipdl_syntax.specs.declared.tree.MessageDecl.{MessageDecl}
 use Rattle.ipdl_syntax.specs.declared.tree.Param.{Param}
 use Rattle.ipdl_syntax.specs.declared.tree.Unit.{Unit as FileUnit}
+use Rattle.findings.specs.Report as report
 use Rattle.narrow_rules.specs.Narrow.{IsBuiltinName}
-
--- B1 unknown type
-abbrev pub unknown_type : Rule
-unknown_type = record { letter = 66; number = 1 }
-
--- B21 repeated name
-abbrev pub repeated_name : Rule
-repeated_name = record { letter = 66; number = 21 }
 
 -- the type's name is no builtin's, where the type is a name
 abbrev pub IsUnknownBase : Base → Type 0
@@ -54,21 +44,8 @@ IsRepeatedName unit place = IsSomeAnd unit.protocol (λ p. IsRepeatedIn p.messag
 -- the finding holds of the tree: its rule is broken at its place
 abbrev pub Broken : FileUnit → Finding → Type 0
 Broken unit finding =
-    ((finding.rule ≡ unknown_type) × IsUnknownType unit finding.place) ⊎ ((finding.rule ≡ repeated_name) × IsRepeatedName unit finding.place)
+    ((finding.rule ≡ rule.UNKNOWN_TYPE) × IsUnknownType unit finding.place) ⊎ ((finding.rule ≡ rule.REPEATED_NAME) × IsRepeatedName unit finding.place)
 
--- the order of places: by file, line and column
-abbrev pub place_cmp : Place → Place → Ordering
-place_cmp a b = ordering_then (nat_cmp a.file b.file) (ordering_then (nat_cmp a.line b.line) (nat_cmp a.column b.column))
-
--- the order of rules: by letter and number
-abbrev pub rule_cmp : Rule → Rule → Ordering
-rule_cmp a b = ordering_then (nat_cmp a.letter b.letter) (nat_cmp a.number b.number)
-
--- the order of findings: by place, and at one place by rule
-abbrev pub finding_cmp : Finding → Finding → Ordering
-finding_cmp a b = ordering_then (place_cmp a.place b.place) (rule_cmp a.rule b.rule)
-
--- the report of a tree: exactly the findings that hold of it, each once, in their order
-pub record IsReport (unit : FileUnit) (findings : List Finding) : Type 0 where
-  pub ordered : AllPairs (λ a b. finding_cmp a b ≡ Less) findings
-  pub exact : (f : Finding) → Contains findings f ↔ Broken unit f
+-- the report of a tree
+abbrev pub IsReport : FileUnit → List Finding → Type 0
+IsReport unit findings = report.IsReport (Broken unit) findings

@@ -1,13 +1,8 @@
 -- What follows from the definitions, for every tree.
-use Rattle.std.specs.Prelude.{◌≡◌, ℕ, List, [], IsSomeAnd}
-use Rattle.ipdl_base.specs.declared.finding.Finding.{Finding}
+use Rattle.std.specs.Prelude.{ℕ, List, [], IsSomeAnd}
 use Rattle.ipdl_syntax.specs.declared.tree.Unit.{Unit as FileUnit}
 use Rattle.narrow_rules.specs.Broken.{IsReport}
 use Rattle.narrow_rules.specs.Narrow.{IsNarrow, IsClean}
-
--- A tree has at most one report.
-abbrev pub OneReport : Type 0
-OneReport = (unit : FileUnit) (a b : List Finding) → IsReport unit a → IsReport unit b → a ≡ b
 
 -- In a narrow file whose report is empty all types are builtins that are carried, and the messages differ in name.
 abbrev pub CleanWhereEmpty : Type 0

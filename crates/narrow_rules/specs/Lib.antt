@@ -1,4 +1,3 @@
-pub mod Adds
 pub mod Broken
 pub mod Heads
 pub mod Laws

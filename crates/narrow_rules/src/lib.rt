@@ -1,13 +1,13 @@
 #![tactic(auto)]
 
-mod findings;
 mod laws;
 mod names;
 mod narrow;
+mod report;
 
-pub use findings::narrow_findings;
-pub use laws::{clean, one_report};
+pub use laws::clean;
 pub use narrow::is_narrow;
+pub use report::narrow_findings;
 
 #[cfg(test)]
 mod tests;

@@ -1,18 +1,12 @@
-use super::{clean, is_narrow, narrow_findings, one_report};
+use super::{clean, is_narrow, narrow_findings};
 use ipdl_base::{Direction, Finding, Items, Name, Place, Rule, Semantics};
 use ipdl_syntax::{Base, MessageDecl, Param, ProtocolDecl, TypeSpec, Unit};
 use std::alloc::{AllocError, Global};
 use std::test::Fail;
 
-const UNKNOWN: Rule = Rule {
-    letter: 66,
-    number: 1,
-};
+const UNKNOWN: Rule = Rule::UNKNOWN_TYPE;
 
-const REPEATED: Rule = Rule {
-    letter: 66,
-    number: 21,
-};
+const REPEATED: Rule = Rule::REPEATED_NAME;
 
 fn at(line: u32, column: u32) -> Place {
     Place {
@@ -117,7 +111,6 @@ fn finding(line: u32, column: u32, rule: Rule) -> Option<Finding> {
 
 #[test]
 fn reports(rt: HostRuntime) -> Result<(), Fail> {
-    one_report();
     clean();
     let alloc = rt.alloc();
     let both = (true, 2, finding(4, 9, REPEATED), finding(4, 15, UNKNOWN));

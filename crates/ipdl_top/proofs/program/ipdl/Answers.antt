@@ -1,15 +1,13 @@
-use Rattle.std.proofs.Common.{map}
+use Rattle.std.proofs.Common.{ap, inl, map}
 use Rattle.std.specs.Prelude.{string_bytes}
-use Rattle.ipdl_top.proofs.Outcomes.{writing, outcome_of, no_command, if_told, each_told}
+use Rattle.ipdl_top.specs.declared.answer.Answer.{Answer}
+use Rattle.ipdl_top.proofs.Answered.{no_command_of, of_no_command, for_any}
 use Rattle.ipdl_top.proofs.program.ipdl.Goals as goal
 
-pub returns-in-Some-clause-answer : goal.returns-in-Some-clause-answer
-returns-in-Some-clause-answer g c =
-    if_told (g.F.Files.told c.args.files.now) _ _
-    (λ files h. outcome_of files (map string_bytes c.args.words.now) c.in-Some.name.now c.compile.result (writing (g.O.Sink.written c.args.out.now) (g.O.Sink.written c.compile.new.out)) (writing (g.E.Sink.written c.args.err.now) (g.E.Sink.written c.compile.new.err)) c.in-Some.ensures.some h)
-    c.compile.ensures.answer
+pub returns-in-Ok-write_answer-clause-usage : goal.returns-in-Ok-write_answer-clause-usage
+returns-in-Ok-write_answer-clause-usage g c = λ usage.
+    for_any (g.F.Files.told c.args.files.now) _ _ (λ files h. no_command_of files (map string_bytes c.args.words.now) c.in-Ok.answer usage h) c.in-Ok.ensures.answer
 
-pub returns-in-None-clause-answer : goal.returns-in-None-clause-answer
-returns-in-None-clause-answer g c =
-    each_told (g.F.Files.told c.args.files.now) _
-    (λ files. no_command files (map string_bytes c.args.words.now) c.say_usage.result (g.O.Sink.written c.args.out.now) (g.E.Sink.written c.args.err.now) (g.E.Sink.written c.say_usage.new.err) c.in-None.ensures.none c.say_usage.ensures.status c.say_usage.ensures.whole c.say_usage.ensures.front)
+pub returns-in-Ok-write_answer-clause-no_command : goal.returns-in-Ok-write_answer-clause-no_command
+returns-in-Ok-write_answer-clause-no_command g c = λ none.
+    for_any (g.F.Files.told c.args.files.now) _ _ (λ files h. inl (ap (λ (a : Answer). a.status) (of_no_command files (map string_bytes c.args.words.now) c.in-Ok.answer none h))) c.in-Ok.ensures.answer

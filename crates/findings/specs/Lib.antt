@@ -1,0 +1,4 @@
+pub mod Adds
+pub mod Laws
+pub mod Order
+pub mod Report

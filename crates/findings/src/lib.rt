@@ -1,0 +1,11 @@
+//! The report of any rules: of the findings that they break, each once, in one order.
+#![tactic(auto)]
+
+mod laws;
+mod report;
+
+pub use laws::one_report;
+pub use report::sorted;
+
+#[cfg(test)]
+mod tests;

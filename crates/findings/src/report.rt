@@ -1,0 +1,15 @@
+ghost use Rattle.std.specs.List.{Contains};
+ghost use Rattle.findings.specs.Report.{IsReport};
+
+use ipdl_base::{Finding, Findings, Items};
+
+/// The report of these findings: each of them once, by file, line, column, letter and number.
+/// Takes no memory.
+pub fn sorted(found: Vec<Finding>) -> Findings
+    ensures { IsReport (Contains found.items) result }
+{
+    let mut found = found;
+    found.sort_unstable();
+    found.dedup();
+    Items::from_vec(found)
+}

@@ -1,0 +1,80 @@
+ghost use Rattle.std.specs.Prelude.{◌≡◌, IfOk, IsOkUnless};
+
+use crate::report::text_of_report;
+use crate::status::Status;
+use ipdl_base::{Finding, Items};
+use std::alloc::{AllocError, Global};
+
+/// The text that says how the program is called.
+const USAGE: &[u8] =
+    b"usage: ipdl [-s LIST] [--path DIRS] FILES\n       ipdl run [-s LIST] [--path DIRS] [--schedule WORD] [--limit N] SCRIPT FILE\n       ipdl frames [-s LIST] [--path DIRS] FILE FRAMES\n";
+
+/// What the program answers: how it ends, and the texts that it writes.
+#[derive(Debug, Drop)]
+pub struct Answer {
+    pub status: Status,
+    /// The text for standard output.
+    pub out: Items<u8>,
+    /// The text for standard error.
+    pub err: Items<u8>,
+}
+
+/// Why a command has no answer.
+#[derive(Clone, Copy, Debug, PartialEq, Eq)]
+pub enum Failure {
+    /// A read failed.
+    ReadFault,
+    /// Memory ran out.
+    NoMemory,
+}
+
+impl From<AllocError> for Failure {
+    ghost use Rattle.ipdl_top.specs.declared.answer.Failure.TheVariants.{NoMemory};
+
+    ghost from_gives = { λ _ failure. failure ≡ NoMemory };
+
+    fn from(_error: AllocError) -> Failure {
+        Failure::NoMemory
+    }
+}
+
+impl Answer {
+    ghost use Rattle.ipdl_top.specs.Answer.{table_answer, report_answer, usage_answer};
+
+    /// The answer of a command that did its work: this text.
+    pub fn of_table(alloc: Global, text: Vec<u8>) -> Answer
+        ensures { result ≡ table_answer text.items }
+    {
+        Answer {
+            status: Status::Done,
+            out: Items::from_vec(text),
+            err: Items::from_vec(Vec::new(alloc)),
+        }
+    }
+
+    /// The answer that a file breaks rules: the text of the report on it.
+    pub fn of_report(alloc: Global, name: &str, report: &[Finding]) -> Result<Answer, Failure>
+        ensures answer { IfOk result (λ answer. answer ≡ report_answer name.now report.now) }
+        ensures memory { IsOkUnless result Failure.NoMemory }
+    {
+        let text = text_of_report(alloc, name, report)?;
+        Ok(Answer {
+            status: Status::Broken,
+            out: Items::from_vec(Vec::new(alloc)),
+            err: Items::from_vec(text),
+        })
+    }
+
+    /// The answer to words that are no command: how the program is called.
+    pub fn of_no_command(alloc: Global) -> Result<Answer, Failure>
+        ensures answer { IfOk result (λ answer. answer ≡ usage_answer) }
+        ensures memory { IsOkUnless result Failure.NoMemory }
+    {
+        let text = Vec::from_slice(alloc, USAGE)?;
+        Ok(Answer {
+            status: Status::Usage,
+            out: Items::from_vec(Vec::new(alloc)),
+            err: Items::from_vec(text),
+        })
+    }
+}
