@@ -64,7 +64,8 @@ impl Stack {
         Stack { frames, len: 0 }
     }
 
-    /// The number of frames, at most 64, and fewer where a wait stands above the 62nd.
+    /// The number of frames, at most 64. Each dispatch stands on fewer than 64 others, each wait on
+    /// fewer than 63.
     pub fn len(&self) -> usize
         ensures count { result ≡ length self.now }
         ensures bound { length self.now ≤ 64 }
