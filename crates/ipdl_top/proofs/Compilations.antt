@@ -19,10 +19,6 @@ absent name key answer is_key says = inr (record { key = key; is_key = is_key; r
 pub too_large : (name key bytes : List ℕ) (answer : Answer) → IsKeyOf name key → 1048576 < length bytes → answer ≡ report_answer name not_built → IsCompilation name (Some bytes) answer
 too_large name key bytes answer is_key large says = inr (record { key = key; is_key = is_key; report = not_built; is_report = inl (large, refl); some = (λ e. cc); says = says })
 
--- the table of bytes that are checked
-pub tabled : (name key bytes text : List ℕ) (answer : Answer) → IsKeyOf name key → length bytes ≤ 1048576 → IsTable key bytes text → answer ≡ table_answer text → IsCompilation name (Some bytes) answer
-tabled name key bytes text answer is_key small table says = inl (record { bytes = bytes; read = refl; small = small; key = key; is_key = is_key; text = text; table = table; says = says })
-
 -- the report on bytes that are checked
 pub reported : (name key bytes : List ℕ) (report listed : List Finding) (answer : Answer) → IsKeyOf name key → length bytes ≤ 1048576 → IsNonEmpty (IsReportOfBytes key bytes) report → listed ≡ report → answer ≡ report_answer name listed → IsCompilation name (Some bytes) answer
 reported name key bytes report listed answer is_key small h same says = inr (record {
