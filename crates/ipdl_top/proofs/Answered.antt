@@ -3,7 +3,6 @@ use Rattle.std.proofs.Common.{◌≡◌, ◌⊎◌, ℕ, List, ap, ◌∙◌, sy
 use Rattle.std.specs.Prelude.{Option, Some, None}
 use Rattle.ipdl_base.specs.Outside.{FileMap}
 use Rattle.ipdl_top.specs.declared.answer.Answer.{Answer}
-use Rattle.ipdl_top.specs.declared.status.Status.{Status}
 use Rattle.ipdl_top.specs.declared.status.Status.TheVariants.{Done, Broken, Usage}
 use Rattle.ipdl_top.specs.Answer.{IsAnswer, usage_answer}
 use Rattle.ipdl_top.specs.Command.{IsNoCommand}

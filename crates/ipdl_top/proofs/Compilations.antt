@@ -1,5 +1,5 @@
 -- The answers of a compilation, from what its parts find.
-use Rattle.std.proofs.Common.{◌≡◌, ◌≤◌, ◌<◌, ℕ, List, [], ◌∷◌, length, refl, ◌∙◌, ap, inl, inr}
+use Rattle.std.proofs.Common.{◌≡◌, ◌≤◌, ◌<◌, ℕ, List, length, refl, ◌∙◌, ap, inl, inr}
 use Rattle.std.specs.Prelude.{Option, Some, None}
 use Rattle.ipdl_base.specs.Outside.{FileMap}
 use Rattle.ipdl_base.specs.declared.finding.Finding.{Finding}

@@ -1,8 +1,7 @@
-use Rattle.std.proofs.Common.{List, ℕ, inl, inr, map}
+use Rattle.std.proofs.Common.{inr, map}
 use Rattle.std.specs.Prelude.{string_bytes, IfOk}
 use Rattle.std.proofs.lemmas.Result.{IfOk-weaker}
 use Rattle.ipdl_top.specs.Answer.{IsAnswer}
-use Rattle.ipdl_top.proofs.Answered.{for_more}
 use Rattle.ipdl_top.proofs.Compilations.{for_all}
 use Rattle.ipdl_top.proofs.program.answer_to.Goals as goal
 
