@@ -4,7 +4,7 @@ use Rattle.std.specs.Prelude.{Option, Some, None}
 use Rattle.ipdl_base.specs.Outside.{FileMap}
 use Rattle.ipdl_base.specs.declared.finding.Finding.{Finding}
 use Rattle.ipdl_top.specs.declared.answer.Answer.{Answer}
-use Rattle.ipdl_top.specs.Answer.{IsTable, IsCompilation, table_answer, report_answer}
+use Rattle.ipdl_top.specs.Answer.{IsCompilation, report_answer}
 use Rattle.ipdl_top.specs.Checked.{IsNonEmpty}
 use Rattle.ipdl_top.specs.Command.{IsKeyOf}
 use Rattle.ipdl_top.specs.Outcome.{ForMap}
