@@ -3,10 +3,10 @@ ghost use Rattle.ipdl_syntax.specs.Program.{Tree};
 ghost use Rattle.ipdl_parse.specs.Faults.{IsFault, IsFaultAt};
 ghost use Rattle.ipdl_parse.specs.Trees.{IsOnlyTree};
 
+use grammar_laws::one_tree;
 use ipdl_base::{Place, Token};
 use ipdl_syntax::{FileKind, Unit};
 use std::alloc::Global;
-use grammar_laws::one_tree;
 use tree_reader::{Refusal, read_file};
 
 /// Why tokens have no tree.
