@@ -1,3 +1,4 @@
+//! The schema of a narrow file, and the text of the tables of any schema (docs/tables.md).
 #![tactic(auto)]
 
 mod laws;

@@ -1,3 +1,4 @@
+pub mod FindLemmas
 pub mod Numbers
 pub mod WorkedSchema
 mod FalseSchemas

@@ -1,5 +1,5 @@
 -- The schema of a worked program is sound: a manager and the protocol that it manages, a struct and a union.
-use Rattle.std.proofs.Common.{◌≡◌, ◌≢◌, ℕ, zero, suc, inl, inr, ◌<◌, Bool, true, false, ◌==◌, ◌&&◌, Option, Some, None, List, [], ◌∷◌, codes, refl, sym, ap, subst, ◌∙◌, eq-eqb, arith}
+use Rattle.std.proofs.Common.{◌≡◌, ◌≢◌, ℕ, zero, suc, inl, inr, ◌<◌, Bool, true, false, ◌==◌, ◌&&◌, Option, Some, None, List, [], ◌∷◌, length, ◌+◌, ◌*◌, codes, refl, sym, ap, subst, ◌∙◌, eq-eqb, arith}
 use Rattle.std.specs.List.{slice_get, All, AllByRecursion, AllPairs, Any, Contains}
 use Rattle.std.specs.Option.{IfSome, IsSomeAnd}
 use Rattle.std.proofs.lemmas.Bool.{true≢false}
@@ -7,8 +7,8 @@ use Rattle.std.proofs.lemmas.Option.{same_Some}
 use Rattle.std.proofs.lemmas.List.Elements.{All-nil, All-from_recursion, All-contains}
 use Rattle.ipdl_base.specs.Plain.{one_box}
 use Rattle.ipdl_base.specs.Builtins.{is_carried}
-use Rattle.ipdl_base.specs.Words.{short_name}
-use Rattle.ipdl_base.specs.Sound.{MentionsUncarried, IsDefined, IsInRange, IsFieldInRange, IsTypeInRange, MessageMentionsUncarried, IsNamed, IsSoundMessage, IsSoundProtocol, IsSound}
+use Rattle.ipdl_base.specs.Words.{IsWord, short_name}
+use Rattle.ipdl_base.specs.Sound.{IsKindOf, MentionsUncarried, IsDefined, IsInRange, IsFieldInRange, IsTypeInRange, MessageMentionsUncarried, IsNamed, IsSoundMessage, IsSoundProtocol, IsSound}
 use Rattle.ipdl_base.specs.Sound.{builtin, in_array, in_maybe, in_struct, in_union, actor, struct, union}
 use Rattle.ipdl_base.specs.declared.builtin.Builtin.TheVariants as word
 use Rattle.ipdl_base.specs.declared.kinds.Level.TheVariants as level
@@ -146,15 +146,20 @@ only_managed p among = All-contains (λ (q : ℕ). q ≡ 0) (0 ∷ []) p (All-fr
 no_constructor : (protocols : List ProtocolRow) (name : List ℕ) → ¬ IsNamed protocols 0 name → (p : ℕ) → Contains (0 ∷ []) p → ¬ IsNamed protocols p name
 no_constructor protocols name none p among = subst (λ (q : ℕ). ¬ IsNamed protocols q name) (sym (only_managed p among)) none
 
-sound_hello : IsSoundMessage worked 0 (managed (hello ∷ delete ∷ [])) 0 hello
-sound_hello = record {
-  number = refl;
-  name = refl;
-  params = params_are InRange hello.params (tt, tt);
-  returns = params_are InRange (param (codes "aOk") (Builtin word.Bool) ∷ []) (tt, tt);
-  kind = (differ (codes "Hello") (codes "__delete__") refl, λ p among. absurd (omega (arith, among.1)));
-  carried = ((λ t. carried hello (params_are IsCarried hello.params (no_maybe (no_builtin word.Int32 refl), tt)) (params_are IsCarried (param (codes "aOk") (Builtin word.Bool) ∷ []) (no_builtin word.Bool refl, tt))), λ none. refl);
-  plain_sync = λ s l. cc;
+-- a normal message of level not, neither compressed nor lazy, is sound where these parts are
+normal_message : (schema : Schema) (p : ℕ) (protocol : ProtocolRow) (i number : ℕ) (name : List ℕ) (receiver : Direction) (semantics : Semantics) (params : List ParamRow) (returns : Option (List ParamRow))
+    → number ≡ p * 65536 + 2 * i → IsWord name → All (IsFieldInRange (length schema.protocols) (length schema.types)) params
+    → IfSome returns (λ rs. All (IsFieldInRange (length schema.protocols) (length schema.types)) rs) → IsKindOf schema.protocols protocol name Normal
+    → ¬ MessageMentionsUncarried schema.types (message number name receiver semantics Normal params returns) → (semantics ≡ Sync → receiver ≡ direction.Parent)
+    → IsSoundMessage schema p protocol i (message number name receiver semantics Normal params returns)
+normal_message schema p protocol i number name receiver semantics params returns is_number word in_range returned kind none from_the_child = record {
+  number = is_number;
+  name = word;
+  params = in_range;
+  returns = returned;
+  kind = kind;
+  carried = ((λ t. none), λ n. refl);
+  plain_sync = λ s l. from_the_child s;
   inside_sync = λ l. cc;
   inside_cpow = λ l. cc;
   compressed = λ ne. absurd (ne refl);
@@ -162,6 +167,14 @@ sound_hello = record {
   delete = λ k. cc;
   constructor = λ made k s. cc;
 }
+
+sound_hello : IsSoundMessage worked 0 (managed (hello ∷ delete ∷ [])) 0 hello
+sound_hello =
+    normal_message worked 0 (managed (hello ∷ delete ∷ [])) 0 hello.number hello.name direction.Both Async hello.params hello.returns refl refl
+    (params_are InRange hello.params (tt, tt)) (params_are InRange (param (codes "aOk") (Builtin word.Bool) ∷ []) (tt, tt))
+    (differ (codes "Hello") (codes "__delete__") refl, λ p among. absurd (omega (arith, among.1)))
+    (carried hello (params_are IsCarried hello.params (no_maybe (no_builtin word.Int32 refl), tt)) (params_are IsCarried (param (codes "aOk") (Builtin word.Bool) ∷ []) (no_builtin word.Bool refl, tt)))
+    (λ s. cc)
 
 sound_delete : IsSoundMessage worked 0 (managed (hello ∷ delete ∷ [])) 1 delete
 sound_delete = record {
@@ -198,38 +211,20 @@ sound_construct = record {
 }
 
 sound_look_up : IsSoundMessage worked 1 (manager (construct ∷ look_up ∷ note ∷ [])) 1 look_up
-sound_look_up = record {
-  number = refl;
-  name = refl;
-  params = params_are InRange look_up.params (tt, tt);
-  returns = params_are InRange (param (codes "aFound") (Named 1) ∷ []) (omega arith, tt);
-  kind = (differ (codes "Lookup") (codes "__delete__") refl, no_constructor worked.protocols (codes "Lookup") (differ (codes "PMyManaged") (codes "Lookup") refl));
-  carried = ((λ t. carried look_up (params_are IsCarried look_up.params (no_builtin word.NsString refl, tt)) (params_are IsCarried (param (codes "aFound") (Named 1) ∷ []) (union_carried, tt))), λ none. refl);
-  plain_sync = λ s l. refl;
-  inside_sync = λ l. cc;
-  inside_cpow = λ l. cc;
-  compressed = λ ne. absurd (ne refl);
-  lazy = λ l. cc;
-  delete = λ k. cc;
-  constructor = λ made k s. cc;
-}
+sound_look_up =
+    normal_message worked 1 (manager (construct ∷ look_up ∷ note ∷ [])) 1 look_up.number look_up.name direction.Parent Sync look_up.params look_up.returns refl refl
+    (params_are InRange look_up.params (tt, tt)) (params_are InRange (param (codes "aFound") (Named 1) ∷ []) (omega arith, tt))
+    (differ (codes "Lookup") (codes "__delete__") refl, no_constructor worked.protocols (codes "Lookup") (differ (codes "PMyManaged") (codes "Lookup") refl))
+    (carried look_up (params_are IsCarried look_up.params (no_builtin word.NsString refl, tt)) (params_are IsCarried (param (codes "aFound") (Named 1) ∷ []) (union_carried, tt)))
+    (λ s. refl)
 
 sound_note : IsSoundMessage worked 1 (manager (construct ∷ look_up ∷ note ∷ [])) 2 note
-sound_note = record {
-  number = refl;
-  name = refl;
-  params = params_are InRange note.params (omega arith, (omega arith, (tt, tt)));
-  returns = tt;
-  kind = (differ (codes "Note") (codes "__delete__") refl, no_constructor worked.protocols (codes "Note") (differ (codes "PMyManaged") (codes "Note") refl));
-  carried = ((λ t. carried note (params_are IsCarried note.params (pair_carried, (no_actor, (no_using, tt)))) tt), λ none. refl);
-  plain_sync = λ s l. cc;
-  inside_sync = λ l. cc;
-  inside_cpow = λ l. cc;
-  compressed = λ ne. absurd (ne refl);
-  lazy = λ l. cc;
-  delete = λ k. cc;
-  constructor = λ made k s. cc;
-}
+sound_note =
+    normal_message worked 1 (manager (construct ∷ look_up ∷ note ∷ [])) 2 note.number note.name direction.Child Async note.params note.returns refl refl
+    (params_are InRange note.params (omega arith, (omega arith, (tt, tt)))) tt
+    (differ (codes "Note") (codes "__delete__") refl, no_constructor worked.protocols (codes "Note") (differ (codes "PMyManaged") (codes "Note") refl))
+    (carried note (params_are IsCarried note.params (pair_carried, (no_actor, (no_using, tt)))) tt)
+    (λ s. cc)
 
 managed_messages : (i : ℕ) (row : MessageRow) → slice_get (hello ∷ delete ∷ []) i ≡ Some row → IsSoundMessage worked 0 (managed (hello ∷ delete ∷ [])) i row
 managed_messages zero row e = subst (IsSoundMessage worked 0 (managed (hello ∷ delete ∷ [])) 0) (same_Some _ _ e) sound_hello

@@ -1,8 +1,8 @@
 -- Which piece begins a text, and where none does.
-use Rattle.std.proofs.Common.{◌≡◌, ◌≢◌, ℕ, ◌+◌, ◌<◌, ◌≤◌, true, false, not, ◌||◌, ◌==◌, List, [], ◌∷◌, ◌++◌, Option, Some, None, length, take, drop, get_or, is_some, unwrap_or, position, refl, subst, sym, ap, ◌∙◌, ⊎_elim, inl, inr, arith}
+use Rattle.std.proofs.Common.{◌≡◌, ◌≢◌, ℕ, ◌+◌, ◌<◌, ◌≤◌, true, false, not, ◌==◌, List, [], ◌∷◌, ◌++◌, Option, Some, None, length, take, drop, get_or, is_some, unwrap_or, position, refl, subst, sym, ap, ◌∙◌, ⊎_elim, inl, inr, arith}
 use Rattle.std.specs.Prelude.{IsTrue, All}
 use Rattle.std.specs.List.{AllByRecursion}
-use Rattle.std.proofs.lemmas.Bool.{false≢true, true≢false, both_ways, cases_lt, not-false, not-true, or_parts, or_cases, eqb-true, eqb-false, ne_eqb, or_from, not_from_false}
+use Rattle.std.proofs.lemmas.Bool.{false≢true, true≢false, both_ways, cases_lt, not-false, not-true, or_parts, or_cases, eqb-true, eqb-false}
 use Rattle.std.proofs.lemmas.List.{append-nil, length-take-le, append_assoc, take_at, drop_at, length-append, get_or_at}
 use Rattle.std.proofs.lemmas.List.Elements.{All-from_recursion, recursion_from_All}
 use Rattle.ipdl_base.specs.declared.token.TokenKind.{TokenKind}
@@ -10,7 +10,7 @@ use Rattle.ipdl_base.specs.declared.token.TokenKind.TheVariants.{Quoted, Mark}
 use Rattle.ipdl_lex.specs.declared.scan.Class.TheVariants as class
 use Rattle.ipdl_base.specs.Words.{is_word_start, is_word_byte, IsWord}
 use Rattle.ipdl_lex.specs.Pieces.{is_line_feed, IsBlockComment, Spells, IsPieceOf}
-use Rattle.ipdl_lex.specs.Tokens.{Begins, IsStuck, IsOpenComment, IsOpenString, IsBadByte, IsTooLong, IsShortOf}
+use Rattle.ipdl_lex.specs.Tokens.{Begins, IsStuck, IsOpenComment, IsOpenString, IsBadByte, IsTooLong}
 use Rattle.ipdl_lex.specs.Scan.{class_of, ends_quoted, ClosesAt, IsFront}
 use Rattle.ipdl_lex.proofs.Classes.{blank_piece, slash_piece, letter_piece, quote_piece, mark_piece, other_piece, piece_nonempty, is_blank-class, slash-class, quote-class, is_mark-class, word_start-class, word_rest, word_of}
 use Rattle.ipdl_lex.proofs.Runs.{StopsAt, Run, run_up_to, cut_by, closes_at, closes_split}
@@ -240,29 +240,6 @@ open_comment text none = record {
         (let tails : text ≡ ys ++ after = cc in tails ∙ ap (λ l. l ++ after) inner ∙ sym (closed block.inner after)) in
         none (length block.inner) (subst (λ t. ClosesAt t (length block.inner)) (sym whole) (closes_at block.inner after))
 
--- a slash with neither behind it
-pub bad_slash : (bs : List ℕ) → StopsAt (λ c. not (c == 47 || c == 42)) bs → IsBadByte (47 ∷ bs)
-bad_slash bs stops = record {
-  stuck = stuck_by 47 bs (λ k more after piece e. slash_needs bs stops k more after piece e);
-  is_byte = λ e. cc;
-  no_comment = λ opens. let e = opens.1 in no_star bs stops opens.0 cc;
-  no_string = λ opens. let e = opens.1 in let never : ◌≡◌ {A = ℕ} 47 34 = cc in omega arith;
-}
-  where
-    no_star : (bs : List ℕ) → StopsAt (λ c. not (c == 47 || c == 42)) bs → (after : List ℕ) → bs ≡ 42 ∷ after → ⊥
-    no_star bs stops after e = false≢true (subst (StopsAt (λ c. not (c == 47 || c == 42))) e stops)
-
-    no_slash : (bs : List ℕ) → StopsAt (λ c. not (c == 47 || c == 42)) bs → (after : List ℕ) → bs ≡ 47 ∷ after → ⊥
-    no_slash bs stops after e = false≢true (subst (StopsAt (λ c. not (c == 47 || c == 42))) e stops)
-
-    slash_needs : (bs : List ℕ) → StopsAt (λ c. not (c == 47 || c == 42)) bs → (k : Option TokenKind) (more after : List ℕ) → IsPieceOf k (47 ∷ more) → bs ≡ more ++ after → ⊥
-    slash_needs bs stops k more after piece e =
-        ⊎_elim
-        (λ line. let is = line.spelled in let tail : more ≡ 47 ∷ line.inner = cc in no_slash bs stops (line.inner ++ after) (e ∙ ap (λ l. l ++ after) tail))
-        (λ block. let is = block.spelled in let tail : more ≡ 42 ∷ (block.inner ++ 42 ∷ 47 ∷ []) = cc in
-        no_star bs stops ((block.inner ++ 42 ∷ 47 ∷ []) ++ after) (e ∙ ap (λ l. l ++ after) tail))
-        (slash_piece k 47 more refl piece)
-
 -- a quoted text
 
 -- bytes that end no quoted text are as `IsQuoted` wants them
@@ -419,13 +396,6 @@ open_comment_at (x ∷ []) inner i h k e = absurd (omega arith)
 open_comment_at (x ∷ y ∷ ys) inner i h k e =
     second_is x y ys 47 42 IsOpenComment (slash-class x h) k (open_comment ys (λ j closes. e j (subst (λ l. ClosesAt l j) (sym i) closes)))
 
-pub bad_slash_at : (text : List ℕ) → class_of (get_or text 0 0) ≡ class.Slash → (2 ≤ length text → (get_or text 1 0 ≢ 47) × (get_or text 1 0 ≢ 42)) → IsBadByte text
-bad_slash_at [] h k = absurd (let never : class.Other ≡ class.Slash = h in cc)
-bad_slash_at (x ∷ []) h k = first_is x [] 47 IsBadByte (slash-class x h) (bad_slash [] tt)
-bad_slash_at (x ∷ y ∷ ys) h k =
-    let apart = k (omega arith) in
-    first_is x (y ∷ ys) 47 IsBadByte (slash-class x h) (bad_slash (y ∷ ys) (not_from_false _ (or_from (y == 47) (y == 42) (ne_eqb y 47 apart.0) (ne_eqb y 42 apart.1))))
-
 pub quoted_at : (text inner : List ℕ) (n : ℕ) → inner ≡ drop 1 text → class_of (get_or text 0 0) ≡ class.Quote → Some n ≡ position ends_quoted inner → get_or inner n 0 ≡ 34 → IsFront text (Some Quoted) (n + 2)
 quoted_at [] inner n i h e k = absurd (let never : class.Other ≡ class.Quote = h in cc)
 quoted_at (x ∷ xs) inner n i h e k =
@@ -449,8 +419,3 @@ too_long text None n front e long = absurd (false≢true e)
 too_long text (Some kind) n front e long =
     let len = length-take-le n text front.fits in
     record { kind = kind; bytes = take n text; after = drop n text; begins = front.begins; long = omega arith }
-
--- one that is short enough
-pub short_enough : (text : List ℕ) (k : Option TokenKind) (n : ℕ) → IsFront text k n → n ≤ 256 → IsShortOf k (take n text)
-short_enough text None n front short = tt
-short_enough text (Some kind) n front short = let len = length-take-le n text front.fits in omega arith

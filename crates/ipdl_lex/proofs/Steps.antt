@@ -1,9 +1,9 @@
 -- What the loop of the scan has found so far.
-use Rattle.std.proofs.Common.{◌≡◌, ℕ, zero, suc, ◌+◌, ◌<◌, ◌≤◌, ◌==◌, true, false, not, cond, List, [], ◌∷◌, ◌++◌, Option, length, take, drop, count_by, reverse, refl, subst, sym, ap, ◌∙◌, ⊎_elim, arith}
+use Rattle.std.proofs.Common.{◌≡◌, ℕ, ◌+◌, ◌≤◌, ◌==◌, true, false, not, cond, List, [], ◌∷◌, ◌++◌, Option, length, take, drop, count_by, reverse, refl, subst, sym, ap, ◌∙◌, ⊎_elim, arith}
 use Rattle.std.specs.Prelude.{All}
 use Rattle.std.specs.List.{flat_map, suffix_len, prefix_len}
 use Rattle.std.proofs.lemmas.Bool.{cases_Bool, eqb-true}
-use Rattle.std.proofs.lemmas.List.{append-nil, append_assoc, nil_from_length, reverse-append, length-append, length-drop, flat_map_more}
+use Rattle.std.proofs.lemmas.List.{append-nil, append_assoc, nil_from_length, reverse-append, length-append, flat_map_more}
 use Rattle.std.proofs.lemmas.List.Sums.{sum_by_push, count_by-le-length, suffix_len-le-length}
 use Rattle.std.proofs.lemmas.List.Elements.{All-push, All-nil}
 use Rattle.ipdl_base.specs.declared.finding.Place.{Place}
@@ -14,7 +14,6 @@ use Rattle.ipdl_lex.specs.Pieces.{is_line_feed, Piece}
 use Rattle.ipdl_lex.specs.Places.{place_behind}
 use Rattle.ipdl_lex.specs.Tokens.{Begins, Cuts, IsShort, IsShortOf, token_at, tokens_of, IsTokens, FailsAt, IsFault}
 use Rattle.ipdl_lex.specs.Scan.{IsFront, behind_byte, behind_bytes}
-use Rattle.ipdl_lex.proofs.Classes.{piece_nonempty}
 
 -- places
 
@@ -152,15 +151,3 @@ Reaches-small file text tokens here rest reached =
     let lines = count_by-le-length is_line_feed before in
     let columns = suffix_len-le-length (λ x. not (is_line_feed x)) before in
     (omega arith, omega arith)
-
-front_positive : (text : List ℕ) (kind : Option TokenKind) (len : ℕ) → IsFront text kind len → 0 < len
-front_positive text kind zero front = absurd (piece_nonempty kind front.begins.is_piece)
-front_positive text kind (suc n) front = omega arith
-
--- a piece has a byte, so the rest behind it is shorter
-pub rest_shorter : (text : List ℕ) (kind : Option TokenKind) (len : ℕ) → IsFront text kind len → length (drop len text) < length text
-rest_shorter text kind len front =
-    let positive = front_positive text kind len front in
-    let fits = front.fits in
-    let behind = length-drop len text in
-    omega arith

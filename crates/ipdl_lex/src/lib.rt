@@ -1,3 +1,4 @@
+//! The tokens of a text with their places, or its first fault (docs/tokens.md).
 #![tactic(auto)]
 
 mod laws;

@@ -1,11 +1,10 @@
 -- What a form takes begins with a token that has a production, which takes the rest.
-use Rattle.std.proofs.Common.{◌≡◌, ◌≢◌, ℕ, suc, ◌-◌, ◌≤◌, inl, inr, true, false, List, [], ◌∷◌, length, Option, Some, None, codes, refl, sym, subst, ◌∙◌, arith}
+use Rattle.std.proofs.Common.{◌≡◌, ℕ, suc, ◌-◌, ◌≤◌, inl, inr, true, false, List, [], ◌∷◌, length, Option, Some, None, codes, refl, sym, subst, ◌∙◌, arith}
 use Rattle.std.specs.Prelude.{nat_lt}
 use Rattle.ipdl_base.specs.declared.kinds.Direction.{Direction}
 use Rattle.ipdl_base.specs.declared.kinds.Direction.TheVariants as direction
 use Rattle.ipdl_base.specs.declared.kinds.Semantics.TheVariants as semantics
 use Rattle.ipdl_base.specs.declared.token.Token.{Token}
-use Rattle.ipdl_base.specs.declared.token.TokenKind.TheVariants as kind
 use Rattle.ipdl_syntax.specs.declared.tree.Attribute.{Attribute}
 use Rattle.ipdl_syntax.specs.declared.tree.Base.{Named, Unique'}
 use Rattle.ipdl_syntax.specs.declared.tree.IncludeKind.TheVariants as include_kind
@@ -20,7 +19,8 @@ use Rattle.tree_reader.specs.Symbols.{symbol}
 use Rattle.tree_reader.specs.Reading.{last}
 use Rattle.tree_reader.specs.Machine.{Form, proper, take, any_word, argument_name, argument_words, suffixed, named, based, typed, attributed, behind_attribute, more_attributed, one_param, parameters, more_parameters, behind_parameters, one_message, messaged, managing, more_managing, fielded, componented, using_named, using_word, behind_using, include_named, production, behind, suffix_begins, base_begins, type_begins, section_begins}
 use Rattle.std.proofs.lemmas.Bool.{lt-ltb}
-use Rattle.tree_reader.proofs.Symbols.{means, is_word, is_quoted, is_colons, is_close_brace, is_open_paren, is_close_paren, is_open_bracket, is_close_bracket, is_less, is_greater, is_semicolon, is_comma, is_colon, is_equals, is_question, is_async, is_both, is_child, is_class, is_from, is_manager, is_manages, is_nullable, is_or, is_parent, is_protocol, is_returns, is_struct, is_sync, is_unique_ptr}
+use Rattle.tree_reader.proofs.Symbols.{is_word, is_quoted, is_colons, is_close_brace, is_open_paren, is_close_paren, is_open_bracket, is_close_bracket, is_less, is_greater, is_semicolon, is_comma, is_colon, is_equals, is_question, is_async, is_both, is_child, is_class, is_from, is_manager, is_manages, is_nullable, is_or, is_parent, is_protocol, is_returns, is_struct, is_sync, is_unique_ptr}
+use Rattle.tree_reader.proofs.Tokens.{any_word_table}
 use Rattle.ipdl_parse.proofs.Meaning.{ending_part, closed, Takes, Behind, Opened, behind_together, allowed}
 
 open_by : (f : Form) (s : Symbol) (from to : List Token) (t : Token) (rest : List Token) → from ≡ t ∷ rest → symbol t ≡ s → Behind (production f s) rest to → Opened f from to
@@ -325,48 +325,6 @@ opened_include_named from to (include_kind.Quoted, name, place, (m, (t, te, tk),
     open_by include_named Quoted from to t m te (is_quoted t tk.0) (to, (v, ve, is_semicolon v vk), refl)
 
 -- single tokens
-
--- a token that is no mark
-any_word_table : (s : Symbol) (t : Token) → symbol t ≡ s → t.kind ≢ kind.Mark → production any_word s ≡ Some []
-unfolding production
-any_word_table End t is k = absurd (means t End is)
-any_word_table Word t is k = refl
-any_word_table Quoted t is k = refl
-any_word_table OtherWord t is k = refl
-any_word_table OtherMark t is k = absurd (k (means t OtherMark is))
-any_word_table Colons t is k = absurd (k (means t Colons is).0)
-any_word_table OpenBrace t is k = absurd (k (means t OpenBrace is).0)
-any_word_table CloseBrace t is k = absurd (k (means t CloseBrace is).0)
-any_word_table OpenParen t is k = absurd (k (means t OpenParen is).0)
-any_word_table CloseParen t is k = absurd (k (means t CloseParen is).0)
-any_word_table OpenBracket t is k = absurd (k (means t OpenBracket is).0)
-any_word_table CloseBracket t is k = absurd (k (means t CloseBracket is).0)
-any_word_table Less t is k = absurd (k (means t Less is).0)
-any_word_table Greater t is k = absurd (k (means t Greater is).0)
-any_word_table Semicolon t is k = absurd (k (means t Semicolon is).0)
-any_word_table Comma t is k = absurd (k (means t Comma is).0)
-any_word_table Colon t is k = absurd (k (means t Colon is).0)
-any_word_table Equals t is k = absurd (k (means t Equals is).0)
-any_word_table Question t is k = absurd (k (means t Question is).0)
-any_word_table Async t is k = refl
-any_word_table Both t is k = refl
-any_word_table Child t is k = refl
-any_word_table Class t is k = refl
-any_word_table From t is k = refl
-any_word_table Include t is k = refl
-any_word_table Manager t is k = refl
-any_word_table Manages t is k = refl
-any_word_table Namespace t is k = refl
-any_word_table Nullable t is k = refl
-any_word_table Or t is k = refl
-any_word_table Parent t is k = refl
-any_word_table Protocol t is k = refl
-any_word_table Returns t is k = refl
-any_word_table Struct t is k = refl
-any_word_table Sync t is k = refl
-any_word_table Union t is k = refl
-any_word_table UniquePtr t is k = refl
-any_word_table Using t is k = refl
 
 opened_any_word : (from to : List Token) → Takes any_word from to → Opened any_word from to
 opened_any_word from to (t, te, tk) = open_as any_word (symbol t) (Some []) from to t to te refl (any_word_table (symbol t) t refl tk) refl

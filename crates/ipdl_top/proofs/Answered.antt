@@ -28,11 +28,6 @@ ends map words answer (inl (name, command, inl h)) = inl (status_of _ _ h.says)
 ends map words answer (inl (name, command, inr h)) = inr (inl (status_of _ _ h.says))
 ends map words answer (inr h) = inr (inr (status_of _ _ h.1))
 
--- what holds for the map that is told or for some map, and follows for each
-pub for_more : (told : Option FileMap) (P Q : FileMap → Type 0) → ((map : FileMap) → P map → Q map) → ForMap told P → ForMap told Q
-for_more None P Q to (map, h) = (map, to map h)
-for_more (Some map) P Q to h = to map h
-
 -- what follows for each map, and does not speak of it
 pub for_any : (told : Option FileMap) (P : FileMap → Type 0) (Q : Type 0) → ((map : FileMap) → P map → Q) → ForMap told P → Q
 for_any None P Q to (map, h) = to map h

@@ -1,3 +1,4 @@
+//! Which files are narrow, and the rules that such a file breaks (docs/narrow.md).
 #![tactic(auto)]
 
 mod laws;

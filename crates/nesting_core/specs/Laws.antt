@@ -1,5 +1,6 @@
 -- What follows from the definitions, for every list of frames.
-use Rattle.std.specs.Prelude.{◌≡◌, ◌↔◌, ℤ, List, map, option_map}
+use Rattle.std.specs.Prelude.{◌≡◌, ◌↔◌, ◌<◌, ℤ, true, List, length, map, Some, None, option_map}
+use Rattle.ipdl_base.specs.declared.kinds.SendRefusal.TheVariants.{NestedInNormal, InsideCpow, LevelTooLow, TooDeep}
 use Rattle.ipdl_base.specs.declared.kinds.Side.{Side}
 use Rattle.nesting_core.specs.declared.frame.Answer.{Answer}
 use Rattle.nesting_core.specs.declared.frame.Frame.{Frame}
@@ -42,3 +43,11 @@ pub record PlainFormsCommute : Type 0 where
   pub is_level_too_low : (fs : List Frame) (send : SendHead) → refusals.is_level_too_low (map plain_frame fs) send ≡ refusals.is_level_too_low fs send
   pub is_too_deep : (fs : List Frame) (send : SendHead) → refusals.is_too_deep (map plain_frame fs) send ≡ refusals.is_too_deep fs send
   pub refusal_of : (fs : List Frame) (send : SendHead) → refusals.refusal_of (map plain_frame fs) send ≡ refusals.refusal_of fs send
+
+-- A sync send is refused by the first of the four causes that holds, and one that is not refused leaves room for its wait.
+pub record RefusesByFirstCause : Type 0 where
+  pub nested_in_normal : (fs : List Frame) (send : SendHead) → (refusals.refusal_of fs send ≡ Some NestedInNormal) ↔ refusals.IsNestedInNormal fs send
+  pub inside_cpow : (fs : List Frame) (send : SendHead) → (refusals.refusal_of fs send ≡ Some InsideCpow) ↔ (¬ refusals.IsNestedInNormal fs send × refusals.IsInsideCpow fs send)
+  pub level_too_low : (fs : List Frame) (send : SendHead) → (refusals.refusal_of fs send ≡ Some LevelTooLow) ↔ (¬ refusals.IsNestedInNormal fs send × ¬ refusals.IsInsideCpow fs send × refusals.IsLevelTooLow fs send)
+  pub too_deep : (fs : List Frame) (send : SendHead) → (refusals.refusal_of fs send ≡ Some TooDeep) ↔ (¬ refusals.IsNestedInNormal fs send × ¬ refusals.IsInsideCpow fs send × ¬ refusals.IsLevelTooLow fs send × refusals.IsTooDeep fs send)
+  pub room : (fs : List Frame) (send : SendHead) → send.sync ≡ true → refusals.refusal_of fs send ≡ None → length fs < 63

@@ -1,3 +1,5 @@
+//! The stack of calls inside calls of one end: what it defers, and which sends it refuses
+//! (docs/nesting.md).
 #![tactic(auto)]
 
 mod frame;
@@ -9,5 +11,5 @@ mod stack;
 mod tests;
 
 pub use frame::{Answer, Frame, Head, Popped, SendHead, StackTop};
-pub use laws::plain_forms_commute;
+pub use laws::{plain_forms_commute, refuses_by_first_cause};
 pub use stack::Stack;

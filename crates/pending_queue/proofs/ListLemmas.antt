@@ -1,30 +1,15 @@
 use Rattle.std.proofs.Common.{◌≡◌, ℕ, zero, suc, ◌-◌, ◌<◌, ◌≤◌, Bool, true, false, List, [], ◌∷◌, length, get_or, drop, Some, None, sym, refl, ap, ◌∙◌, arith, cond, ◌&&◌, ◌||◌}
-use Rattle.std.specs.List.{find, position, position_or_len, slice_get, list_any, remove}
+use Rattle.std.specs.List.{find, position, list_any, remove}
 use Rattle.std.proofs.lemmas.Bool.{false≢true}
 use Rattle.std.proofs.lemmas.Bool.Decides.{nat_tests}
-use Rattle.std.proofs.lemmas.List.Folds.{find_at, list_any_at}
+use Rattle.std.proofs.lemmas.List.Folds.{list_any_at}
 use Rattle.std.proofs.lemmas.List.{get_or_default}
 use Rattle.std.proofs.lemmas.List.Quantifiers.{position-Some}
-use Rattle.std.proofs.lemmas.Option.{slice_get-get_or, slice_get_past}
+use Rattle.ipdl_base.proofs.FindLemmas.{find_nowhere}
 use Rattle.ipdl_base.specs.declared.kinds.Compress.TheVariants.{All}
 use Rattle.pending_queue.specs.declared.item.Item.{Item}
 use Rattle.pending_queue.specs.Compression.{are_alike, latest, without_latest, ReplacesAt}
 use Rattle.pending_queue.specs.Holding.{without_first}
-
--- the first place is past the end where none passes
-past_end : {X : Type 0} (p : X → Bool) (xs : List X) → position p xs ≡ None → length xs ≤ position_or_len p xs
-past_end p xs h = grind (arith, nat_tests)
-
--- what no place has is not found
-pub find_nowhere : {X : Type 0} (p : X → Bool) (xs : List X) → position p xs ≡ None → find p xs ≡ None
-find_nowhere p xs h = find_at p xs ∙ slice_get_past xs (position_or_len p xs) (past_end p xs h)
-
--- what stands at the first place is found
-pub find_there : {X : Type 0} (p : X → Bool) (xs : List X) (i : ℕ) (d : X) → position p xs ≡ Some i → find p xs ≡ Some (get_or xs i d)
-find_there p xs i d h =
-    let at : position_or_len p xs ≡ i = grind (arith, nat_tests) in
-    let below : i < length xs = (position-Some p xs i d h).0 in
-    find_at p xs ∙ ap (slice_get xs) at ∙ slice_get-get_or xs i d below
 
 -- the same at a first item
 stays_behind : (p : Item → Bool) (x : Item) (xs : List Item) (b : Bool) → cond b (Some x) (find p xs) ≡ None → (find p xs ≡ None → without_first p xs ≡ xs) → cond b xs (x ∷ without_first p xs) ≡ x ∷ xs

@@ -1,3 +1,4 @@
+//! What has arrived at one end and was not taken: compression and deferral (docs/arrived.md).
 #![tactic(auto)]
 
 mod holding;

@@ -1,14 +1,15 @@
 use Rattle.std.proofs.Common.{◌≡◌, ◌≢◌, ℕ, zero, suc, ℤ, ◌<◌, ◌≤◌, Bool, true, false, List, [], ◌∷◌, length, map, get_or, set, Option, Some, None, sym, refl, ap, ◌∙◌, arith, cond, ◌&&◌, ◌↔◌, inl, inr, is_some, is_none}
 use Rattle.std.specs.Option.{option_map}
 use Rattle.std.specs.Ordering.{int_eq}
-use Rattle.std.specs.List.{find, position, position_or_len, slice_get}
-use Rattle.std.proofs.lemmas.Bool.Decides.{Decides-int_eq, nat_tests}
+use Rattle.std.specs.List.{find, position, position_or_len}
+use Rattle.std.proofs.lemmas.Bool.Decides.{Decides-int_eq}
 use Rattle.std.proofs.lemmas.Bool.{cases_lt, cases_eq, false≢true}
 use Rattle.std.proofs.lemmas.List.Sums.{fails_before_first, passes_at_first}
 use Rattle.std.proofs.lemmas.List.Folds.{find_at}
 use Rattle.std.proofs.lemmas.List.{get_or-map, length-map, get_or_default}
 use Rattle.std.proofs.lemmas.List.Quantifiers.{position-Some}
 use Rattle.std.proofs.lemmas.Option.{slice_get-get_or, slice_get_past}
+use Rattle.ipdl_base.proofs.FindLemmas.{past_end, find_nowhere, find_there}
 use Rattle.promise_table.specs.declared.promise.Outcome.{Outcome}
 use Rattle.promise_table.specs.declared.promise.Promise.{Promise}
 use Rattle.promise_table.specs.declared.promise.Settling.{Settling}
@@ -34,22 +35,6 @@ map_is_set f (x ∷ xs) (suc i) y l at h =
     let first : f x ≡ x = h 0 x (omega arith) (λ e. omega arith) in
     let rest : set xs i y ≡ map f xs = map_is_set f xs i y (omega arith) at (λ k d m n. h (suc k) d (omega arith) (λ e. n (omega arith))) in
     cc
-
--- the first place is past the end where none passes
-past_end : {X : Type 0} (p : X → Bool) (xs : List X) → position p xs ≡ None → length xs ≤ position_or_len p xs
-past_end p xs h = grind (arith, nat_tests)
-
--- what no place has is not found
-pub find_nowhere : {X : Type 0} (p : X → Bool) (xs : List X) → position p xs ≡ None → find p xs ≡ None
-find_nowhere p xs h =
-    find_at p xs ∙ slice_get_past xs (position_or_len p xs) (past_end p xs h)
-
--- what stands at the first place is found
-pub find_there : {X : Type 0} (p : X → Bool) (xs : List X) (i : ℕ) (d : X) → position p xs ≡ Some i → find p xs ≡ Some (get_or xs i d)
-find_there p xs i d h =
-    let at : position_or_len p xs ≡ i = grind (arith, nat_tests) in
-    let below : i < length xs = (position-Some p xs i d h).0 in
-    find_at p xs ∙ ap (slice_get xs) at ∙ slice_get-get_or xs i d below
 
 -- the pending promise of the number gets its outcome
 pub settled_changes : (seq : ℤ) (outcome : Outcome) (p : Promise) → p.seq ≡ seq → p.outcome ≡ None → settled seq outcome p ≡ record p { outcome = Some outcome }

@@ -1,3 +1,4 @@
+//! The promises that one end has made, each settled once (docs/promises.md).
 #![tactic(auto)]
 
 mod laws;

@@ -98,46 +98,47 @@ take_other UniquePtr UniquePtr n o = absurd (o refl)
 take_other Using Using n o = absurd (o refl)
 take_other _ _ n o = refl
 
-word_table : (s : Symbol) (t : Token) → symbol t ≡ s → t.kind ≢ kind.Mark → production any_word s ≡ Some []
+-- a token that is no mark is a value
+pub any_word_table : (s : Symbol) (t : Token) → symbol t ≡ s → t.kind ≢ kind.Mark → production any_word s ≡ Some []
 unfolding production
-word_table End t is k = absurd (means t End is)
-word_table Word t is k = refl
-word_table Quoted t is k = refl
-word_table OtherWord t is k = refl
-word_table OtherMark t is k = absurd (k (means t OtherMark is))
-word_table Colons t is k = absurd (k (means t Colons is).0)
-word_table OpenBrace t is k = absurd (k (means t OpenBrace is).0)
-word_table CloseBrace t is k = absurd (k (means t CloseBrace is).0)
-word_table OpenParen t is k = absurd (k (means t OpenParen is).0)
-word_table CloseParen t is k = absurd (k (means t CloseParen is).0)
-word_table OpenBracket t is k = absurd (k (means t OpenBracket is).0)
-word_table CloseBracket t is k = absurd (k (means t CloseBracket is).0)
-word_table Less t is k = absurd (k (means t Less is).0)
-word_table Greater t is k = absurd (k (means t Greater is).0)
-word_table Semicolon t is k = absurd (k (means t Semicolon is).0)
-word_table Comma t is k = absurd (k (means t Comma is).0)
-word_table Colon t is k = absurd (k (means t Colon is).0)
-word_table Equals t is k = absurd (k (means t Equals is).0)
-word_table Question t is k = absurd (k (means t Question is).0)
-word_table Async t is k = refl
-word_table Both t is k = refl
-word_table Child t is k = refl
-word_table Class t is k = refl
-word_table From t is k = refl
-word_table Include t is k = refl
-word_table Manager t is k = refl
-word_table Manages t is k = refl
-word_table Namespace t is k = refl
-word_table Nullable t is k = refl
-word_table Or t is k = refl
-word_table Parent t is k = refl
-word_table Protocol t is k = refl
-word_table Returns t is k = refl
-word_table Struct t is k = refl
-word_table Sync t is k = refl
-word_table Union t is k = refl
-word_table UniquePtr t is k = refl
-word_table Using t is k = refl
+any_word_table End t is k = absurd (means t End is)
+any_word_table Word t is k = refl
+any_word_table Quoted t is k = refl
+any_word_table OtherWord t is k = refl
+any_word_table OtherMark t is k = absurd (k (means t OtherMark is))
+any_word_table Colons t is k = absurd (k (means t Colons is).0)
+any_word_table OpenBrace t is k = absurd (k (means t OpenBrace is).0)
+any_word_table CloseBrace t is k = absurd (k (means t CloseBrace is).0)
+any_word_table OpenParen t is k = absurd (k (means t OpenParen is).0)
+any_word_table CloseParen t is k = absurd (k (means t CloseParen is).0)
+any_word_table OpenBracket t is k = absurd (k (means t OpenBracket is).0)
+any_word_table CloseBracket t is k = absurd (k (means t CloseBracket is).0)
+any_word_table Less t is k = absurd (k (means t Less is).0)
+any_word_table Greater t is k = absurd (k (means t Greater is).0)
+any_word_table Semicolon t is k = absurd (k (means t Semicolon is).0)
+any_word_table Comma t is k = absurd (k (means t Comma is).0)
+any_word_table Colon t is k = absurd (k (means t Colon is).0)
+any_word_table Equals t is k = absurd (k (means t Equals is).0)
+any_word_table Question t is k = absurd (k (means t Question is).0)
+any_word_table Async t is k = refl
+any_word_table Both t is k = refl
+any_word_table Child t is k = refl
+any_word_table Class t is k = refl
+any_word_table From t is k = refl
+any_word_table Include t is k = refl
+any_word_table Manager t is k = refl
+any_word_table Manages t is k = refl
+any_word_table Namespace t is k = refl
+any_word_table Nullable t is k = refl
+any_word_table Or t is k = refl
+any_word_table Parent t is k = refl
+any_word_table Protocol t is k = refl
+any_word_table Returns t is k = refl
+any_word_table Struct t is k = refl
+any_word_table Sync t is k = refl
+any_word_table Union t is k = refl
+any_word_table UniquePtr t is k = refl
+any_word_table Using t is k = refl
 
 mark_table : (s : Symbol) (t : Token) → symbol t ≡ s → t.kind ≡ kind.Mark → production any_word s ≡ None
 unfolding production
@@ -194,7 +195,7 @@ is_identifier s name place from to e (t, here, (is, text, at)) = (t, here, (mean
 
 -- any word is taken
 pub word_taken : (from : List Token) (t : Token) (to : List Token) → from ≡ t ∷ to → t.kind ≢ kind.Mark → Turns (any_word ∷ []) from [] to
-word_taken from t to here k = turn any_word (symbol t) [] from to (t, here, refl) (word_table (symbol t) t refl k)
+word_taken from t to here k = turn any_word (symbol t) [] from to (t, here, refl) (any_word_table (symbol t) t refl k)
 
 -- a mark is refused where any word is wanted
 pub mark_refused : (from : List Token) (t : Token) (to : List Token) (e : Refusal) → from ≡ t ∷ to → t.kind ≡ kind.Mark → e ≡ Left (length from) → Stops (any_word ∷ []) from e

@@ -1,6 +1,7 @@
 use Rattle.std.proofs.Common.{Some, sym, ap, ◌∙◌}
 use Rattle.pending_queue.specs.Holding.{is_free}
-use Rattle.pending_queue.proofs.ListLemmas.{find_nowhere, find_there, without_nowhere, without_there}
+use Rattle.ipdl_base.proofs.FindLemmas.{find_nowhere, find_there}
+use Rattle.pending_queue.proofs.ListLemmas.{without_nowhere, without_there}
 use Rattle.pending_queue.proofs.pending.take_free.Goals as goal
 
 pub returns-in_err-index-clause-first : goal.returns-in_err-index-clause-first

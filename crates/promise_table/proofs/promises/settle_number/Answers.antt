@@ -1,7 +1,8 @@
 use Rattle.std.proofs.Common.{refl, sym}
 use Rattle.std.proofs.lemmas.Int.{to_z-of_z}
 use Rattle.promise_table.specs.Promises.{has_number}
-use Rattle.promise_table.proofs.PromisesLemmas.{find_nowhere, unmade_stays, settled_stays, settling_before, settling_now, pending_at}
+use Rattle.ipdl_base.proofs.FindLemmas.{find_nowhere}
+use Rattle.promise_table.proofs.PromisesLemmas.{unmade_stays, settled_stays, settling_before, settling_now, pending_at}
 use Rattle.promise_table.proofs.promises.settle_number.Goals as goal
 
 pub returns-in_default-clause-answer : goal.returns-in_default-clause-answer
