@@ -1,0 +1,5 @@
+pub mod Kept
+pub mod Messages
+pub mod Noted
+pub mod Text
+pub mod Words

@@ -1,0 +1,29 @@
+-- Which message a number stands for at an end, by the lines before.
+use Rattle.std.specs.Prelude.{ℕ, ℤ, Bool, true, false, if◌then◌else◌, List, [], ◌∷◌, Option, Some, None, is_some, option_and_then}
+use Rattle.std.specs.Ordering.{int_eq}
+use Rattle.ipdl_base.specs.declared.kinds.Side.{Side}
+use Rattle.ipdl_base.specs.declared.kinds.Side.TheVariants as side
+use Rattle.history.specs.declared.line.Line.{Line}
+use Rattle.history.specs.declared.line.What.{What}
+use Rattle.history.specs.declared.line.What.TheVariants as what
+
+abbrev pub same_side : Side → Side → Bool
+same_side side.Parent side.Parent = true
+same_side side.Child side.Child = true
+same_side _ _ = false
+
+-- the number of a request that a line gives a message, and that message: a send, a call or a take does
+abbrev pub given : What → Option (ℤ × ℕ)
+given (what.Send number route message values) = Some (number, message)
+given (what.Call number transaction route message values) = Some (number, message)
+given (what.Take number route message values) = Some (number, message)
+given _ = None
+
+-- the message that a line gives this number at this end
+abbrev pub message_at : Side → ℤ → Line → Option ℕ
+message_at end n line = if same_side line.side end then option_and_then (λ g. if int_eq g.0 n then Some g.1 else None) (given line.what) else None
+
+-- the message of a number at an end: the last line of the end that gives the number one decides
+abbrev pub message_of_number : Side → List Line → ℤ → Option ℕ
+message_of_number end [] n = None
+message_of_number end (line ∷ rest) n = if is_some (message_of_number end rest n) then message_of_number end rest n else message_at end n line

@@ -1,0 +1,16 @@
+//! The history of a channel: a line for each event of an end and for each of its effects, and the
+//! text that a transcript prints of them.
+#![tactic(auto)]
+
+mod history;
+mod line;
+mod messages;
+mod text;
+mod words;
+
+pub use history::History;
+pub use line::{Line, What};
+pub use text::history_text;
+
+#[cfg(test)]
+mod tests;

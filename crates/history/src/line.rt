@@ -1,0 +1,81 @@
+use ipdl_base::{Destroy, Name, Reason, SendRefusal, Side, Values};
+
+/// A line of a history: what happened at one end (docs/transcripts.md).
+#[derive(Debug, Drop, PartialEq)]
+pub struct Line {
+    pub side: Side,
+    pub what: What,
+}
+
+/// What a line says. A message is named by the number of its request and a protocol by its own
+/// number. Requests are numbered from 1 at the parent and from -1 downward at the child.
+#[derive(Debug, Drop, PartialEq)]
+pub enum What {
+    /// An async send: its number, the actor that it goes to, its message and its values.
+    Send(i32, i32, u32, Values),
+    /// A sync send: its number, its transaction, the actor that it goes to, its message and its
+    /// values.
+    Call(i32, i32, i32, u32, Values),
+    /// A refused send of a message.
+    RefusedSend(SendRefusal, u32),
+    /// A refused close.
+    RefusedClose(SendRefusal),
+    /// A refused resolve.
+    RefusedResolve(SendRefusal),
+    /// A refused reject.
+    RefusedReject(SendRefusal),
+    /// An answer with values to the request of this number.
+    Resolve(i32, Values),
+    /// A rejection of the request of this number.
+    Reject(i32),
+    /// The resolver of the request of this number is kept under a name.
+    Keep(i32, Name),
+    /// A name holds the actor of this id, or nothing where it is 0.
+    Let(Name, i32),
+    /// The end closes.
+    Close,
+    /// The end dies.
+    Die,
+    /// The request of this number is delivered.
+    DeliverRequest(i32),
+    /// The reply to the request of this number is delivered.
+    DeliverReply(i32),
+    /// The other end's goodbye is delivered.
+    DeliverGoodbye,
+    /// The mark that the other end left at its death is delivered.
+    DeliverBroken,
+    /// A request is handled: its number, its actor, its message and its values.
+    Take(i32, i32, u32, Values),
+    /// A request is dropped: its number, its actor, its message and the id that does not live.
+    Drop(i32, i32, u32, i32),
+    /// The reply to the request of this number is taken.
+    TakeReply(i32),
+    /// The end closes by the other's goodbye.
+    ShutNormal,
+    /// The end closes by the other's death.
+    ShutAbnormal,
+    /// The handler of the request of this number returns.
+    Return(i32),
+    /// The call of this number goes on with these values.
+    ResumeOk(i32, Values),
+    /// The call of this number goes on with a fault.
+    ResumeFault(i32, Reason),
+    /// So many packets leave the outbox.
+    Flush(u32),
+    /// An effect: an actor of this id and protocol is built.
+    Built(i32, u32),
+    /// An effect: the request of this number is replaced by a later one.
+    Replaced(i32),
+    /// An effect: the request of this number is answered with values.
+    AnswerOk(i32, Values),
+    /// An effect: the request of this number is answered with a fault.
+    AnswerFault(i32, Reason),
+    /// An effect: the call of this number is answered by the closing of the channel.
+    Fails(i32),
+    /// An effect: the promise of this number is settled with values.
+    Resolved(i32, Values),
+    /// An effect: the promise of this number is settled with a rejection.
+    Rejected(i32, Reason),
+    /// An effect: the actor of this id falls.
+    Fall(i32, Destroy),
+}

@@ -1,0 +1,76 @@
+ghost use Rattle.std.specs.Prelude.{◌≡◌, ◌∷◌, ◌++◌, [], List, OnOk};
+ghost use Rattle.std.specs.HashMap.{get};
+ghost use Rattle.std.specs.Ordering.{int_eq};
+ghost use Rattle.history.specs.Messages.{given};
+ghost use Rattle.history.specs.Noted.{Gives, Knows, noted_at};
+
+use crate::line::{Line, What};
+use indexmap::IndexMap;
+use ipdl_base::Side;
+use std::alloc::{AllocError, Global};
+
+/// The messages of the numbers of requests at either end, as the lines so far give them.
+#[derive(Drop)]
+pub struct Messages {
+    parent: IndexMap<i32, u32>,
+    child: IndexMap<i32, u32>,
+}
+
+impl Messages {
+    /// No numbers, as no lines give them.
+    pub fn new(alloc: Global) -> Messages
+        ensures { Knows [] result }
+    {
+        Messages {
+            parent: IndexMap::new(alloc),
+            child: IndexMap::new(alloc),
+        }
+    }
+
+    /// The message of a number at an end.
+    pub fn find(&self, side: Side, number: i32) -> Option<u32>
+        ensures { result ≡ noted_at self.now side number }
+    {
+        match side {
+            Side::Parent => self.parent.get(&number).copied(),
+            Side::Child => self.child.get(&number).copied(),
+        }
+    }
+
+    /// Gives a number at an end its message.
+    fn give(&mut self, side: Side, number: i32, message: u32) -> Result<(), AllocError>
+        ensures { OnOk result (Gives self.old self.new side number message) }
+    {
+        match side {
+            Side::Parent => {
+                self.parent.insert(number, message)?;
+            }
+            Side::Child => {
+                self.child.insert(number, message)?;
+            }
+        }
+        Ok(())
+    }
+
+    /// Notes what a line says behind those so far.
+    pub fn note(&mut self, line: &Line) -> Result<(), AllocError>
+        ensures { OnOk result ((lines : List Line) → Knows lines self.old → Knows (lines ++ line.now ∷ []) self.new) }
+    {
+        match given(&line.what) {
+            Some((number, message)) => self.give(line.side, number, message),
+            None => Ok(()),
+        }
+    }
+}
+
+/// The number of a request that a line gives a message, and that message.
+fn given(what: &What) -> Option<(i32, u32)>
+    ensures { result ≡ given what.now }
+{
+    match what {
+        What::Send(number, _, message, _)
+        | What::Call(number, _, _, message, _)
+        | What::Take(number, _, message, _) => Some((*number, *message)),
+        _ => None,
+    }
+}

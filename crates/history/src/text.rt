@@ -1,0 +1,499 @@
+ghost use Rattle.std.specs.Prelude.{◌≡◌, ◌++◌, ◌/◌, [], IfOk, OnOk, codes};
+ghost use Rattle.std.specs.Fmt.{decimal};
+ghost use Rattle.std.specs.Option.{option_map_or};
+ghost use Rattle.ipdl_base.specs.Sound.{IsSound, message_of};
+ghost use Rattle.ipdl_base.specs.Words.{short_name};
+ghost use Rattle.history.specs.Noted.{noted_at};
+ghost use Rattle.history.specs.Text as text;
+
+use crate::history::History;
+use crate::line::{Line, What};
+use crate::messages::Messages;
+use crate::words::{destroy_word, reason_word, refusal_word, side_word};
+use ipdl_base::{MessageRow, ParamRow, Schema, SendRefusal, Side, Values};
+use std::alloc::{AllocError, Global};
+use value_types::push_values;
+
+/// The bytes behind the last colon, or all where there is none.
+fn short_name(full: &[u8]) -> &[u8]
+    ensures { result.now ≡ short_name full.now }
+{
+    for index in (0..full.len()).rev() {
+        if full[index] == b':' {
+            return &full[index + 1..];
+        }
+    }
+    full
+}
+
+/// The short name of a protocol, or nothing where there is none of this number.
+fn protocol_name(schema: &Schema, number: u32) -> &[u8]
+    requires { IsSound schema.now }
+    ensures { result.now ≡ text.protocol_text schema.now number }
+{
+    match schema.protocol(number) {
+        Some(protocol) => short_name(protocol.name.as_slice()),
+        None => b"",
+    }
+}
+
+/// The name of a message by the number of its request, or nothing where there is none.
+fn message_name(schema: &Schema, number: u32) -> &[u8]
+    requires { IsSound schema.now }
+    ensures { result.now ≡ option_map_or (λ message. message.name) (message_of schema.now number) [] }
+{
+    match schema.message(number) {
+        Some(message) => message.name.as_slice(),
+        None => b"",
+    }
+}
+
+/// The parameters of a message, or none where there is no such message.
+fn params_of(schema: &Schema, number: u32) -> &[ParamRow]
+    requires { IsSound schema.now }
+    ensures { result.now ≡ text.params_of schema.now number }
+{
+    match schema.message(number) {
+        Some(message) => message.params.as_slice(),
+        None => &[],
+    }
+}
+
+/// The returns of a message, or none where it has none.
+fn returns_of_row(message: &MessageRow) -> &[ParamRow]
+    ensures { result.now ≡ text.returns_of_row message.now }
+{
+    match &message.returns {
+        Some(returns) => returns.as_slice(),
+        None => &[],
+    }
+}
+
+/// The returns of the message with this number.
+fn returns_of_number(schema: &Schema, number: u32) -> &[ParamRow]
+    requires { IsSound schema.now }
+    ensures { result.now ≡ option_map_or text.returns_of_row (message_of schema.now number) [] }
+{
+    match schema.message(number) {
+        Some(message) => returns_of_row(message),
+        None => &[],
+    }
+}
+
+/// The returns of a message that is named, or none where none is.
+fn returns_of(schema: &Schema, named: Option<u32>) -> &[ParamRow]
+    requires { IsSound schema.now }
+    ensures { result.now ≡ text.returns_of schema.now named }
+{
+    match named {
+        Some(number) => returns_of_number(schema, number),
+        None => &[],
+    }
+}
+
+/// Appends a text and a number.
+fn push_numbered(
+    out: &mut Vec<u8>,
+    alloc: Global,
+    before: &[u8],
+    number: i32,
+) -> Result<(), AllocError>
+    ensures { OnOk result (out.new.items ≡ out.old.items ++ text.numbered before.now number) }
+{
+    out.extend_from_slice(before)?;
+    let digits = number.to_string(alloc)?;
+    out.extend_from_slice(digits.as_bytes())
+}
+
+/// Appends a message with its protocol.
+fn push_message(out: &mut Vec<u8>, schema: &Schema, number: u32) -> Result<(), AllocError>
+    requires { IsSound schema.now }
+    ensures { OnOk result (out.new.items ≡ out.old.items ++ text.message_text schema.now number) }
+{
+    out.extend_from_slice(protocol_name(schema, number / 65536))?;
+    out.extend_from_slice(b".")?;
+    out.extend_from_slice(message_name(schema, number))
+}
+
+/// Appends values between brackets.
+fn push_listed(
+    out: &mut Vec<u8>,
+    alloc: Global,
+    schema: &Schema,
+    types: &[ParamRow],
+    values: &Values,
+) -> Result<(), AllocError>
+    ensures { OnOk result (out.new.items ≡ out.old.items ++ text.listed_values schema.now types.now values.now) }
+{
+    out.extend_from_slice(b"(")?;
+    push_values(alloc, schema, types, values, out)?;
+    out.extend_from_slice(b")")
+}
+
+/// Appends a blank and a message with its values.
+fn push_request(
+    out: &mut Vec<u8>,
+    alloc: Global,
+    schema: &Schema,
+    number: u32,
+    values: &Values,
+) -> Result<(), AllocError>
+    requires { IsSound schema.now }
+    ensures { OnOk result (out.new.items ≡ out.old.items ++ (codes " " ++ text.request_text schema.now number values.now)) }
+{
+    out.extend_from_slice(b" ")?;
+    push_message(out, schema, number)?;
+    push_listed(out, alloc, schema, params_of(schema, number), values)
+}
+
+/// Appends a word and a number, and another word and number.
+fn push_routed(
+    out: &mut Vec<u8>,
+    alloc: Global,
+    word: &[u8],
+    number: i32,
+    between: &[u8],
+    route: i32,
+) -> Result<(), AllocError>
+    ensures { OnOk result (out.new.items ≡ out.old.items ++ (text.numbered word.now number ++ text.numbered between.now route)) }
+{
+    push_numbered(out, alloc, word, number)?;
+    push_numbered(out, alloc, between, route)
+}
+
+/// Appends what a line says that has a number and an end of its own.
+fn push_tailed(
+    out: &mut Vec<u8>,
+    alloc: Global,
+    word: &[u8],
+    number: i32,
+    between: &[u8],
+    tail: &[u8],
+) -> Result<(), AllocError>
+    ensures { OnOk result (out.new.items ≡ out.old.items ++ (text.numbered word.now number ++ between.now ++ tail.now)) }
+{
+    push_numbered(out, alloc, word, number)?;
+    out.extend_from_slice(between)?;
+    out.extend_from_slice(tail)
+}
+
+/// Appends what a line says that has a number and values of returns.
+fn push_returned(
+    out: &mut Vec<u8>,
+    alloc: Global,
+    schema: &Schema,
+    types: &[ParamRow],
+    word: &[u8],
+    number: i32,
+    between: &[u8],
+    values: &Values,
+) -> Result<(), AllocError>
+    ensures { OnOk result (out.new.items ≡ out.old.items ++ (text.numbered word.now number ++ between.now ++ text.listed_values schema.now types.now values.now)) }
+{
+    push_numbered(out, alloc, word, number)?;
+    out.extend_from_slice(between)?;
+    push_listed(out, alloc, schema, types, values)
+}
+
+/// Appends a refusal.
+fn push_refused(out: &mut Vec<u8>, cause: SendRefusal, act: &[u8]) -> Result<(), AllocError>
+    ensures { OnOk result (out.new.items ≡ out.old.items ++ text.refused_text cause act.now) }
+{
+    out.extend_from_slice(b"refused ")?;
+    out.extend_from_slice(refusal_word(cause))?;
+    out.extend_from_slice(act)
+}
+
+/// Appends the refusal of a send.
+fn push_refused_send(
+    out: &mut Vec<u8>,
+    schema: &Schema,
+    cause: SendRefusal,
+    message: u32,
+) -> Result<(), AllocError>
+    requires { IsSound schema.now }
+    ensures { OnOk result (out.new.items ≡ out.old.items ++ text.refused_send_text schema.now cause message) }
+{
+    push_refused(out, cause, b" ")?;
+    push_message(out, schema, message)
+}
+
+/// Appends an async send.
+fn push_send(
+    out: &mut Vec<u8>,
+    alloc: Global,
+    schema: &Schema,
+    number: i32,
+    route: i32,
+    message: u32,
+    values: &Values,
+) -> Result<(), AllocError>
+    requires { IsSound schema.now }
+    ensures { OnOk result (out.new.items ≡ out.old.items ++ text.send_text schema.now number route message values.now) }
+{
+    push_routed(out, alloc, b"send ", number, b" to ", route)?;
+    push_request(out, alloc, schema, message, values)
+}
+
+/// Appends a sync send.
+fn push_call(
+    out: &mut Vec<u8>,
+    alloc: Global,
+    schema: &Schema,
+    number: i32,
+    transaction: i32,
+    route: i32,
+    message: u32,
+    values: &Values,
+) -> Result<(), AllocError>
+    requires { IsSound schema.now }
+    ensures { OnOk result (out.new.items ≡ out.old.items ++ text.call_text schema.now number transaction route message values.now) }
+{
+    push_routed(out, alloc, b"call ", number, b"/", transaction)?;
+    push_numbered(out, alloc, b" to ", route)?;
+    push_request(out, alloc, schema, message, values)
+}
+
+/// Appends a request that is handled.
+fn push_take(
+    out: &mut Vec<u8>,
+    alloc: Global,
+    schema: &Schema,
+    number: i32,
+    route: i32,
+    message: u32,
+    values: &Values,
+) -> Result<(), AllocError>
+    requires { IsSound schema.now }
+    ensures { OnOk result (out.new.items ≡ out.old.items ++ text.take_text schema.now number route message values.now) }
+{
+    push_routed(out, alloc, b"take ", number, b" at ", route)?;
+    push_request(out, alloc, schema, message, values)
+}
+
+/// Appends a blank and a message with its protocol.
+fn push_blank_message(out: &mut Vec<u8>, schema: &Schema, number: u32) -> Result<(), AllocError>
+    requires { IsSound schema.now }
+    ensures { OnOk result (out.new.items ≡ out.old.items ++ (codes " " ++ text.message_text schema.now number)) }
+{
+    out.extend_from_slice(b" ")?;
+    push_message(out, schema, number)
+}
+
+/// Appends a request that is dropped.
+fn push_drop(
+    out: &mut Vec<u8>,
+    alloc: Global,
+    schema: &Schema,
+    number: i32,
+    route: i32,
+    message: u32,
+    id: i32,
+) -> Result<(), AllocError>
+    requires { IsSound schema.now }
+    ensures { OnOk result (out.new.items ≡ out.old.items ++ text.drop_text schema.now number route message id) }
+{
+    push_routed(out, alloc, b"drop ", number, b" at ", route)?;
+    push_blank_message(out, schema, message)?;
+    push_numbered(out, alloc, b" for ", id)
+}
+
+/// Appends that a name holds an actor.
+fn push_let(out: &mut Vec<u8>, alloc: Global, name: &[u8], id: i32) -> Result<(), AllocError>
+    ensures { OnOk result (out.new.items ≡ out.old.items ++ (codes "let " ++ name.now ++ text.numbered (codes " ") id)) }
+{
+    out.extend_from_slice(b"let ")?;
+    out.extend_from_slice(name)?;
+    push_numbered(out, alloc, b" ", id)
+}
+
+/// Appends how many packets leave the outbox.
+fn push_flush(out: &mut Vec<u8>, alloc: Global, count: u32) -> Result<(), AllocError>
+    ensures { OnOk result (out.new.items ≡ out.old.items ++ (codes "flush " ++ decimal count)) }
+{
+    out.extend_from_slice(b"flush ")?;
+    let digits = count.to_string(alloc)?;
+    out.extend_from_slice(digits.as_bytes())
+}
+
+/// The returns of the message of a number at an end.
+fn returns_at<'s>(
+    schema: &'s Schema,
+    messages: &Messages,
+    side: Side,
+    number: i32,
+) -> &'s [ParamRow]
+    requires { IsSound schema.now }
+    ensures { result.now ≡ text.returns_of schema.now (noted_at messages.now side number) }
+{
+    returns_of(schema, messages.find(side, number))
+}
+
+/// Appends what a line says behind its begin.
+fn push_what(
+    out: &mut Vec<u8>,
+    alloc: Global,
+    schema: &Schema,
+    messages: &Messages,
+    side: Side,
+    what: &What,
+) -> Result<(), AllocError>
+    requires { IsSound schema.now }
+    ensures { OnOk result (out.new.items ≡ out.old.items ++ text.what_text schema.now (λ n. text.returns_of schema.now (noted_at messages.now side n)) what.now) }
+{
+    match what {
+        What::Send(n, route, message, values) => {
+            push_send(out, alloc, schema, *n, *route, *message, values)
+        }
+        What::Call(n, transaction, route, message, values) => {
+            push_call(
+                out,
+                alloc,
+                schema,
+                *n,
+                *transaction,
+                *route,
+                *message,
+                values,
+            )
+        }
+        What::RefusedSend(cause, message) => push_refused_send(out, schema, *cause, *message),
+        What::RefusedClose(cause) => push_refused(out, *cause, b" close"),
+        What::RefusedResolve(cause) => push_refused(out, *cause, b" resolve"),
+        What::RefusedReject(cause) => push_refused(out, *cause, b" reject"),
+        What::Resolve(n, values) => {
+            let types = returns_at(schema, messages, side, *n);
+            push_returned(out, alloc, schema, types, b"resolve ", *n, b" ", values)
+        }
+        What::Reject(n) => push_numbered(out, alloc, b"reject ", *n),
+        What::Keep(n, name) => push_tailed(out, alloc, b"keep ", *n, b" ", name.as_slice()),
+        What::Let(name, id) => push_let(out, alloc, name.as_slice(), *id),
+        What::Close => out.extend_from_slice(b"close"),
+        What::Die => out.extend_from_slice(b"die"),
+        What::DeliverRequest(n) => push_numbered(out, alloc, b"deliver request ", *n),
+        What::DeliverReply(n) => push_numbered(out, alloc, b"deliver reply ", *n),
+        What::DeliverGoodbye => out.extend_from_slice(b"deliver goodbye"),
+        What::DeliverBroken => out.extend_from_slice(b"deliver broken"),
+        What::Take(n, route, message, values) => {
+            push_take(out, alloc, schema, *n, *route, *message, values)
+        }
+        What::Drop(n, route, message, id) => {
+            push_drop(out, alloc, schema, *n, *route, *message, *id)
+        }
+        What::TakeReply(n) => push_numbered(out, alloc, b"take reply ", *n),
+        What::ShutNormal => out.extend_from_slice(b"shut NormalShutdown"),
+        What::ShutAbnormal => out.extend_from_slice(b"shut AbnormalShutdown"),
+        What::Return(n) => push_numbered(out, alloc, b"return ", *n),
+        What::ResumeOk(n, values) => {
+            let types = returns_at(schema, messages, side, *n);
+            push_returned(out, alloc, schema, types, b"resume ", *n, b" ok ", values)
+        }
+        What::ResumeFault(n, reason) => {
+            push_tailed(out, alloc, b"resume ", *n, b" fault ", reason_word(*reason))
+        }
+        What::Flush(count) => push_flush(out, alloc, *count),
+        What::Built(id, protocol) => {
+            let name = protocol_name(schema, *protocol);
+            push_tailed(out, alloc, b"built ", *id, b" ", name)
+        }
+        What::Replaced(n) => push_numbered(out, alloc, b"replaced ", *n),
+        What::AnswerOk(n, values) => {
+            let types = returns_at(schema, messages, side, *n);
+            push_returned(out, alloc, schema, types, b"answer ", *n, b" ok ", values)
+        }
+        What::AnswerFault(n, reason) => {
+            push_tailed(out, alloc, b"answer ", *n, b" fault ", reason_word(*reason))
+        }
+        What::Fails(n) => push_numbered(out, alloc, b"fails ", *n),
+        What::Resolved(n, values) => {
+            let types = returns_at(schema, messages, side, *n);
+            push_returned(
+                out,
+                alloc,
+                schema,
+                types,
+                b"settle ",
+                *n,
+                b" resolved ",
+                values,
+            )
+        }
+        What::Rejected(n, reason) => {
+            push_tailed(
+                out,
+                alloc,
+                b"settle ",
+                *n,
+                b" rejected ",
+                reason_word(*reason),
+            )
+        }
+        What::Fall(id, destroy) => {
+            push_tailed(out, alloc, b"fall ", *id, b" ", destroy_word(*destroy))
+        }
+    }
+}
+
+/// Whether a line is an effect of the event before it.
+fn is_effect(what: &What) -> bool
+    ensures { result ≡ text.is_effect what.now }
+{
+    matches!(
+        what,
+        What::Built(..)
+            | What::Replaced(..)
+            | What::AnswerOk(..)
+            | What::AnswerFault(..)
+            | What::Fails(..)
+            | What::Resolved(..)
+            | What::Rejected(..)
+            | What::Fall(..)
+    )
+}
+
+/// Appends how a line begins.
+fn push_begin(out: &mut Vec<u8>, line: &Line) -> Result<(), AllocError>
+    ensures { OnOk result (out.new.items ≡ out.old.items ++ text.line_begin line.now) }
+{
+    if is_effect(&line.what) {
+        out.extend_from_slice(b"  ")
+    } else {
+        out.extend_from_slice(side_word(line.side))?;
+        out.extend_from_slice(b" ")
+    }
+}
+
+/// Appends a line.
+fn push_line(
+    out: &mut Vec<u8>,
+    alloc: Global,
+    schema: &Schema,
+    messages: &Messages,
+    line: &Line,
+) -> Result<(), AllocError>
+    requires { IsSound schema.now }
+    ensures { OnOk result (out.new.items ≡ out.old.items ++ text.line_saying schema.now (λ n. text.returns_of schema.now (noted_at messages.now line.now.side n)) line.now) }
+{
+    push_begin(out, line)?;
+    push_what(out, alloc, schema, messages, line.side, &line.what)?;
+    out.extend_from_slice(b"\n")
+}
+
+/// The text that a transcript prints of a history, a line for each of its lines
+/// (docs/transcripts.md). Its time goes with the text's length.
+pub fn history_text(
+    alloc: Global,
+    schema: &Schema,
+    history: &History,
+) -> Result<Vec<u8>, AllocError>
+    requires { IsSound schema.now }
+    ensures { IfOk result (λ written. written.items ≡ text.transcript_text schema.now history.now.lines) }
+{
+    let mut messages = Messages::new(alloc);
+    let mut out = Vec::new(alloc);
+    for line in history.lines() {
+        push_line(&mut out, alloc, schema, &messages, line)?;
+        messages.note(line)?;
+    }
+    Ok(out)
+}
