@@ -1,0 +1,4 @@
+pub mod Options
+pub mod Forms
+pub mod Keys
+pub mod Compile

@@ -1,0 +1,4 @@
+//! The command that words are.
+#![tactic(auto)]
+
+fn nothing() {}
