@@ -1,5 +1,7 @@
 pub mod Texts
-pub mod Tables
+pub mod Lookups
 pub mod Spellings
 pub mod Views
 pub mod Walks
+pub mod KeyLemmas
+pub mod OneKey

@@ -16,7 +16,8 @@ use Rattle.clap.specs.declared.error.kind.ErrorKind.TheVariants.{UnknownArgument
 use Rattle.command_words.specs.Options.{Choice, IsAmong, IsApart, IsAttached, IsJoined, IsPlain}
 use Rattle.command_words.specs.Forms.{bare}
 use Rattle.command_words.proofs.Texts.{other_byte, same_byte}
-use Rattle.command_words.proofs.Tables.{IsTable, by_letter, by_name, full_rules, long_found, option_rule, short_found}
+use Rattle.command_words.specs.Tables.{IsTable, by_letter, by_name}
+use Rattle.command_words.proofs.Lookups.{full_rules, long_found, option_rule, short_found}
 
 abbrev pub dashes : Text
 dashes = 45 ∷ 45 ∷ []

@@ -74,3 +74,16 @@ pub record IsCompile (words : List (List ℕ)) (list : Option (List ℕ)) (path 
   pub list_is : list ≡ value_of (codes "sync-msg-list") said
   pub path_is : IsPath (value_of (codes "path") said) path
   pub files_are : AreFiles (own_words said) files
+
+-- the words are no command
+abbrev pub IsNoCommand : List (List ℕ) → Type 0
+IsNoCommand words = (list : Option (List ℕ)) (path files : List (List ℕ)) → ¬ IsCompile words list path files
+
+-- the words are one command at most
+abbrev pub OneCommand : Type 0
+OneCommand = (words : List (List ℕ)) (list other_list : Option (List ℕ)) (path other_path files other_files : List (List ℕ))
+    → IsCompile words list path files → IsCompile words other_list other_path other_files → (list ≡ other_list) × (path ≡ other_path) × (files ≡ other_files)
+
+-- a first word that chooses another command makes the words none, as yet
+abbrev pub OthersAreNone : Type 0
+OthersAreNone = (word : List ℕ) (words : List (List ℕ)) → HasWord other_commands word → IsNoCommand (word ∷ words)

@@ -1,4 +1,15 @@
-//! The command that words are.
+//! The command that the words of a command line are, and the words that are none. It knows how words
+//! are read, and nothing of what a command does.
 #![tactic(auto)]
 
-fn nothing() {}
+mod command;
+mod fault;
+mod files;
+mod folders;
+mod keys;
+mod options;
+
+pub use command::{Command, read_words};
+pub use fault::WordsFault;
+pub use keys::key_of;
+

@@ -9,29 +9,13 @@ use Rattle.clap.specs.Walk.{arg_by_id, arg_by_index, arg_by_long, arg_by_short}
 use Rattle.clap.specs.Simple.{filled_from}
 use Rattle.clap.specs.declared.builder.value_parser.ValueParser.TheVariants as vp
 use Rattle.command_words.specs.Options.{Choice, IsAmong}
+use Rattle.command_words.specs.Tables.{IsTable, by_letter, by_name, has_letter}
 use Rattle.command_words.specs.Forms.{own_id, own_rule, rule_for, rules_for}
 use Rattle.std.proofs.lemmas.Option.{same_Some}
 use Rattle.command_words.proofs.Texts.{same_text, text_is, same_byte, byte_is}
 
 pub some_none : {A : Type 0} (x : A) → Some x ≡ None → ⊥
 some_none x e = cc
-
--- the first option of the name, and the first with the letter
-abbrev pub by_name : List Choice → List ℕ → Option Choice
-by_name options name = find (λ o. bytes_eq o.name name) options
-
-abbrev pub has_letter : Choice → ℕ → Bool
-has_letter o l = option_map_or (λ k. k == l) o.letter false
-
-abbrev pub by_letter : List Choice → ℕ → Option Choice
-by_letter options l = find (λ o. has_letter o l) options
-
--- A table of options: names are not empty, have no `=` and are not the id of the other words;
--- letters are ASCII and no `-`; and no name or letter stands twice.
-abbrev pub IsTable : List Choice → Type 0
-IsTable [] = Unit {0}
-IsTable (o ∷ os) = (o.name ≢ []) × (has_byte 61 o.name ≡ false) × (bytes_eq o.name own_id ≡ false) × (by_name os o.name ≡ None)
-    × ((l : ℕ) → o.letter ≡ Some l → (l < 128) × (l ≢ 45) × (by_letter os l ≡ None)) × IsTable os
 
 -- the arguments as the parser completes them
 abbrev pub option_rule : Choice → Rule
