@@ -5,3 +5,6 @@ pub mod Views
 pub mod Walks
 pub mod KeyLemmas
 pub mod OneKey
+pub mod Rows
+pub mod Builders
+pub mod Parsed

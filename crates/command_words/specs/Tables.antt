@@ -24,6 +24,9 @@ IsTable [] = Unit {0}
 IsTable (o ∷ os) = (o.name ≢ []) × (has_byte 61 o.name ≡ false) × (bytes_eq o.name own_id ≡ false) × (by_name os o.name ≡ None)
     × ((l : ℕ) → o.letter ≡ Some l → (l < 128) × (l ≢ 45) × (by_letter os l ≡ None)) × IsTable os
 
--- the options that the rows of a table in the code are
+-- the option that a row of a table in the code is, and the options that its rows are
+abbrev pub choice_of : Row → Choice
+choice_of row = record { name = row.name.now; letter = row.letter }
+
 abbrev pub choices_of : List Row → List Choice
-choices_of = map (λ row. record { name = row.name.now; letter = row.letter })
+choices_of = map choice_of

@@ -35,7 +35,7 @@ impl<T: Drop> From<AllocFailed<T>> for WordsFault {
     }
 }
 
-impl<'a> From<ParserError> for WordsFault {
+impl From<ParserError> for WordsFault {
     ghost from_gives = { λ error fault. fault ≡ Usage → kind_of error ≢ kind.OutOfMemory };
 
     fn from(error: ParserError) -> WordsFault {
