@@ -1,4 +1,4 @@
-pub mod Texts
+pub mod Comparisons
 pub mod Lookups
 pub mod Spellings
 pub mod Views
@@ -8,3 +8,4 @@ pub mod OneKey
 pub mod Rows
 pub mod Builders
 pub mod Parsed
+pub mod Pieces

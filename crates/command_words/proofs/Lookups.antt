@@ -12,7 +12,7 @@ use Rattle.command_words.specs.Options.{Choice, IsAmong}
 use Rattle.command_words.specs.Tables.{IsTable, by_letter, by_name, has_letter}
 use Rattle.command_words.specs.Forms.{own_id, own_rule, rule_for, rules_for}
 use Rattle.std.proofs.lemmas.Option.{same_Some}
-use Rattle.command_words.proofs.Texts.{same_text, text_is, same_byte, byte_is}
+use Rattle.command_words.proofs.Comparisons.{same_text, text_is, same_byte, byte_is}
 
 pub some_none : {A : Type 0} (x : A) → Some x ≡ None → ⊥
 some_none x e = cc

@@ -10,7 +10,7 @@ use Rattle.command_words.specs.Options.{Choice, EachOnce, Reads, Said, own_words
 use Rattle.command_words.specs.Tables.{IsTable}
 use Rattle.command_words.specs.Forms.{form_of, own_id}
 use Rattle.command_words.specs.Found.{IsFound, some_of}
-use Rattle.command_words.proofs.Texts.{text_is}
+use Rattle.command_words.proofs.Comparisons.{text_is}
 use Rattle.command_words.proofs.Rows.{fresh_once, once_fresh, others_found, read_proper, value_found}
 use Rattle.command_words.proofs.Walks.{AreTexts, all_added, fresh_words, words_read}
 

@@ -14,7 +14,7 @@ use Rattle.command_words.specs.Options.{Choice, EachOnce, IsAmong, Reads, Said, 
 use Rattle.command_words.specs.Forms.{own_id}
 use Rattle.command_words.specs.Found.{some_of}
 use Rattle.command_words.specs.Tables.{IsTable}
-use Rattle.command_words.proofs.Texts.{same_text, text_is}
+use Rattle.command_words.proofs.Comparisons.{same_text, text_is}
 use Rattle.command_words.proofs.Lookups.{name_fits, some_none, words_rule}
 use Rattle.command_words.proofs.Walks.{IsFresh, added, all_added, said_fault}
 

@@ -15,7 +15,7 @@ use Rattle.clap.specs.Kinds.{Kinds}
 use Rattle.clap.specs.declared.error.kind.ErrorKind.TheVariants.{UnknownArgument}
 use Rattle.command_words.specs.Options.{Choice, IsAmong, IsApart, IsAttached, IsJoined, IsPlain}
 use Rattle.command_words.specs.Forms.{bare}
-use Rattle.command_words.proofs.Texts.{other_byte, same_byte}
+use Rattle.command_words.proofs.Comparisons.{other_byte, same_byte}
 use Rattle.command_words.specs.Tables.{IsTable, by_letter, by_name}
 use Rattle.command_words.proofs.Lookups.{full_rules, long_found, option_rule, short_found}
 

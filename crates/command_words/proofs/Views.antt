@@ -13,7 +13,7 @@ use Rattle.clap.specs.Walk.{attached_value, nonempty}
 use Rattle.clap.proofs.CutLemmas.{Lacks}
 use Rattle.clap.proofs.LexerLemmas.{name_and_value-at, name_and_value-without}
 use Rattle.command_words.specs.Options.{Choice, IsAmong, IsApart, IsAttached, IsJoined, IsPlain}
-use Rattle.command_words.proofs.Texts.{other_byte, same_byte, byte_is, byte_is_not}
+use Rattle.command_words.proofs.Comparisons.{other_byte, same_byte, byte_is, byte_is_not}
 use Rattle.command_words.specs.Tables.{IsTable, by_letter, by_name, has_letter}
 use Rattle.command_words.proofs.Lookups.{among_by_letter, among_by_name, by_letter_among, by_name_among, letter_fits, name_fits, some_none}
 use Rattle.command_words.proofs.Spellings.{IsBad, IsFlag, dashes, first_ascii, first_wide, long_bad, long_flag, short_bad, short_flag}

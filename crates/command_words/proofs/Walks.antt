@@ -14,7 +14,7 @@ use Rattle.clap.proofs.FaultLemmas.{leaf_fault}
 use Rattle.clap.specs.declared.error.kind.ErrorKind.TheVariants.{InvalidValue, UnknownArgument}
 use Rattle.command_words.specs.Options.{Choice, EachOnce, IsAmong, IsPlain, Reads, Said, Given, Own, apart, ends, joined, own, rest, value_of}
 use Rattle.command_words.specs.Forms.{form_of, own_id}
-use Rattle.command_words.proofs.Texts.{same_text, text_is}
+use Rattle.command_words.proofs.Comparisons.{same_text, text_is}
 use Rattle.command_words.specs.Tables.{IsTable}
 use Rattle.command_words.proofs.Lookups.{filled_rules, full_rules, option_by_id, option_rule, words_by_id, words_found, words_rule}
 use Rattle.command_words.proofs.Spellings.{IsBad, IsFlag, dashes, ends_fault, ends_met, holds, option_step, plain_fault, plain_met, top}

@@ -57,13 +57,17 @@ abbrev pub firsts : List (List ℕ) → List (List ℕ)
 firsts [] = []
 firsts (w ∷ ws) = w ∷ filter (λ v. not (bytes_eq v w)) (firsts ws)
 
--- FILES as a list: from 1 to 4,096 different words, each that of a file, no two with one key
-pub record AreFiles (words files : List (List ℕ)) : Type 0 where
+-- the files that words name: at most 4,096 different words, each that of a file, no two with one key
+pub record AreListed (words files : List (List ℕ)) : Type 0 where
   pub files_are : files ≡ firsts words
   pub each : AllByRecursion IsFileWord files
-  pub least : 1 ≤ length files
   pub most : length files ≤ 4096
   pub keys : (v w key : List ℕ) → HasWord files v → HasWord files w → IsKeyOf v key → IsKeyOf w key → v ≡ w
+
+-- FILES as a list: at least one
+pub record AreFiles (words files : List (List ℕ)) : Type 0 where
+  pub listed : AreListed words files
+  pub least : 1 ≤ length files
 
 -- The words are the command that compiles these files by this path, with this sync list.
 pub record IsCompile (words : List (List ℕ)) (list : Option (List ℕ)) (path files : List (List ℕ)) : Type 0 where

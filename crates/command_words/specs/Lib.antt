@@ -5,3 +5,4 @@ pub mod Found
 pub mod Keys
 pub mod Compile
 pub mod Command
+pub mod Listed

@@ -8,6 +8,7 @@ mod files;
 mod folders;
 mod keys;
 mod options;
+mod texts;
 
 pub use command::{Command, read_words};
 pub use fault::WordsFault;

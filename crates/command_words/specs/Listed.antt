@@ -1,0 +1,19 @@
+-- The files that are noted so far, each under its key.
+use Rattle.std.specs.Prelude.{ℕ, List, map}
+use Rattle.std.specs.List.{AllByRecursion}
+use Rattle.std.specs.Borrow.{Bor}
+use Rattle.std.specs.declared.hash.FoldHasher.{FoldHasher}
+use Rattle.std.specs.declared.hash.BuildHasherDefault.{BuildHasherDefault}
+use Rattle.indexmap.specs.IndexMap.{IndexMap}
+use Rattle.command_words.specs.Keys.{IsKeyOf}
+
+abbrev pub Noted : Type 0
+Noted = IndexMap (Bor (List ℕ)) (Bor (List ℕ)) (BuildHasherDefault FoldHasher)
+
+-- the words, in order
+abbrev pub names_of : Noted → List (List ℕ)
+names_of noted = map (λ entry. entry.1.now) noted.entries
+
+-- each stands under its key
+abbrev pub IsKeyed : Noted → Type 0
+IsKeyed noted = AllByRecursion (λ entry. IsKeyOf entry.1.now entry.0.now) noted.entries
