@@ -1,5 +1,5 @@
 -- Comparing texts.
-use Rattle.std.proofs.Common.{◌≡◌, ◌≢◌, ◌∙◌, ◌==◌, ◌&&◌, ℕ, Bool, true, false, List, [], ◌∷◌, refl, sym, ap, ap₂, arith, cond}
+use Rattle.std.proofs.Common.{◌≡◌, ◌≢◌, ◌∙◌, ◌==◌, ◌&&◌, ℕ, Bool, true, false, List, [], ◌∷◌, refl, sym, ap, ap₂, arith, true≢false}
 use Rattle.std.specs.Str.{bytes_eq}
 use Rattle.std.proofs.lemmas.Bool.{and_parts, and_from}
 use Rattle.std.proofs.lemmas.Bool.Decides.{nat_tests}
@@ -30,5 +30,10 @@ text_is (x ∷ xs) (y ∷ ys) e =
     let both = and_parts (x == y) (bytes_eq xs ys) e in
     ap₂ (λ (h : ℕ) (t : List ℕ). h ∷ t) (byte_is x y both.0) (text_is xs ys both.1)
 
-pub or_neither : (a b : Bool) → a ≡ false → cond a true b ≡ b
-or_neither a b e = ap (λ (x : Bool). cond x true b) e
+-- a test that fails fails the other way too
+pub differs : (a b : List ℕ) → bytes_eq a b ≡ false → bytes_eq b a ≡ false
+differs a b e = go (bytes_eq b a) refl
+  where
+    go : (t : Bool) → bytes_eq b a ≡ t → t ≡ false
+    go true f = absurd (true≢false (sym (same_text a) ∙ ap (bytes_eq a) (sym (text_is b a f)) ∙ e))
+    go false f = refl

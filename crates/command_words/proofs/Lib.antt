@@ -9,3 +9,6 @@ pub mod Rows
 pub mod Builders
 pub mod Parsed
 pub mod Pieces
+pub mod FileLists
+pub mod Noting
+pub mod Errors

@@ -14,7 +14,7 @@ use Rattle.command_words.specs.Options.{Choice, EachOnce, IsAmong, Reads, Said, 
 use Rattle.command_words.specs.Forms.{own_id}
 use Rattle.command_words.specs.Found.{some_of}
 use Rattle.command_words.specs.Tables.{IsTable}
-use Rattle.command_words.proofs.Comparisons.{same_text, text_is}
+use Rattle.command_words.proofs.Comparisons.{differs, same_text, text_is}
 use Rattle.command_words.proofs.Lookups.{name_fits, some_none, words_rule}
 use Rattle.command_words.proofs.Walks.{IsFresh, added, all_added, said_fault}
 
@@ -184,13 +184,6 @@ others_found said proper fresh = others_in said [] proper fresh
 
 abbrev NotYet : List Row → List Said → Type 0
 NotYet rows said = (id : Text) → bytes_eq own_id id ≡ false → (r : Row) → look id rows ≡ Some r → value_of id said ≡ None
-
-differs : (a b : Text) → bytes_eq a b ≡ false → bytes_eq b a ≡ false
-differs a b e = go (bytes_eq b a) refl
-  where
-    go : (t : Bool) → bytes_eq b a ≡ t → t ≡ false
-    go true f = absurd (true≢false (sym (same_text a) ∙ ap (bytes_eq a) (sym (text_is b a f)) ∙ e))
-    go false f = refl
 
 once_in : (said : List Said) (rows : List Row) → IsProper said → EachOnce said → NotYet rows said → IsFresh rows said
 once_in [] rows proper once yet = tt

@@ -3,14 +3,16 @@
 #![tactic(auto)]
 
 mod command;
+mod compile;
 mod fault;
 mod files;
 mod folders;
 mod keys;
+mod laws;
 mod options;
 mod texts;
 
 pub use command::{Command, read_words};
 pub use fault::WordsFault;
 pub use keys::key_of;
-
+pub use laws::{one_command, other_commands_are_none};

@@ -1,17 +1,11 @@
-use Rattle.std.proofs.Common.{◌≡◌, ◌∙◌, true, List, [], Result, Ok, Err, IfErr, IsErrAnd, ap, subst, sym, map, string_bytes}
+use Rattle.std.proofs.Common.{◌≡◌, ◌∙◌, true, List, [], ap, subst, sym, map, string_bytes}
 use Rattle.clap.specs.Words.{App, HasKind, app_of, fault_of, is_simple, is_simple_and_free, matches_of}
-use Rattle.clap.specs.declared.error.Error.{Error}
-use Rattle.command_words.specs.declared.fault.WordsFault.{WordsFault}
 use Rattle.command_words.specs.Forms.{form_of}
 use Rattle.command_words.specs.Tables.{choices_of}
 use Rattle.command_words.proofs.Builders.{form_fits, form_is_simple}
 use Rattle.command_words.proofs.Parsed.{are_texts, read_no_usage, taken_found}
+use Rattle.command_words.proofs.Errors.{of_error}
 use Rattle.command_words.proofs.options.read_options.Goals as goal
-
--- what holds of the only error
-of_error : {T : Type 0} (r : Result T WordsFault) (P Q : WordsFault → Type 0) → IsErrAnd r P → ((e : WordsFault) → P e → Q e) → IfErr r Q
-of_error (Ok x) P Q h weaker = tt
-of_error (Err e) P Q h weaker = weaker e h
 
 pub returns-in_err-try_get_matches_from-clause-usage :
     goal.returns-in_err-try_get_matches_from-clause-usage
