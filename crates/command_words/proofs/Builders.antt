@@ -1,5 +1,5 @@
 -- The parser's command, built from a table of options, is one that the parser's definitions cover.
-use Rattle.std.proofs.Common.{◌≡◌, ◌∙◌, ◌+◌, ◌==◌, ◌&&◌, ◌||◌, ℕ, Bool, true, false, not, List, [], ◌∷◌, ◌++◌, map, refl, sym, ap, subst, ◌<◌, length, take, get_or}
+use Rattle.std.proofs.Common.{◌≡◌, ◌∙◌, ◌+◌, ◌&&◌, ℕ, true, false, not, List, [], ◌∷◌, ◌++◌, map, refl, sym, ap, subst, ◌<◌, length, take, get_or}
 use Rattle.std.proofs.lemmas.List.{map-append, take_more}
 use Rattle.std.specs.Prelude.{count_by, is_some}
 use Rattle.std.specs.List.{list_all, list_any}
@@ -12,8 +12,7 @@ use Rattle.command_words.specs.Options.{Choice}
 use Rattle.command_words.specs.Tables.{choice_of, choices_of}
 use Rattle.command_words.specs.declared.options.Choice.{Choice as Row}
 use Rattle.command_words.specs.Forms.{bare, form_of, own_rule, rule_for, rules_for}
-use Rattle.command_words.proofs.Lookups.{filled_rules, full_rules, option_rule, words_rule}
-use Rattle.command_words.proofs.Spellings.{top}
+use Rattle.command_words.proofs.Lookups.{filled_rules, full_rules}
 
 -- a command with these arguments
 abbrev pub app_with : List Rule → App

@@ -12,3 +12,4 @@ pub mod Pieces
 pub mod FileLists
 pub mod Noting
 pub mod Errors
+pub mod Compiled

@@ -1,16 +1,13 @@
 -- The files that are noted, by their keys.
-use Rattle.std.proofs.Common.{◌≡◌, ◌∙◌, ◌≢◌, ℕ, zero, suc, ◌<◌, take, drop, get_or, arith, Bool, true, false, cond, List, [], ◌∷◌, ◌++◌, Option, Some, None, map, refl, sym, ap, subst, inl, inr, length}
+use Rattle.std.proofs.Common.{◌≡◌, ◌∙◌, ℕ, zero, suc, ◌<◌, take, drop, get_or, arith, Bool, true, false, cond, List, [], ◌∷◌, ◌++◌, Some, None, map, refl, sym, ap, subst, inl, inr, length}
 use Rattle.std.specs.List.{AllByRecursion}
 use Rattle.std.specs.Str.{bytes_eq}
 use Rattle.std.specs.Borrow.{Bor}
 use Rattle.std.specs.Map.{lookup}
 use Rattle.std.proofs.lemmas.List.{map-append}
 use Rattle.std.proofs.lemmas.Option.{same_Some}
-use Rattle.indexmap.specs.IndexMap.{get, get_by, insert_entry}
-use Rattle.indexmap.proofs.CallerLemmas.{insert_entry-new}
 use Rattle.command_words.specs.Compile.{HasWord}
 use Rattle.command_words.specs.Keys.{IsKeyOf}
-use Rattle.command_words.specs.Listed.{IsKeyed, Noted, names_of}
 use Rattle.command_words.proofs.Comparisons.{same_text, text_is}
 use Rattle.command_words.proofs.Lookups.{some_none}
 use Rattle.command_words.proofs.OneKey.{one_key}
@@ -70,3 +67,8 @@ pub parted : (ws : List (Bor (List ℕ))) (i : ℕ) (d : Bor (List ℕ)) → i <
 parted [] i d lt = absurd (omega arith)
 parted (w ∷ ws) zero d lt = refl
 parted (w ∷ ws) (suc i) d lt = ap (λ (rest : List (List ℕ)). w.now ∷ rest) (parted ws i d (omega arith))
+
+-- the names are the values
+pub values_names : (es : Entries) → map (λ name. name.now) (map (λ e. e.1) es) ≡ names es
+values_names [] = refl
+values_names (x ∷ es) = ap (λ (rest : List (List ℕ)). x.1.now ∷ rest) (values_names es)

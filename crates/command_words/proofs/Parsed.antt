@@ -1,8 +1,8 @@
 -- What the parser answers on words that are read, and on words that are not.
-use Rattle.std.proofs.Common.{◌≡◌, ◌≢◌, ◌∙◌, ◌⊎◌, ℕ, Bool, true, false, List, [], ◌∷◌, Option, Some, None, Result, Ok, Err, String, Global, map, string_bytes, inl, inr, refl, sym, ap, subst}
+use Rattle.std.proofs.Common.{◌≡◌, ◌≢◌, ◌∙◌, Bool, true, false, List, [], ◌∷◌, String, Global, map, string_bytes, inl, inr, refl, sym, ap, subst}
 use Rattle.std.specs.Str.{bytes_eq}
 use Rattle.std.proofs.lemmas.Str.{IsUtf8-string_bytes}
-use Rattle.clap.specs.Words.{FailsBy, HasKind, Kinds, Row, Text, all_of, fault_of, first_of, found_of, kind_of, matches_of, rows_of}
+use Rattle.clap.specs.Words.{HasKind, Kinds, Text, all_of, fault_of, first_of, found_of, kind_of, matches_of, rows_of}
 use Rattle.clap.specs.declared.error.Error.{Error}
 use Rattle.clap.specs.declared.error.kind.ErrorKind.TheVariants.{OutOfMemory}
 use Rattle.clap.specs.declared.parser.matches.ArgMatches.{ArgMatches}
@@ -12,7 +12,7 @@ use Rattle.command_words.specs.Forms.{form_of, own_id}
 use Rattle.command_words.specs.Found.{IsFound, some_of}
 use Rattle.command_words.proofs.Comparisons.{text_is}
 use Rattle.command_words.proofs.Rows.{fresh_once, once_fresh, others_found, read_proper, value_found}
-use Rattle.command_words.proofs.Walks.{AreTexts, all_added, fresh_words, words_read}
+use Rattle.command_words.proofs.Walks.{AreTexts, fresh_words, words_read}
 
 -- words of strings are texts
 pub are_texts : (words : List (String Global)) → AreTexts (map string_bytes words)

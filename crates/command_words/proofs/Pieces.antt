@@ -1,5 +1,5 @@
 -- A value of `--path` is cut into its folders at each `:`.
-use Rattle.std.proofs.Common.{◌≡◌, ◌≢◌, ◌∙◌, ◌==◌, ◌<◌, ◌≤◌, ℕ, zero, suc, Bool, true, false, cond, List, [], ◌∷◌, ◌++◌, length, get_or, refl, sym, ap, subst, arith, not, true≢false, map, ◌&&◌}
+use Rattle.std.proofs.Common.{◌≡◌, ◌≢◌, ◌∙◌, ◌==◌, ◌≤◌, ℕ, zero, suc, Bool, true, false, cond, List, [], ◌∷◌, length, refl, sym, ap, subst, arith, not, true≢false, map, ◌&&◌}
 use Rattle.std.specs.Borrow.{Bor}
 use Rattle.std.specs.List.{AllByRecursion, join_with_byte, list_all, onto_first}
 use Rattle.std.proofs.lemmas.List.Splits.{join_with_byte-slice_split, length-slice_split}
@@ -53,6 +53,7 @@ pieces_are text few full = record {
     full_one : (d : List ℕ) → not (length d == 0) ≡ true → d ≢ []
     full_one [] e = absurd (true≢false (sym e))
     full_one (b ∷ bs) e = λ is. cc
+
     go : (ds : List (List ℕ)) → list_all (λ d. not (length d == 0)) ds ≡ true → HasNone ds → AllByRecursion IsDir ds
     go [] e h = tt
     go (d ∷ ds) e h = let both = and_parts (not (length d == 0)) (list_all (λ d. not (length d == 0)) ds) e in (record { full = full_one d both.0; whole = h.0 }, go ds both.1 h.1)
@@ -69,6 +70,7 @@ dirs_pass text dirs h =
     full_one : (d : List ℕ) → d ≢ [] → not (length d == 0) ≡ true
     full_one [] ne = absurd (ne refl)
     full_one (b ∷ bs) ne = is_full (length bs)
+
     go : (ds : List (List ℕ)) → AllByRecursion IsDir ds → list_all (λ d. not (length d == 0)) ds ≡ true
     go [] h = refl
     go (d ∷ ds) h = and_from (not (length d == 0)) (list_all (λ d. not (length d == 0)) ds) (full_one d h.0.full) (go ds h.1)

@@ -1,16 +1,14 @@
 -- What the rows of what was said hold: the value of each option, and the other words.
-use Rattle.std.proofs.Common.{◌≡◌, ◌≢◌, ◌∙◌, ◌==◌, ◌&&◌, ◌||◌, ℕ, Bool, true, false, cond, not, List, [], ◌∷◌, ◌++◌, Option, Some, None, option_map, map, refl, sym, ap, subst, append_assoc, append-nil, true≢false}
+use Rattle.std.proofs.Common.{◌≡◌, ◌∙◌, ◌&&◌, ◌||◌, ℕ, Bool, true, false, cond, List, [], ◌∷◌, ◌++◌, Option, Some, None, option_map, map, refl, sym, ap, subst, append_assoc, append-nil}
 use Rattle.std.specs.Prelude.{find, is_some, option_and_then, slice_get}
 use Rattle.std.specs.Option.{option_or}
-use Rattle.std.specs.List.{list_any}
 use Rattle.std.specs.Str.{bytes_eq}
-use Rattle.std.proofs.lemmas.Option.{same_Some}
 use Rattle.clap.specs.Words.{Row, Text, all_of, first_of}
 use Rattle.clap.specs.Walk.{has_row, more_values, reading_by, stronger, with_values, without}
-use Rattle.clap.specs.Kinds.{Kinds, or_else}
+use Rattle.clap.specs.Kinds.{or_else}
 use Rattle.clap.specs.declared.error.kind.ErrorKind.TheVariants.{ArgumentConflict}
 use Rattle.clap.specs.declared.parser.matches.ValueSource.TheVariants.{CommandLine}
-use Rattle.command_words.specs.Options.{Choice, EachOnce, IsAmong, Reads, Said, Given, Own, apart, ends, joined, own, rest, own_words, value_of}
+use Rattle.command_words.specs.Options.{Choice, EachOnce, Reads, Said, Given, Own, apart, ends, joined, own, rest, own_words, value_of}
 use Rattle.command_words.specs.Forms.{own_id}
 use Rattle.command_words.specs.Found.{some_of}
 use Rattle.command_words.specs.Tables.{IsTable}
@@ -92,6 +90,7 @@ look_own id word (r ∷ rows) other = go (bytes_eq r.id own_id) refl (look_own i
   where
     more : Row
     more = record r { values = r.values ++ word ∷ []; source = Some (stronger r.source CommandLine) }
+
     go : (b : Bool) → bytes_eq r.id own_id ≡ b → look id (added rows (Own word)) ≡ look id rows → look id (cond b (more ∷ rows) (r ∷ added rows (Own word))) ≡ look id (r ∷ rows)
     go true e later =
         let same : bytes_eq r.id id ≡ false = ap (λ (x : Text). bytes_eq x id) (text_is r.id own_id e) ∙ other in
@@ -114,6 +113,7 @@ values_in id (Given name v ∷ said) rows other fresh =
   where
     end : Option (List ℕ)
     end = first_of id (all_added (added rows (Given name v)) said)
+
     go : (look id (added rows (Given name v)) ≡ None → end ≡ value_of id said) × ((r : Row) → look id (added rows (Given name v)) ≡ Some r → end ≡ slice_get r.values 0)
         → look id (added rows (Given name v)) ≡ option_or (look id rows) (cond (bytes_eq name id) (Some (given name v)) None)
         → (look id rows ≡ None → end ≡ value_of id (Given name v ∷ said)) × ((r : Row) → look id rows ≡ Some r → end ≡ slice_get r.values 0)
@@ -142,6 +142,7 @@ own_more word (r ∷ rows) = go (bytes_eq r.id own_id) refl (own_more word rows)
   where
     more : Row
     more = record r { values = r.values ++ word ∷ []; source = Some (stronger r.source CommandLine) }
+
     go : (b : Bool) → bytes_eq r.id own_id ≡ b → all_of own_id (added rows (Own word)) ≡ with_more (all_of own_id rows) (word ∷ [])
         → all_of own_id (cond b (more ∷ rows) (r ∷ added rows (Own word))) ≡ with_more (all_of own_id (r ∷ rows)) (word ∷ [])
     go true e later =
@@ -194,12 +195,15 @@ once_in (Given name v ∷ said) rows proper once yet =
   where
     clash : (r : Row) → look name rows ≡ Some r → ⊥
     clash r e = some_none v (sym (ap (λ b. cond b (Some v) (value_of name said)) (same_text name)) ∙ yet name (differs name own_id proper.0) r e)
+
     lacks : (o : Option Row) → look name rows ≡ o → look name rows ≡ None
     lacks None e = e
     lacks (Some r) e = absurd (clash r e)
+
     past : (b : Bool) (id : Text) → cond b (Some v) (value_of id said) ≡ None → value_of id said ≡ None
     past true id e = absurd (some_none v e)
     past false id e = e
+
     later : (id : Text) → bytes_eq own_id id ≡ false → (r : Row) (o : Option Row) → look id rows ≡ o → option_or (look id rows) (cond (bytes_eq name id) (Some (given name v)) None) ≡ Some r → value_of id said ≡ None
     later id other r (Some q) is e = past (bytes_eq name id) id (yet id other q is)
     later id other r None is e = go (bytes_eq name id) refl (ap (λ (o : Option Row). option_or o (cond (bytes_eq name id) (Some (given name v)) None)) (sym is) ∙ e)
@@ -216,8 +220,7 @@ fresh_in (Own word ∷ said) rows proper fresh =
 fresh_in (Given name v ∷ said) rows proper fresh =
     let none = fresh_lacks name v rows fresh.0 in
     let later = fresh_in said (added rows (Given name v)) proper.1 fresh.1 in
-    let grown : (id : Text) → look id (added rows (Given name v)) ≡ option_or (look id rows) (cond (bytes_eq name id) (Some (given name v)) None) = λ id. ap (look id) (added_given name v rows none) ∙ look_append id rows (given name v) in
-    (
+    let grown : (id : Text) → look id (added rows (Given name v)) ≡ option_or (look id rows) (cond (bytes_eq name id) (Some (given name v)) None) = λ id. ap (look id) (added_given name v rows none) ∙ look_append id rows (given name v) in (
       (later.1 name (differs name own_id proper.0) (given name v) (grown name ∙ ap (λ (o : Option Row). option_or o (cond (bytes_eq name name) (Some (given name v)) None)) none ∙ ap (λ b. cond b (Some (given name v)) None) (same_text name)), later.0),
       λ id other r e. go id (bytes_eq name id) refl none r e (later.1 id other r (grown id ∙ ap (λ (o : Option Row). option_or o (cond (bytes_eq name id) (Some (given name v)) None)) e)),
     )

@@ -1,22 +1,20 @@
 -- What the parser makes of one word, by how the word is spelled.
-use Rattle.std.proofs.Common.{◌≡◌, ◌≢◌, ◌∙◌, ◌==◌, ◌<◌, ◌≤◌, ◌+◌, ◌&&◌, ◌||◌, ◌⊎◌, ℕ, suc, Bool, true, false, cond, List, [], ◌∷◌, ◌++◌, Option, Some, None, option_map, inl, inr, refl, sym, ap, subst, arith, drop, length, get_or, ◌-◌}
+use Rattle.std.proofs.Common.{◌≡◌, ◌≢◌, ◌∙◌, ◌==◌, ◌<◌, ◌≤◌, ◌&&◌, ℕ, Bool, true, false, cond, List, [], ◌∷◌, ◌++◌, Option, Some, None, option_map, refl, sym, ap, arith, drop, length, get_or, ◌-◌}
 use Rattle.std.specs.Prelude.{encode_utf8, slice_get, nat_lt, option_and_then}
 use Rattle.std.specs.Option.{option_map_or}
-use Rattle.std.specs.List.{list_any, before_first, after_first}
 use Rattle.std.specs.Str.{bytes_eq, chars, chars_after, encode_utf8_all, IsUtf8}
 use Rattle.std.proofs.lemmas.Bool.Decides.{nat_tests}
 use Rattle.std.proofs.lemmas.Str.{encode_ascii, chars-encodes}
-use Rattle.clap.specs.Lexer.{has_byte, long_of, long_of_rest, name_and_value, short_of, short_of_rest, strip_byte}
+use Rattle.clap.specs.Lexer.{long_of, long_of_rest, name_and_value, short_of, short_of_rest, strip_byte}
 use Rattle.clap.specs.Words.{Row, Rule, Text, built}
 use Rattle.clap.specs.Simple.{Shape}
-use Rattle.clap.specs.Walk.{Held, Outcome, Step, Waiting, after_flag, arg_by_long, arg_by_short, attached_value, bundle, bundle_met, bundle_step, done, idle, long_met, long_or_other, long_word, next, option, option_met, plain, plain_word, positional, reacted, refused, settled, short_met, short_or_plain, short_word, subcommand_met, subcommand_or_other, trailing, waits, word_met}
-use Rattle.clap.specs.Faults.{bundle_fault, bundle_step_fault, flag_word_fault, flags_fault, long_fault, option_fault, other_fault, react_fault, settle_fault, short_fault, word_fault}
-use Rattle.clap.specs.Kinds.{Kinds}
+use Rattle.clap.specs.Walk.{Held, Outcome, Step, Waiting, after_flag, arg_by_long, arg_by_short, attached_value, bundle, bundle_met, bundle_step, done, idle, long_met, long_or_other, long_word, next, option, option_met, plain, plain_word, positional, reacted, settled, short_met, short_or_plain, short_word, subcommand_met, subcommand_or_other, trailing, word_met}
+use Rattle.clap.specs.Faults.{bundle_fault, bundle_step_fault, flag_word_fault, flags_fault, long_fault, option_fault, other_fault, short_fault, word_fault}
 use Rattle.clap.specs.declared.error.kind.ErrorKind.TheVariants.{UnknownArgument}
-use Rattle.command_words.specs.Options.{Choice, IsAmong, IsApart, IsAttached, IsJoined, IsPlain}
+use Rattle.command_words.specs.Options.{Choice, IsPlain}
 use Rattle.command_words.specs.Forms.{bare}
-use Rattle.command_words.proofs.Comparisons.{other_byte, same_byte}
-use Rattle.command_words.specs.Tables.{IsTable, by_letter, by_name}
+use Rattle.command_words.proofs.Comparisons.{other_byte}
+use Rattle.command_words.specs.Tables.{by_letter, by_name}
 use Rattle.command_words.proofs.Lookups.{full_rules, long_found, option_rule, short_found}
 
 abbrev pub dashes : Text
@@ -118,9 +116,9 @@ module _ (options : List Choice) (x : ℕ) (xs name : Text) (value : Option Text
       let found : arg_by_long (full_rules options) name ≡ Some (option_rule o) = long_found options name ∙ ap (option_map option_rule) is in
       record {
         met = λ w rows pending.
-          long_first w (holds rows pending)
-          ∙ ap (λ (a : Option Rule). after_flag (full_rules options) w (45 ∷ 45 ∷ x ∷ xs) (long_met (full_rules options) a value (holds rows pending)).0 (long_met (full_rules options) a value (holds rows pending)).1) found
-          ∙ after_option (full_rules options) w (45 ∷ 45 ∷ x ∷ xs) (option_rule o) value (holds rows pending);
+            long_first w (holds rows pending)
+            ∙ ap (λ (a : Option Rule). after_flag (full_rules options) w (45 ∷ 45 ∷ x ∷ xs) (long_met (full_rules options) a value (holds rows pending)).0 (long_met (full_rules options) a value (holds rows pending)).1) found
+            ∙ after_option (full_rules options) w (45 ∷ 45 ∷ x ∷ xs) (option_rule o) value (holds rows pending);
         fault = λ w rows pending. long_first_fault w (holds rows pending) ∙ ap (λ (a : Option Rule). long_fault (full_rules options) false a value (holds rows pending)) found;
       }
 
@@ -188,19 +186,19 @@ module _ (options : List Choice) (l : ℕ) (rest : Text) (other : l ≢ 45) wher
       let found : arg_by_short c l ≡ Some (option_rule o) = short_found options l ∙ ap (option_map option_rule) is in
       record {
         met = λ w rows pending.
-          let h : Held = holds rows pending in
-          short_first w h
-          ∙ ap (λ (q : Held × Outcome). after_flag c w (45 ∷ l ∷ rest) q.0 q.1)
+            let h : Held = holds rows pending in
+            short_first w h
+            ∙ ap (λ (q : Held × Outcome). after_flag c w (45 ∷ l ∷ rest) q.0 q.1)
             (bundle_first l rows pending (first_ascii l rest lt)
             ∙ ap (λ (bs : Text). short_met c (arg_by_short c l) (drop (length bs) (l ∷ rest)) h (bundle_met c (length rest) (drop (length bs) (l ∷ rest)) 0 done)) (encode_ascii l lt)
             ∙ ap (λ (a : Option Rule). short_met c a rest h (bundle_met c (length rest) rest 0 done)) found)
-          ∙ after_option c w (45 ∷ l ∷ rest) (option_rule o) (attached_value rest) h;
+            ∙ after_option c w (45 ∷ l ∷ rest) (option_rule o) (attached_value rest) h;
         fault = λ w rows pending.
-          let h : Held = holds rows pending in
-          short_first_fault w h
-          ∙ bundle_first_fault l rows pending (first_ascii l rest lt)
-          ∙ ap (λ (bs : Text). short_fault c false (arg_by_short c l) (drop (length bs) (l ∷ rest)) h (flags_fault c false (length rest) (drop (length bs) (l ∷ rest)) 0)) (encode_ascii l lt)
-          ∙ ap (λ (a : Option Rule). short_fault c false a rest h (flags_fault c false (length rest) rest 0)) found;
+            let h : Held = holds rows pending in
+            short_first_fault w h
+            ∙ bundle_first_fault l rows pending (first_ascii l rest lt)
+            ∙ ap (λ (bs : Text). short_fault c false (arg_by_short c l) (drop (length bs) (l ∷ rest)) h (flags_fault c false (length rest) (drop (length bs) (l ∷ rest)) 0)) (encode_ascii l lt)
+            ∙ ap (λ (a : Option Rule). short_fault c false a rest h (flags_fault c false (length rest) rest 0)) found;
       }
 
   pub short_bad : (c : ℕ) → slice_get (chars (l ∷ rest)) 0 ≡ Some c → by_letter options c ≡ None → IsBad options (45 ∷ l ∷ rest)
@@ -209,7 +207,7 @@ module _ (options : List Choice) (l : ℕ) (rest : Text) (other : l ≢ 45) wher
       let behind : Text = drop (length (encode_utf8 c)) (l ∷ rest) in
       record {
         fault = λ w rows pending.
-          short_first_fault w (holds rows pending)
-          ∙ bundle_first_fault c rows pending first
-          ∙ ap (λ (a : Option Rule). short_fault (full_rules options) false a behind (holds rows pending) (flags_fault (full_rules options) false (length rest) behind 0)) found;
+            short_first_fault w (holds rows pending)
+            ∙ bundle_first_fault c rows pending first
+            ∙ ap (λ (a : Option Rule). short_fault (full_rules options) false a behind (holds rows pending) (flags_fault (full_rules options) false (length rest) behind 0)) found;
       }

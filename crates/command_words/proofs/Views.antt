@@ -1,21 +1,19 @@
 -- Every word of a command is spelled in one of five ways.
-use Rattle.std.proofs.Common.{◌≡◌, ◌≢◌, ◌∙◌, ◌==◌, ◌<◌, ◌≤◌, ◌+◌, ◌&&◌, ◌||◌, ◌⊎◌, ℕ, zero, suc, Bool, true, false, cond, List, [], ◌∷◌, ◌++◌, Option, Some, None, option_map, inl, inr, refl, sym, ap, subst, arith, drop, take, length, get_or, codes, true≢false}
+use Rattle.std.proofs.Common.{◌≡◌, ◌≢◌, ◌∙◌, ◌==◌, ◌<◌, ◌≤◌, ◌||◌, ℕ, zero, suc, Bool, true, false, cond, List, [], ◌∷◌, ◌++◌, Option, Some, None, inl, inr, refl, sym, ap, subst, arith, true≢false}
 use Rattle.std.specs.Prelude.{nat_lt, slice_get}
 use Rattle.std.specs.Option.{option_map_or}
-use Rattle.std.specs.List.{list_any, before_first, after_first, position_or_len}
 use Rattle.std.specs.Str.{IsUtf8, chars}
 use Rattle.std.proofs.lemmas.Bool.Decides.{nat_tests}
-use Rattle.std.proofs.lemmas.Grind.{common_steps}
 use Rattle.std.proofs.lemmas.Str.{IsUtf8-drop, IsCharBoundary-after_ascii}
-use Rattle.clap.specs.Lexer.{has_byte, name_and_value, strip_byte}
+use Rattle.clap.specs.Lexer.{has_byte, name_and_value}
 use Rattle.clap.specs.Words.{Text}
-use Rattle.clap.specs.Walk.{attached_value, nonempty}
+use Rattle.clap.specs.Walk.{attached_value}
 use Rattle.clap.proofs.CutLemmas.{Lacks}
 use Rattle.clap.proofs.LexerLemmas.{name_and_value-at, name_and_value-without}
 use Rattle.command_words.specs.Options.{Choice, IsAmong, IsApart, IsAttached, IsJoined, IsPlain}
-use Rattle.command_words.proofs.Comparisons.{other_byte, same_byte, byte_is, byte_is_not}
-use Rattle.command_words.specs.Tables.{IsTable, by_letter, by_name, has_letter}
-use Rattle.command_words.proofs.Lookups.{among_by_letter, among_by_name, by_letter_among, by_name_among, letter_fits, name_fits, some_none}
+use Rattle.command_words.proofs.Comparisons.{other_byte, byte_is, byte_is_not}
+use Rattle.command_words.specs.Tables.{IsTable, by_letter, by_name}
+use Rattle.command_words.proofs.Lookups.{among_by_letter, among_by_name, by_letter_among, by_name_among, letter_fits, name_fits}
 use Rattle.command_words.proofs.Spellings.{IsBad, IsFlag, dashes, first_ascii, first_wide, long_bad, long_flag, short_bad, short_flag}
 
 or_parts : (a b : Bool) → (a || b) ≡ false → (a ≡ false) × (b ≡ false)
@@ -96,6 +94,7 @@ long_view options x xs = go (cut_of (x ∷ xs))
         → ((o : Choice) → IsAmong options o → o.name ≡ name → View options (45 ∷ 45 ∷ x ∷ xs)) → (found : Option Choice) → by_name options name ≡ found → View options (45 ∷ 45 ∷ x ∷ xs)
     named name value parts known (Some o) is = let h = by_name_among options name o is in known o h.0 h.1
     named name value parts known None is = is_bad (long_bad options x xs name value parts is)
+
     go : Cut (x ∷ xs) → View options (45 ∷ 45 ∷ x ∷ xs)
     go (whole l) = named (x ∷ xs) None (name_and_value-without (x ∷ xs) l) (λ o among is. is_apart o among (inl (ap (λ (n : Text). 45 ∷ 45 ∷ n) (sym is)))) (by_name options (x ∷ xs)) refl
     go (cut name value parts l) =
@@ -113,12 +112,15 @@ short_view options l rest t u other = go (nat_lt l 128) refl
         cases : (b : Bool) → (y == 61) ≡ b → View options (45 ∷ l ∷ rest)
         cases true q = is_joined o ys among (inr (l, is, inl (ap (λ (r : Text). 45 ∷ l ∷ r) (sym e) ∙ ap (λ (z : ℕ). 45 ∷ l ∷ z ∷ ys) (byte_is y 61 q))))
         cases false q = is_joined o (y ∷ ys) among (inr (l, is, inr (ap (λ (r : Text). 45 ∷ l ∷ r) (sym e), byte_is_not y 61 q)))
+
     ascii : l < 128 → (found : Option Choice) → by_letter options l ≡ found → View options (45 ∷ l ∷ rest)
     ascii lt (Some o) is = let h = by_letter_among options l o is in given o h.0 h.1 rest refl
     ascii lt None is = is_bad (short_bad options l rest other l (first_ascii l rest lt) is)
+
     wide : (c : ℕ) → slice_get (chars (l ∷ rest)) 0 ≡ Some c → 128 ≤ c → (found : Option Choice) → by_letter options c ≡ found → View options (45 ∷ l ∷ rest)
     wide c first large (Some o) is = let h = by_letter_among options c o is in let fits = letter_fits options o c t h.0 h.1 in absurd (omega arith)
     wide c first large None is = is_bad (short_bad options l rest other c first is)
+
     go : (b : Bool) → nat_lt l 128 ≡ b → View options (45 ∷ l ∷ rest)
     go true e = ascii (grind (arith, nat_tests)) (by_letter options l) refl
     go false e = let first = first_wide l rest u (grind (arith, nat_tests)) in wide first.0 first.1 first.2 (by_letter options first.0) refl
@@ -130,6 +132,7 @@ view options (b ∷ c ∷ rest) t u = go (b == 45) refl (c == 45) refl rest refl
   where
     behind : b ≡ 45 → IsUtf8 (c ∷ rest)
     behind e = IsUtf8-drop (b ∷ c ∷ rest) 1 u (IsCharBoundary-after_ascii (b ∷ c ∷ rest) 0 u (omega arith) (omega arith))
+
     go : (p : Bool) → (b == 45) ≡ p → (q : Bool) → (c == 45) ≡ q → (r : Text) → r ≡ rest → View options (b ∷ c ∷ rest)
     go false e q f r is = is_plain (byte_is_not b 45 e)
     go true e false f r is = let dash : b ≡ 45 = byte_is b 45 e in subst (λ (x : ℕ). View options (x ∷ c ∷ rest)) (sym dash) (short_view options c rest t (behind dash) (byte_is_not c 45 f))

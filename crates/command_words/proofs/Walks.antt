@@ -1,23 +1,22 @@
 -- What the parser finds in any words, for any table of options.
-use Rattle.std.proofs.Common.{◌≡◌, ◌≢◌, ◌∙◌, ◌==◌, ◌&&◌, ◌||◌, ℕ, Bool, true, false, cond, not, List, [], ◌∷◌, ◌++◌, Option, Some, None, option_map, map, refl, sym, ap, ap₂, subst}
-use Rattle.std.specs.Prelude.{fold, length, nat_lt}
+use Rattle.std.proofs.Common.{◌≡◌, ◌∙◌, ◌&&◌, ◌||◌, Bool, true, false, cond, not, List, [], ◌∷◌, Option, Some, None, map, refl, sym, ap, subst}
+use Rattle.std.specs.Prelude.{fold, nat_lt}
 use Rattle.std.specs.List.{list_any}
 use Rattle.std.specs.Option.{option_map_or}
-use Rattle.std.specs.Str.{bytes_eq, IsUtf8}
+use Rattle.std.specs.Str.{IsUtf8}
 use Rattle.clap.specs.Words.{Row, Rule, Text, built, fault_of, matches_of}
-use Rattle.clap.specs.Simple.{Shape}
-use Rattle.clap.specs.Walk.{Held, Step, Waiting, Walk, after_step, arg_by_id, arg_by_index, finished, has_row, idle, is_pending, next, nothing_held, option, option_word, plain_word, positional, pushed, reacted, settled, settled_rows, takes_several, to_positional, trailing, used, used_by_id, value, walk, walk_from, walked, with_default, word_met}
-use Rattle.clap.specs.Faults.{check_fault, default_fault, defaults_fault, level_fault, option_fault, positional_fault, settle_fault, step_fault, stray_fault, turn_fault, use_fault, walk_fault, word_fault}
+use Rattle.clap.specs.Walk.{Held, Step, Waiting, Walk, after_step, arg_by_id, finished, has_row, idle, is_pending, next, nothing_held, option, option_word, plain_word, positional, pushed, reacted, settled, settled_rows, to_positional, trailing, used, used_by_id, value, walk, walked, with_default, word_met}
+use Rattle.clap.specs.Faults.{check_fault, default_fault, defaults_fault, level_fault, positional_fault, settle_fault, step_fault, stray_fault, turn_fault, use_fault, walk_fault, word_fault}
 use Rattle.clap.specs.Takes.{is_given}
 use Rattle.clap.specs.Kinds.{Kinds, check_kinds, or_else}
 use Rattle.clap.proofs.FaultLemmas.{leaf_fault}
 use Rattle.clap.specs.declared.error.kind.ErrorKind.TheVariants.{InvalidValue, UnknownArgument}
-use Rattle.command_words.specs.Options.{Choice, EachOnce, IsAmong, IsPlain, Reads, Said, Given, Own, apart, ends, joined, own, rest, value_of}
+use Rattle.command_words.specs.Options.{Choice, IsAmong, IsPlain, Reads, Said, Given, Own, apart, ends, joined, own, rest}
 use Rattle.command_words.specs.Forms.{form_of, own_id}
-use Rattle.command_words.proofs.Comparisons.{same_text, text_is}
+use Rattle.command_words.proofs.Comparisons.{same_text}
 use Rattle.command_words.specs.Tables.{IsTable}
 use Rattle.command_words.proofs.Lookups.{filled_rules, full_rules, option_by_id, option_rule, words_by_id, words_found, words_rule}
-use Rattle.command_words.proofs.Spellings.{IsBad, IsFlag, dashes, ends_fault, ends_met, holds, option_step, plain_fault, plain_met, top}
+use Rattle.command_words.proofs.Spellings.{IsBad, IsFlag, dashes, ends_fault, ends_met, holds, plain_fault, plain_met, top}
 use Rattle.command_words.proofs.Views.{View, is_apart, is_bad, is_end, is_joined, is_plain, apart_flag, joined_flag, view}
 
 -- what one thing that is said adds to the rows, and the fault that it is
@@ -201,10 +200,10 @@ value_turn : (options : List Choice) (table : IsTable options) (rows : List Row)
 value_turn options table rows word o among plain =
     let h : Held = holds rows (Some (o.name, [])) in
     let taken : option_word (arg_by_id (full_rules options) o.name) o.name word h ≡ (holds rows (Some (o.name, word ∷ [])), idle) =
-      ap (λ a. option_word a o.name word h) (option_by_id options o table among)
-      ∙ ap (λ (b : Bool). (holds rows (Some (o.name, word ∷ [])), cond (nat_lt (cond b 1 0) 1) (option o.name) idle)) (same_text o.name) in
+    ap (λ a. option_word a o.name word h) (option_by_id options o table among)
+    ∙ ap (λ (b : Bool). (holds rows (Some (o.name, word ∷ [])), cond (nat_lt (cond b 1 0) 1) (option o.name) idle)) (same_text o.name) in
     let met : word_met (full_rules options) [] false (option o.name) 1 word h ≡ (holds rows (Some (o.name, word ∷ [])), next idle) =
-      plain_met (full_rules options) (option o.name) word h plain ∙ ap (λ (q : Held × Waiting). (q.0, next q.1)) taken in
+    plain_met (full_rules options) (option o.name) word h plain ∙ ap (λ (q : Held × Waiting). (q.0, next q.1)) taken in
     turn_by options rows (Some (o.name, [])) (option o.name) word (holds rows (Some (o.name, word ∷ []))) (next idle) [] met (plain_fault (top options) (option o.name) word h plain)
 
 bad_turn : (options : List Choice) (rows : List Row) (p : Option (Text × List Text)) (w : Waiting) (word : Text) (words : List Text) → IsBad options word → total options (at rows p w false) (word ∷ words) ≡ [] → ⊥
@@ -253,7 +252,7 @@ trailing_fresh options table rows p w [] k e = fresh_then rows p [] (sym (settle
 trailing_fresh options table rows p w (word ∷ words) k e =
     let turn = turned options (at rows (pending_of p) w true) word _ _ words (trailing_turn options rows (pending_of p) w word) e in
     let later : total options (at (after_pending rows p) (pending_of (Some (Own word))) positional true) words ≡ [] =
-      ap (λ (r : List Row). total options (at r (Some (own_id, word ∷ [])) positional true) words) (sym (settles options table rows p k)) ∙ turn.1 in
+    ap (λ (r : List Row). total options (at r (Some (own_id, word ∷ [])) positional true) words) (sym (settles options table rows p k)) ∙ turn.1 in
     fresh_then rows p (Own word ∷ map (λ word. Own word) words) (sym (settles_fault options table rows p k) ∙ turn.0)
     (trailing_fresh options table (after_pending rows p) (Some (Own word)) positional words tt later)
 
@@ -282,18 +281,18 @@ one_word : (options : List Choice) (table : IsTable options) (word : Text) (word
     → (s : Stage) → IsStage options s → View options word → total options (walk_of s) (word ∷ words) ≡ [] → Rest options s (word ∷ words)
 one_word options table word words u later (between rows p b) k (is_end is) e =
     let turn = turned options (at rows (pending_of p) (still b) false) dashes _ _ words (end_turn options rows (pending_of p) (still b))
-      (ap (λ (w : Text). total options (at rows (pending_of p) (still b) false) (w ∷ words)) (sym is) ∙ e) in
+    (ap (λ (w : Text). total options (at rows (pending_of p) (still b) false) (w ∷ words)) (sym is) ∙ e) in
     (map (λ word. Own word) words, subst (λ (w : Text). Reads options (w ∷ words) (map (λ word. Own word) words)) (sym is) (rest words), trailing_fresh options table rows p (still b) words k turn.1)
 one_word options table word words u later (between rows p b) k (is_plain plain) e =
     let turn = turned options (at rows (pending_of p) (still b) false) word _ _ words (own_turn options rows (pending_of p) b word plain) e in
     let got = later (between (after_pending rows p) (Some (Own word)) true) tt
-      (ap (λ (r : List Row). total options (at r (Some (own_id, word ∷ [])) positional false) words) (sym (settles options table rows p k)) ∙ turn.1) in
+    (ap (λ (r : List Row). total options (at r (Some (own_id, word ∷ [])) positional false) words) (sym (settles options table rows p k)) ∙ turn.1) in
     (Own word ∷ got.0, own word words got.0 plain got.1, fresh_then rows p (Own word ∷ got.0) (sym (settles_fault options table rows p k) ∙ turn.0) got.2)
 one_word options table word words u later (between rows p b) k (is_apart o among is) e =
     let turn = turned options (at rows (pending_of p) (still b) false) word _ _ words (apart_turn options rows (pending_of p) (still b) word o (apart_flag options o word table among is)) e in
     let fault = none_of_two (settle_fault (full_rules options) false (holds rows (pending_of p))) [] turn.0 in
     let got = later (wanting (after_pending rows p) o) among
-      (ap (λ (r : List Row). total options (at r (Some (o.name, [])) (option o.name) false) words) (sym (settles options table rows p k)) ∙ turn.1) in
+    (ap (λ (r : List Row). total options (at r (Some (o.name, [])) (option o.name) false) words) (sym (settles options table rows p k)) ∙ turn.1) in
     value_of_it words got (sym (settles_fault options table rows p k) ∙ fault.0)
   where
     value_of_it : (words : List Text) → Rest options (wanting (after_pending rows p) o) words → pending_fault rows p ≡ [] → Rest options (between rows p b) (word ∷ words)
@@ -304,17 +303,16 @@ one_word options table word words u later (between rows p b) k (is_joined o v am
     let settled_rows_is = settles options table rows p k in
     let fault = none_of_two (settle_fault (full_rules options) false (holds rows (pending_of p))) (said_fault (settled_rows (full_rules options) (pending_of p) rows) (Given o.name v)) (none_of_two _ [] turn.0).0 in
     let got = later (between (added (after_pending rows p) (Given o.name v)) None false) tt
-      (ap (λ (r : List Row). total options (at (added r (Given o.name v)) None idle false) words) (sym settled_rows_is) ∙ turn.1) in
-    (
+    (ap (λ (r : List Row). total options (at (added r (Given o.name v)) None idle false) words) (sym settled_rows_is) ∙ turn.1) in (
       Given o.name v ∷ got.0,
       joined o word v words got.0 among is got.1,
       fresh_then rows p (Given o.name v ∷ got.0) (sym (settles_fault options table rows p k) ∙ fault.0)
-      (ap (λ (r : List Row). said_fault r (Given o.name v)) (sym settled_rows_is) ∙ fault.1, got.2),
+          (ap (λ (r : List Row). said_fault r (Given o.name v)) (sym settled_rows_is) ∙ fault.1, got.2),
     )
 one_word options table word words u later (between rows p b) k (is_bad bad) e = absurd (bad_turn options rows (pending_of p) (still b) word words bad e)
 one_word options table word words u later (wanting rows o) among (is_end is) e =
     let turn = turned options (at rows (Some (o.name, [])) (option o.name) false) dashes _ _ words (end_turn options rows (Some (o.name, [])) (option o.name))
-      (ap (λ (w : Text). total options (at rows (Some (o.name, [])) (option o.name) false) (w ∷ words)) (sym is) ∙ e) in
+    (ap (λ (w : Text). total options (at rows (Some (o.name, [])) (option o.name) false) (w ∷ words)) (sym is) ∙ e) in
     absurd (waits_trailing options table rows o words among turn.1)
 one_word options table word words u later (wanting rows o) among (is_plain plain) e =
     let turn = turned options (at rows (Some (o.name, [])) (option o.name) false) word _ _ words (value_turn options table rows word o among plain) e in
@@ -441,8 +439,8 @@ fault_is : (options : List Choice) (words : List Text) → fault_of (form_of opt
 fault_is options words =
     let end : Held = (walk (full_rules options) [] nothing_held words).held in
     let tail : or_else (defaults_fault (settled (full_rules options) end).rows (full_rules options)) (check_fault (top options) (finished (full_rules options) end) false) ≡ [] =
-      two_of_none (defaults_fault (settled (full_rules options) end).rows (full_rules options)) (check_fault (top options) (finished (full_rules options) end) false) (no_default_fault options (settled (full_rules options) end).rows)
-      (ap (check_kinds false false) (none_required options (finished (full_rules options) end))) in
+    two_of_none (defaults_fault (settled (full_rules options) end).rows (full_rules options)) (check_fault (top options) (finished (full_rules options) end) false) (no_default_fault options (settled (full_rules options) end).rows)
+    (ap (check_kinds false false) (none_required options (finished (full_rules options) end))) in
     leaf_fault (built (form_of options)) nothing_held words refl
     ∙ ap (λ (rs : List Rule). level_fault (record (top options) { rules = rs }) [] nothing_held words false []) (filled_rules options)
     ∙ ap (λ (k : Kinds). or_else (walk_fault (top options) [] start words) (or_else (settle_fault (full_rules options) false end) k)) tail

@@ -1,5 +1,5 @@
 -- The command that compiles files: `ipdl [-s LIST] [--path DIRS] FILES`.
-use Rattle.std.specs.Prelude.{◌≡◌, ◌≢◌, ℕ, ◌≤◌, ◌⊎◌, Bool, not, List, [], ◌∷◌, ◌++◌, Option, Some, None, length, filter, map, option_map, codes, string_bytes}
+use Rattle.std.specs.Prelude.{◌≡◌, ◌≢◌, ℕ, ◌≤◌, ◌⊎◌, not, List, [], ◌∷◌, ◌++◌, Option, Some, None, length, filter, codes}
 use Rattle.std.specs.Str.{bytes_eq}
 use Rattle.std.specs.List.{AllByRecursion, join_with_byte}
 use Rattle.command_words.specs.Options.{Choice, Said, Reads, EachOnce, own_words, value_of}

@@ -1,6 +1,5 @@
 -- What is found in the words of a command.
 use Rattle.std.specs.Prelude.{◌≡◌, ◌≢◌, ℕ, List, [], ◌∷◌, Option, Some, None}
-use Rattle.std.specs.Str.{bytes_eq}
 use Rattle.clap.specs.Words.{all_of, first_of, found_of, rows_of}
 use Rattle.clap.specs.declared.parser.matches.ArgMatches.{ArgMatches}
 use Rattle.command_words.specs.Options.{Choice, EachOnce, Reads, Said, own_words, value_of}

@@ -1,4 +1,6 @@
 ghost use Rattle.std.specs.Prelude.{◌≡◌, ◌↔◌, IfErr, IfOk, IsTrue, map, string_bytes};
+ghost use Rattle.std.specs.List.{list_any};
+ghost use Rattle.std.specs.Str.{bytes_eq};
 ghost use Rattle.command_words.specs.Command.{CommandOf};
 ghost use Rattle.command_words.specs.Compile.{HasWord, IsNoCommand, other_commands};
 
@@ -23,11 +25,18 @@ pub enum Command {
 /// The first words that choose a command of their own; none of these commands is built yet.
 const OTHER_COMMANDS: [&str; 7] = ["run", "frames", "gen", "feed", "relay", "audit", "waits"];
 
+/// Whether the word is one of these.
+fn has_word(words: &[&str], word: &str) -> bool
+    ensures { result ≡ list_any (λ w. bytes_eq w.now word.now) words.now }
+{
+    words.iter().any(|other| *other == word)
+}
+
 /// Whether a first word chooses a command of its own.
 fn is_other_command(word: &str) -> bool
     ensures { IsTrue result ↔ HasWord other_commands word.now }
 {
-    OTHER_COMMANDS.iter().any(|other| *other == word)
+    has_word(&OTHER_COMMANDS, word)
 }
 
 /// The command that the words are; the name of the program is not among them. The fault is `Usage`

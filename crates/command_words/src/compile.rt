@@ -1,12 +1,13 @@
-ghost use Rattle.std.specs.Prelude.{◌≡◌, List, ℕ, IfErr, IfOk, IfSome, IsNone, IsSome, None, map, option_map, string_bytes};
+ghost use Rattle.std.specs.Prelude.{◌≡◌, IfErr, IfOk, map, string_bytes};
 ghost use Rattle.command_words.specs.Command.{CommandOf};
-ghost use Rattle.command_words.specs.Compile.{IsForCompile, IsNoCommand, compile_options};
+ghost use Rattle.command_words.specs.Compile.{IsForCompile, IsNoCommand};
 
+use crate::WordsFault;
 use crate::command::Command;
 use crate::files::files_of;
 use crate::folders::folders_of;
 use crate::options::{Choice, read_options};
-use crate::WordsFault;
+use crate::texts::copy_of;
 use std::alloc::Global;
 
 /// The options of the command that compiles files.
@@ -30,9 +31,6 @@ pub fn compile(alloc: Global, words: &[String]) -> Result<Command, WordsFault>
     let found = read_options(alloc, &COMPILE_OPTIONS, words)?;
     let path = folders_of(alloc, found.get_str("path"))?;
     let files = files_of(alloc, found.get_strs("words").unwrap_or(&[]))?;
-    let list = match found.get_str("sync-msg-list") {
-        Some(list) => Some(String::from_str(alloc, list)?),
-        None => None,
-    };
+    let list = copy_of(alloc, found.get_str("sync-msg-list"))?;
     Ok(Command::Compile { list, path, files })
 }

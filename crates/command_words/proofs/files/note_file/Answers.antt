@@ -1,9 +1,9 @@
-use Rattle.std.proofs.Common.{◌≡◌, ◌∙◌, ◌∷◌, ◌++◌, [], List, ℕ, true, false, true≢false, refl, sym, ap, subst, arith, length, ◌<◌, ◌≤◌}
+use Rattle.std.proofs.Common.{◌≡◌, ◌∙◌, ◌∷◌, ◌++◌, [], List, ℕ, false, true≢false, sym, ap, subst, arith, length, ◌<◌, ◌≤◌}
 use Rattle.std.specs.Str.{bytes_eq}
 use Rattle.indexmap.proofs.CallerLemmas.{insert_entry-new}
-use Rattle.command_words.specs.Compile.{AreListed, HasWord, IsFileWord}
+use Rattle.command_words.specs.Compile.{AreListed, HasWord}
 use Rattle.command_words.specs.Keys.{IsKeyOf}
-use Rattle.command_words.specs.Listed.{IsKeyed, names_of}
+use Rattle.command_words.specs.Listed.{names_of}
 use Rattle.command_words.proofs.Comparisons.{same_text, text_is}
 use Rattle.command_words.proofs.FileLists.{again_listed, full_listed, key_listed, new_listed, not_listed}
 use Rattle.command_words.proofs.Noting.{found_key, keyed_new, lacks_key, names_length, names_new}

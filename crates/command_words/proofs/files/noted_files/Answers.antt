@@ -1,4 +1,4 @@
-use Rattle.std.proofs.Common.{◌≡◌, ◌∙◌, ◌∷◌, ◌++◌, List, ℕ, suc, Bor, map, take, drop, get_or, sym, subst}
+use Rattle.std.proofs.Common.{◌∙◌, List, ℕ, suc, map, take, drop, sym, subst}
 use Rattle.command_words.specs.Compile.{AreListed}
 use Rattle.command_words.proofs.Errors.{of_error}
 use Rattle.command_words.proofs.Noting.{parted}

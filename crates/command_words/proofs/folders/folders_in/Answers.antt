@@ -1,4 +1,4 @@
-use Rattle.std.proofs.Common.{◌≡◌, ◌∙◌, ◌==◌, ◌≤◌, not, true, false, true≢false, List, ℕ, length, map, sym, ap, subst, arith, Bor}
+use Rattle.std.proofs.Common.{◌≡◌, ◌∙◌, ◌==◌, ◌≤◌, not, true≢false, length, map, sym, ap, subst, arith}
 use Rattle.std.specs.List.{list_all}
 use Rattle.command_words.specs.Compile.{AreDirs}
 use Rattle.command_words.specs.Listed.{pieces}

@@ -1,5 +1,5 @@
-use Rattle.std.proofs.Common.{◌≡◌, ◌∙◌, true, List, [], ap, subst, sym, map, string_bytes}
-use Rattle.clap.specs.Words.{App, HasKind, app_of, fault_of, is_simple, is_simple_and_free, matches_of}
+use Rattle.std.proofs.Common.{◌≡◌, ◌∙◌, true, [], ap, subst, map, string_bytes}
+use Rattle.clap.specs.Words.{App, HasKind, fault_of, is_simple, is_simple_and_free, matches_of}
 use Rattle.command_words.specs.Forms.{form_of}
 use Rattle.command_words.specs.Tables.{choices_of}
 use Rattle.command_words.proofs.Builders.{form_fits, form_is_simple}
@@ -15,7 +15,7 @@ returns-in_err-try_get_matches_from-clause-usage c =
     let form_is = c.in_ok-command.ensures in
     let error = c.in_err-try_get_matches_from.field-0.0 in
     let fails : HasKind (fault_of (form_of options) words) error =
-      subst (λ (a : App). is_simple_and_free a ≡ true → HasKind (fault_of a words) error) form_is c.in_err-try_get_matches_from.ensures.kinds (form_fits options) in
+    subst (λ (a : App). is_simple_and_free a ≡ true → HasKind (fault_of a words) error) form_is c.in_err-try_get_matches_from.ensures.kinds (form_fits options) in
     of_error c.from_residual-in_err-try_get_matches_from.result _ _ c.from_residual-in_err-try_get_matches_from.ensures.1 (λ fault gives usage. read_no_usage options words error c.requires fails (gives usage))
 
 pub returns-clause-read : goal.returns-clause-read
