@@ -74,9 +74,6 @@ no_files_found words found is none list path files command =
     none files (subst (λ (ws : List Text). AreFiles ws files)
     (same_words compile_options words command.said is.said table command.reads command.once is.reads is.once ∙ sym (ap (λ (o : Option (List Text)). unwrap_or o []) is.others ∙ some_list (own_words is.said))) command.files_are)
 
-pub no_words_found : (words : List Text) → ((said : List Said) → Reads compile_options words said → ¬ EachOnce said) → IsNoCommand words
-no_words_found words none list path files command = none command.said command.reads command.once
-
 -- ---- one command
 
 one_path : (value : Option Text) (path other : List Text) → IsPath value path → IsPath value other → path ≡ other
