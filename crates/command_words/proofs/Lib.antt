@@ -1,0 +1,15 @@
+pub mod Comparisons
+pub mod Lookups
+pub mod Spellings
+pub mod Views
+pub mod Walks
+pub mod KeyLemmas
+pub mod OneKey
+pub mod Rows
+pub mod Builders
+pub mod Parsed
+pub mod Pieces
+pub mod FileLists
+pub mod Noting
+pub mod Errors
+pub mod Compiled

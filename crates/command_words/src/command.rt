@@ -1,0 +1,54 @@
+ghost use Rattle.std.specs.Prelude.{◌≡◌, ◌↔◌, IfErr, IfOk, IsTrue, map, string_bytes};
+ghost use Rattle.std.specs.List.{list_any};
+ghost use Rattle.std.specs.Str.{bytes_eq};
+ghost use Rattle.command_words.specs.Command.{CommandOf};
+ghost use Rattle.command_words.specs.Compile.{HasWord, IsNoCommand, other_commands};
+
+use crate::WordsFault;
+use crate::compile::compile;
+use std::alloc::Global;
+
+/// A command, with what its words say. docs/command_line.md states the forms of words.
+#[derive(Debug, Drop)]
+pub enum Command {
+    /// Check files, and print their tables.
+    Compile {
+        /// The name of the sync list, where one is given.
+        list: Option<String>,
+        /// The folders in which files are looked for, in order.
+        path: Vec<String>,
+        /// The names of the files, in the order of their first words, none of them twice.
+        files: Vec<String>,
+    },
+}
+
+/// The first words that choose a command of their own; none of these commands is built yet.
+const OTHER_COMMANDS: [&str; 7] = ["run", "frames", "gen", "feed", "relay", "audit", "waits"];
+
+/// Whether the word is one of these.
+fn has_word(words: &[&str], word: &str) -> bool
+    ensures { result ≡ list_any (λ w. bytes_eq w.now word.now) words.now }
+{
+    words.iter().any(|other| *other == word)
+}
+
+/// Whether a first word chooses a command of its own.
+fn is_other_command(word: &str) -> bool
+    ensures { IsTrue result ↔ HasWord other_commands word.now }
+{
+    has_word(&OTHER_COMMANDS, word)
+}
+
+/// The command that the words are; the name of the program is not among them. The fault is `Usage`
+/// where they are none, and `NoMemory` where memory ran out. docs/command_line.md states the forms.
+pub fn read_words(alloc: Global, words: &[String]) -> Result<Command, WordsFault>
+    ensures command { IfOk result (λ command. CommandOf (map string_bytes words.now) command) }
+    ensures usage { IfErr result (λ fault. fault ≡ WordsFault.Usage → IsNoCommand (map string_bytes words.now)) }
+{
+    if let Some(first) = words.first() {
+        if is_other_command(first.as_str()) {
+            return Err(WordsFault::Usage);
+        }
+    }
+    compile(alloc, words)
+}

@@ -1,0 +1,86 @@
+ghost use Rattle.std.specs.Prelude.{◌≡◌, ◌↔◌, ◌∷◌, ◌++◌, [], List, ℕ, IfErr, IfOk, IsTrue, OnOk, map, string_bytes};
+ghost use Rattle.command_words.specs.Compile.{AreFiles, AreListed, IsFileWord};
+ghost use Rattle.command_words.specs.Listed.{IsKeyed, names_of};
+
+use crate::WordsFault;
+use crate::keys::key_of;
+use crate::texts::copies_of;
+use indexmap::IndexMap;
+use std::alloc::{AllocError, Global};
+
+/// The most files that a command may name.
+const MOST_FILES: usize = 4096;
+
+/// Whether a word names a protocol file or a header.
+fn is_file_word(word: &str) -> bool
+    ensures { IsTrue result ↔ IsFileWord word.now }
+{
+    word.ends_with(".ipdl") || word.ends_with(".ipdlh")
+}
+
+/// Adds the file that a word names, unless the same word named it already.
+fn note_file<'a>(files: &mut IndexMap<&'a [u8], &'a str>, word: &'a str) -> Result<(), WordsFault>
+    requires { IsKeyed files.old }
+    ensures keyed { OnOk result (IsKeyed files.new) }
+    ensures noted { OnOk result ((seen : List (List ℕ)) → AreListed seen (names_of files.old) → AreListed (seen ++ word.entry.now ∷ []) (names_of files.new)) }
+    ensures usage { IfErr result (λ fault. fault ≡ WordsFault.Usage → (seen more all : List (List ℕ)) → AreListed seen (names_of files.old) → ¬ AreListed (seen ++ word.entry.now ∷ more) all) }
+{
+    if !is_file_word(word) {
+        return Err(WordsFault::Usage);
+    }
+    let key = key_of(word.as_bytes());
+    match files.get(&key) {
+        Some(first) => {
+            if *first == word {
+                Ok(())
+            } else {
+                Err(WordsFault::Usage)
+            }
+        }
+        None => {
+            if files.len() >= MOST_FILES {
+                return Err(WordsFault::Usage);
+            }
+            files.insert(key, word)?;
+            Ok(())
+        }
+    }
+}
+
+/// The files that words name, each noted once.
+fn noted_files<'a>(
+    alloc: Global,
+    words: &[&'a str],
+) -> Result<IndexMap<&'a [u8], &'a str>, WordsFault>
+    ensures noted { IfOk result (λ files. AreListed (map (λ w. w.now) words.entry.now) (names_of files)) }
+    ensures usage { IfErr result (λ fault. fault ≡ WordsFault.Usage → (files : List (List ℕ)) → ¬ AreListed (map (λ w. w.now) words.entry.now) files) }
+{
+    let mut files = IndexMap::new(alloc);
+    for word in words {
+        note_file(&mut files, word)?;
+    }
+    Ok(files)
+}
+
+/// The names of the files that are noted, in order.
+fn names_in<'a>(
+    alloc: Global,
+    files: &IndexMap<&'a [u8], &'a str>,
+) -> Result<Vec<&'a str>, AllocError>
+    ensures { IfOk result (λ names. map (λ name. name.now) names.items ≡ names_of files.entry.now) }
+{
+    files.values().copied().collect(alloc)
+}
+
+/// The files that the words of a command name, in the order of their first words.
+pub fn files_of(alloc: Global, words: &[&str]) -> Result<Vec<String>, WordsFault>
+    ensures files { IfOk result (λ files. AreFiles (map (λ w. w.now) words.entry.now) (map string_bytes files.items)) }
+    ensures usage { IfErr result (λ fault. fault ≡ WordsFault.Usage → (files : List (List ℕ)) → ¬ AreFiles (map (λ w. w.now) words.entry.now) files) }
+{
+    let files = noted_files(alloc, words)?;
+    if files.is_empty() {
+        return Err(WordsFault::Usage);
+    }
+    let names = names_in(alloc, &files)?;
+    Ok(copies_of(alloc, names.as_slice())?)
+}

@@ -1,0 +1,21 @@
+//! The command that the words of a command line are, and the words that are none. It knows how words
+//! are read, and nothing of what a command does.
+#![tactic(auto)]
+
+mod command;
+mod compile;
+mod fault;
+mod files;
+mod folders;
+mod keys;
+mod laws;
+mod options;
+mod texts;
+
+pub use command::{Command, read_words};
+pub use fault::WordsFault;
+pub use keys::key_of;
+pub use laws::{one_command, other_commands_are_none};
+
+#[cfg(test)]
+mod tests;
