@@ -1,6 +1,6 @@
 -- The forms of the lines of a sync list, each by the forms of the lines before it.
 use Rattle.std.specs.Prelude.{◌≡◌, ℕ, Bool, true, false, List, [], ◌∷◌, ◌++◌, Option, Some, None, IsTrue}
-use Rattle.std.specs.List.{Any, Contains}
+use Rattle.std.specs.List.{list_any, Contains}
 use Rattle.sync_list.specs.Lines.{IsBlankLine, IsComment, IsSectionLine, IsValueLine, IsIndented}
 
 -- what a line is in a list; a line that goes on with a value bears the word whose value that is
@@ -18,7 +18,7 @@ is_section _ = false
 
 -- lines of these forms have a section among them
 abbrev pub HasSection : List Form → Type 0
-HasSection forms = Any (λ form. IsTrue (is_section form)) forms
+HasSection forms = IsTrue (list_any is_section forms)
 
 -- the word with whose value the line behind a line of this form can go on
 abbrev pub word_of : Form → Option (List ℕ)

@@ -1,6 +1,6 @@
 -- What the reader knows of the lines that it has read.
-use Rattle.std.specs.Prelude.{◌≡◌, ℕ, Bool, true, not, List, [], ◌∷◌, ◌++◌, option_copied}
-use Rattle.std.specs.List.{list_all, Contains}
+use Rattle.std.specs.Prelude.{◌≡◌, ℕ, Bool, true, not, List, [], ◌∷◌, ◌++◌, drop, option_copied}
+use Rattle.std.specs.List.{list_all, take_while, prefix_len, Contains}
 use Rattle.ipdl_lex.specs.Pieces.{is_blank}
 use Rattle.sync_list.specs.declared.line.Line.{Line}
 use Rattle.sync_list.specs.declared.line.Line.TheVariants as kind
@@ -10,12 +10,17 @@ use Rattle.sync_list.specs.Forms.{Form, section, value, more, open_word, Fits}
 use Rattle.sync_list.specs.Lists.{sections_from}
 use Rattle.sync_list.specs.Sets.{same_pair, KeysAre}
 
+-- the text is split behind its longest front whose bytes pass the test
+pub record IsSplit (test : ℕ → Bool) (text front rest : List ℕ) : Type 0 where
+  pub front_is : front ≡ take_while test text
+  pub rest_is : rest ≡ drop (prefix_len test text) text
+
 -- the line has none of the forms of lines by themselves
 pub record IsOther (line : List ℕ) : Type 0 where
   pub no_blank_line : ¬ IsBlankLine line
   pub no_comment : ¬ IsComment line
   pub no_section : (protocol message : List ℕ) → ¬ IsSectionLine line protocol message
-  pub no_value : (word value : List ℕ) → ¬ IsValueLine line word value
+  pub no_value : (word bytes : List ℕ) → ¬ IsValueLine line word bytes
   pub no_indented : ¬ IsIndented line
 
 -- the line is this by itself
@@ -23,7 +28,7 @@ abbrev pub IsLine : List ℕ → Line → Type 0
 IsLine line kind.Blank = IsBlankLine line
 IsLine line kind.Comment = IsComment line
 IsLine line (kind.Section protocol message) = IsSectionLine line protocol.now message.now
-IsLine line (kind.Value word value) = IsValueLine line word.now value.now
+IsLine line (kind.Value word bytes) = IsValueLine line word.now bytes.now
 IsLine line kind.Indented = IsIndented line
 IsLine line kind.Other = IsOther line
 

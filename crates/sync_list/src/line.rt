@@ -1,9 +1,9 @@
-ghost use Rattle.std.specs.Prelude.{◌≡◌, ◌↔◌, ℕ, List, IsTrue, IfSome, IfNone, Contains};
-ghost use Rattle.std.specs.List.{list_all, prefix_len};
+ghost use Rattle.std.specs.Prelude.{◌≡◌, ◌↔◌, ◌⊎◌, ℕ, List, IsTrue, IfSome, IfNone, Contains, not, position};
+ghost use Rattle.std.specs.List.{list_all};
 ghost use Rattle.ipdl_base.specs.Words.{is_word, is_word_start, is_word_byte};
 ghost use Rattle.ipdl_lex.specs.Pieces.{is_blank, reserved_words};
 ghost use Rattle.sync_list.specs.Lines.{first_mark, IsIdentifier, IsSectionLine, IsValueLine};
-ghost use Rattle.sync_list.specs.Reading.{IsLine};
+ghost use Rattle.sync_list.specs.Reading.{IsSplit, IsLine};
 
 /// What a line is by itself.
 pub enum Line<'a> {
@@ -66,12 +66,19 @@ pub fn are_blanks(bytes: &[u8]) -> bool
     bytes.iter().all(|b| is_blank(*b))
 }
 
+/// Whether each byte may stand in a word.
+fn are_word_bytes(bytes: &[u8]) -> bool
+    ensures { result ≡ list_all is_word_byte bytes.now }
+{
+    bytes.iter().all(|b| is_word_byte(*b))
+}
+
 fn is_word(bytes: &[u8]) -> bool
     ensures { result ≡ is_word bytes.now }
 {
-    match bytes {
-        [] => false,
-        [first, others @ ..] => is_word_start(*first) && others.iter().all(|b| is_word_byte(*b)),
+    match bytes.split_first() {
+        Some((first, others)) => is_word_start(*first) && are_word_bytes(others),
+        None => false,
     }
 }
 
@@ -95,22 +102,32 @@ fn first_mark(line: &[u8]) -> Option<u8>
     line.iter().copied().find(|b| !is_blank(*b))
 }
 
-/// How many bytes of a word the text begins with.
-fn word_len(text: &[u8]) -> usize
-    ensures { result ≡ prefix_len is_word_byte text.now }
+/// The index of the first byte that may not stand in a word.
+fn word_end(text: &[u8]) -> Option<usize>
+    ensures { result ≡ position (λ b. not (is_word_byte b)) text.now }
 {
-    text.iter()
-        .position(|b| !is_word_byte(*b))
-        .unwrap_or(text.len())
+    text.iter().position(|b| !is_word_byte(*b))
 }
 
-/// How many blanks the text begins with.
-fn blanks_len(text: &[u8]) -> usize
-    ensures { result ≡ prefix_len is_blank text.now }
+/// The index of the first byte that is not blank.
+fn blanks_end(text: &[u8]) -> Option<usize>
+    ensures { result ≡ position (λ b. not (is_blank b)) text.now }
 {
-    text.iter()
-        .position(|b| !is_blank(*b))
-        .unwrap_or(text.len())
+    text.iter().position(|b| !is_blank(*b))
+}
+
+/// The bytes of a word that the text begins with, and the rest.
+fn split_word(text: &[u8]) -> (&[u8], &[u8])
+    ensures { IsSplit is_word_byte text.now result.0.now result.1.now }
+{
+    text.split_at(word_end(text).unwrap_or(text.len()))
+}
+
+/// The blanks that the text begins with, and the rest.
+fn split_blanks(text: &[u8]) -> (&[u8], &[u8])
+    ensures { IsSplit is_blank text.now result.0.now result.1.now }
+{
+    text.split_at(blanks_end(text).unwrap_or(text.len()))
 }
 
 /// The names of the protocol and the message of a section line.
@@ -119,9 +136,9 @@ fn section_line(line: &[u8]) -> Option<(&[u8], &[u8])>
     ensures none { IfNone result ((protocol message : List ℕ) → ¬ IsSectionLine line.now protocol message) }
 {
     let rest = line.strip_prefix(b"[")?;
-    let (protocol, rest) = rest.split_at(word_len(rest));
+    let (protocol, rest) = split_word(rest);
     let rest = rest.strip_prefix(b"::")?;
-    let (message, rest) = rest.split_at(word_len(rest));
+    let (message, rest) = split_word(rest);
     let after = rest.strip_prefix(b"]")?;
     if is_identifier(protocol) && is_identifier(message) && are_blanks(after) {
         Some((protocol, message))
@@ -130,15 +147,22 @@ fn section_line(line: &[u8]) -> Option<(&[u8], &[u8])>
     }
 }
 
+/// Whether the byte stands between a word and its value.
+fn is_sign(b: u8) -> bool
+    ensures { IsTrue result ↔ ((b ≡ 61) ⊎ (b ≡ 58)) }
+{
+    b == b'=' || b == b':'
+}
+
 /// The word and the value of a value line.
 fn value_line(line: &[u8]) -> Option<(&[u8], &[u8])>
     ensures some { IfSome result (λ parts. IsValueLine line.now parts.0.now parts.1.now) }
     ensures none { IfNone result ((word value : List ℕ) → ¬ IsValueLine line.now word value) }
 {
-    let (word, rest) = line.split_at(word_len(line));
-    let (_, rest) = rest.split_at(blanks_len(rest));
+    let (word, rest) = split_word(line);
+    let (_, rest) = split_blanks(rest);
     let (sign, value) = rest.split_first()?;
-    if is_word(word) && (*sign == b'=' || *sign == b':') {
+    if is_word(word) && is_sign(*sign) {
         Some((word, value))
     } else {
         None
