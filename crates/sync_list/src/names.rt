@@ -1,6 +1,7 @@
-ghost use Rattle.std.specs.Prelude.{◌≡◌, ◌↔◌, List, IfOk, OnOk, IsTrue};
+ghost use Rattle.std.specs.Prelude.{◌≡◌, ◌↔◌, ◌<◌, ◌==◌, List, length, IfOk, OnOk, IfSome, IfNone, IsTrue, position};
 ghost use Rattle.std.specs.List.{Any};
 ghost use Rattle.ipdl_base.specs.Words.{short_name};
+ghost use Rattle.ipdl_base.specs.declared.kinds.Semantics.TheVariants.{Sync};
 ghost use Rattle.ipdl_syntax.specs.declared.program.Entry.{Entry};
 ghost use Rattle.sync_list.specs.Broken.{Lists, IsRead, HasMessage, NamesAsync, NamesAbsent};
 ghost use Rattle.sync_list.specs.Sets.{same_name, same_pair, KeysAre, AddsKeys};
@@ -22,14 +23,32 @@ pub struct Known<'a> {
     pub asyncs: HashSet<Pair<'a>>,
 }
 
+/// The index of the first colon.
+fn colon_at(name: &[u8]) -> Option<usize>
+    ensures first { result ≡ position (λ b. b == 58) name.now }
+    ensures within { IfSome result (λ n. n < length name.now) }
+{
+    name.iter().position(|b| *b == b':')
+}
+
+/// What stands behind the first colon.
+fn behind_colon(name: &[u8]) -> Option<&[u8]>
+    ensures some { IfSome result (λ rest. (short_name rest.now ≡ short_name name.now) × (length rest.now < length name.now)) }
+    ensures none { IfNone result (short_name name.now ≡ name.now) }
+{
+    let colon = colon_at(name)?;
+    Some(&name[colon + 1..])
+}
+
 /// The part of a full name behind its last colon.
 pub fn short_name(full: &[u8]) -> &[u8]
     ensures { result.now ≡ short_name full.now }
 {
-    match full.iter().rposition(|b| *b == b':') {
-        Some(colon) => &full[colon + 1..],
-        None => full,
+    let mut name = full;
+    while let Some(rest) = behind_colon(name) {
+        name = rest;
     }
+    name
 }
 
 /// The names of a section.
@@ -114,6 +133,20 @@ impl<'a> Known<'a> {
         })
     }
 
+    /// Whether the section names a protocol of the program.
+    fn is_read(&self, section: &Section) -> bool
+        ensures { (program : List Entry) → Knows program self.now → IsTrue result ↔ IsRead program section.now.protocol }
+    {
+        self.protocols.contains(&section.protocol.as_slice())
+    }
+
+    /// Whether the section names a sync message.
+    fn names_sync(&self, section: &Section) -> bool
+        ensures { (program : List Entry) → Knows program self.now → IsTrue result ↔ HasMessage Sync program section.now.protocol section.now.message }
+    {
+        self.syncs.contains(&names_of(section))
+    }
+
     /// Whether the section names an async message.
     pub fn names_async(&self, section: &Section) -> bool
         ensures { (program : List Entry) → Knows program self.now → IsTrue result ↔ NamesAsync program section.now }
@@ -125,9 +158,9 @@ impl<'a> Known<'a> {
     pub fn names_absent(&self, section: &Section) -> bool
         ensures { (program : List Entry) → Knows program self.now → IsTrue result ↔ NamesAbsent program section.now }
     {
-        let names = names_of(section);
-        self.protocols.contains(&names.0)
-            && !self.syncs.contains(&names)
-            && !self.asyncs.contains(&names)
+        if !self.is_read(section) {
+            return false;
+        }
+        !self.names_sync(section) && !self.names_async(section)
     }
 }
