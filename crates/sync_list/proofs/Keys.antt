@@ -117,3 +117,16 @@ Adds-some {K} {S} {X} eq old new Holds o x e adds = let P : Option X → Type 0 
 pub Adds-no_some : {K S X : Type 0} (eq : K → K → Bool) (old new : HashSet K S) (Holds : K → X → Type 0) (o : Option X) → o ≡ None → new ≡ old → AddsKeys eq old new (λ q. IsSomeAnd o (Holds q))
 Adds-no_some {K} {S} {X} eq old new Holds o e same =
     Adds-nothing eq old new _ same (λ q h. let P : Option X → Type 0 = λ o. IsSomeAnd o (Holds q) in subst P e h)
+
+-- what a look-up tells of a pair of names
+pub told_pair : {S : Type 0} (set : HashSet NamePair S) (Holds : List ℕ → List ℕ → Type 0) (key : NamePair) (protocol message : List ℕ) → key.0.now ≡ protocol → key.1.now ≡ message → KeysAre same_pair set (λ q. Holds q.0.now q.1.now) → (found : Bool) → found ≡ contains same_pair set key → Decides found (Holds protocol message)
+told_pair set Holds key protocol message first second are found is =
+    let h = are.exact key in (
+      λ t. (let P : List ℕ → Type 0 = λ p. Holds p message in let Q : List ℕ → Type 0 = λ m. Holds key.0.now m in subst P first (subst Q second (h.0 (sym is ∙ t)))),
+      λ t. is ∙ h.1 (let P : List ℕ → Type 0 = λ p. Holds p key.1.now in let Q : List ℕ → Type 0 = λ m. Holds protocol m in subst P (sym first) (subst Q (sym second) t)),
+    )
+
+-- and of a name
+pub told_name : {S : Type 0} (set : HashSet (Bor (List ℕ)) S) (Holds : List ℕ → Type 0) (key : Bor (List ℕ)) (name : List ℕ) → key.now ≡ name → KeysAre same_name set (λ q. Holds q.now) → (found : Bool) → found ≡ contains same_name set key → Decides found (Holds name)
+told_name set Holds key name named are found is =
+    let h = are.exact key in (λ t. subst Holds named (h.0 (sym is ∙ t)), λ t. is ∙ h.1 (subst Holds (sym named) t))

@@ -13,3 +13,8 @@ semantics_decides Async Async = (λ h. refl, λ h. refl)
 semantics_decides Sync Sync = (λ h. refl, λ h. refl)
 semantics_decides Async Sync = (λ h. absurd (true≢false (sym h)), λ h. absurd (let x : ⊥ = cc in x))
 semantics_decides Sync Async = (λ h. absurd (true≢false (sym h)), λ h. absurd (let x : ⊥ = cc in x))
+
+-- what holds of neither semantics holds of none
+pub neither : (P : Semantics → Type 0) → ¬ P Sync → ¬ P Async → (s : Semantics) → ¬ P s
+neither P none_sync none_async Sync h = none_sync h
+neither P none_sync none_async Async h = none_async h

@@ -1,6 +1,7 @@
-ghost use Rattle.std.specs.Prelude.{◌≡◌, ◌<◌, ◌≤◌, ◌^◌, ◌↔◌, List, length, IfOk, OnOk};
+ghost use Rattle.std.specs.Prelude.{◌≡◌, ◌<◌, ◌^◌, ◌↔◌, List, length, IfOk, OnOk, IsTrue};
 ghost use Rattle.std.specs.List.{Any, Contains};
 ghost use Rattle.ipdl_base.specs.declared.finding.Finding.{Finding};
+ghost use Rattle.ipdl_base.specs.declared.kinds.Semantics.TheVariants.{Sync};
 ghost use Rattle.findings.specs.Adds.{Adds};
 ghost use Rattle.ipdl_syntax.specs.Programs.{IsProgram};
 ghost use Rattle.ipdl_syntax.specs.declared.program.Entry.{Entry};
@@ -34,6 +35,16 @@ fn at_section(file: u32, section: &Section, rule: Rule) -> Finding
     }
 }
 
+/// Whether the message of the protocol of this short name is sync and not among the names of the
+/// list.
+fn is_unlisted(protocol: &[u8], message: &MessageDecl, names: &HashSet<Pair<'_>>) -> bool
+    ensures { (list : List Section) → KeysAre same_pair names.now (λ pair. Lists list pair.0.now pair.1.now)
+        → IsTrue result ↔ ((message.now.semantics ≡ Sync) × ¬ Lists list protocol.now message.now.name) }
+{
+    message.semantics == Semantics::Sync
+        && !(&*names).contains(&(&*protocol, message.name.as_slice()))
+}
+
 /// Adds a finding at each sync message of the protocol of this short name that is not among the
 /// names of the list.
 fn add_unlisted_of(
@@ -46,9 +57,7 @@ fn add_unlisted_of(
         → Adds Rule.UNLISTED_SYNC (λ place. Any (IsUnlistedAt list protocol.now place) messages.now) found.old.items found.new.items) }
 {
     for message in messages {
-        if message.semantics == Semantics::Sync
-            && !(&*names).contains(&(&*protocol, message.name.as_slice()))
-        {
+        if is_unlisted(protocol, message, names) {
             found.push(Finding {
                 place: message.place,
                 rule: Rule::UNLISTED_SYNC,

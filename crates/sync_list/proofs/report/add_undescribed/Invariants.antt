@@ -1,0 +1,11 @@
+use Rattle.std.proofs.Common.{◌≡◌, List, length, take}
+use Rattle.ipdl_base.specs.declared.finding.TheConstants.Rule as rule
+use Rattle.ipdl_syntax.specs.declared.program.Entry.{Entry}
+use Rattle.findings.specs.Adds.{Adds}
+use Rattle.sync_list.specs.Broken.{AtSection, HasNoDescription}
+use Rattle.sync_list.proofs.report.add_undescribed.Given as goal
+
+-- the sections so far have their findings
+abbrev pub invariant-loop-section : goal.invariant-loop-section
+invariant-loop-section l =
+    (program : List Entry) → l.file ≡ length program → Adds rule.NO_DESCRIPTION (AtSection HasNoDescription program (take l.section-index l.list)) l.fn.found.items l.found.items
