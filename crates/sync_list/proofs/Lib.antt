@@ -2,7 +2,9 @@ pub mod Bytes
 pub mod Colons
 pub mod Cuts
 pub mod Found
+pub mod Grown
 pub mod Keys
+pub mod Lines
 pub mod Same
 pub mod Tags
 pub mod Unique

@@ -4,5 +4,6 @@ pub mod Knowing
 pub mod Laws
 pub mod Lines
 pub mod Lists
+pub mod Marked
 pub mod Reading
 pub mod Sets

@@ -1,10 +1,12 @@
-ghost use Rattle.std.specs.Prelude.{◌≡◌, ℕ, ◌+◌, ◌≤◌, ◌⊎◌, List, [], ◌∷◌, ◌++◌, length, Ok, Err, IfOk, IfErr, OnOk};
+ghost use Rattle.std.specs.Prelude.{◌≡◌, ℕ, ◌+◌, ◌≤◌, ◌⊎◌, ◌&&◌, List, [], ◌∷◌, ◌++◌, length, Ok, Err, IfOk, IfErr, OnOk};
 ghost use Rattle.std.specs.List.{Contains};
 ghost use Rattle.sync_list.specs.declared.list.ListFault.TheVariants.{NoMemory};
 ghost use Rattle.sync_list.specs.declared.list.ListFault.{ListFault};
 ghost use Rattle.sync_list.specs.declared.list.Section.{Section};
 ghost use Rattle.sync_list.specs.Forms.{Form, section};
-ghost use Rattle.sync_list.specs.Lists.{IsListOf, IsFault, Gives};
+ghost use Rattle.sync_list.specs.Lists.{description, IsListOf, IsFault, Gives};
+ghost use Rattle.sync_list.specs.Marked.{marked};
+ghost use Rattle.std.specs.Str.{bytes_eq};
 
 use crate::line::{Line, are_blanks, line_of};
 use crate::list::{ListFault, Section, SyncList};
@@ -12,6 +14,22 @@ use crate::names::Pair;
 use ipdl_base::Items;
 use std::alloc::{AllocError, Global};
 use std::collections::HashSet;
+
+/// Whether a value of this word, which is filled or not, is a description that is not empty.
+fn describes(word: &[u8], filled: bool) -> bool
+    ensures { result ≡ (bytes_eq word.now description && filled) }
+{
+    filled && word == b"description".as_slice()
+}
+
+/// Marks the last section as described, if this is true.
+fn mark_last(sections: &mut Vec<Section>, described: bool)
+    ensures { sections.new.items ≡ marked described sections.old.items }
+{
+    if let Some(section) = sections.last_mut() {
+        section.described |= described;
+    }
+}
 
 /// What has been read of a sync list.
 #[derive(Drop)]
@@ -71,11 +89,7 @@ impl<'a> Reader<'a> {
     fn take_value(&mut self, word: &'a [u8], filled: bool)
         ensures { (forms : List Form) (form : Form) → HasRead forms self.old → IsValueOf word.now filled form → HasRead (forms ++ form ∷ []) self.new }
     {
-        if filled && word == b"description".as_slice() {
-            if let Some(section) = self.sections.last_mut() {
-                section.described = true;
-            }
-        }
+        mark_last(&mut self.sections, describes(word, filled));
         self.unfinished = Some(word);
     }
 
