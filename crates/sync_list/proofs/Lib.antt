@@ -5,6 +5,9 @@ pub mod Found
 pub mod Grown
 pub mod Keys
 pub mod Lines
+pub mod Refused
 pub mod Same
 pub mod Tags
+pub mod Turns
 pub mod Unique
+pub mod Whole

@@ -123,6 +123,21 @@ impl<'a> Reader<'a> {
     }
 }
 
+/// The sync list that a text spells, or the first line that is not of the format.
+fn read_lines(alloc: Global, text: &[u8]) -> Result<SyncList, ListFault>
+    requires { length text.now ≤ 1048576 }
+    ensures list { IfOk result (IsListOf text.now) }
+    ensures fault { IfErr result (λ fault. (fault ≡ NoMemory) ⊎ IsFault text.now fault) }
+{
+    let mut reader = Reader::new(alloc);
+    let mut number = 0;
+    for line in text.split(|b| *b == b'\n') {
+        number += 1;
+        reader.read(alloc, line, number)?;
+    }
+    Ok(Items::from_vec(reader.sections))
+}
+
 /// The sync list that a text spells (docs/sync_list.md). `Line` gives the first line that is not of
 /// the format. Takes time in proportion to the text.
 pub fn read_list(alloc: Global, text: &[u8]) -> Result<SyncList, ListFault>
@@ -134,12 +149,5 @@ pub fn read_list(alloc: Global, text: &[u8]) -> Result<SyncList, ListFault>
     ensures only_list { (list : List Section) → IsListOf text.now list → Gives result (Ok list) }
     ensures only_fault { (fault : ListFault) → IsFault text.now fault → Gives result (Err fault) }
 {
-    let mut reader = Reader::new(alloc);
-    let mut number = 0;
-    for line in text.split(|b| *b == b'\n') {
-        number += 1;
-        reader.read(alloc, line, number)?;
-    }
-    let Reader { sections, .. } = reader;
-    Ok(Items::from_vec(sections))
+    read_lines(alloc, text)
 }
