@@ -40,12 +40,12 @@ bad_other forms line o (more w) h = o.no_indented h.0
 -- where the reader has no section there is none
 pub none_yet : (forms : List Form) (sections : List Section) (n : ℕ) → sections ≡ sections_from 1 forms → n ≡ length sections → eqb n 0 ≡ true → list_any is_section forms ≡ false
 none_yet forms sections n are counted empty = false_from_ne_true (list_any is_section forms) (λ h.
-  let s = sections-some 1 forms h in
-  let same = ap length (are ∙ s.2) in
-  omega (arith, same, counted, eqb-true n 0 empty))
+    let s = sections-some 1 forms h in
+    let same = ap length (are ∙ s.2) in
+    omega (arith, same, counted, eqb-true n 0 empty))
 
 -- and where it has one there is one
 pub some_yet : (forms : List Form) (sections : List Section) (n : ℕ) → sections ≡ sections_from 1 forms → n ≡ length sections → eqb n 0 ≡ false → list_any is_section forms ≡ true
 some_yet forms sections n are counted some = true_from_ne_false (list_any is_section forms) (λ h.
-  let same = ap length (are ∙ sections-none 1 forms h) in
-  true≢false (sym (eq-eqb n 0 (omega (arith, same, counted))) ∙ some))
+    let same = ap length (are ∙ sections-none 1 forms h) in
+    true≢false (sym (eq-eqb n 0 (omega (arith, same, counted))) ∙ some))

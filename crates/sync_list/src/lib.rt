@@ -14,3 +14,5 @@ pub use list::{ListFault, Section, SyncList};
 pub use reader::read_list;
 pub use report::sync_findings;
 
+#[cfg(test)]
+mod tests;

@@ -1,9 +1,8 @@
-ghost use Rattle.std.specs.Prelude.{◌≡◌, ◌<◌, ◌^◌, ◌↔◌, List, length, IfOk, OnOk, IsTrue};
+ghost use Rattle.std.specs.Prelude.{◌≡◌, ◌≤◌, ◌↔◌, List, length, IfOk, OnOk, IsTrue};
 ghost use Rattle.std.specs.List.{Any, Contains};
 ghost use Rattle.ipdl_base.specs.declared.finding.Finding.{Finding};
 ghost use Rattle.ipdl_base.specs.declared.kinds.Semantics.TheVariants.{Sync};
 ghost use Rattle.findings.specs.Adds.{Adds};
-ghost use Rattle.ipdl_syntax.specs.Programs.{IsProgram};
 ghost use Rattle.ipdl_syntax.specs.declared.program.Entry.{Entry};
 ghost use Rattle.sync_list.specs.declared.list.Section.{Section};
 ghost use Rattle.sync_list.specs.Broken.{Lists, IsUnlistedAt, IsUnlistedSync, AtSection, NamesAsync, NamesAbsent, HasNoDescription, BrokenAt, IsReport};
@@ -123,11 +122,7 @@ fn add_absent(
 }
 
 /// Adds a finding at each section without a description.
-fn add_undescribed(
-    file: u32,
-    list: &[Section],
-    found: &mut Vec<Finding>,
-) -> Result<(), AllocError>
+fn add_undescribed(file: u32, list: &[Section], found: &mut Vec<Finding>) -> Result<(), AllocError>
     ensures { OnOk result ((program : List Entry) → file ≡ length program
         → Adds Rule.NO_DESCRIPTION (AtSection HasNoDescription program list.now) found.old.items found.new.items) }
 {
@@ -140,12 +135,8 @@ fn add_undescribed(
 }
 
 /// All findings that hold of the program and the list, in some order.
-fn gathered(
-    alloc: Global,
-    program: &[Entry],
-    list: &[Section],
-) -> Result<Vec<Finding>, AllocError>
-    requires { length program.now < 2 ^ 32 }
+fn gathered(alloc: Global, program: &[Entry], list: &[Section]) -> Result<Vec<Finding>, AllocError>
+    requires { length program.now ≤ 4096 }
     ensures { IfOk result (λ found. (f : Finding) → Contains found.items f ↔ BrokenAt program.now list.now f) }
 {
     let mut found = Vec::new(alloc);
@@ -160,13 +151,14 @@ fn gathered(
 
 /// The report of a program and a sync list: the rules S1 to S4 that they break, each once, in the
 /// order of their places (docs/sync_list.md). The list counts as the file behind those of the
-/// program. Takes time in proportion to both, but for the sort of the findings.
+/// program, which has at most 4,096. Takes time in proportion to both, but for the sort of the
+/// findings.
 pub fn sync_findings(
     alloc: Global,
     program: &Program,
     list: &SyncList,
 ) -> Result<Findings, AllocError>
-    requires { IsProgram program.now }
+    requires { length program.now ≤ 4096 }
     ensures { IfOk result (IsReport program.now list.now) }
 {
     let found = gathered(alloc, program.as_slice(), list.as_slice())?;

@@ -11,18 +11,18 @@ pub returns-in_err-rest-2-clause-none : goal.returns-in_err-rest-2-clause-none
 returns-in_err-rest-2-clause-none c =
     rw c.from_residual-in_err-rest-2.ensures
     (λ protocol message s.
-      let head = section_head c.args.line.now protocol message c.in_ok-rest.rest.now _ _ s c.in_ok-rest.ensures.cases.1 c.split_word.ensures in
-      let P : List ℕ → Type 0 = λ l. pointwise nat_eq (take 2 l) (58 ∷ 58 ∷ []) ≡ false in
-      true≢false (subst P head.1 c.in_err-rest-2.ensures.cases))
+    let head = section_head c.args.line.now protocol message c.in_ok-rest.rest.now _ _ s c.in_ok-rest.ensures.cases.1 c.split_word.ensures in
+    let P : List ℕ → Type 0 = λ l. pointwise nat_eq (take 2 l) (58 ∷ 58 ∷ []) ≡ false in
+    true≢false (subst P head.1 c.in_err-rest-2.ensures.cases))
 
 pub returns-in_err-after-clause-none : goal.returns-in_err-after-clause-none
 returns-in_err-after-clause-none c =
     rw c.from_residual-in_err-after.ensures
     (λ protocol message s.
-      let head = section_head c.args.line.now protocol message c.in_ok-rest.rest.now _ _ s c.in_ok-rest.ensures.cases.1 c.split_word.ensures in
-      let tail = section_tail c.args.line.now protocol message c.in_ok-rest-2.rest.now _ _ s (c.in_ok-rest-2.ensures.cases.1 ∙ ap (drop 2) head.1) c.split_word-2.ensures in
-      let P : List ℕ → Type 0 = λ l. pointwise nat_eq (take 1 l) (93 ∷ []) ≡ false in
-      true≢false (subst P tail.1 c.in_err-after.ensures.cases))
+    let head = section_head c.args.line.now protocol message c.in_ok-rest.rest.now _ _ s c.in_ok-rest.ensures.cases.1 c.split_word.ensures in
+    let tail = section_tail c.args.line.now protocol message c.in_ok-rest-2.rest.now _ _ s (c.in_ok-rest-2.ensures.cases.1 ∙ ap (drop 2) head.1) c.split_word-2.ensures in
+    let P : List ℕ → Type 0 = λ l. pointwise nat_eq (take 1 l) (93 ∷ []) ≡ false in
+    true≢false (subst P tail.1 c.in_err-after.ensures.cases))
 
 pub returns-then-are_blanks-clause-some : goal.returns-then-are_blanks-clause-some
 returns-then-are_blanks-clause-some c = record {

@@ -10,10 +10,10 @@ pub returns-in_err-sign-clause-none : goal.returns-in_err-sign-clause-none
 returns-in_err-sign-clause-none c =
     rw c.from_residual.ensures
     (λ word value v.
-      let head = value_head c.args.line.now word value _ _ v c.split_word.ensures in
-      let tail = value_tail c.args.line.now word value c.split_word.result.1.now _ _ v head.1 c.split_blanks.ensures in
-      let none : length c.split_blanks.result.1.now ≡ 0 = c.in_err-sign.ensures.cases in
-      omega (arith, none, ap length tail))
+    let head = value_head c.args.line.now word value _ _ v c.split_word.ensures in
+    let tail = value_tail c.args.line.now word value c.split_word.result.1.now _ _ v head.1 c.split_blanks.ensures in
+    let none : length c.split_blanks.result.1.now ≡ 0 = c.in_err-sign.ensures.cases in
+    omega (arith, none, ap length tail))
 
 pub returns-then-is_sign-clause-some : goal.returns-then-is_sign-clause-some
 returns-then-is_sign-clause-some c = record {
