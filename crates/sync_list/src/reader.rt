@@ -69,7 +69,8 @@ impl<'a> Reader<'a> {
             ⊎ ((fault ≡ ListFault.Line number) × ((forms : List Form) → HasRead forms self.old → Contains forms (section protocol.now message.now)))) }
     {
         let names = (protocol, message);
-        if !self.seen.insert(names)? {
+        let is_new = self.seen.insert(names)?;
+        if !is_new {
             return Err(ListFault::Line(number));
         }
         let protocol = Items::from_vec(Vec::from_slice(alloc, protocol)?);
