@@ -1,5 +1,5 @@
 -- What bytes are: blanks, bytes of words and signs.
-use Rattle.std.proofs.Common.{◌≡◌, ◌≢◌, ℕ, Bool, true, false, List, [], ◌∷◌, ◌⊎◌, inl, inr, refl, sym, ap, ◌∙◌, eqb, subst}
+use Rattle.std.proofs.Common.{◌≡◌, ℕ, true, false, List, [], ◌∷◌, ◌⊎◌, inl, inr, refl, sym, ap, ◌∙◌, eqb}
 use Rattle.std.specs.List.{list_all}
 use Rattle.std.proofs.lemmas.Bool.{true≢false, and_parts, or_cases, or_left, eqb-true, ne_eqb, cases_Bool}
 use Rattle.ipdl_base.specs.Words.{is_word_start, is_word_byte, IsWord}

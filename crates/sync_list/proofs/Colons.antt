@@ -1,7 +1,7 @@
 -- The part of a name behind its last colon.
 use Rattle.std.proofs.Common.{◌≡◌, ℕ, ◌+◌, Bool, true, false, eqb, List, [], ◌∷◌, ◌++◌, Option, Some, None, length, drop, position, refl, sym, ap, ◌∙◌, inl, inr}
 use Rattle.std.specs.List.{list_any, AllByRecursion}
-use Rattle.std.proofs.lemmas.Bool.{cases_Bool, or_parts, or_from, or_left, or_right, eqb-true}
+use Rattle.std.proofs.lemmas.Bool.{cases_Bool, or_parts, or_from, or_right, eqb-true}
 use Rattle.std.proofs.Math.Seq.{drop-append-add}
 use Rattle.ipdl_base.specs.Words.{short_name}
 use Rattle.ipdl_lex.proofs.Runs.{cut_by}

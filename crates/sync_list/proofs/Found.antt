@@ -1,5 +1,5 @@
 -- Findings at places where something holds.
-use Rattle.std.proofs.Common.{◌≡◌, ℕ, List, [], ◌∷◌, ◌++◌, Option, Some, None, ◌⊎◌, inl, inr, subst, sym, arith}
+use Rattle.std.proofs.Common.{◌≡◌, List, [], ◌∷◌, ◌++◌, Option, Some, None, ◌⊎◌, inl, inr, subst, sym, arith}
 use Rattle.std.specs.Prelude.{◌↔◌, IsSomeAnd}
 use Rattle.std.specs.List.{Any, Contains}
 use Rattle.ipdl_base.specs.declared.finding.Finding.{Finding}

@@ -1,15 +1,15 @@
 -- Lines that have no form behind the lines before them.
-use Rattle.std.proofs.Common.{◌≡◌, ℕ, Bool, true, false, eqb, List, [], ◌∷◌, length, Option, Some, None, inl, inr, refl, sym, ap, ◌∙◌, subst, arith}
+use Rattle.std.proofs.Common.{◌≡◌, ℕ, true, false, eqb, List, length, None, sym, ap, ◌∙◌, subst, arith}
 use Rattle.std.specs.List.{list_any, Contains}
 use Rattle.std.proofs.lemmas.Bool.{true≢false, eqb-true, eq-eqb, false_from_ne_true, true_from_ne_false}
 use Rattle.std.proofs.lemmas.Option.{none-some}
 use Rattle.sync_list.specs.declared.list.Section.{Section}
 use Rattle.sync_list.specs.Lines.{IsSectionLine, IsValueLine, IsIndented}
-use Rattle.sync_list.specs.Forms.{Form, blank, comment, section, value, more, is_section, open_word, Fits}
+use Rattle.sync_list.specs.Forms.{Form, blank, comment, section, value, more, is_section, open_word}
 use Rattle.sync_list.specs.Lists.{sections_from}
 use Rattle.sync_list.specs.Reading.{IsOther, IsBad}
 use Rattle.sync_list.proofs.Grown.{sections-none, sections-some}
-use Rattle.sync_list.proofs.Tags.{form_tag, line_tag, fits_tag, section_tag, value_tag, indented_tag, one_section}
+use Rattle.sync_list.proofs.Tags.{form_tag, fits_tag, section_tag, value_tag, indented_tag, one_section}
 
 -- a section that is repeated
 pub bad_section : (forms : List Form) (line protocol message : List ℕ) → IsSectionLine line protocol message → Contains forms (section protocol message) → IsBad forms line

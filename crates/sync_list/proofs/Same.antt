@@ -1,5 +1,5 @@
 -- When two semantics are the same.
-use Rattle.std.proofs.Common.{◌≡◌, true, false, refl, sym}
+use Rattle.std.proofs.Common.{◌≡◌, refl, sym}
 use Rattle.std.specs.Bool.{Decides}
 use Rattle.std.proofs.lemmas.Bool.{true≢false}
 use Rattle.ipdl_base.specs.declared.kinds.Semantics.{Semantics}

@@ -1,13 +1,13 @@
 -- Each line has at most one form, which its first bytes tell.
-use Rattle.std.proofs.Common.{◌≡◌, ◌≢◌, ℕ, ◌+◌, Bool, true, false, not, cond, eqb, ◌||◌, List, [], ◌∷◌, ◌++◌, Option, Some, None, drop, ◌⊎◌, inl, inr, refl, sym, ap, ◌∙◌, arith}
-use Rattle.std.specs.Prelude.{find, slice_index}
-use Rattle.std.specs.List.{take_while, prefix_len}
-use Rattle.std.proofs.lemmas.Bool.{true≢false, and_parts, not_from_false, not_from_true, ne_eqb}
+use Rattle.std.proofs.Common.{◌≡◌, ◌≢◌, ℕ, true, cond, eqb, ◌||◌, List, [], ◌∷◌, ◌++◌, Option, Some, None, drop, inl, inr, refl, sym, ap, ◌∙◌, arith}
+use Rattle.std.specs.Prelude.{slice_index}
+use Rattle.std.specs.List.{prefix_len}
+use Rattle.std.proofs.lemmas.Bool.{true≢false, and_parts, ne_eqb}
 use Rattle.std.proofs.lemmas.Option.{same_Some}
-use Rattle.ipdl_base.specs.Words.{is_word_start, is_word_byte, IsWord}
+use Rattle.ipdl_base.specs.Words.{is_word_start, is_word_byte}
 use Rattle.ipdl_lex.specs.Pieces.{is_blank}
 use Rattle.sync_list.specs.Lines.{first_mark, IsBlankLine, IsComment, IsSectionLine, IsValueLine, IsIndented}
-use Rattle.sync_list.specs.Forms.{Form, blank, comment, section, value, more, Fits, open_word}
+use Rattle.sync_list.specs.Forms.{Form, blank, comment, section, value, more, Fits}
 use Rattle.sync_list.proofs.Bytes.{start_no_blank, start_differs}
 use Rattle.sync_list.proofs.Cuts.{split_of, section_head, section_tail, value_head, value_tail}
 

@@ -1,5 +1,5 @@
 -- A loop over an iterator that gives a known list.
-use Rattle.std.proofs.Common.{◌≡◌, ℕ, ◌<◌, List, Option, Some, None, length, take, get_or, map}
+use Rattle.std.proofs.Common.{◌≡◌, ◌<◌, List, Option, Some, None, length, take, get_or, map}
 use Rattle.std.specs.Iterator.{Yields}
 use Rattle.std.proofs.lemmas.Iterator.{YieldsList}
 use Rattle.std.proofs.lemmas.Iterator.Consumers.{YieldsList-so_far, YieldsList-turn, YieldsList-end}

@@ -6,7 +6,7 @@ use Rattle.std.proofs.lemmas.List.{append-nil}
 use Rattle.sync_list.specs.declared.list.Section.{Section}
 use Rattle.sync_list.specs.declared.list.ListFault.{ListFault}
 use Rattle.sync_list.specs.declared.list.ListFault.TheVariants.{Line, NoMemory}
-use Rattle.sync_list.specs.Forms.{Form, Fits, HaveForms}
+use Rattle.sync_list.specs.Forms.{Form, HaveForms}
 use Rattle.sync_list.specs.Lists.{sections_from, IsListOf, IsFirstBad, IsFault, Gives}
 use Rattle.sync_list.specs.Laws.{OneList, OneFault, NeverBoth}
 use Rattle.sync_list.specs.Reading.{IsBad}

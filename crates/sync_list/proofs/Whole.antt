@@ -1,10 +1,10 @@
 -- The lines of a text, read one by one.
-use Rattle.std.proofs.Common.{◌≡◌, ℕ, ◌+◌, ◌<◌, ◌≤◌, List, [], ◌∷◌, ◌++◌, length, take, drop, get_or, map, refl, sym, ap, ◌∙◌, subst, append_assoc, arith}
+use Rattle.std.proofs.Common.{◌≡◌, ℕ, ◌+◌, ◌<◌, List, [], ◌∷◌, ◌++◌, length, take, drop, get_or, refl, sym, ap, ◌∙◌, subst, append_assoc, arith}
 use Rattle.std.proofs.lemmas.List.{take-append-drop, drop_more, append-nil}
 use Rattle.sync_list.specs.declared.reader.Reader.{Reader}
 use Rattle.sync_list.specs.Lines.{lines_of}
 use Rattle.sync_list.specs.Forms.{Form, Fits, HaveForms}
-use Rattle.sync_list.specs.Lists.{sections_from, IsListOf, IsFirstBad}
+use Rattle.sync_list.specs.Lists.{IsListOf, IsFirstBad}
 use Rattle.sync_list.specs.Reading.{HasRead, ReadsLine, IsBad}
 
 -- the reader has read these lines

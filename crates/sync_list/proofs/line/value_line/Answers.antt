@@ -1,6 +1,6 @@
-use Rattle.std.proofs.Common.{◌≡◌, ℕ, true, false, List, [], ◌∷◌, ◌++◌, length, sym, ap, ◌∙◌, subst, arith}
+use Rattle.std.proofs.Common.{◌≡◌, length, sym, ap, ◌∙◌, subst, arith}
 use Rattle.std.proofs.lemmas.Bool.{true≢false}
-use Rattle.ipdl_base.specs.Words.{is_word, IsWord}
+use Rattle.ipdl_base.specs.Words.{IsWord}
 use Rattle.ipdl_lex.specs.Pieces.{is_blank}
 use Rattle.sync_list.proofs.Cuts.{value_head, value_tail, value_spelled, split_passes}
 use Rattle.sync_list.proofs.line.value_line.Goals as goal

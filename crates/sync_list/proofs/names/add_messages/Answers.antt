@@ -1,7 +1,6 @@
-use Rattle.std.proofs.Common.{◌≡◌, take, subst, sym, refl, ◌∙◌}
+use Rattle.std.proofs.Common.{◌≡◌, subst, sym, refl, ◌∙◌}
 use Rattle.std.proofs.lemmas.Bool.{true≢false}
 use Rattle.std.proofs.lemmas.List.{take_all}
-use Rattle.std.specs.List.{Any}
 use Rattle.ipdl_syntax.specs.declared.tree.MessageDecl.{MessageDecl}
 use Rattle.sync_list.specs.Sets.{NamePair, same_pair, AddsKeys}
 use Rattle.sync_list.proofs.Keys.{Adds-pair, Adds-nothing, Adds-as, Adds-one_more}

@@ -1,4 +1,4 @@
-use Rattle.std.proofs.Common.{◌≡◌, ℕ, ◌+◌, ◌-◌, ◌<◌, length, refl, vec_len, arith}
+use Rattle.std.proofs.Common.{◌≡◌, ◌+◌, ◌-◌, ◌<◌, length, refl, vec_len, arith}
 use Rattle.sync_list.proofs.Lines.{marked_set}
 use Rattle.sync_list.proofs.reader.mark_last.Goals as goal
 

@@ -1,4 +1,4 @@
-use Rattle.std.proofs.Common.{◌≡◌, ℕ, ◌+◌, List, [], ◌∷◌, ◌++◌, Bor, length, drop, map, inl, inr, refl, sym, ap, ◌∙◌, subst, arith, rules}
+use Rattle.std.proofs.Common.{◌≡◌, ℕ, ◌+◌, List, [], ◌∷◌, Bor, length, drop, map, inl, inr, sym, subst, arith, rules}
 use Rattle.std.proofs.lemmas.List.{map-append, length-map, length_push}
 use Rattle.std.proofs.lemmas.Result.{err_from_is_err_and}
 use Rattle.std.proofs.lemmas.Iterator.Consumers.{YieldsList-at}
@@ -6,7 +6,7 @@ use Rattle.std.proofs.lemmas.Iterator.Splits.{YieldsList-from_slice_split}
 use Rattle.ipdl_lex.specs.Pieces.{is_line_feed}
 use Rattle.sync_list.specs.declared.list.ListFault.{ListFault}
 use Rattle.sync_list.specs.Lines.{lines_of}
-use Rattle.sync_list.specs.Lists.{IsListOf, IsFault}
+use Rattle.sync_list.specs.Lists.{IsFault}
 use Rattle.sync_list.proofs.Turns.{turn_of, end_of}
 use Rattle.sync_list.proofs.Whole.{reads_more, reads_bad, reads_all, lines_at}
 use Rattle.sync_list.proofs.reader.read_lines.Goals as goal

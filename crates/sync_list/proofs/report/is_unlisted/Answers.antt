@@ -1,5 +1,4 @@
 use Rattle.std.proofs.Common.{refl, sym, ◌∙◌}
-use Rattle.std.proofs.lemmas.Bool.{true≢false, not-true}
 use Rattle.std.proofs.lemmas.Bool.Decides.{Decides-not}
 use Rattle.ipdl_base.specs.declared.kinds.Semantics.TheVariants.{Sync}
 use Rattle.sync_list.specs.Broken.{Lists}

@@ -1,4 +1,3 @@
-use Rattle.std.proofs.Common.{ap, ◌∙◌}
 use Rattle.findings.proofs.Reports.{report_of}
 use Rattle.sync_list.proofs.report.sync_findings.Goals as goal
 

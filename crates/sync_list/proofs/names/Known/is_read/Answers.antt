@@ -1,4 +1,3 @@
-use Rattle.std.proofs.Common.{◌≡◌, List, sym, ◌∙◌, subst, ap}
 use Rattle.sync_list.specs.Broken.{IsRead}
 use Rattle.sync_list.proofs.Keys.{told_name}
 use Rattle.sync_list.proofs.names.Known.is_read.Goals as goal

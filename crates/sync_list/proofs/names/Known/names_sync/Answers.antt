@@ -1,4 +1,3 @@
-use Rattle.std.proofs.Common.{◌≡◌, List, sym, ◌∙◌, subst, ap}
 use Rattle.sync_list.specs.Broken.{HasMessage}
 use Rattle.sync_list.proofs.Keys.{told_pair}
 use Rattle.sync_list.proofs.names.Known.names_sync.Goals as goal

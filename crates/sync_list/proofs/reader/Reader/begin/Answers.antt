@@ -1,6 +1,5 @@
-use Rattle.std.proofs.Common.{◌≡◌, ℕ, ◌+◌, Bool, true, false, not, List, [], ◌∷◌, ◌++◌, length, inr, refl, sym, ap, ◌∙◌, arith}
+use Rattle.std.proofs.Common.{inr, refl, sym, ◌∙◌}
 use Rattle.std.proofs.lemmas.Bool.{true≢false, not-false, not-true}
-use Rattle.sync_list.specs.declared.list.Section.{Section}
 use Rattle.sync_list.specs.Forms.{section}
 use Rattle.sync_list.proofs.Grown.{open_word-push}
 use Rattle.sync_list.proofs.Keys.{Adds-pair}
