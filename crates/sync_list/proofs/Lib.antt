@@ -11,3 +11,4 @@ pub mod Tags
 pub mod Turns
 pub mod Unique
 pub mod Whole
+pub mod Worked
