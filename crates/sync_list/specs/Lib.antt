@@ -1,3 +1,4 @@
+pub mod Breaches
 pub mod Broken
 pub mod Forms
 pub mod Knowing

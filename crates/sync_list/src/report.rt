@@ -5,7 +5,8 @@ ghost use Rattle.ipdl_base.specs.declared.kinds.Semantics.TheVariants.{Sync};
 ghost use Rattle.findings.specs.Adds.{Adds};
 ghost use Rattle.ipdl_syntax.specs.declared.program.Entry.{Entry};
 ghost use Rattle.sync_list.specs.declared.list.Section.{Section};
-ghost use Rattle.sync_list.specs.Broken.{Lists, IsUnlistedAt, IsUnlistedSync, AtSection, NamesAsync, NamesAbsent, HasNoDescription, BrokenAt, IsReport};
+ghost use Rattle.sync_list.specs.Broken.{Lists, IsUnlistedAt, IsUnlistedSync, AtSection, BrokenAt, IsReport};
+ghost use Rattle.sync_list.specs.Breaches.{rule_of, Breaks};
 ghost use Rattle.sync_list.specs.Knowing.{Knows};
 ghost use Rattle.sync_list.specs.Sets.{same_pair, KeysAre};
 
@@ -20,9 +21,33 @@ use std::collections::HashSet;
 /// The column at which a section begins.
 const FIRST: u32 = 1;
 
-/// A finding of the rule at the section, in the file of this number.
-fn at_section(file: u32, section: &Section, rule: Rule) -> Finding
-    ensures { result ≡ record { place = record { file = file; line = section.now.line; column = 1 }; rule = rule } }
+/// What a section does against a rule.
+#[derive(Clone, Copy)]
+pub enum Breach {
+    /// It names an async message.
+    Async,
+    /// It names a message that its protocol lacks.
+    Absent,
+    /// It has no description.
+    Undescribed,
+}
+
+impl Breach {
+    /// The rule that is broken.
+    fn rule(self) -> Rule
+        ensures { result ≡ rule_of self }
+    {
+        match self {
+            Breach::Async => Rule::LISTED_ASYNC,
+            Breach::Absent => Rule::LISTED_ABSENT,
+            Breach::Undescribed => Rule::NO_DESCRIPTION,
+        }
+    }
+}
+
+/// The finding at a section of the list, which is the file of this number.
+fn at_section(file: u32, section: &Section, breach: Breach) -> Finding
+    ensures { result ≡ record { place = record { file = file; line = section.now.line; column = 1 }; rule = rule_of breach } }
 {
     Finding {
         place: Place {
@@ -30,7 +55,7 @@ fn at_section(file: u32, section: &Section, rule: Rule) -> Finding
             line: section.line,
             column: FIRST,
         },
-        rule,
+        rule: breach.rule(),
     }
 }
 
@@ -85,50 +110,31 @@ fn add_unlisted(
     Ok(())
 }
 
-/// Adds a finding at each section that names an async message.
-fn add_async(
+/// Whether the section breaks this rule of sections.
+fn breaks(known: &Known, section: &Section, breach: Breach) -> bool
+    ensures { (program : List Entry) → Knows program known.now → IsTrue result ↔ Breaks breach program section.now }
+{
+    match breach {
+        Breach::Async => known.names_async(section),
+        Breach::Absent => known.names_absent(section),
+        Breach::Undescribed => !section.described,
+    }
+}
+
+/// Adds a finding at each section that breaks this rule.
+fn add_breaches(
     file: u32,
     known: &Known,
     list: &[Section],
+    breach: Breach,
     found: &mut Vec<Finding>,
 ) -> Result<(), AllocError>
     ensures { OnOk result ((program : List Entry) → Knows program known.now → file ≡ length program
-        → Adds Rule.LISTED_ASYNC (AtSection (NamesAsync program) program list.now) found.old.items found.new.items) }
+        → Adds (rule_of breach) (AtSection (Breaks breach program) program list.now) found.old.items found.new.items) }
 {
     for section in list {
-        if known.names_async(section) {
-            found.push(at_section(file, section, Rule::LISTED_ASYNC))?;
-        }
-    }
-    Ok(())
-}
-
-/// Adds a finding at each section that names a message which its protocol lacks.
-fn add_absent(
-    file: u32,
-    known: &Known,
-    list: &[Section],
-    found: &mut Vec<Finding>,
-) -> Result<(), AllocError>
-    ensures { OnOk result ((program : List Entry) → Knows program known.now → file ≡ length program
-        → Adds Rule.LISTED_ABSENT (AtSection (NamesAbsent program) program list.now) found.old.items found.new.items) }
-{
-    for section in list {
-        if known.names_absent(section) {
-            found.push(at_section(file, section, Rule::LISTED_ABSENT))?;
-        }
-    }
-    Ok(())
-}
-
-/// Adds a finding at each section without a description.
-fn add_undescribed(file: u32, list: &[Section], found: &mut Vec<Finding>) -> Result<(), AllocError>
-    ensures { OnOk result ((program : List Entry) → file ≡ length program
-        → Adds Rule.NO_DESCRIPTION (AtSection HasNoDescription program list.now) found.old.items found.new.items) }
-{
-    for section in list {
-        if !section.described {
-            found.push(at_section(file, section, Rule::NO_DESCRIPTION))?;
+        if breaks(known, section, breach) {
+            found.push(at_section(file, section, breach))?;
         }
     }
     Ok(())
@@ -143,9 +149,9 @@ fn gathered(alloc: Global, program: &[Entry], list: &[Section]) -> Result<Vec<Fi
     let file = program.len() as u32;
     let known = Known::of(alloc, program)?;
     add_unlisted(alloc, program, list, &mut found)?;
-    add_async(file, &known, list, &mut found)?;
-    add_absent(file, &known, list, &mut found)?;
-    add_undescribed(file, list, &mut found)?;
+    add_breaches(file, &known, list, Breach::Async, &mut found)?;
+    add_breaches(file, &known, list, Breach::Absent, &mut found)?;
+    add_breaches(file, &known, list, Breach::Undescribed, &mut found)?;
     Ok(found)
 }
 
