@@ -1,0 +1,14 @@
+pub mod Bytes
+pub mod Colons
+pub mod Cuts
+pub mod Found
+pub mod Grown
+pub mod Keys
+pub mod Lines
+pub mod Refused
+pub mod Same
+pub mod Tags
+pub mod Turns
+pub mod Unique
+pub mod Whole
+pub mod Worked

@@ -1,0 +1,10 @@
+pub mod Breaches
+pub mod Broken
+pub mod Forms
+pub mod Knowing
+pub mod Laws
+pub mod Lines
+pub mod Lists
+pub mod Marked
+pub mod Reading
+pub mod Sets

@@ -1,0 +1,9 @@
+-- The sections of a list, when a line describes the last of them.
+use Rattle.std.specs.Prelude.{Bool, ◌||◌, List, [], ◌∷◌}
+use Rattle.sync_list.specs.declared.list.Section.{Section}
+
+-- the sections, of which the last is described if it was or this is true
+abbrev pub marked : Bool → List Section → List Section
+marked filled [] = []
+marked filled (s ∷ []) = record s { described = s.described || filled } ∷ []
+marked filled (s ∷ t ∷ others) = s ∷ marked filled (t ∷ others)

@@ -1,0 +1,193 @@
+ghost use Rattle.std.specs.Prelude.{◌≡◌, ◌↔◌, ◌⊎◌, ℕ, List, IsTrue, IfSome, IfNone, Contains, not, position};
+ghost use Rattle.std.specs.List.{list_all};
+ghost use Rattle.ipdl_base.specs.Words.{is_word, is_word_start, is_word_byte};
+ghost use Rattle.ipdl_lex.specs.Pieces.{is_blank, reserved_words};
+ghost use Rattle.sync_list.specs.Lines.{first_mark, IsIdentifier, IsSectionLine, IsValueLine};
+ghost use Rattle.sync_list.specs.Reading.{IsSplit, IsLine};
+
+/// What a line is by itself.
+pub enum Line<'a> {
+    Blank,
+    Comment,
+    /// The names of its protocol and its message.
+    Section(&'a [u8], &'a [u8]),
+    /// Its word and its value.
+    Value(&'a [u8], &'a [u8]),
+    /// It can go on with a value.
+    Indented,
+    Other,
+}
+
+/// The words that the language keeps for itself.
+const RESERVED: [&[u8]; 19] = [
+    b"async",
+    b"both",
+    b"child",
+    b"class",
+    b"from",
+    b"include",
+    b"manager",
+    b"manages",
+    b"namespace",
+    b"nullable",
+    b"or",
+    b"parent",
+    b"protocol",
+    b"returns",
+    b"struct",
+    b"sync",
+    b"union",
+    b"UniquePtr",
+    b"using",
+];
+
+fn is_blank(b: u8) -> bool
+    ensures { result ≡ is_blank b }
+{
+    b" \t\r\n".contains(&b)
+}
+
+fn is_word_start(b: u8) -> bool
+    ensures { result ≡ is_word_start b }
+{
+    b.is_ascii_alphabetic() || b == b'_'
+}
+
+fn is_word_byte(b: u8) -> bool
+    ensures { result ≡ is_word_byte b }
+{
+    is_word_start(b) || b.is_ascii_digit()
+}
+
+/// Whether each byte is blank.
+pub fn are_blanks(bytes: &[u8]) -> bool
+    ensures { result ≡ list_all is_blank bytes.now }
+{
+    bytes.iter().all(|b| is_blank(*b))
+}
+
+/// Whether each byte may stand in a word.
+fn are_word_bytes(bytes: &[u8]) -> bool
+    ensures { result ≡ list_all is_word_byte bytes.now }
+{
+    bytes.iter().all(|b| is_word_byte(*b))
+}
+
+fn is_word(bytes: &[u8]) -> bool
+    ensures { result ≡ is_word bytes.now }
+{
+    match bytes.split_first() {
+        Some((first, others)) => is_word_start(*first) && are_word_bytes(others),
+        None => false,
+    }
+}
+
+fn is_reserved(word: &[u8]) -> bool
+    ensures { IsTrue result ↔ Contains reserved_words word.now }
+{
+    let words = RESERVED;
+    words.as_slice().contains(&word)
+}
+
+fn is_identifier(bytes: &[u8]) -> bool
+    ensures { IsTrue result ↔ IsIdentifier bytes.now }
+{
+    is_word(bytes) && !is_reserved(bytes)
+}
+
+/// The first byte that is not blank.
+fn first_mark(line: &[u8]) -> Option<u8>
+    ensures { result ≡ first_mark line.now }
+{
+    line.iter().copied().find(|b| !is_blank(*b))
+}
+
+/// The index of the first byte that may not stand in a word.
+fn word_end(text: &[u8]) -> Option<usize>
+    ensures { result ≡ position (λ b. not (is_word_byte b)) text.now }
+{
+    text.iter().position(|b| !is_word_byte(*b))
+}
+
+/// The index of the first byte that is not blank.
+fn blanks_end(text: &[u8]) -> Option<usize>
+    ensures { result ≡ position (λ b. not (is_blank b)) text.now }
+{
+    text.iter().position(|b| !is_blank(*b))
+}
+
+/// The bytes of a word that the text begins with, and the rest.
+fn split_word(text: &[u8]) -> (&[u8], &[u8])
+    ensures { IsSplit is_word_byte text.now result.0.now result.1.now }
+{
+    text.split_at(word_end(text).unwrap_or(text.len()))
+}
+
+/// The blanks that the text begins with, and the rest.
+fn split_blanks(text: &[u8]) -> (&[u8], &[u8])
+    ensures { IsSplit is_blank text.now result.0.now result.1.now }
+{
+    text.split_at(blanks_end(text).unwrap_or(text.len()))
+}
+
+/// The names of the protocol and the message of a section line.
+fn section_line(line: &[u8]) -> Option<(&[u8], &[u8])>
+    ensures some { IfSome result (λ names. IsSectionLine line.now names.0.now names.1.now) }
+    ensures none { IfNone result ((protocol message : List ℕ) → ¬ IsSectionLine line.now protocol message) }
+{
+    let rest = line.strip_prefix(b"[")?;
+    let (protocol, rest) = split_word(rest);
+    let rest = rest.strip_prefix(b"::")?;
+    let (message, rest) = split_word(rest);
+    let after = rest.strip_prefix(b"]")?;
+    if is_identifier(protocol) && is_identifier(message) && are_blanks(after) {
+        Some((protocol, message))
+    } else {
+        None
+    }
+}
+
+/// Whether the byte stands between a word and its value.
+fn is_sign(b: u8) -> bool
+    ensures { IsTrue result ↔ ((b ≡ 61) ⊎ (b ≡ 58)) }
+{
+    b == b'=' || b == b':'
+}
+
+/// The word and the value of a value line.
+fn value_line(line: &[u8]) -> Option<(&[u8], &[u8])>
+    ensures some { IfSome result (λ parts. IsValueLine line.now parts.0.now parts.1.now) }
+    ensures none { IfNone result ((word value : List ℕ) → ¬ IsValueLine line.now word value) }
+{
+    let (word, rest) = split_word(line);
+    let (_, rest) = split_blanks(rest);
+    let (sign, value) = rest.split_first()?;
+    if is_word(word) && is_sign(*sign) {
+        Some((word, value))
+    } else {
+        None
+    }
+}
+
+/// What a line is by itself.
+pub fn line_of(line: &[u8]) -> Line<'_>
+    ensures { IsLine line.now result }
+{
+    let Some(mark) = first_mark(line) else {
+        return Line::Blank;
+    };
+    if mark == b'#' || mark == b';' {
+        return Line::Comment;
+    }
+    if let Some((protocol, message)) = section_line(line) {
+        return Line::Section(protocol, message);
+    }
+    if let Some((word, value)) = value_line(line) {
+        return Line::Value(word, value);
+    }
+    if is_blank(line[0]) {
+        Line::Indented
+    } else {
+        Line::Other
+    }
+}

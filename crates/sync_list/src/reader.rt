@@ -1,0 +1,154 @@
+ghost use Rattle.std.specs.Prelude.{◌≡◌, ℕ, ◌+◌, ◌≤◌, ◌⊎◌, ◌&&◌, List, [], ◌∷◌, ◌++◌, length, Ok, Err, IfOk, IfErr, OnOk};
+ghost use Rattle.std.specs.List.{Contains};
+ghost use Rattle.sync_list.specs.declared.list.ListFault.TheVariants.{NoMemory};
+ghost use Rattle.sync_list.specs.declared.list.ListFault.{ListFault};
+ghost use Rattle.sync_list.specs.declared.list.Section.{Section};
+ghost use Rattle.sync_list.specs.Forms.{Form, section};
+ghost use Rattle.sync_list.specs.Lists.{description, IsListOf, IsFault, Gives};
+ghost use Rattle.sync_list.specs.Marked.{marked};
+ghost use Rattle.std.specs.Str.{bytes_eq};
+
+use crate::line::{Line, are_blanks, line_of};
+use crate::list::{ListFault, Section, SyncList};
+use crate::names::Pair;
+use ipdl_base::Items;
+use std::alloc::{AllocError, Global};
+use std::collections::HashSet;
+
+/// Whether a value of this word, which is filled or not, is a description that is not empty.
+fn describes(word: &[u8], filled: bool) -> bool
+    ensures { result ≡ (bytes_eq word.now description && filled) }
+{
+    filled && word == b"description".as_slice()
+}
+
+/// Marks the last section as described, if this is true.
+fn mark_last(sections: &mut Vec<Section>, described: bool)
+    ensures { sections.new.items ≡ marked described sections.old.items }
+{
+    if let Some(section) = sections.last_mut() {
+        section.described |= described;
+    }
+}
+
+/// What has been read of a sync list.
+#[derive(Drop)]
+pub struct Reader<'a> {
+    /// The sections so far.
+    pub sections: Vec<Section>,
+    /// Their names.
+    pub seen: HashSet<Pair<'a>>,
+    /// The word with whose value the next line can go on.
+    pub unfinished: Option<&'a [u8]>,
+}
+
+impl<'a> Reader<'a> {
+    ghost use Rattle.sync_list.specs.Reading.{HasRead, ReadsLine, Begins, IsValueOf, IsBad};
+
+    fn new(alloc: Global) -> Reader<'a>
+        ensures { HasRead [] result }
+    {
+        Reader {
+            sections: Vec::new(alloc),
+            seen: HashSet::new(alloc),
+            unfinished: None,
+        }
+    }
+
+    /// Begins the section of these names at the line of this number.
+    fn begin(
+        &mut self,
+        alloc: Global,
+        protocol: &'a [u8],
+        message: &'a [u8],
+        number: u32,
+    ) -> Result<(), ListFault>
+        ensures ok { OnOk result ((forms : List Form) → HasRead forms self.old → length forms + 1 ≡ number
+            → Begins forms protocol.now message.now self.new) }
+        ensures err { IfErr result (λ fault. (fault ≡ NoMemory)
+            ⊎ ((fault ≡ ListFault.Line number) × ((forms : List Form) → HasRead forms self.old → Contains forms (section protocol.now message.now)))) }
+    {
+        let names = (protocol, message);
+        let is_new = self.seen.insert(names)?;
+        if !is_new {
+            return Err(ListFault::Line(number));
+        }
+        let protocol = Items::from_vec(Vec::from_slice(alloc, protocol)?);
+        let message = Items::from_vec(Vec::from_slice(alloc, message)?);
+        self.sections.push(Section {
+            protocol,
+            message,
+            described: false,
+            line: number,
+        })?;
+        self.unfinished = None;
+        Ok(())
+    }
+
+    /// Takes a line with a value of the word, or one that goes on with it; it is filled if the value
+    /// has a byte there that is not blank.
+    fn take_value(&mut self, word: &'a [u8], filled: bool)
+        ensures { (forms : List Form) (form : Form) → HasRead forms self.old → IsValueOf word.now filled form → HasRead (forms ++ form ∷ []) self.new }
+    {
+        mark_last(&mut self.sections, describes(word, filled));
+        self.unfinished = Some(word);
+    }
+
+    /// Reads the next line, which has this number.
+    fn read(&mut self, alloc: Global, line: &'a [u8], number: u32) -> Result<(), ListFault>
+        ensures ok { OnOk result ((forms : List Form) → HasRead forms self.old → length forms + 1 ≡ number → ReadsLine forms line.now self.new) }
+        ensures err { IfErr result (λ fault. (fault ≡ NoMemory) ⊎ ((fault ≡ ListFault.Line number) × ((forms : List Form) → HasRead forms self.old → IsBad forms line.now))) }
+    {
+        match line_of(line) {
+            Line::Blank | Line::Comment => {
+                self.unfinished = None;
+                Ok(())
+            }
+            Line::Section(protocol, message) => self.begin(alloc, protocol, message, number),
+            Line::Value(word, value) => {
+                if self.sections.is_empty() {
+                    return Err(ListFault::Line(number));
+                }
+                self.take_value(word, !are_blanks(value));
+                Ok(())
+            }
+            Line::Indented => {
+                let Some(word) = self.unfinished else {
+                    return Err(ListFault::Line(number));
+                };
+                self.take_value(word, true);
+                Ok(())
+            }
+            Line::Other => Err(ListFault::Line(number)),
+        }
+    }
+}
+
+/// The sync list that a text spells, or the first line that is not of the format.
+fn read_lines(alloc: Global, text: &[u8]) -> Result<SyncList, ListFault>
+    requires { length text.now ≤ 1048576 }
+    ensures list { IfOk result (IsListOf text.now) }
+    ensures fault { IfErr result (λ fault. (fault ≡ NoMemory) ⊎ IsFault text.now fault) }
+{
+    let mut reader = Reader::new(alloc);
+    let mut number = 0;
+    for line in text.split(|b| *b == b'\n') {
+        number += 1;
+        reader.read(alloc, line, number)?;
+    }
+    Ok(Items::from_vec(reader.sections))
+}
+
+/// The sync list that a text spells (docs/sync_list.md). `Line` gives the first line that is not of
+/// the format. Takes time in proportion to the text.
+pub fn read_list(alloc: Global, text: &[u8]) -> Result<SyncList, ListFault>
+    requires { length text.now ≤ 1048576 }
+    ensures list { IfOk result (IsListOf text.now) }
+    ensures fault { IfErr result (λ fault. (fault ≡ NoMemory) ⊎ IsFault text.now fault) }
+
+    // A text that spells a list or has a fault gets these, unless memory runs out.
+    ensures only_list { (list : List Section) → IsListOf text.now list → Gives result (Ok list) }
+    ensures only_fault { (fault : ListFault) → IsFault text.now fault → Gives result (Err fault) }
+{
+    read_lines(alloc, text)
+}

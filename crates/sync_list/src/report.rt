@@ -1,0 +1,172 @@
+ghost use Rattle.std.specs.Prelude.{◌≡◌, ◌≤◌, ◌↔◌, List, length, IfOk, OnOk, IsTrue};
+ghost use Rattle.std.specs.List.{Any, Contains};
+ghost use Rattle.ipdl_base.specs.declared.finding.Finding.{Finding};
+ghost use Rattle.ipdl_base.specs.declared.kinds.Semantics.TheVariants.{Sync};
+ghost use Rattle.findings.specs.Adds.{Adds};
+ghost use Rattle.ipdl_syntax.specs.declared.program.Entry.{Entry};
+ghost use Rattle.sync_list.specs.declared.list.Section.{Section};
+ghost use Rattle.sync_list.specs.Broken.{Lists, IsUnlistedAt, IsUnlistedSync, AtSection, BrokenAt, IsReport};
+ghost use Rattle.sync_list.specs.Breaches.{rule_of, Breaks};
+ghost use Rattle.sync_list.specs.Knowing.{Knows};
+ghost use Rattle.sync_list.specs.Sets.{same_pair, KeysAre};
+
+use crate::list::{Section, SyncList};
+use crate::names::{Known, Pair, listed, short_name};
+use findings::sorted;
+use ipdl_base::{Finding, Findings, Place, Rule, Semantics};
+use ipdl_syntax::{Entry, MessageDecl, Program};
+use std::alloc::{AllocError, Global};
+use std::collections::HashSet;
+
+/// The column at which a section begins.
+const FIRST: u32 = 1;
+
+/// What a section does against a rule.
+#[derive(Clone, Copy)]
+pub enum Breach {
+    /// It names an async message.
+    Async,
+    /// It names a message that its protocol lacks.
+    Absent,
+    /// It has no description.
+    Undescribed,
+}
+
+impl Breach {
+    /// The rule that is broken.
+    fn rule(self) -> Rule
+        ensures { result ≡ rule_of self }
+    {
+        match self {
+            Breach::Async => Rule::LISTED_ASYNC,
+            Breach::Absent => Rule::LISTED_ABSENT,
+            Breach::Undescribed => Rule::NO_DESCRIPTION,
+        }
+    }
+}
+
+/// The finding at a section of the list, which is the file of this number.
+fn at_section(file: u32, section: &Section, breach: Breach) -> Finding
+    ensures { result ≡ record { place = record { file = file; line = section.now.line; column = 1 }; rule = rule_of breach } }
+{
+    Finding {
+        place: Place {
+            file,
+            line: section.line,
+            column: FIRST,
+        },
+        rule: breach.rule(),
+    }
+}
+
+/// Whether the message of the protocol of this short name is sync and not among the names of the
+/// list.
+fn is_unlisted(protocol: &[u8], message: &MessageDecl, names: &HashSet<Pair<'_>>) -> bool
+    ensures { (list : List Section) → KeysAre same_pair names.now (λ pair. Lists list pair.0.now pair.1.now)
+        → IsTrue result ↔ ((message.now.semantics ≡ Sync) × ¬ Lists list protocol.now message.now.name) }
+{
+    message.semantics == Semantics::Sync
+        && !(&*names).contains(&(&*protocol, message.name.as_slice()))
+}
+
+/// Adds a finding at each sync message of the protocol of this short name that is not among the
+/// names of the list.
+fn add_unlisted_of(
+    protocol: &[u8],
+    messages: &[MessageDecl],
+    names: &HashSet<Pair<'_>>,
+    found: &mut Vec<Finding>,
+) -> Result<(), AllocError>
+    ensures { OnOk result ((list : List Section) → KeysAre same_pair names.now (λ pair. Lists list pair.0.now pair.1.now)
+        → Adds Rule.UNLISTED_SYNC (λ place. Any (IsUnlistedAt list protocol.now place) messages.now) found.old.items found.new.items) }
+{
+    for message in messages {
+        if is_unlisted(protocol, message, names) {
+            found.push(Finding {
+                place: message.place,
+                rule: Rule::UNLISTED_SYNC,
+            })?;
+        }
+    }
+    Ok(())
+}
+
+/// Adds a finding at each sync message of the program that has no section.
+fn add_unlisted(
+    alloc: Global,
+    program: &[Entry],
+    list: &[Section],
+    found: &mut Vec<Finding>,
+) -> Result<(), AllocError>
+    ensures { OnOk result (Adds Rule.UNLISTED_SYNC (IsUnlistedSync program.now list.now) found.old.items found.new.items) }
+{
+    let names = listed(alloc, list)?;
+    for entry in program {
+        if let Some(protocol) = &entry.unit.protocol {
+            let name = short_name(protocol.full.as_slice());
+            add_unlisted_of(name, protocol.messages.as_slice(), &names, found)?;
+        }
+    }
+    Ok(())
+}
+
+/// Whether the section breaks this rule of sections.
+fn breaks(known: &Known, section: &Section, breach: Breach) -> bool
+    ensures { (program : List Entry) → Knows program known.now → IsTrue result ↔ Breaks breach program section.now }
+{
+    match breach {
+        Breach::Async => known.names_async(section),
+        Breach::Absent => known.names_absent(section),
+        Breach::Undescribed => !section.described,
+    }
+}
+
+/// Adds a finding at each section that breaks this rule.
+fn add_breaches(
+    file: u32,
+    known: &Known,
+    list: &[Section],
+    breach: Breach,
+    found: &mut Vec<Finding>,
+) -> Result<(), AllocError>
+    ensures { OnOk result ((program : List Entry) → Knows program known.now → file ≡ length program
+        → Adds (rule_of breach) (AtSection (Breaks breach program) program list.now) found.old.items found.new.items) }
+{
+    for section in list {
+        if breaks(known, section, breach) {
+            found.push(at_section(file, section, breach))?;
+        }
+    }
+    Ok(())
+}
+
+/// All findings that hold of the program and the list, in some order.
+fn gathered(alloc: Global, program: &[Entry], list: &[Section]) -> Result<Vec<Finding>, AllocError>
+    requires { length program.now ≤ 4096 }
+    ensures { IfOk result (λ found. (f : Finding) → Contains found.items f ↔ BrokenAt program.now list.now f) }
+{
+    let mut found = Vec::new(alloc);
+    let file = program.len() as u32;
+    let known = Known::of(alloc, program)?;
+    add_unlisted(alloc, program, list, &mut found)?;
+    add_breaches(file, &known, list, Breach::Async, &mut found)?;
+    add_breaches(file, &known, list, Breach::Absent, &mut found)?;
+    add_breaches(file, &known, list, Breach::Undescribed, &mut found)?;
+    Ok(found)
+}
+
+/// The report of a program and a sync list: the rules S1 to S4 that they break, each once, in the
+/// order of their places (docs/sync_list.md). The list counts as the file behind those of the
+/// program, which has at most 4,096. Takes time in proportion to both, but for the sort of the
+/// findings.
+pub fn sync_findings(
+    alloc: Global,
+    program: &Program,
+    list: &SyncList,
+) -> Result<Findings, AllocError>
+    requires { length program.now ≤ 4096 }
+    ensures { IfOk result (IsReport program.now list.now) }
+{
+    let found = gathered(alloc, program.as_slice(), list.as_slice())?;
+    Ok(sorted(found))
+}
