@@ -1,0 +1,79 @@
+ghost use Rattle.std.specs.Prelude.{◌≡◌, ◌==◌, ◌↔◌, ℕ, Bool, List, IsTrue, IfSome, IfNone, Some, option_map};
+ghost use Rattle.std.specs.List.{before_first};
+ghost use Rattle.ipdl_base.specs.Words.{short_name};
+ghost use Rattle.ipdl_base.specs.declared.builtin.Builtin.{Builtin as BuiltinType};
+ghost use Rattle.ipdl_syntax.specs.Grammar.{whole_name};
+ghost use Rattle.name_table.specs.Finds.{IsNameOf, IsNameOfBuiltin, endpoint_word};
+
+use ipdl_base::Builtin;
+
+/// What stands in a full name before the `<` of its argument: all of it where it has none.
+pub fn before_argument(full: &[u8]) -> &[u8]
+    ensures { result.now ≡ before_first (λ b. b == 60) full.now }
+{
+    match full.iter().position(|b| *b == b'<') {
+        Some(at) => &full[..at],
+        None => full,
+    }
+}
+
+/// What stands behind the last colon of a full name: all of it where it has none.
+pub fn short(full: &[u8]) -> &[u8]
+    ensures { result.now ≡ short_name full.now }
+{
+    match full.iter().rposition(|b| *b == b':') {
+        Some(at) => &full[at + 1..],
+        None => full,
+    }
+}
+
+/// What stands in a text between a front and a `>` at its end.
+pub fn inner_of<'t>(whole: &'t [u8], front: &[u8]) -> Option<&'t [u8]>
+    ensures some { IfSome result (λ inner. whole.now ≡ whole_name front.now (Some inner.now)) }
+    ensures none { IfNone result ((inner : List ℕ) → ¬ (whole.now ≡ whole_name front.now (Some inner))) }
+{
+    whole
+        .strip_prefix(front)?
+        .strip_prefix(b"<")?
+        .strip_suffix(b">")
+}
+
+/// Whether a text and its argument name what has this full name.
+pub fn is_name_of(text: &[u8], argument: Option<&[u8]>, full: &[u8]) -> bool
+    ensures { IsTrue result ↔ IsNameOf text.now (option_map (λ inner. inner.now) argument.entry) full.now }
+{
+    match argument {
+        Some(inner) => inner_of(full, text) == Some(inner) && !text.contains(&b'<'),
+        None => !full.contains(&b'<') && (full == text || short(full) == text),
+    }
+}
+
+/// The builtin type that a text names by its full name or its word.
+pub fn builtin_of(text: &[u8]) -> Option<Builtin>
+    ensures some { IfSome result (λ found. IsNameOfBuiltin found text.now) }
+    ensures none { IfNone result ((other : BuiltinType) → ¬ IsNameOfBuiltin other text.now) }
+{
+    if text == b"mozilla::ipc::ByteBuf".as_slice() {
+        Some(Builtin::ByteBuf)
+    } else if text == b"mozilla::ipc::Shmem".as_slice() {
+        Some(Builtin::Shmem)
+    } else if text == b"mozilla::ipc::FileDescriptor".as_slice() {
+        Some(Builtin::FileDescriptor)
+    } else {
+        Builtin::named(text)
+    }
+}
+
+/// Whether a text is the word of an endpoint, and whether of a managed one.
+pub fn endpoint_of(text: &[u8]) -> Option<bool>
+    ensures some { IfSome result (λ managed. text.now ≡ endpoint_word managed) }
+    ensures none { IfNone result ((managed : Bool) → ¬ (text.now ≡ endpoint_word managed)) }
+{
+    if text == b"Endpoint".as_slice() {
+        Some(false)
+    } else if text == b"ManagedEndpoint".as_slice() {
+        Some(true)
+    } else {
+        None
+    }
+}
