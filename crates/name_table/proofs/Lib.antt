@@ -1,2 +1,5 @@
 pub mod Marking
 pub mod Places
+pub mod Listing
+pub mod FullNames
+pub mod BuiltinNames

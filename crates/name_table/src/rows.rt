@@ -1,6 +1,7 @@
-ghost use Rattle.std.specs.Prelude.{◌≡◌, ◌≤◌, ◌∷◌, ◌++◌, [], ℕ, List, length, if◌then◌else◌, IfOk, OnOk};
+ghost use Rattle.std.specs.Prelude.{◌≡◌, ◌≤◌, ◌∷◌, ◌++◌, [], map, ℕ, List, length, if◌then◌else◌, IfOk, OnOk};
 ghost use Rattle.std.specs.Str.{bytes_eq};
-ghost use Rattle.name_table.specs.Rows.{declared_in, row_of, Lists, AreRows};
+ghost use Rattle.name_table.specs.declared.decl.DeclId.TheVariants as decl;
+ghost use Rattle.name_table.specs.Rows.{numbered, declared_in, row_of, Lists, AreRows};
 
 use crate::decl::DeclId;
 use crate::texts::{before_argument, short};
@@ -49,6 +50,51 @@ fn declare<'p>(
     Ok(())
 }
 
+/// Lists the usings of the file of this number.
+fn declare_usings<'p>(
+    alloc: Global,
+    file: u32,
+    usings: &'p [Using],
+    rows: &mut Rows<'p>,
+) -> Result<(), AllocError>
+    ensures { OnOk result (Lists (numbered (decl.Using file) 0 (map (λ d. d.full) usings.now)) rows.old rows.new) }
+{
+    for (place, item) in usings.iter().enumerate() {
+        declare(alloc, DeclId::Using(file, place), item.full.as_slice(), rows)?;
+    }
+    Ok(())
+}
+
+/// Lists the structs of the file of this number.
+fn declare_structs<'p>(
+    alloc: Global,
+    file: u32,
+    structs: &'p [StructDecl],
+    rows: &mut Rows<'p>,
+) -> Result<(), AllocError>
+    ensures { OnOk result (Lists (numbered (decl.Struct file) 0 (map (λ d. d.full) structs.now)) rows.old rows.new) }
+{
+    for (place, item) in structs.iter().enumerate() {
+        declare(alloc, DeclId::Struct(file, place), item.full.as_slice(), rows)?;
+    }
+    Ok(())
+}
+
+/// Lists the unions of the file of this number.
+fn declare_unions<'p>(
+    alloc: Global,
+    file: u32,
+    unions: &'p [UnionDecl],
+    rows: &mut Rows<'p>,
+) -> Result<(), AllocError>
+    ensures { OnOk result (Lists (numbered (decl.Union file) 0 (map (λ d. d.full) unions.now)) rows.old rows.new) }
+{
+    for (place, item) in unions.iter().enumerate() {
+        declare(alloc, DeclId::Union(file, place), item.full.as_slice(), rows)?;
+    }
+    Ok(())
+}
+
 /// Lists what the file of this number declares.
 fn declare_file<'p>(
     alloc: Global,
@@ -58,37 +104,11 @@ fn declare_file<'p>(
 ) -> Result<(), AllocError>
     ensures { OnOk result (Lists (declared_in file entry.now) rows.old rows.new) }
 {
-    for (place, using) in entry.unit.usings.as_slice().iter().enumerate() {
-        declare(
-            alloc,
-            DeclId::Using(file, place),
-            using.full.as_slice(),
-            rows,
-        )?;
-    }
-    for (place, item) in entry.unit.structs.as_slice().iter().enumerate() {
-        declare(
-            alloc,
-            DeclId::Struct(file, place),
-            item.full.as_slice(),
-            rows,
-        )?;
-    }
-    for (place, item) in entry.unit.unions.as_slice().iter().enumerate() {
-        declare(
-            alloc,
-            DeclId::Union(file, place),
-            item.full.as_slice(),
-            rows,
-        )?;
-    }
+    declare_usings(alloc, file, entry.unit.usings.as_slice(), rows)?;
+    declare_structs(alloc, file, entry.unit.structs.as_slice(), rows)?;
+    declare_unions(alloc, file, entry.unit.unions.as_slice(), rows)?;
     if let Some(protocol) = &entry.unit.protocol {
-        declare(
-            alloc,
-            DeclId::Protocol(file),
-            protocol.full.as_slice(),
-            rows,
-        )?;
+        declare(alloc, DeclId::Protocol(file), protocol.full.as_slice(), rows)?;
     }
     Ok(())
 }

@@ -1,4 +1,4 @@
-ghost use Rattle.std.specs.Prelude.{◌≡◌, ◌==◌, ◌↔◌, ℕ, Bool, List, IsTrue, IfSome, IfNone, Some, option_map};
+ghost use Rattle.std.specs.Prelude.{◌≡◌, ◌==◌, ◌↔◌, ℕ, Bool, List, IsTrue, IfSome, IfNone, Some, option_map, position};
 ghost use Rattle.std.specs.List.{before_first};
 ghost use Rattle.ipdl_base.specs.Words.{short_name};
 ghost use Rattle.ipdl_base.specs.declared.builtin.Builtin.{Builtin as BuiltinType};
@@ -7,11 +7,18 @@ ghost use Rattle.name_table.specs.Finds.{IsNameOf, IsNameOfBuiltin, endpoint_wor
 
 use ipdl_base::Builtin;
 
+/// The first place of a byte in a text.
+fn first(byte: u8, text: &[u8]) -> Option<usize>
+    ensures { result ≡ position (λ b. b == byte) text.now }
+{
+    text.iter().position(|b| *b == byte)
+}
+
 /// What stands in a full name before the `<` of its argument: all of it where it has none.
 pub fn before_argument(full: &[u8]) -> &[u8]
     ensures { result.now ≡ before_first (λ b. b == 60) full.now }
 {
-    match full.iter().position(|b| *b == b'<') {
+    match first(b'<', full) {
         Some(at) => &full[..at],
         None => full,
     }
@@ -21,10 +28,12 @@ pub fn before_argument(full: &[u8]) -> &[u8]
 pub fn short(full: &[u8]) -> &[u8]
     ensures { result.now ≡ short_name full.now }
 {
-    match full.iter().rposition(|b| *b == b':') {
-        Some(at) => &full[at + 1..],
-        None => full,
+    let mut rest = full;
+    while let Some(at) = first(b':', rest) {
+        let (_, behind) = rest.split_at(at);
+        rest = &behind[1..];
     }
+    rest
 }
 
 /// What stands in a text between a front and a `>` at its end.
@@ -38,12 +47,22 @@ pub fn inner_of<'t>(whole: &'t [u8], front: &[u8]) -> Option<&'t [u8]>
         .strip_suffix(b">")
 }
 
+/// Whether a full name is a text with this argument.
+fn is_whole(full: &[u8], text: &[u8], inner: &[u8]) -> bool
+    ensures { IsTrue result ↔ (full.now ≡ whole_name text.now (Some inner.now)) }
+{
+    match inner_of(full, text) {
+        Some(found) => found == inner,
+        None => false,
+    }
+}
+
 /// Whether a text and its argument name what has this full name.
 pub fn is_name_of(text: &[u8], argument: Option<&[u8]>, full: &[u8]) -> bool
     ensures { IsTrue result ↔ IsNameOf text.now (option_map (λ inner. inner.now) argument.entry) full.now }
 {
     match argument {
-        Some(inner) => inner_of(full, text) == Some(inner) && !text.contains(&b'<'),
+        Some(inner) => is_whole(full, text, inner) && !text.contains(&b'<'),
         None => !full.contains(&b'<') && (full == text || short(full) == text),
     }
 }
