@@ -3,3 +3,4 @@ pub mod Places
 pub mod Listing
 pub mod FullNames
 pub mod BuiltinNames
+pub mod Seeing

@@ -2,6 +2,8 @@
 use Rattle.std.specs.Prelude.{◌≡◌, ◌⊎◌, ◌<◌, ◌≤◌, ◌+◌, ◌*◌, ℕ, Bool, true, false, if◌then◌else◌, List, length, slice_get, Some}
 use Rattle.std.specs.List.{Contains, slice_index_or, sum_by}
 use Rattle.ipdl_syntax.specs.declared.program.Entry.{Entry}
+use Rattle.name_table.specs.declared.decl.DeclId.{DeclId}
+use Rattle.name_table.specs.declared.decl.DeclId.TheVariants.{Builtin, Using, Struct, Union, Protocol, Endpoint}
 use Rattle.name_table.specs.Declares.{Includes, IsHeader}
 
 -- from a file its own includes are followed, and those of headers
@@ -12,6 +14,15 @@ IsFollowed program from file = (file ≡ from) ⊎ IsHeader program file
 pub data Reaches (program : List Entry) (from : ℕ) : ℕ → Type 0 where
   start : from < length program → Reaches program from from
   step : {file other : ℕ} → Reaches program from file → IsFollowed program from file → Includes program file other → other < length program → Reaches program from other
+
+-- what a file sees, where it is declared: all of a file that is reached and followed, and the protocol of one that is reached
+abbrev pub Shows : List Entry → ℕ → DeclId → Type 0
+Shows program file (Using other place) = Reaches program file other × IsFollowed program file other
+Shows program file (Struct other place) = Reaches program file other × IsFollowed program file other
+Shows program file (Union other place) = Reaches program file other × IsFollowed program file other
+Shows program file (Protocol other) = Reaches program file other
+Shows program file (Builtin type) = ⊥
+Shows program file (Endpoint p managed) = ⊥
 
 abbrev pub IsMarked : List Bool → ℕ → Type 0
 IsMarked marks n = slice_index_or marks n false ≡ true

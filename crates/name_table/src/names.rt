@@ -5,7 +5,7 @@ ghost use Rattle.ipdl_syntax.specs.Grammar.{whole_name};
 ghost use Rattle.name_table.specs.Candidates.{IsCandidate, AreOne, IsBuiltinOrEndpoint};
 ghost use Rattle.name_table.specs.Declares.{full_name_of, IsHeader};
 ghost use Rattle.name_table.specs.Finds.{Finds, FindsAsProtocol, FindsProtocol, NamesBuiltin, Counts};
-ghost use Rattle.name_table.specs.Marks.{Reaches};
+ghost use Rattle.name_table.specs.Marks.{Reaches, IsFollowed, Shows};
 ghost use Rattle.name_table.specs.Rows.{declared_from, listed_under};
 ghost use Rattle.name_table.specs.Visible.{Sees};
 
@@ -127,7 +127,10 @@ impl<'p> Names<'p> {
         let Some(marks) = self.sights.get(file as usize) else {
             return false;
         };
-        marks.get(other as usize) == Some(&true)
+        match marks.get(other as usize) {
+            Some(mark) => *mark,
+            None => false,
+        }
     }
 
     /// Whether a file is a header.
@@ -140,20 +143,37 @@ impl<'p> Names<'p> {
         }
     }
 
+    /// Whether a file sees a declaration, where there is such a declaration.
+    fn shows(&self, file: u32, id: DeclId) -> bool
+        ensures { IsTrue result ↔ Shows self.now file id }
+    {
+        match id {
+            DeclId::Using(other, _) => self.shows_all(file, other),
+            DeclId::Struct(other, _) => self.shows_all(file, other),
+            DeclId::Union(other, _) => self.shows_all(file, other),
+            DeclId::Protocol(other) => self.is_reached(file, other),
+            DeclId::Builtin(_) => false,
+            DeclId::Endpoint(_, _) => false,
+        }
+    }
+
+    /// Whether a file sees all that another declares.
+    fn shows_all(&self, file: u32, other: u32) -> bool
+        ensures { IsTrue result ↔ (Reaches self.now file other × IsFollowed self.now file other) }
+    {
+        self.is_reached(file, other) && (other == file || self.is_header(other))
+    }
+
     /// The full name under which a file sees a declaration, where it does.
     fn seen_name(&self, file: u32, id: DeclId) -> Option<&[u8]>
         ensures some { IfSome result (λ full. Sees self.now file id full.now) }
         ensures none { IfNone result ((full : List ℕ) → ¬ Sees self.now file id full) }
     {
-        let full = full_name(self.program, id)?;
-        let is_seen = match id {
-            DeclId::Using(other, _) | DeclId::Struct(other, _) | DeclId::Union(other, _) => {
-                self.is_reached(file, other) && (other == file || self.is_header(other))
-            }
-            DeclId::Protocol(other) => self.is_reached(file, other),
-            DeclId::Builtin(_) | DeclId::Endpoint(_, _) => false,
-        };
-        if is_seen { Some(full) } else { None }
+        if self.shows(file, id) {
+            full_name(self.program, id)
+        } else {
+            None
+        }
     }
 
     /// How many protocols a text finds.
@@ -165,7 +185,11 @@ impl<'p> Names<'p> {
             if self.is_protocol(file, text, *id) {
                 match found {
                     Found::None => found = Found::One(*id),
-                    Found::One(one) => return Found::Many(one, *id),
+                    Found::One(one) => {
+                        if one != *id {
+                            return Found::Many(one, *id);
+                        }
+                    }
                     Found::Many(_, _) => return found,
                 }
             }
