@@ -4,3 +4,5 @@ pub mod Listing
 pub mod FullNames
 pub mod BuiltinNames
 pub mod Seeing
+pub mod Order
+pub mod Counting

@@ -123,3 +123,9 @@ pub no_mark_tells : (program : List Entry) (file other : ℕ) (marks : List Bool
 no_mark_tells program file other marks are past r =
     let within = marked_within marks other ((are other).1 r) in
     absurd (omega (arith, within, past))
+
+-- a declaration is seen under one full name
+pub seen_once : (program : List Entry) (file : ℕ) (d : DeclId) (a b : List ℕ) → Sees program file d a → Sees program file d b → a ≡ b
+seen_once program file d a b s t =
+    let same : Some a ≡ Some b = sym (sees_shown program s).1 ∙ (sees_shown program t).1 in
+    cc

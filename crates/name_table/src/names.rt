@@ -4,7 +4,7 @@ ghost use Rattle.std.specs.Option.{option_copied};
 ghost use Rattle.ipdl_syntax.specs.Grammar.{whole_name};
 ghost use Rattle.name_table.specs.Candidates.{IsCandidate, AreOne, IsBuiltinOrEndpoint};
 ghost use Rattle.name_table.specs.Declares.{full_name_of, IsHeader};
-ghost use Rattle.name_table.specs.Finds.{Finds, FindsAsProtocol, FindsProtocol, NamesBuiltin, Counts};
+ghost use Rattle.name_table.specs.Finds.{Finds, FindsAsProtocol, FindsProtocol, NamesBuiltin, Counts, endpoint_word};
 ghost use Rattle.name_table.specs.Marks.{Reaches, IsFollowed, Shows};
 ghost use Rattle.name_table.specs.Rows.{declared_from, listed_under};
 ghost use Rattle.name_table.specs.Visible.{Sees};
@@ -12,7 +12,7 @@ ghost use Rattle.name_table.specs.Visible.{Sees};
 use crate::decl::{DeclId, Found};
 use crate::rows::{Rows, rows};
 use crate::sight::sights;
-use crate::texts::{builtin_of, endpoint_of, inner_of, is_name_of};
+use crate::texts::{builtin_of, endpoint_of, inner_of, is_name_of, word_of};
 use ipdl_base::Name;
 use ipdl_syntax::{Entry, Program};
 use std::alloc::{AllocError, Global};
@@ -66,6 +66,13 @@ fn full_name<'p>(program: &'p [Entry], id: DeclId) -> Option<&'p [u8]>
         }
         DeclId::Builtin(_) | DeclId::Endpoint(_, _) => None,
     }
+}
+
+/// Whether two are the same.
+fn are_same(one: DeclId, other: DeclId) -> bool
+    ensures { IsTrue result ↔ (one ≡ other) }
+{
+    one == other
 }
 
 impl<'p> Names<'p> {
@@ -186,7 +193,7 @@ impl<'p> Names<'p> {
                 match found {
                     Found::None => found = Found::One(*id),
                     Found::One(one) => {
-                        if one != *id {
+                        if !are_same(one, *id) {
                             return Found::Many(one, *id);
                         }
                     }
@@ -230,19 +237,39 @@ impl<'p> Names<'p> {
     fn names_builtin(&self, file: u32, full: &[u8]) -> bool
         ensures { IsTrue result ↔ NamesBuiltin self.now file full.now }
     {
-        builtin_of(full).is_some()
-            || endpoint_of(full).is_some()
-            || self.names_endpoint(file, full, b"Endpoint")
-            || self.names_endpoint(file, full, b"ManagedEndpoint")
+        if builtin_of(full).is_some() {
+            return true;
+        }
+        if endpoint_of(full).is_some() {
+            return true;
+        }
+        if self.names_endpoint(file, full, false) {
+            return true;
+        }
+        self.names_endpoint(file, full, true)
     }
 
-    /// Whether a full name is this word with an argument that finds a protocol.
-    fn names_endpoint(&self, file: u32, full: &[u8], word: &[u8]) -> bool
-        ensures { IsTrue result ↔ ((inner : List ℕ) × (p : ℕ) × (full.now ≡ whole_name word.now (Some inner)) × FindsProtocol self.now file inner p) }
+    /// Whether a full name is the word of an endpoint, or of a managed one, with an argument that finds a protocol.
+    fn names_endpoint(&self, file: u32, full: &[u8], managed: bool) -> bool
+        ensures { IsTrue result ↔ ((inner : List ℕ) × (p : ℕ) × (full.now ≡ whole_name (endpoint_word managed) (Some inner)) × FindsProtocol self.now file inner p) }
     {
-        match inner_of(full, word) {
-            Some(inner) => self.protocols(file, inner) != Found::None,
+        match inner_of(full, word_of(managed)) {
+            Some(inner) => match self.protocols(file, inner) {
+                Found::None => false,
+                Found::One(_) => true,
+                Found::Many(_, _) => true,
+            },
             None => false,
+        }
+    }
+
+    /// Whether a declaration of this full name is no using, or one that names no builtin type in a file.
+    fn is_own(&self, file: u32, full: &[u8], id: DeclId) -> bool
+        ensures { IsTrue result ↔ ((other place : ℕ) → id ≡ DeclId.Using other place → ¬ NamesBuiltin self.now file full.now) }
+    {
+        match id {
+            DeclId::Using(_, _) => !self.names_builtin(file, full),
+            _ => true,
         }
     }
 
@@ -250,11 +277,10 @@ impl<'p> Names<'p> {
     fn is_candidate(&self, file: u32, text: &[u8], argument: Option<&[u8]>, id: DeclId) -> bool
         ensures { IsTrue result ↔ IsCandidate self.now file text.now (option_map (λ inner. inner.now) argument.entry) id }
     {
-        let Some(full) = self.seen_name(file, id) else {
-            return false;
-        };
-        let is_using = matches!(id, DeclId::Using(_, _));
-        is_name_of(text, argument, full) && !(is_using && self.names_builtin(file, full))
+        match self.seen_name(file, id) {
+            Some(full) => is_name_of(text, argument, full) && self.is_own(file, full, id),
+            None => false,
+        }
     }
 
     /// Whether two that are declared are one.

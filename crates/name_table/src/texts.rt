@@ -96,3 +96,10 @@ pub fn endpoint_of(text: &[u8]) -> Option<bool>
         None
     }
 }
+
+/// The word of an endpoint, or of a managed one.
+pub fn word_of(managed: bool) -> &'static [u8]
+    ensures { result.now ≡ endpoint_word managed }
+{
+    if managed { b"ManagedEndpoint" } else { b"Endpoint" }
+}
