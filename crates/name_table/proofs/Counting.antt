@@ -41,6 +41,7 @@ module _ (F B C : DeclId → Type 0) (E : DeclId → DeclId → Type 0) where
     where
       last : (e : DeclId) → Contains (d ∷ []) e → C e → ⊥
       last e c h = elim (in_cons d [] e c) [ inl same ↦ none (subst C same h) | inr there ↦ in_none e there ]
+
       go : (g : Found) → Tally F B C E (take k row) g → Tally F B C E (take k row ++ d ∷ []) g
       go found.None h = (h.0, λ e c. elim (Contains-append_cases (take k row) (d ∷ []) e c) [ inl l ↦ h.1 e l | inr r ↦ last e r ])
       go (found.One a) h = (h.0, h.1, λ e c p. elim (Contains-append_cases (take k row) (d ∷ []) e c) [ inl l ↦ h.2 e l p | inr r ↦ absurd (last e r p) ])
@@ -49,20 +50,26 @@ module _ (F B C : DeclId → Type 0) (E : DeclId → DeclId → Type 0) where
   -- the first candidate
   pub tally_first : (row : List DeclId) (k : ℕ) (d : DeclId) → k < length row → d ≡ get_or row k d → E d d → F d → Tally F B C E (take k row) found.None → Tally F B C E (take (k + 1) row) (found.One d)
   tally_first row k d below at same is t =
-      subst (λ (s : List DeclId). Tally F B C E s (found.One d)) (sym (take_more row k d below ∙ ap (λ y. take k row ++ y ∷ []) (sym at)))
-      (is, (λ e b. absurd (t.0 e b)), λ e c p. elim (Contains-append_cases (take k row) (d ∷ []) e c) [
-        | inl l ↦ absurd (t.1 e l p)
-        | inr r ↦ elim (in_cons d [] e r) [ inl one ↦ subst (E d) (sym one) same | inr there ↦ absurd (in_none e there) ]
-      ])
+      subst (λ (s : List DeclId). Tally F B C E s (found.One d)) (sym (take_more row k d below ∙ ap (λ y. take k row ++ y ∷ []) (sym at))) (
+        is,
+        (λ e b. absurd (t.0 e b)),
+        λ e c p. elim (Contains-append_cases (take k row) (d ∷ []) e c) [
+          | inl l ↦ absurd (t.1 e l p)
+          | inr r ↦ elim (in_cons d [] e r) [ inl one ↦ subst (E d) (sym one) same | inr there ↦ absurd (in_none e there) ]
+        ],
+      )
 
   -- a candidate that is the one that was found
   pub tally_same : (row : List DeclId) (k : ℕ) (a d : DeclId) → k < length row → d ≡ get_or row k d → E a d → Tally F B C E (take k row) (found.One a) → Tally F B C E (take (k + 1) row) (found.One a)
   tally_same row k a d below at one t =
-      subst (λ (s : List DeclId). Tally F B C E s (found.One a)) (sym (take_more row k d below ∙ ap (λ y. take k row ++ y ∷ []) (sym at)))
-      (t.0, t.1, λ e c p. elim (Contains-append_cases (take k row) (d ∷ []) e c) [
-        | inl l ↦ t.2 e l p
-        | inr r ↦ elim (in_cons d [] e r) [ inl is ↦ subst (E a) (sym is) one | inr there ↦ absurd (in_none e there) ]
-      ])
+      subst (λ (s : List DeclId). Tally F B C E s (found.One a)) (sym (take_more row k d below ∙ ap (λ y. take k row ++ y ∷ []) (sym at))) (
+        t.0,
+        t.1,
+        λ e c p. elim (Contains-append_cases (take k row) (d ∷ []) e c) [
+          | inl l ↦ t.2 e l p
+          | inr r ↦ elim (in_cons d [] e r) [ inl is ↦ subst (E a) (sym is) one | inr there ↦ absurd (in_none e there) ]
+        ],
+      )
 
   -- behind the row all is counted
   pub tally_end : (row : List DeclId) (f : Found) → ((d : DeclId) → F d → B d ⊎ (C d × Contains row d)) → ((a d : DeclId) → F a → F d → E a d → d ≡ a) → Tally F B C E row f → Counts F f
@@ -108,13 +115,13 @@ finds_new program file text argument k (Using o p) below at c new = record {
   named = c.named;
   own = c.own o p refl;
   first = λ before there s late.
-    let row = listed_under text (declared_from 0 program) in
-    let u = Using before there in
-    let mine = (sees_shown program c.seen).1 in
-    let its = (sees_shown program s).1 in
-    let there_is = in_row program before u c.full text argument (refl, its) c.named in
-    let earlier = comes_before row k (Using o p) o p before there (row_order text program) below at refl there_is late in
-    new u earlier (record { full = c.full; seen = s; named = c.named; own = λ x y e. c.own o p refl }) (inr (o, p, before, there, refl, refl, mine ∙ sym its));
+      let row = listed_under text (declared_from 0 program) in
+      let u = Using before there in
+      let mine = (sees_shown program c.seen).1 in
+      let its = (sees_shown program s).1 in
+      let there_is = in_row program before u c.full text argument (refl, its) c.named in
+      let earlier = comes_before row k (Using o p) o p before there (row_order text program) below at refl there_is late in
+      new u earlier (record { full = c.full; seen = s; named = c.named; own = λ x y e. c.own o p refl }) (inr (o, p, before, there, refl, refl, mine ∙ sym its));
 }
 
 pub found_covered : (program : List Entry) (file : ℕ) (text : List ℕ) (argument : Option (List ℕ)) (d : DeclId) → Finds program file text argument d
@@ -147,14 +154,14 @@ same_place file place other there p q =
       | inr above ↦ elim (cases_lt other file) [
         | inl less ↦ absurd (q (inl less))
         | inr below ↦
-          (let same : file ≡ other = omega (arith, above, below) in
-          elim (cases_lt place there) [
-            | inl less ↦ absurd (p (inr (same, less)))
-            | inr high ↦ elim (cases_lt there place) [
-              | inl less ↦ absurd (q (inr (sym same, less)))
-              | inr low ↦ (same, omega (arith, high, low))
-            ]
-          ])
+            (let same : file ≡ other = omega (arith, above, below) in
+            elim (cases_lt place there) [
+              | inl less ↦ absurd (p (inr (same, less)))
+              | inr high ↦ elim (cases_lt there place) [
+                | inl less ↦ absurd (q (inr (sym same, less)))
+                | inr low ↦ (same, omega (arith, high, low))
+              ]
+            ])
       ]
     ]
 

@@ -44,6 +44,7 @@ colon_from (b ∷ bs) from at e = go (colon b) refl (λ h. colon_from bs (from +
     first : (there : Bool) → list_any colon bs ≡ there → colon b ≡ true → short_name (b ∷ bs) ≡ short_name bs
     first true q p = ap (λ (t : Bool). if t then short_name bs else (if colon b then bs else b ∷ bs)) q
     first false q p = ap (λ (t : Bool). if t then short_name bs else (if colon b then bs else b ∷ bs)) q ∙ ap (λ (t : Bool). if t then bs else b ∷ bs) p ∙ sym (short_name-whole bs q)
+
     go : (here : Bool) → colon b ≡ here → (position_from colon (from + 1) bs ≡ Some at → Colon bs (from + 1) at) → Colon (b ∷ bs) from at
     go true p rest =
         let same : Some from ≡ Some at = sym (ap (λ (t : Bool). cond t (Some from) (position_from colon (from + 1) bs)) p) ∙ e in
@@ -71,6 +72,7 @@ none_from p (x ∷ xs) from e = go (p x) refl (none_from p xs (from + 1))
   where
     impossible : Some from ≡ None → ⊥
     impossible w = cc
+
     go : (here : Bool) → p x ≡ here → (position_from p (from + 1) xs ≡ None → list_any p xs ≡ false) → p x || list_any p xs ≡ false
     go true q rest = absurd (impossible (sym (ap (λ (t : Bool). cond t (Some from) (position_from p (from + 1) xs)) q) ∙ e))
     go false q rest = ap (λ (t : Bool). t || list_any p xs) q ∙ rest (sym (ap (λ (t : Bool). cond t (Some from) (position_from p (from + 1) xs)) q) ∙ e)

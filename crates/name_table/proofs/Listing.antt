@@ -92,6 +92,7 @@ listed_both full front last id e same f less text = go (bytes_eq text front) (by
   where
     bare : list_any is_open full ≡ false
     bare = front_all full front e same
+
     go : (one two : Bool) → bytes_eq text front ≡ one → bytes_eq text last ≡ two
         → (if one then id ∷ [] else []) ++ (if two then id ∷ [] else []) ≡ listed_under text ((id, full) ∷ [])
     go true true p q =
@@ -114,10 +115,13 @@ listed_front full front last id e f (inl long) text = go (bytes_eq text front) r
   where
     bare : list_any is_open full ≡ false
     bare = front_all full front e long.0
+
     all : short_name full ≡ full
     all = elim (short_name-length full) [ inl less ↦ absurd (omega (arith, less, long.1, ap length f)) | inr same ↦ same ]
+
     same : front ≡ short_name full
     same = e ∙ before_first-all is_open full bare ∙ sym all
+
     go : (one : Bool) → bytes_eq text front ≡ one → (if one then id ∷ [] else []) ≡ listed_under text ((id, full) ∷ [])
     go true p = sym (listed_single text full id true (by_parts text full true true false (ap (bytes_eq text) (sym e) ∙ p) bare (ap (bytes_eq text) (sym same) ∙ p)))
     go false p = sym (listed_single text full id false (by_parts text full false false false (ap (bytes_eq text) (sym e) ∙ p) bare (ap (bytes_eq text) (sym same) ∙ p)))
@@ -163,8 +167,10 @@ lists_next full_of make xs i x full a b c below at is p q =
   where
     taken : map full_of (take (i + 1) xs) ≡ map full_of (take i xs) ++ full ∷ []
     taken = ap (map full_of) (take_more xs i x below ∙ ap (λ y. take i xs ++ y ∷ []) (sym at)) ∙ map-append full_of (take i xs) (x ∷ []) ∙ ap (λ f. map full_of (take i xs) ++ f ∷ []) (sym is)
+
     size : 0 + length (map full_of (take i xs)) ≡ i
     size = omega (arith, length-map (take i xs) full_of, length-take i xs, below)
+
     same : numbered make 0 (map full_of (take (i + 1) xs)) ≡ numbered make 0 (map full_of (take i xs)) ++ (make i, full) ∷ []
     same = ap (numbered make 0) taken ∙ numbered-more make 0 (map full_of (take i xs)) full ∙ ap (λ n. numbered make 0 (map full_of (take i xs)) ++ (make n, full) ∷ []) size
 
@@ -195,5 +201,6 @@ rows_next program i entry b c below at p q text =
   where
     size : 0 + length (take i program) ≡ i
     size = omega (arith, length-take i program, below)
+
     same : declared_from 0 (take (i + 1) program) ≡ declared_from 0 (take i program) ++ declared_in i entry
     same = ap (declared_from 0) (take_more program i entry below ∙ ap (λ e. take i program ++ e ∷ []) (sym at)) ∙ declared_from-more 0 (take i program) entry ∙ ap (λ n. declared_from 0 (take i program) ++ declared_in n entry) size

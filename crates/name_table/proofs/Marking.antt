@@ -65,11 +65,11 @@ marks_new x marks work within bare =
       stays = λ n c. Contains-append_left work (x ∷ []) n c;
       told = λ n c. elim (Contains-append_cases work (x ∷ []) n c) [ inl l ↦ inl l | inr o ↦ inr (subst (IsMarked (slice_set marks x true)) (sym (the_one x n o)) now) ];
       less =
-        let f : Bool → ℕ = λ b. cond b 0 1 in
-        let w : unmarked (slice_set marks x true) + f (get_or marks x false) ≡ unmarked marks + 0 = sum_by-set f marks x true false within in
-        let e : f (get_or marks x false) ≡ f false = ap f bare in
-        let one : f (get_or marks x false) ≡ 1 = e in
-        omega (arith, length-append work (x ∷ []), w, one);
+          let f : Bool → ℕ = λ b. cond b 0 1 in
+          let w : unmarked (slice_set marks x true) + f (get_or marks x false) ≡ unmarked marks + 0 = sum_by-set f marks x true false within in
+          let e : f (get_or marks x false) ≡ f false = ap f bare in
+          let one : f (get_or marks x false) ≡ 1 = e in
+          omega (arith, length-append work (x ∷ []), w, one);
     }
 
 -- what is no file, or has a mark

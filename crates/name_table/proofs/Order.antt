@@ -110,6 +110,7 @@ all_declared program file d full (at, is) =
   where
     wrong : None ≡ Some full → ⊥
     wrong e = cc
+
     go : (o : Option Entry) → slice_get program file ≡ o → option_and_then (λ entry. full_name_in entry d) (slice_get program file) ≡ Some full → Contains (declared_from 0 program) (d, full)
     go None e h = absurd (wrong (sym (ap (λ (o : Option Entry). option_and_then (λ entry. full_name_in entry d) o) e) ∙ h))
     go (Some entry) e h =
@@ -180,18 +181,20 @@ NoUsings all = (file place : ℕ) (full : List ℕ) → ¬ Contains all (Using f
 
 no_usings_order : (all : List (DeclId × List ℕ)) → NoUsings all → InOrder all
 no_usings_order [] none = tt
-no_usings_order (x ∷ all) none =
-    ((λ file place e other there full c. absurd (none other there full (in_tail x all (Using other there, full) c))),
-     no_usings_order all (λ file place full c. none file place full (in_tail x all (Using file place, full) c)))
+no_usings_order (x ∷ all) none = (
+  (λ file place e other there full c. absurd (none other there full (in_tail x all (Using other there, full) c))),
+  no_usings_order all (λ file place full c. none file place full (in_tail x all (Using file place, full) c)),
+)
 
 order-append : (xs ys : List (DeclId × List ℕ)) → InOrder xs → InOrder ys → ((file place : ℕ) (full : List ℕ) → Contains xs (Using file place, full) → Behind file place ys) → InOrder (xs ++ ys)
 order-append [] ys p q cross = q
-order-append (x ∷ xs) ys p q cross =
-    ((λ file place e other there full c. elim (Contains-append_cases xs ys (Using other there, full) c) [
-       | inl l ↦ p.0 file place e other there full l
-       | inr r ↦ cross file place x.1 (subst (λ (y : DeclId). Contains (x ∷ xs) (y, x.1)) e (in_front x xs)) other there full r
-     ]),
-     order-append xs ys p.1 q (λ file place full c. cross file place full (in_tail x xs (Using file place, full) c)))
+order-append (x ∷ xs) ys p q cross = (
+  (λ file place e other there full c. elim (Contains-append_cases xs ys (Using other there, full) c) [
+    | inl l ↦ p.0 file place e other there full l
+    | inr r ↦ cross file place x.1 (subst (λ (y : DeclId). Contains (x ∷ xs) (y, x.1)) e (in_front x xs)) other there full r
+  ]),
+  order-append xs ys p.1 q (λ file place full c. cross file place full (in_tail x xs (Using file place, full) c)),
+)
 
 -- a numbered declaration has its place from the first on
 numbered_place : (make : ℕ → DeclId) (place : ℕ) (names : List (List ℕ)) (d : DeclId) (full : List ℕ) → Contains (numbered make place names) (d, full) → (i : ℕ) × (place ≤ i) × (d ≡ make i)
@@ -203,18 +206,20 @@ numbered_place make place (name ∷ names) d full c = elim (in_cons (make place,
 
 usings_order : (file place : ℕ) (names : List (List ℕ)) → InOrder (numbered (Using file) place names)
 usings_order file place [] = tt
-usings_order file place (name ∷ names) =
-    ((λ f i e other there full c before.
-        let r = numbered_place (Using file) (place + 1) names (Using other there) full c in
-        let one : other ≡ file = using_file other there file r.0 r.2 in
-        let two : there ≡ r.0 = using_place other there file r.0 r.2 in
-        let three : file ≡ f = using_file file place f i e in
-        let four : place ≡ i = using_place file place f i e in
-        elim before [ inl less ↦ absurd (omega (arith, less, one, three)) | inr late ↦ absurd (omega (arith, late.1, two, four, r.1)) ]),
-     usings_order file (place + 1) names)
+usings_order file place (name ∷ names) = (
+  (λ f i e other there full c before.
+      let r = numbered_place (Using file) (place + 1) names (Using other there) full c in
+      let one : other ≡ file = using_file other there file r.0 r.2 in
+      let two : there ≡ r.0 = using_place other there file r.0 r.2 in
+      let three : file ≡ f = using_file file place f i e in
+      let four : place ≡ i = using_place file place f i e in
+      elim before [ inl less ↦ absurd (omega (arith, less, one, three)) | inr late ↦ absurd (omega (arith, late.1, two, four, r.1)) ]),
+  usings_order file (place + 1) names,
+)
   where
     using_file : (a b g h : ℕ) → Using a b ≡ Using g h → a ≡ g
     using_file a b g h e = cc
+
     using_place : (a b g h : ℕ) → Using a b ≡ Using g h → b ≡ h
     using_place a b g h e = cc
 
@@ -271,9 +276,9 @@ program_order from [] = tt
 program_order from (entry ∷ program) =
     order-append _ _ (file_order from entry) (program_order (from + 1) program)
     (λ f i full c other there name d before.
-        let mine = own_file from entry f i full c in
-        let late = later_file (from + 1) program other there name d in
-        elim before [ inl less ↦ absurd (omega (arith, less, mine, late)) | inr same ↦ absurd (omega (arith, same.0, mine, late)) ])
+    let mine = own_file from entry f i full c in
+    let late = later_file (from + 1) program other there name d in
+    elim before [ inl less ↦ absurd (omega (arith, less, mine, late)) | inr same ↦ absurd (omega (arith, same.0, mine, late)) ])
 
 -- the same of a row
 abbrev pub IsRowInOrder : List DeclId → Type 0
@@ -304,8 +309,10 @@ comes_before (x ∷ row) zero d file place other there order below at is c befor
   where
     using_file : Using file place ≡ Using other there → file ≡ other
     using_file e = cc
+
     using_place : Using file place ≡ Using other there → place ≡ there
     using_place e = cc
+
     apart : d ≡ Using other there → ⊥
     apart e =
         let one = using_file (sym is ∙ e) in

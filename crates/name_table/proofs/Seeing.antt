@@ -26,6 +26,7 @@ declared_within program file d full (at, is) =
   where
     wrong : None ≡ Some full → ⊥
     wrong e = cc
+
     go : (o : Option Entry) → slice_get program file ≡ o → option_and_then (λ entry. full_name_in entry d) (slice_get program file) ≡ Some full → file < length program
     go None e h = absurd (wrong (sym (ap (λ (o : Option Entry). option_and_then (λ entry. full_name_in entry d) o) e) ∙ h))
     go (Some entry) e h = slice_get_within program file entry e

@@ -1,5 +1,7 @@
 ghost use Rattle.std.specs.Prelude.{◌≡◌, Some};
+ghost use Rattle.std.specs.List.{list_any};
 ghost use Rattle.std.specs.Option.{option_copied};
+ghost use Rattle.std.specs.Str.{bytes_eq};
 ghost use Rattle.name_table.specs.Kinds.{attribute_named, listed_level, level_by, level_of_message, level_of_protocol, compress_of_message, is_lazy_message, IsKindOf};
 
 use ipdl_base::{Compress, Level};
@@ -91,16 +93,22 @@ pub fn is_lazy(message: &MessageDecl) -> bool
     }
 }
 
-/// What a message of this protocol does. It takes time in proportion to the names behind `manages`.
+/// Whether a name is among the names of `manages`.
+fn is_managed(protocol: &ProtocolDecl, name: &[u8]) -> bool
+    ensures { result ≡ list_any (λ n. bytes_eq n.name name.now) protocol.now.manages }
+{
+    let mut managed = protocol.manages.as_slice().iter();
+    managed.any(|n| n.name.as_slice() == name)
+}
+
+/// What a message of this protocol does. It takes time in proportion to the names of `manages`.
 pub fn kind_of(protocol: &ProtocolDecl, message: &MessageDecl) -> MessageKind
     ensures { IsKindOf protocol.now message.now result }
 {
     let name = message.name.as_slice();
     if name == b"__delete__".as_slice() {
-        return MessageKind::Destructor;
-    }
-    let mut managed = protocol.manages.as_slice().iter();
-    if managed.any(|n| n.name.as_slice() == name) {
+        MessageKind::Destructor
+    } else if is_managed(protocol, name) {
         MessageKind::Constructor
     } else {
         MessageKind::Normal

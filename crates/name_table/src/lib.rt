@@ -14,3 +14,6 @@ pub use decl::{DeclId, Found};
 pub use kinds::{MessageKind, compress_of, is_lazy, kind_of, message_level, protocol_level};
 pub use names::Names;
 pub use strength::Strength;
+
+#[cfg(test)]
+mod tests;

@@ -192,9 +192,9 @@ impl<'p> Names<'p> {
             if self.is_protocol(file, text, *id) {
                 match found {
                     Found::None => found = Found::One(*id),
-                    Found::One(one) => {
-                        if !are_same(one, *id) {
-                            return Found::Many(one, *id);
+                    Found::One(first) => {
+                        if !are_same(first, *id) {
+                            return Found::Many(first, *id);
                         }
                     }
                     Found::Many(_, _) => return found,

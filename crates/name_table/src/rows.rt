@@ -60,7 +60,12 @@ fn declare_usings<'p>(
     ensures { OnOk result (Lists (numbered (decl.Using file) 0 (map (λ d. d.full) usings.now)) rows.old rows.new) }
 {
     for (place, item) in usings.iter().enumerate() {
-        declare(alloc, DeclId::Using(file, place), item.full.as_slice(), rows)?;
+        declare(
+            alloc,
+            DeclId::Using(file, place),
+            item.full.as_slice(),
+            rows,
+        )?;
     }
     Ok(())
 }
@@ -75,7 +80,12 @@ fn declare_structs<'p>(
     ensures { OnOk result (Lists (numbered (decl.Struct file) 0 (map (λ d. d.full) structs.now)) rows.old rows.new) }
 {
     for (place, item) in structs.iter().enumerate() {
-        declare(alloc, DeclId::Struct(file, place), item.full.as_slice(), rows)?;
+        declare(
+            alloc,
+            DeclId::Struct(file, place),
+            item.full.as_slice(),
+            rows,
+        )?;
     }
     Ok(())
 }
@@ -90,7 +100,12 @@ fn declare_unions<'p>(
     ensures { OnOk result (Lists (numbered (decl.Union file) 0 (map (λ d. d.full) unions.now)) rows.old rows.new) }
 {
     for (place, item) in unions.iter().enumerate() {
-        declare(alloc, DeclId::Union(file, place), item.full.as_slice(), rows)?;
+        declare(
+            alloc,
+            DeclId::Union(file, place),
+            item.full.as_slice(),
+            rows,
+        )?;
     }
     Ok(())
 }
@@ -108,7 +123,12 @@ fn declare_file<'p>(
     declare_structs(alloc, file, entry.unit.structs.as_slice(), rows)?;
     declare_unions(alloc, file, entry.unit.unions.as_slice(), rows)?;
     if let Some(protocol) = &entry.unit.protocol {
-        declare(alloc, DeclId::Protocol(file), protocol.full.as_slice(), rows)?;
+        declare(
+            alloc,
+            DeclId::Protocol(file),
+            protocol.full.as_slice(),
+            rows,
+        )?;
     }
     Ok(())
 }

@@ -101,5 +101,9 @@ pub fn endpoint_of(text: &[u8]) -> Option<bool>
 pub fn word_of(managed: bool) -> &'static [u8]
     ensures { result.now ≡ endpoint_word managed }
 {
-    if managed { b"ManagedEndpoint" } else { b"Endpoint" }
+    if managed {
+        b"ManagedEndpoint"
+    } else {
+        b"Endpoint"
+    }
 }

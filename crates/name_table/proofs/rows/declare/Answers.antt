@@ -14,7 +14,7 @@ pub returns-else-front-full : goal.returns-else-front-full
 returns-else-front-full c = λ text.
     c.in_ok-list.ensures text
     ∙ ap (λ ds. row_of c.args.rows.now text ++ ds) (listed_front c.args.full.now c.before_argument-front.result.now c.short-last.result.now c.args.id c.before_argument-front.ensures c.short-last.ensures
-        (elim c.else-front-full.branch [
-          | else-front-full-via-then-front-full+else-last-full w ↦ inl (w.if-front-full.true, w.if-last-full.false)
-          | else-front-full-via-else-front-full w ↦ inr w.if-front-full.false
-        ]) text)
+    (elim c.else-front-full.branch [
+      | else-front-full-via-then-front-full+else-last-full w ↦ inl (w.if-front-full.true, w.if-last-full.false)
+      | else-front-full-via-else-front-full w ↦ inr w.if-front-full.false
+    ]) text)

@@ -15,13 +15,13 @@ other_text text bytes word differ same e = true≢false (sym ((bytes_eq-Decides 
 pub returns-else-eq-3-clause-none : goal.returns-else-eq-3-clause-none
 returns-else-eq-3-clause-none c =
     weaker_none c.named.result _ _
-      (λ none other named. elim named [
-        | inr word ↦ none other word
-        | inl full ↦ elim (full_name_cases other) [
-          | inl word ↦ none other (sym word ∙ full)
-          | inr (inl a) ↦ other_text c.args.text.now _ _ c.if-eq.ensures c.as_slice.ensures (sym a ∙ full)
-          | inr (inr (inl b)) ↦ other_text c.args.text.now _ _ c.if-eq-2.ensures c.as_slice-else-eq.ensures (sym b ∙ full)
-          | inr (inr (inr d)) ↦ other_text c.args.text.now _ _ c.if-eq-3.ensures c.as_slice-else-eq-2.ensures (sym d ∙ full)
-        ]
-      ])
-      c.named.ensures.none
+    (λ none other named. elim named [
+      | inr word ↦ none other word
+      | inl full ↦ elim (full_name_cases other) [
+        | inl word ↦ none other (sym word ∙ full)
+        | inr (inl a) ↦ other_text c.args.text.now _ _ c.if-eq.ensures c.as_slice.ensures (sym a ∙ full)
+        | inr (inr (inl b)) ↦ other_text c.args.text.now _ _ c.if-eq-2.ensures c.as_slice-else-eq.ensures (sym b ∙ full)
+        | inr (inr (inr d)) ↦ other_text c.args.text.now _ _ c.if-eq-3.ensures c.as_slice-else-eq-2.ensures (sym d ∙ full)
+      ]
+    ])
+    c.named.ensures.none

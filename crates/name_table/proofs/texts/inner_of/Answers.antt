@@ -26,6 +26,6 @@ returns-clause-some c =
     let one = c.in_ok-strip_prefix.ensures.cases in
     let two = c.in_ok-strip_prefix-2.ensures.cases in
     within c.args.whole.now c.args.front.now c.in_ok-strip_prefix.field-0.now c.in_ok-strip_prefix-2.field-0.now c.strip_suffix.result
-      (front_is c.args.front.now c.args.whole.now one.0 ∙ ap (λ r. c.args.front.now ++ r) (sym one.1))
-      (front_is (60 ∷ []) c.in_ok-strip_prefix.field-0.now two.0 ∙ ap (λ r. 60 ∷ r) (sym two.1))
-      c.strip_suffix.ensures.cases
+    (front_is c.args.front.now c.args.whole.now one.0 ∙ ap (λ r. c.args.front.now ++ r) (sym one.1))
+    (front_is (60 ∷ []) c.in_ok-strip_prefix.field-0.now two.0 ∙ ap (λ r. 60 ∷ r) (sym two.1))
+    c.strip_suffix.ensures.cases

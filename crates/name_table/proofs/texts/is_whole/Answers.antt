@@ -8,6 +8,7 @@ use Rattle.name_table.proofs.texts.is_whole.Goals as goal
 pub returns-in-Some : goal.returns-in-Some
 returns-in-Some c =
     let d = bytes_eq-Decides c.in-Some.found.now c.args.inner.now in
-    let found = c.in-Some.ensures.some in
-    (λ h. found ∙ ap (λ i. whole_name c.args.text.now (Some i)) (d.0 (sym c.eq.ensures ∙ h)),
-     λ e. c.eq.ensures ∙ d.1 (whole_name-inner c.args.text.now c.in-Some.found.now c.args.inner.now (sym found ∙ e)))
+    let found = c.in-Some.ensures.some in (
+      λ h. found ∙ ap (λ i. whole_name c.args.text.now (Some i)) (d.0 (sym c.eq.ensures ∙ h)),
+      λ e. c.eq.ensures ∙ d.1 (whole_name-inner c.args.text.now c.in-Some.found.now c.args.inner.now (sym found ∙ e)),
+    )

@@ -16,11 +16,13 @@ candidate_at program file text argument d full s c =
     (subst (IsNameOf text argument) same c.named, λ o p e. subst (λ (f : List ℕ). ¬ NamesBuiltin program file f) same (c.own o p e))
 
 pub returns-then-is_name_of : goal.returns-then-is_name_of
-returns-then-is_name_of c =
-    (λ h. record { full = c.in-Some.full.now; seen = c.in-Some.ensures.some; named = c.is_name_of.ensures.0 c.if-is_name_of.true; own = c.is_own.ensures.0 h },
-     λ h. c.is_own.ensures.1 (candidate_at c.args.self.now c.args.file c.args.text.now _ c.args.id c.in-Some.full.now c.in-Some.ensures.some h).1)
+returns-then-is_name_of c = (
+  λ h. record { full = c.in-Some.full.now; seen = c.in-Some.ensures.some; named = c.is_name_of.ensures.0 c.if-is_name_of.true; own = c.is_own.ensures.0 h },
+  λ h. c.is_own.ensures.1 (candidate_at c.args.self.now c.args.file c.args.text.now _ c.args.id c.in-Some.full.now c.in-Some.ensures.some h).1,
+)
 
 pub returns-else-is_name_of : goal.returns-else-is_name_of
-returns-else-is_name_of c =
-    (λ h. absurd (true≢false (sym h ∙ c.if-is_name_of.false)),
-     λ h. c.is_name_of.ensures.1 (candidate_at c.args.self.now c.args.file c.args.text.now _ c.args.id c.in-Some.full.now c.in-Some.ensures.some h).0)
+returns-else-is_name_of c = (
+  λ h. absurd (true≢false (sym h ∙ c.if-is_name_of.false)),
+  λ h. c.is_name_of.ensures.1 (candidate_at c.args.self.now c.args.file c.args.text.now _ c.args.id c.in-Some.full.now c.in-Some.ensures.some h).0,
+)

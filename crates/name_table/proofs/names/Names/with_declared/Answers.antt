@@ -19,7 +19,7 @@ new_found : (program : List Entry) (file : ℕ) (text : List ℕ) (argument : Op
     → ((u : DeclId) → Contains (take k row) u → IsCandidate program file text argument u → AreOne program d u → ⊥) → Finds program file text argument d
 new_found program file text argument row k d same below at c new =
     finds_new program file text argument k d (subst (λ (r : List DeclId). k < length r) same below) (subst (λ (r : List DeclId). d ≡ get_or r k d) same at) c
-      (subst (λ (r : List DeclId). (u : DeclId) → Contains (take k r) u → IsCandidate program file text argument u → AreOne program d u → ⊥) same new)
+    (subst (λ (r : List DeclId). (u : DeclId) → Contains (take k r) u → IsCandidate program file text argument u → AreOne program d u → ⊥) same new)
 
 pub loop-id-init : goal.loop-id-init
 loop-id-init c =
@@ -37,11 +37,12 @@ returns-then-not-are_one c =
     let d = get_or row k (Builtin Bool) in
     let at = item_at row k (Builtin Bool) c.loop-id-test.true in
     let t = subst (λ (f : Found). Tally F (λ e. IsBuiltinOrEndpoint e × F e) C (AreOne program) (take k row) f) c.in-One.is c.loop-id.invariant in
-    let apart : ¬ AreOne program c.in-One.one d = λ h. true≢false (sym (c.are_one.ensures.1 h) ∙ c.if-not-are_one.true) in
-    (t.0,
-     new_found program c.args.file c.args.text.now argument row k d c.row-id-items.ensures c.loop-id-test.true at (c.is_candidate.ensures.0 c.if-is_candidate.true)
-       (λ u there is one. apart (one_through program c.in-One.one d u (t.2 u there is) one)),
-     λ e. apart (inl e))
+    let apart : ¬ AreOne program c.in-One.one d = λ h. true≢false (sym (c.are_one.ensures.1 h) ∙ c.if-not-are_one.true) in (
+      t.0,
+      new_found program c.args.file c.args.text.now argument row k d c.row-id-items.ensures c.loop-id-test.true at (c.is_candidate.ensures.0 c.if-is_candidate.true)
+          (λ u there is one. apart (one_through program c.in-One.one d u (t.2 u there is) one)),
+      λ e. apart (inl e),
+    )
 
 pub loop-id-preserved : goal.loop-id-preserved
 loop-id-preserved c =
@@ -58,15 +59,15 @@ loop-id-preserved c =
     let at = item_at row k (Builtin Bool) below in
     elim c.if-is_candidate.branch [
       | then-is_candidate+in-None w ↦
-        (let t = subst (λ (f : Found). Tally F B C E (take k row) f) w.in-None.is c.loop-id.invariant in
-        let is = new_found program c.args.file c.args.text.now argument row k d c.row-id-items.ensures below at (c.is_candidate.ensures.0 w.if-is_candidate.true) (λ u there h one. t.1 u there h) in
-        subst (λ (f : Found). Tally F B C E (take (k + 1) row) f) (sym w.found-is) (tally_first F B C E row k d below at (inl refl) is t))
+          (let t = subst (λ (f : Found). Tally F B C E (take k row) f) w.in-None.is c.loop-id.invariant in
+          let is = new_found program c.args.file c.args.text.now argument row k d c.row-id-items.ensures below at (c.is_candidate.ensures.0 w.if-is_candidate.true) (λ u there h one. t.1 u there h) in
+          subst (λ (f : Found). Tally F B C E (take (k + 1) row) f) (sym w.found-is) (tally_first F B C E row k d below at (inl refl) is t))
       | then-is_candidate+in-One+else-not-are_one w ↦
-        (let t = subst (λ (f : Found). Tally F B C E (take k row) f) w.in-One.is c.loop-id.invariant in
-        subst (λ (f : Found). Tally F B C E (take (k + 1) row) f) (sym w.found-is) (tally_same F B C E row k w.in-One.one d below at (w.are_one.ensures.0 w.if-not-are_one.false) t))
+          (let t = subst (λ (f : Found). Tally F B C E (take k row) f) w.in-One.is c.loop-id.invariant in
+          subst (λ (f : Found). Tally F B C E (take (k + 1) row) f) (sym w.found-is) (tally_same F B C E row k w.in-One.one d below at (w.are_one.ensures.0 w.if-not-are_one.false) t))
       | else-is_candidate w ↦
-        subst (λ (f : Found). Tally F B C E (take (k + 1) row) f) (sym w.found-is)
-        (tally_miss F B C E row k d c.loop-id.found below at (λ h. true≢false (sym (c.is_candidate.ensures.1 h) ∙ w.if-is_candidate.false)) c.loop-id.invariant)
+          subst (λ (f : Found). Tally F B C E (take (k + 1) row) f) (sym w.found-is)
+          (tally_miss F B C E row k d c.loop-id.found below at (λ h. true≢false (sym (c.is_candidate.ensures.1 h) ∙ w.if-is_candidate.false)) c.loop-id.invariant)
     ]
 
 pub returns : goal.returns
@@ -75,4 +76,4 @@ returns c =
     let argument = option_map (λ inner. inner.now) c.args.argument in
     let F = Finds program c.args.file c.args.text.now argument in
     counted F (λ (e : DeclId). IsBuiltinOrEndpoint e × F e) (IsCandidate program c.args.file c.args.text.now argument) (AreOne program) c.row-id-items.result.now _ c.loop-id.id-index c.loop-id.found c.row-id-items.ensures c.loop-id-test.false
-      (found_covered program c.args.file c.args.text.now argument) (found_once program c.args.file c.args.text.now argument) c.loop-id.invariant
+    (found_covered program c.args.file c.args.text.now argument) (found_once program c.args.file c.args.text.now argument) c.loop-id.invariant

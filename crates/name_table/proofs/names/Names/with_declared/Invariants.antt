@@ -7,4 +7,4 @@ use Rattle.name_table.proofs.names.Names.with_declared.Given as goal
 abbrev pub invariant-loop-id : goal.invariant-loop-id
 invariant-loop-id l =
     Tally (Finds l.self l.file l.text (option_map (λ inner. inner.now) l.argument)) (λ d. IsBuiltinOrEndpoint d × Finds l.self l.file l.text (option_map (λ inner. inner.now) l.argument) d)
-      (IsCandidate l.self l.file l.text (option_map (λ inner. inner.now) l.argument)) (AreOne l.self) (take l.id-index l.id-items) l.found
+    (IsCandidate l.self l.file l.text (option_map (λ inner. inner.now) l.argument)) (AreOne l.self) (take l.id-index l.id-items) l.found
