@@ -1,5 +1,5 @@
 -- No two builtin types share a name.
-use Rattle.std.proofs.Common.{◌≡◌, ◌⊎◌, inl, inr, ◌∙◌, List, [], ◌∷◌, Option, Some, None, refl, sym, ap, find, option_map, codes, ℕ}
+use Rattle.std.proofs.Common.{◌≡◌, ◌⊎◌, inl, inr, ◌∙◌, List, [], ◌∷◌, Option, Some, None, refl, sym, ap, find, codes, ℕ}
 use Rattle.std.specs.Str.{bytes_eq}
 use Rattle.ipdl_base.specs.Builtins.{builtin_name}
 use Rattle.ipdl_base.specs.declared.builtin.Builtin.{Builtin}

@@ -1,5 +1,5 @@
 -- How a look-up counts what a name finds.
-use Rattle.std.proofs.Common.{◌≡◌, ◌≢◌, ◌⊎◌, inl, inr, ◌∙◌, ◌<◌, ◌≤◌, ◌+◌, ℕ, Bool, true, false, List, [], ◌∷◌, ◌++◌, length, take, get_or, Option, Some, None, IsSomeAnd, refl, sym, ap, subst, arith}
+use Rattle.std.proofs.Common.{◌≡◌, ◌≢◌, ◌⊎◌, inl, inr, ◌∙◌, ◌<◌, ◌≤◌, ◌+◌, ℕ, Bool, true, false, List, [], ◌∷◌, ◌++◌, length, take, get_or, Option, Some, None, refl, sym, ap, subst, arith}
 use Rattle.std.specs.List.{Contains}
 use Rattle.std.proofs.lemmas.Bool.{cases_lt}
 use Rattle.std.proofs.lemmas.List.{take_more, take_all}
@@ -12,13 +12,13 @@ use Rattle.name_table.specs.declared.decl.Found.{Found}
 use Rattle.name_table.specs.declared.decl.Found.TheVariants as found
 use Rattle.name_table.specs.Candidates.{IsCandidate, AreOne, IsBuiltinOrEndpoint}
 use Rattle.name_table.specs.Declares.{full_name_of}
-use Rattle.name_table.specs.Finds.{IsNameOf, IsBefore, IsFirst, FindsUsing, Finds, FindsAsProtocol, Counts, endpoint_word, IsNameOfBuiltin}
+use Rattle.name_table.specs.Finds.{IsBefore, FindsUsing, Finds, FindsAsProtocol, Counts, endpoint_word, IsNameOfBuiltin}
 use Rattle.ipdl_base.specs.declared.builtin.Builtin.{Builtin as BuiltinType}
 use Rattle.name_table.proofs.BuiltinNames.{one_builtin}
 use Rattle.name_table.specs.Rows.{declared_from, listed_under}
 use Rattle.name_table.specs.Visible.{Sees}
 use Rattle.name_table.proofs.Order.{in_none, in_cons, in_row, row_order, comes_before}
-use Rattle.name_table.proofs.Seeing.{sees_shown, seen_once}
+use Rattle.name_table.proofs.Seeing.{sees_shown}
 
 -- What was found after some of a row: of the candidates there, and of what was found before the row. F is what is to be found,
 -- B what was found before, C the candidates, and E says that two are one.

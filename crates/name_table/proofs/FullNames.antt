@@ -1,12 +1,11 @@
 -- Full names, their parts and their short names.
-use Rattle.std.proofs.Common.{◌≡◌, ◌≢◌, ◌⊎◌, inl, inr, ◌∙◌, ℕ, zero, suc, ◌+◌, ◌-◌, ◌<◌, ◌≤◌, Bool, true, false, true≢false, cond, List, [], ◌∷◌, ◌++◌, length, take, drop, Option, Some, None, refl, sym, ap, subst, arith, not, position, nat_eq, ◌||◌, append_assoc, get_or, Bor}
-use Rattle.std.specs.Prelude.{if◌then◌else◌, IfSome, IfNone, ◌==◌, MatchOption}
+use Rattle.std.proofs.Common.{◌≡◌, ◌⊎◌, inl, inr, ◌∙◌, ℕ, zero, suc, ◌+◌, ◌-◌, ◌<◌, Bool, true, false, true≢false, cond, List, [], ◌∷◌, ◌++◌, length, take, drop, Option, Some, None, refl, sym, ap, subst, arith, not, position, nat_eq, ◌||◌, append_assoc}
+use Rattle.std.specs.Prelude.{if◌then◌else◌, ◌==◌}
 use Rattle.std.specs.List.{Contains, list_any, before_first, position_from, prefix_len}
 use Rattle.std.specs.Cmp.Lexicographic.{pointwise}
 use Rattle.std.proofs.lemmas.Bool.Decides.{eqb_tells}
 use Rattle.std.proofs.lemmas.Iterator.Adapters.{position_from-zero}
 use Rattle.std.proofs.lemmas.List.{take-append-drop, take_all, length-drop, append_cancel_left, append_cancel_right}
-use Rattle.std.proofs.lemmas.List.Elements.{Contains-append_right}
 use Rattle.std.proofs.lemmas.List.Prefix.{end_rest}
 use Rattle.std.proofs.lemmas.Slice.Eq.{bytes_eq-Decides}
 use Rattle.std.proofs.Math.Seq.{take-append_seam}
@@ -203,7 +202,3 @@ pub whole_name-front : (text : List ℕ) (argument : Option (List ℕ)) → ¬ C
 whole_name-front text None none = before_first-all (λ b. b == 60) text (contains_not 60 text none)
 whole_name-front text (Some inner) none =
     ap (before_first (λ b. b == 60)) (whole_name-parts text inner) ∙ before_first-append (λ b. b == 60) text 60 (inner ++ 62 ∷ []) (contains_not 60 text none) refl
-
--- where a text has a `<` and an argument, so has the whole
-pub whole_name-open : (text inner : List ℕ) → Contains (whole_name text (Some inner)) 60
-whole_name-open text inner = subst (λ (w : List ℕ). Contains w 60) (sym (whole_name-parts text inner)) (Contains-append_right text (60 ∷ (inner ++ 62 ∷ [])) 60 (0, omega arith, refl))

@@ -6,3 +6,4 @@ pub mod BuiltinNames
 pub mod Seeing
 pub mod Order
 pub mod Counting
+pub mod WorkedNames

@@ -1,5 +1,5 @@
 -- How rows grow.
-use Rattle.std.proofs.Common.{◌≡◌, ◌⊎◌, inl, inr, ◌∙◌, ◌<◌, ◌≤◌, ◌+◌, ◌||◌, ◌&&◌, not, arith, add-zero, length, take, get_or, ℕ, Bool, true, false, List, [], ◌∷◌, ◌++◌, Option, Some, None, refl, sym, ap, subst, cond, unwrap_or, option_map, append-nil, append_assoc, map, filter}
+use Rattle.std.proofs.Common.{◌≡◌, ◌⊎◌, inl, inr, ◌∙◌, ◌<◌, ◌≤◌, ◌+◌, ◌||◌, ◌&&◌, not, arith, add-zero, length, take, get_or, ℕ, Bool, true, false, List, [], ◌∷◌, ◌++◌, Option, Some, refl, sym, ap, subst, cond, unwrap_or, option_map, append-nil, append_assoc, map, filter}
 use Rattle.std.specs.Prelude.{if◌then◌else◌, ◌==◌}
 use Rattle.std.specs.List.{before_first, list_any}
 use Rattle.ipdl_base.specs.Words.{short_name}
@@ -10,7 +10,7 @@ use Rattle.std.specs.declared.alloc.Global.{Global}
 use Rattle.std.specs.declared.vec.Vec.{Vec}
 use Rattle.std.proofs.lemmas.List.{take_more, map-append, length-map, length-take}
 use Rattle.std.proofs.lemmas.Slice.Eq.{bytes_eq-Decides}
-use Rattle.indexmap.specs.IndexMap.{IndexMap, get, get_by}
+use Rattle.indexmap.specs.IndexMap.{IndexMap, get_by}
 use Rattle.ipdl_syntax.specs.declared.program.Entry.{Entry}
 use Rattle.name_table.specs.declared.decl.DeclId.{DeclId}
 use Rattle.name_table.specs.declared.decl.DeclId.TheVariants.{Using, Struct, Union}

@@ -1,9 +1,9 @@
 -- How marks grow, and why marks that are closed are on all that is reached.
-use Rattle.std.proofs.Common.{◌≡◌, ◌≢◌, ◌⊎◌, ◌∙◌, inl, inr, ◌≤◌, ◌<◌, ◌+◌, ◌*◌, ℕ, zero, suc, Bool, true, false, List, [], ◌∷◌, ◌++◌, length, get_or, refl, sym, ap, subst, arith, Option, Some, None, IsSomeAnd, is_some, not, length-append, cond, eqb, true≢false, slice_get}
+use Rattle.std.proofs.Common.{◌≡◌, ◌≢◌, ◌⊎◌, ◌∙◌, inl, inr, ◌<◌, ◌+◌, ℕ, zero, suc, Bool, true, false, List, [], ◌∷◌, ◌++◌, length, get_or, refl, sym, ap, subst, arith, Option, Some, None, IsSomeAnd, is_some, not, length-append, cond, eqb, true≢false, slice_get}
 use Rattle.std.proofs.lemmas.Bool.Decides.{eqb_tells}
 use Rattle.std.proofs.lemmas.Bool.{cases_lt}
 use Rattle.std.proofs.Math.ListN.{get_or-eq_default}
-use Rattle.std.specs.List.{Contains, slice_set, slice_index_or, sum_by}
+use Rattle.std.specs.List.{Contains, slice_set, slice_index_or}
 use Rattle.std.proofs.lemmas.List.{get_or-set_same, get_or-set_other, length-set}
 use Rattle.std.proofs.lemmas.List.Sums.{sum_by-set}
 use Rattle.std.proofs.lemmas.List.Elements.{Contains-append_left, Contains-append_right, Contains-append_cases}
@@ -23,19 +23,6 @@ marked_within marks n h = elim (cases_lt n (length marks)) [
   | inl below ↦ below
   | inr above ↦ absurd (true≢false (sym h ∙ get_or-eq_default marks false above))
 ]
-
--- nothing was marked
-pub marks_none : (marks : List Bool) (work : List ℕ) → Marks [] marks work marks work
-marks_none marks work = record {
-  size = refl;
-  kept = λ n h. h;
-  marked = λ n c b. let k = c.1 in absurd (omega arith);
-  only = λ n h. inl h;
-  added = λ n h. inl h;
-  stays = λ n c. c;
-  told = λ n c. inl c;
-  less = omega arith;
-}
 
 new_or_old : (x n : ℕ) (marks : List Bool) → IsMarked (slice_set marks x true) n → IsMarked marks n ⊎ (n ≡ x)
 new_or_old x n marks h = go (eqb_tells n x)
@@ -71,19 +58,6 @@ marks_new x marks work within bare =
           let one : f (get_or marks x false) ≡ 1 = e in
           omega (arith, length-append work (x ∷ []), w, one);
     }
-
--- what is no file, or has a mark
-pub marks_same : (x : ℕ) (marks : List Bool) (work : List ℕ) → (x < length marks → IsMarked marks x) → Marks (x ∷ []) marks work marks work
-marks_same x marks work has = record {
-  size = refl;
-  kept = λ n h. h;
-  marked = λ n c b. subst (IsMarked marks) (sym (the_one x n c)) (has (subst (λ k. k < length marks) (the_one x n c) b));
-  only = λ n h. inl h;
-  added = λ n h. inl h;
-  stays = λ n c. c;
-  told = λ n c. inl c;
-  less = omega arith;
-}
 
 -- first these are marked, and then those
 pub marks_more : (these those : List ℕ) (a : List Bool) (u : List ℕ) (b : List Bool) (v : List ℕ) (c : List Bool) (w : List ℕ)

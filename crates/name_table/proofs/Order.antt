@@ -1,17 +1,16 @@
 -- What is listed, and in which order.
-use Rattle.std.proofs.Common.{◌≡◌, ◌≢◌, ◌⊎◌, inl, inr, ◌∙◌, ◌<◌, ◌≤◌, ◌+◌, ℕ, zero, suc, Bool, true, false, true≢false, cond, ◌||◌, ◌&&◌, not, List, [], ◌∷◌, ◌++◌, length, take, get_or, map, filter, Option, Some, None, slice_get, option_map, refl, sym, ap, subst, arith}
+use Rattle.std.proofs.Common.{◌≡◌, ◌⊎◌, inl, inr, ◌∙◌, ◌<◌, ◌≤◌, ◌+◌, ℕ, zero, suc, Bool, true, false, true≢false, cond, ◌||◌, ◌&&◌, not, List, [], ◌∷◌, ◌++◌, length, take, get_or, map, filter, Option, Some, None, slice_get, option_map, refl, sym, ap, subst, arith}
 use Rattle.std.specs.Prelude.{option_and_then, ◌==◌}
 use Rattle.std.specs.List.{Contains, list_any, before_first}
 use Rattle.std.specs.Str.{bytes_eq}
 use Rattle.std.proofs.lemmas.List.Elements.{Contains-append_left, Contains-append_right, Contains-append_cases}
 use Rattle.std.proofs.lemmas.Option.{slice_get-map}
 use Rattle.ipdl_base.specs.Words.{short_name}
-use Rattle.ipdl_syntax.specs.Grammar.{whole_name}
 use Rattle.ipdl_syntax.specs.declared.program.Entry.{Entry}
 use Rattle.ipdl_syntax.specs.declared.tree.ProtocolDecl.{ProtocolDecl}
 use Rattle.name_table.specs.declared.decl.DeclId.{DeclId}
 use Rattle.name_table.specs.declared.decl.DeclId.TheVariants.{Builtin, Using, Struct, Union, Protocol, Endpoint}
-use Rattle.name_table.specs.Declares.{file_of, full_name_in, full_name_of, Declares}
+use Rattle.name_table.specs.Declares.{file_of, full_name_in, Declares}
 use Rattle.name_table.specs.Finds.{IsBefore, IsNameOf}
 use Rattle.name_table.specs.Rows.{numbered, protocol_in, declared_in, declared_from, is_listed_under, listed_under}
 use Rattle.name_table.proofs.FullNames.{whole_name-front, contains_not}

@@ -1,5 +1,5 @@
 -- A file sees what is declared in the files that are reached from it.
-use Rattle.std.proofs.Common.{◌≡◌, ◌⊎◌, inl, inr, ◌∙◌, ◌<◌, ◌≤◌, ℕ, zero, suc, Bool, true, false, List, [], ◌∷◌, length, arith, get_or, Vec, Global, Option, Some, None, IsSomeAnd, slice_get, refl, sym, ap, subst, option_map, map}
+use Rattle.std.proofs.Common.{◌≡◌, inl, inr, ◌∙◌, ◌<◌, ◌≤◌, ℕ, Bool, true, false, List, length, arith, get_or, Vec, Global, Option, Some, None, IsSomeAnd, slice_get, refl, sym, ap, subst, option_map, map}
 use Rattle.std.specs.Prelude.{option_and_then}
 use Rattle.std.specs.List.{slice_index_or}
 use Rattle.std.proofs.lemmas.List.{length-map}

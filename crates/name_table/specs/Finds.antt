@@ -1,5 +1,5 @@
 -- What a name finds in a file.
-use Rattle.std.specs.Prelude.{◌≡◌, ◌≢◌, ◌<◌, ◌⊎◌, ℕ, Bool, true, false, List, ◌++◌, Option, Some, None, IsSomeAnd, codes}
+use Rattle.std.specs.Prelude.{◌≡◌, ◌≢◌, ◌<◌, ◌⊎◌, ℕ, Bool, true, false, List, Option, Some, None, IsSomeAnd, codes}
 use Rattle.std.specs.List.{Contains}
 use Rattle.ipdl_base.specs.Builtins.{builtin_name}
 use Rattle.ipdl_base.specs.Words.{short_name}

@@ -1,5 +1,5 @@
 -- What attributes, `manages` and semantics make of messages and protocols.
-use Rattle.std.specs.Prelude.{◌≡◌, ◌⊎◌, ◌≤◌, ℕ, Bool, true, false, if◌then◌else◌, List, Option, Some, None, find, codes, option_and_then, is_none}
+use Rattle.std.specs.Prelude.{◌≡◌, ◌⊎◌, ◌≤◌, ℕ, Bool, false, if◌then◌else◌, List, Option, Some, None, find, codes, option_and_then, is_none}
 use Rattle.std.specs.List.{list_any}
 use Rattle.std.specs.Str.{bytes_eq}
 use Rattle.ipdl_base.specs.declared.kinds.Compress.{Compress}

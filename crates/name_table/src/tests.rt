@@ -81,79 +81,92 @@ fn entry(
     })
 }
 
-fn usings(alloc: Global, fulls: &[&[u8]]) -> Result<Vec<Using>, AllocError> {
-    let mut all = Vec::new(alloc);
-    for full in fulls {
-        all.push(using(alloc, name(alloc, full)?))?;
-    }
-    Ok(all)
+fn one_using(alloc: Global, full: &[u8], all: &mut Vec<Using>) -> Result<(), AllocError> {
+    Ok(all.push(using(alloc, name(alloc, full)?))?)
 }
 
-fn structs(alloc: Global, fulls: &[&[u8]]) -> Result<Vec<StructDecl>, AllocError> {
-    let mut all = Vec::new(alloc);
-    for full in fulls {
-        all.push(structure(alloc, name(alloc, full)?))?;
-    }
-    Ok(all)
+fn one_struct(alloc: Global, full: &[u8], all: &mut Vec<StructDecl>) -> Result<(), AllocError> {
+    Ok(all.push(structure(alloc, name(alloc, full)?))?)
 }
 
-fn unions(alloc: Global, fulls: &[&[u8]]) -> Result<Vec<UnionDecl>, AllocError> {
-    let mut all = Vec::new(alloc);
-    for full in fulls {
-        all.push(union(alloc, name(alloc, full)?))?;
-    }
-    Ok(all)
+fn one_union(alloc: Global, full: &[u8], all: &mut Vec<UnionDecl>) -> Result<(), AllocError> {
+    Ok(all.push(union(alloc, name(alloc, full)?))?)
 }
 
-/// `PA.ipdl` includes the headers `H` and `G`, which include one another, and `PB.ipdl`; nothing includes `PC.ipdl`.
-fn small(alloc: Global) -> Result<Program, AllocError> {
-    let mut all = Vec::new(alloc);
-    all.push(entry(
-        alloc,
-        &[1, 3],
-        usings(
-            alloc,
-            &[b"A::T<int>", b"x::int32_t", b"ByteBuf", b"Endpoint"],
-        )?,
-        structs(alloc, &[b"N::S"])?,
-        unions(alloc, &[b"N::E"])?,
-        Some(protocol(alloc, name(alloc, b"N::PA")?)),
-    )?)?;
-    all.push(entry(
-        alloc,
-        &[2],
-        usings(alloc, &[b"q::U", b"Endpoint<PB>", b"Endpoint<PZ>"])?,
-        structs(alloc, &[b"M::S"])?,
-        unions(alloc, &[])?,
-        None,
-    )?)?;
-    all.push(entry(
-        alloc,
-        &[1],
-        usings(
-            alloc,
-            &[b"q::U", b"r::U2", b"mozilla::ipc::ManagedEndpoint"],
-        )?,
-        structs(alloc, &[b"D"])?,
-        unions(alloc, &[b"D"])?,
-        None,
-    )?)?;
-    all.push(entry(
+/// `PA.ipdl`, which includes the header `H` and `PB.ipdl`.
+fn file_a(alloc: Global) -> Result<Entry, AllocError> {
+    let mut usings = Vec::new(alloc);
+    one_using(alloc, b"A::T<int>", &mut usings)?;
+    one_using(alloc, b"x::int32_t", &mut usings)?;
+    one_using(alloc, b"ByteBuf", &mut usings)?;
+    one_using(alloc, b"Endpoint", &mut usings)?;
+    let mut structs = Vec::new(alloc);
+    one_struct(alloc, b"N::S", &mut structs)?;
+    let mut unions = Vec::new(alloc);
+    one_union(alloc, b"N::E", &mut unions)?;
+    let held = protocol(alloc, name(alloc, b"N::PA")?);
+    entry(alloc, &[1, 3], usings, structs, unions, Some(held))
+}
+
+/// The header `H`, which includes `G`.
+fn file_h(alloc: Global) -> Result<Entry, AllocError> {
+    let mut usings = Vec::new(alloc);
+    one_using(alloc, b"q::U", &mut usings)?;
+    one_using(alloc, b"Endpoint<PB>", &mut usings)?;
+    one_using(alloc, b"Endpoint<PZ>", &mut usings)?;
+    let mut structs = Vec::new(alloc);
+    one_struct(alloc, b"M::S", &mut structs)?;
+    entry(alloc, &[2], usings, structs, Vec::new(alloc), None)
+}
+
+/// The header `G`, which includes `H`.
+fn file_g(alloc: Global) -> Result<Entry, AllocError> {
+    let mut usings = Vec::new(alloc);
+    one_using(alloc, b"q::U", &mut usings)?;
+    one_using(alloc, b"r::U2", &mut usings)?;
+    one_using(alloc, b"mozilla::ipc::ManagedEndpoint", &mut usings)?;
+    let mut structs = Vec::new(alloc);
+    one_struct(alloc, b"D", &mut structs)?;
+    let mut unions = Vec::new(alloc);
+    one_union(alloc, b"D", &mut unions)?;
+    entry(alloc, &[1], usings, structs, unions, None)
+}
+
+/// `PB.ipdl`, which includes nothing.
+fn file_b(alloc: Global) -> Result<Entry, AllocError> {
+    let mut structs = Vec::new(alloc);
+    one_struct(alloc, b"Hidden", &mut structs)?;
+    let held = protocol(alloc, name(alloc, b"PB")?);
+    entry(
         alloc,
         &[],
-        usings(alloc, &[])?,
-        structs(alloc, &[b"Hidden"])?,
-        unions(alloc, &[])?,
-        Some(protocol(alloc, name(alloc, b"PB")?)),
-    )?)?;
-    all.push(entry(
+        Vec::new(alloc),
+        structs,
+        Vec::new(alloc),
+        Some(held),
+    )
+}
+
+/// `PC.ipdl`, which includes `PA.ipdl` and `PB.ipdl`.
+fn file_c(alloc: Global) -> Result<Entry, AllocError> {
+    let held = protocol(alloc, name(alloc, b"O::PB")?);
+    entry(
         alloc,
         &[0, 3],
-        usings(alloc, &[])?,
-        structs(alloc, &[])?,
-        unions(alloc, &[])?,
-        Some(protocol(alloc, name(alloc, b"O::PB")?)),
-    )?)?;
+        Vec::new(alloc),
+        Vec::new(alloc),
+        Vec::new(alloc),
+        Some(held),
+    )
+}
+
+fn small(alloc: Global) -> Result<Program, AllocError> {
+    let mut all = Vec::new(alloc);
+    all.push(file_a(alloc)?)?;
+    all.push(file_h(alloc)?)?;
+    all.push(file_g(alloc)?)?;
+    all.push(file_b(alloc)?)?;
+    all.push(file_c(alloc)?)?;
     Ok(Items::from_vec(all))
 }
 
@@ -172,85 +185,276 @@ fn found(
     Ok(names.find(file, &text, Some(&argument)))
 }
 
+fn finds(
+    rt: &impl Abort,
+    alloc: Global,
+    names: &Names<'_>,
+    file: u32,
+    text: &[u8],
+    argument: &[u8],
+    expected: Found,
+) -> Result<(), AllocError> {
+    assert_eq!(rt; found(alloc, names, file, text, argument)?, expected);
+    Ok(())
+}
+
+fn structs_and_unions(rt: &impl Abort, alloc: Global, names: &Names<'_>) -> Result<(), AllocError> {
+    finds(
+        rt,
+        alloc,
+        names,
+        0,
+        b"N::S",
+        b"",
+        Found::One(DeclId::Struct(0, 0)),
+    )?;
+    finds(
+        rt,
+        alloc,
+        names,
+        0,
+        b"S",
+        b"",
+        Found::Many(DeclId::Struct(0, 0), DeclId::Struct(1, 0)),
+    )?;
+    finds(
+        rt,
+        alloc,
+        names,
+        0,
+        b"M::S",
+        b"",
+        Found::One(DeclId::Struct(1, 0)),
+    )?;
+    finds(
+        rt,
+        alloc,
+        names,
+        1,
+        b"S",
+        b"",
+        Found::One(DeclId::Struct(1, 0)),
+    )?;
+    finds(
+        rt,
+        alloc,
+        names,
+        0,
+        b"E",
+        b"",
+        Found::One(DeclId::Union(0, 0)),
+    )?;
+    finds(
+        rt,
+        alloc,
+        names,
+        0,
+        b"D",
+        b"",
+        Found::Many(DeclId::Struct(2, 0), DeclId::Union(2, 0)),
+    )?;
+    finds(rt, alloc, names, 0, b"Hidden", b"", Found::None)?;
+    finds(
+        rt,
+        alloc,
+        names,
+        3,
+        b"Hidden",
+        b"",
+        Found::One(DeclId::Struct(3, 0)),
+    )?;
+    Ok(())
+}
+
+fn usings(rt: &impl Abort, alloc: Global, names: &Names<'_>) -> Result<(), AllocError> {
+    finds(
+        rt,
+        alloc,
+        names,
+        0,
+        b"U",
+        b"",
+        Found::One(DeclId::Using(1, 0)),
+    )?;
+    finds(
+        rt,
+        alloc,
+        names,
+        2,
+        b"q::U",
+        b"",
+        Found::One(DeclId::Using(1, 0)),
+    )?;
+    finds(
+        rt,
+        alloc,
+        names,
+        0,
+        b"U2",
+        b"",
+        Found::One(DeclId::Using(2, 1)),
+    )?;
+    finds(
+        rt,
+        alloc,
+        names,
+        0,
+        b"A::T",
+        b"int",
+        Found::One(DeclId::Using(0, 0)),
+    )?;
+    finds(rt, alloc, names, 0, b"T", b"int", Found::None)?;
+    finds(rt, alloc, names, 0, b"T", b"", Found::None)?;
+    finds(
+        rt,
+        alloc,
+        names,
+        0,
+        b"int32_t",
+        b"",
+        Found::Many(DeclId::Builtin(Builtin::Int32), DeclId::Using(0, 1)),
+    )?;
+    finds(
+        rt,
+        alloc,
+        names,
+        0,
+        b"ByteBuf",
+        b"",
+        Found::One(DeclId::Builtin(Builtin::ByteBuf)),
+    )?;
+    finds(
+        rt,
+        alloc,
+        names,
+        0,
+        b"mozilla::ipc::ByteBuf",
+        b"",
+        Found::One(DeclId::Builtin(Builtin::ByteBuf)),
+    )?;
+    Ok(())
+}
+
+fn protocols(rt: &impl Abort, alloc: Global, names: &Names<'_>) -> Result<(), AllocError> {
+    finds(
+        rt,
+        alloc,
+        names,
+        0,
+        b"PA",
+        b"",
+        Found::One(DeclId::Protocol(0)),
+    )?;
+    finds(
+        rt,
+        alloc,
+        names,
+        0,
+        b"PB",
+        b"",
+        Found::One(DeclId::Protocol(3)),
+    )?;
+    finds(rt, alloc, names, 1, b"PB", b"", Found::None)?;
+    finds(
+        rt,
+        alloc,
+        names,
+        4,
+        b"PB",
+        b"",
+        Found::Many(DeclId::Protocol(3), DeclId::Protocol(4)),
+    )?;
+    finds(
+        rt,
+        alloc,
+        names,
+        4,
+        b"O::PB",
+        b"",
+        Found::One(DeclId::Protocol(4)),
+    )?;
+    finds(
+        rt,
+        alloc,
+        names,
+        0,
+        b"bool",
+        b"",
+        Found::One(DeclId::Builtin(Builtin::Bool)),
+    )?;
+    Ok(())
+}
+
+fn endpoints(rt: &impl Abort, alloc: Global, names: &Names<'_>) -> Result<(), AllocError> {
+    finds(rt, alloc, names, 0, b"Endpoint", b"", Found::None)?;
+    finds(
+        rt,
+        alloc,
+        names,
+        0,
+        b"ManagedEndpoint",
+        b"",
+        Found::One(DeclId::Using(2, 2)),
+    )?;
+    finds(
+        rt,
+        alloc,
+        names,
+        0,
+        b"Endpoint",
+        b"PB",
+        Found::One(DeclId::Endpoint(3, false)),
+    )?;
+    finds(
+        rt,
+        alloc,
+        names,
+        1,
+        b"Endpoint",
+        b"PB",
+        Found::One(DeclId::Using(1, 1)),
+    )?;
+    finds(
+        rt,
+        alloc,
+        names,
+        4,
+        b"Endpoint",
+        b"PB",
+        Found::Many(DeclId::Endpoint(3, false), DeclId::Endpoint(4, false)),
+    )?;
+    finds(
+        rt,
+        alloc,
+        names,
+        0,
+        b"ManagedEndpoint",
+        b"N::PA",
+        Found::One(DeclId::Endpoint(0, true)),
+    )?;
+    finds(
+        rt,
+        alloc,
+        names,
+        0,
+        b"Endpoint",
+        b"PZ",
+        Found::One(DeclId::Using(1, 2)),
+    )?;
+    finds(rt, alloc, names, 0, b"Endpoint", b"Nope", Found::None)?;
+    Ok(())
+}
+
 #[test]
 fn names_find_what_is_seen(rt: HostRuntime) -> Result<(), Fail> {
     let alloc = rt.alloc();
     let program = small(alloc)?;
     assert!(rt; program.len() <= 4096);
     let names = Names::build(alloc, &program)?;
-    let table: [(u32, &[u8], &[u8], Found); 28] = [
-        (0, b"N::S", b"", Found::One(DeclId::Struct(0, 0))),
-        (
-            0,
-            b"S",
-            b"",
-            Found::Many(DeclId::Struct(0, 0), DeclId::Struct(1, 0)),
-        ),
-        (0, b"M::S", b"", Found::One(DeclId::Struct(1, 0))),
-        (1, b"S", b"", Found::One(DeclId::Struct(1, 0))),
-        (0, b"E", b"", Found::One(DeclId::Union(0, 0))),
-        (
-            0,
-            b"D",
-            b"",
-            Found::Many(DeclId::Struct(2, 0), DeclId::Union(2, 0)),
-        ),
-        (0, b"U", b"", Found::One(DeclId::Using(1, 0))),
-        (2, b"q::U", b"", Found::One(DeclId::Using(1, 0))),
-        (0, b"U2", b"", Found::One(DeclId::Using(2, 1))),
-        (0, b"Hidden", b"", Found::None),
-        (3, b"Hidden", b"", Found::One(DeclId::Struct(3, 0))),
-        (0, b"PA", b"", Found::One(DeclId::Protocol(0))),
-        (0, b"PB", b"", Found::One(DeclId::Protocol(3))),
-        (1, b"PB", b"", Found::None),
-        (
-            4,
-            b"PB",
-            b"",
-            Found::Many(DeclId::Protocol(3), DeclId::Protocol(4)),
-        ),
-        (4, b"O::PB", b"", Found::One(DeclId::Protocol(4))),
-        (0, b"bool", b"", Found::One(DeclId::Builtin(Builtin::Bool))),
-        (
-            0,
-            b"ByteBuf",
-            b"",
-            Found::One(DeclId::Builtin(Builtin::ByteBuf)),
-        ),
-        (
-            0,
-            b"mozilla::ipc::ByteBuf",
-            b"",
-            Found::One(DeclId::Builtin(Builtin::ByteBuf)),
-        ),
-        (
-            0,
-            b"int32_t",
-            b"",
-            Found::Many(DeclId::Builtin(Builtin::Int32), DeclId::Using(0, 1)),
-        ),
-        (0, b"Endpoint", b"", Found::None),
-        (0, b"ManagedEndpoint", b"", Found::One(DeclId::Using(2, 2))),
-        (
-            0,
-            b"Endpoint",
-            b"PB",
-            Found::One(DeclId::Endpoint(3, false)),
-        ),
-        (1, b"Endpoint", b"PB", Found::One(DeclId::Using(1, 1))),
-        (
-            0,
-            b"ManagedEndpoint",
-            b"N::PA",
-            Found::One(DeclId::Endpoint(0, true)),
-        ),
-        (0, b"Endpoint", b"PZ", Found::One(DeclId::Using(1, 2))),
-        (0, b"A::T", b"int", Found::One(DeclId::Using(0, 0))),
-        (0, b"T", b"", Found::None),
-    ];
-    for (file, text, argument, expected) in table.iter() {
-        assert_eq!(rt; found(alloc, &names, *file, text, argument)?, *expected);
-    }
+    structs_and_unions(&rt, alloc, &names)?;
+    usings(&rt, alloc, &names)?;
+    protocols(&rt, alloc, &names)?;
+    endpoints(&rt, alloc, &names)?;
     assert_eq!(rt;
         names.find_protocol(0, &name(alloc, b"PB")?),
         Found::One(DeclId::Protocol(3))

@@ -1,5 +1,4 @@
-use Rattle.std.proofs.Common.{◌≡◌, ◌∙◌, ◌∷◌, ◌++◌, [], List, ap, sym, inl, inr, append_assoc}
-use Rattle.name_table.specs.declared.decl.DeclId.{DeclId}
+use Rattle.std.proofs.Common.{◌∙◌, ◌++◌, ap, inl, inr}
 use Rattle.name_table.specs.Rows.{row_of}
 use Rattle.name_table.proofs.Listing.{listed_both, listed_front, added_twice}
 use Rattle.name_table.proofs.rows.declare.Goals as goal

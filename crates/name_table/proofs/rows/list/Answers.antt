@@ -1,4 +1,4 @@
-use Rattle.std.proofs.Common.{◌≡◌, ◌∙◌, ◌∷◌, ◌++◌, [], ap, sym, subst, refl, List, Option, Some, unwrap_or, option_map, IsSome, Vec, Global}
+use Rattle.std.proofs.Common.{◌∙◌, ◌∷◌, ◌++◌, [], ap, subst, refl, List, Option, unwrap_or, option_map, IsSome, Vec, Global}
 use Rattle.name_table.specs.declared.decl.DeclId.{DeclId}
 use Rattle.name_table.proofs.Listing.{listed_one, listed_after}
 use Rattle.name_table.proofs.rows.list.Goals as goal

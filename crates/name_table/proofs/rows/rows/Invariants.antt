@@ -1,4 +1,4 @@
-use Rattle.std.proofs.Common.{◌≡◌, ℕ, List, take}
+use Rattle.std.proofs.Common.{take}
 use Rattle.name_table.specs.Rows.{AreRows}
 use Rattle.name_table.proofs.rows.rows.Given as goal
 

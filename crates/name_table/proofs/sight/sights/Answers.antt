@@ -1,4 +1,4 @@
-use Rattle.std.proofs.Common.{◌≡◌, ℕ, ◌+◌, ◌∷◌, [], ◌++◌, ◌∙◌, List, Bool, length, map, slice_get, Some, refl, sym, ap, subst, arith, length-append, inl, inr}
+use Rattle.std.proofs.Common.{ℕ, ◌+◌, ◌∙◌, List, Bool, length, map, slice_get, sym, ap, subst, length-append, inl, inr}
 use Rattle.std.proofs.lemmas.List.{map-append}
 use Rattle.name_table.specs.Marks.{AreMarksOf}
 use Rattle.name_table.proofs.Places.{read_more}

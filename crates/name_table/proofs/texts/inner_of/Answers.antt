@@ -2,7 +2,7 @@ use Rattle.std.proofs.Common.{◌≡◌, ◌∙◌, ◌∷◌, ◌++◌, [], Lis
 use Rattle.std.specs.Prelude.{IfSome, IfNone, MatchOption}
 use Rattle.std.specs.Cmp.Lexicographic.{pointwise}
 use Rattle.ipdl_syntax.specs.Grammar.{whole_name}
-use Rattle.name_table.proofs.FullNames.{front_not, front_is, last_is, last_not, whole_name-parts}
+use Rattle.name_table.proofs.FullNames.{front_not, front_is, last_is, whole_name-parts}
 use Rattle.name_table.proofs.texts.inner_of.Goals as goal
 
 whenever_none : {X : Type 0} (o : Option X) (Q : Type 0) → Q → IfNone o Q

@@ -1,4 +1,4 @@
-use Rattle.std.proofs.Common.{rules, arith, ◌≡◌, ◌∙◌, ◌+◌, ℕ, suc, sym, ap, refl, length, drop, take, Some}
+use Rattle.std.proofs.Common.{arith, ◌≡◌, ◌∙◌, suc, sym, ap, drop, Some}
 use Rattle.ipdl_base.specs.Words.{short_name}
 use Rattle.name_table.proofs.FullNames.{colon, colon_from, none_from, position-from, behind_first, short_name-whole}
 use Rattle.name_table.proofs.texts.short.Goals as goal

@@ -1,6 +1,5 @@
 use Rattle.std.proofs.Common.{◌∙◌, ap, subst}
 use Rattle.name_table.specs.declared.decl.DeclId.TheVariants.{Protocol}
-use Rattle.name_table.specs.declared.decl.Found.{Found}
 use Rattle.name_table.specs.declared.decl.Found.TheVariants as found
 use Rattle.name_table.specs.Finds.{FindsAsProtocol, Counts}
 use Rattle.name_table.proofs.Counting.{endpoint_one, endpoint_none}

@@ -1,6 +1,5 @@
 use Rattle.std.proofs.Common.{sym, subst, None}
 use Rattle.name_table.specs.declared.decl.DeclId.{DeclId}
-use Rattle.name_table.specs.declared.decl.Found.{Found}
 use Rattle.name_table.specs.Candidates.{IsBuiltinOrEndpoint}
 use Rattle.name_table.specs.Finds.{Finds, Counts}
 use Rattle.name_table.proofs.Counting.{builtin_one, builtin_none}

@@ -1,4 +1,4 @@
-use Rattle.std.proofs.Common.{rules, arith, ◌≡◌, ◌≤◌, ◌<◌, ◌∙◌, List, length, map, sym, ap, subst, Vec, Global, Bool, true≢false, get_or}
+use Rattle.std.proofs.Common.{◌≡◌, ◌≤◌, ◌<◌, List, length, map, sym, subst, Vec, Global, Bool, true≢false, get_or}
 use Rattle.ipdl_syntax.specs.declared.program.Entry.{Entry}
 use Rattle.name_table.specs.Marks.{AreSights, AreMarksOf}
 use Rattle.name_table.proofs.Seeing.{not_reached, marks_at, mark_tells, no_mark_tells}

@@ -1,4 +1,4 @@
-use Rattle.std.proofs.Common.{◌≡◌, ◌∙◌, List, ℕ, Some, sym, ap, subst, true≢false}
+use Rattle.std.proofs.Common.{◌∙◌, List, ℕ, Some, sym, ap, subst, true≢false}
 use Rattle.ipdl_syntax.specs.Grammar.{whole_name}
 use Rattle.name_table.specs.declared.decl.DeclId.TheVariants.{Protocol}
 use Rattle.name_table.specs.Finds.{FindsProtocol, endpoint_word}

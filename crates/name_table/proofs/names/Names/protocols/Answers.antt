@@ -1,4 +1,4 @@
-use Rattle.std.proofs.Common.{◌≡◌, ◌∙◌, ap, sym, refl, subst, get_or, take, ◌+◌, true≢false}
+use Rattle.std.proofs.Common.{◌≡◌, ◌∙◌, sym, refl, subst, get_or, take, ◌+◌, true≢false}
 use Rattle.ipdl_base.specs.declared.builtin.Builtin.TheVariants.{Bool}
 use Rattle.name_table.specs.declared.decl.DeclId.TheVariants.{Builtin}
 use Rattle.name_table.specs.declared.decl.Found.{Found}

@@ -1,11 +1,10 @@
-use Rattle.std.proofs.Common.{◌≡◌, ◌∙◌, ◌<◌, ◌+◌, ap, sym, refl, subst, get_or, take, true, false, not, true≢false, option_map, length, inl, ℕ, List, Option}
+use Rattle.std.proofs.Common.{◌≡◌, ◌∙◌, ◌<◌, ◌+◌, sym, refl, subst, get_or, take, true≢false, option_map, length, inl, ℕ, List, Option}
 use Rattle.std.specs.List.{Contains}
 use Rattle.ipdl_base.specs.declared.builtin.Builtin.TheVariants.{Bool}
 use Rattle.ipdl_syntax.specs.declared.program.Entry.{Entry}
 use Rattle.name_table.specs.declared.decl.DeclId.{DeclId}
 use Rattle.name_table.specs.declared.decl.DeclId.TheVariants.{Builtin}
 use Rattle.name_table.specs.declared.decl.Found.{Found}
-use Rattle.name_table.specs.declared.decl.Found.TheVariants as found
 use Rattle.name_table.specs.Candidates.{IsCandidate, AreOne, IsBuiltinOrEndpoint}
 use Rattle.name_table.specs.Finds.{Finds}
 use Rattle.name_table.specs.Rows.{listed_under, declared_from}
