@@ -1,0 +1,6 @@
+use Rattle.std.proofs.Common.{take}
+use Rattle.name_table.specs.Marks.{Marks}
+use Rattle.name_table.proofs.sight.mark_all.Given as goal
+
+abbrev pub invariant-loop-file : goal.invariant-loop-file
+invariant-loop-file l = Marks (take l.file-index l.files) l.fn.marks.items l.fn.work.items l.marks.items l.work.items

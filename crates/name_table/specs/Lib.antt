@@ -1,0 +1,7 @@
+pub mod Declares
+pub mod Visible
+pub mod Finds
+pub mod Kinds
+pub mod Marks
+pub mod Rows
+pub mod Candidates

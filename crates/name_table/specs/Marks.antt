@@ -1,0 +1,52 @@
+-- Which files are marked for a file: itself, and what includes lead to through it and through headers.
+use Rattle.std.specs.Prelude.{◌≡◌, ◌⊎◌, ◌<◌, ◌≤◌, ◌+◌, ◌*◌, ℕ, Bool, true, false, if◌then◌else◌, List, length, slice_get, Some}
+use Rattle.std.specs.List.{Contains, slice_index_or, sum_by}
+use Rattle.ipdl_syntax.specs.declared.program.Entry.{Entry}
+use Rattle.name_table.specs.declared.decl.DeclId.{DeclId}
+use Rattle.name_table.specs.declared.decl.DeclId.TheVariants.{Builtin, Using, Struct, Union, Protocol, Endpoint}
+use Rattle.name_table.specs.Declares.{Includes, IsHeader}
+
+-- from a file its own includes are followed, and those of headers
+abbrev pub IsFollowed : List Entry → ℕ → ℕ → Type 0
+IsFollowed program from file = (file ≡ from) ⊎ IsHeader program file
+
+-- what is reached from a file: itself, and each file that one includes which is followed
+pub data Reaches (program : List Entry) (from : ℕ) : ℕ → Type 0 where
+  start : from < length program → Reaches program from from
+  step : {file other : ℕ} → Reaches program from file → IsFollowed program from file → Includes program file other → other < length program → Reaches program from other
+
+-- what a file sees, where it is declared: all of a file that is reached and followed, and the protocol of one that is reached
+abbrev pub Shows : List Entry → ℕ → DeclId → Type 0
+Shows program file (Using other place) = Reaches program file other × IsFollowed program file other
+Shows program file (Struct other place) = Reaches program file other × IsFollowed program file other
+Shows program file (Union other place) = Reaches program file other × IsFollowed program file other
+Shows program file (Protocol other) = Reaches program file other
+Shows program file (Builtin type) = ⊥
+Shows program file (Endpoint p managed) = ⊥
+
+abbrev pub IsMarked : List Bool → ℕ → Type 0
+IsMarked marks n = slice_index_or marks n false ≡ true
+
+-- the marks on the files that are reached
+abbrev pub AreMarksOf : List Entry → ℕ → List Bool → Type 0
+AreMarksOf program from marks = (file : ℕ) → (IsMarked marks file → Reaches program from file) × (Reaches program from file → IsMarked marks file)
+
+-- for each file the marks on the files that are reached from it
+pub record AreSights (program : List Entry) (sights : List (List Bool)) : Type 0 where
+  pub size : length sights ≡ length program
+  pub marks : (file : ℕ) (marks : List Bool) → slice_get sights file ≡ Some marks → AreMarksOf program file marks
+
+-- how many have no mark
+abbrev pub unmarked : List Bool → ℕ
+unmarked marks = sum_by (λ b. if b then 0 else 1) marks
+
+-- those of these files that there are were marked, and each that is new is in the work
+pub record Marks (these : List ℕ) (old : List Bool) (left : List ℕ) (new : List Bool) (work : List ℕ) : Type 0 where
+  pub size : length new ≡ length old
+  pub kept : (n : ℕ) → IsMarked old n → IsMarked new n
+  pub marked : (n : ℕ) → Contains these n → n < length old → IsMarked new n
+  pub only : (n : ℕ) → IsMarked new n → IsMarked old n ⊎ Contains these n
+  pub added : (n : ℕ) → IsMarked new n → IsMarked old n ⊎ Contains work n
+  pub stays : (n : ℕ) → Contains left n → Contains work n
+  pub told : (n : ℕ) → Contains work n → Contains left n ⊎ IsMarked new n
+  pub less : 2 * unmarked new + length work ≤ 2 * unmarked old + length left

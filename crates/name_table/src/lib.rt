@@ -1,0 +1,19 @@
+//! What every name in a program finds: which declarations a file sees, what a name in it finds among these, and the levels, kinds
+//! and attributes of declarations (docs/names.md).
+#![tactic(auto)]
+
+mod decl;
+mod kinds;
+mod names;
+mod rows;
+mod sight;
+mod strength;
+mod texts;
+
+pub use decl::{DeclId, Found};
+pub use kinds::{MessageKind, compress_of, is_lazy, kind_of, message_level, protocol_level};
+pub use names::Names;
+pub use strength::Strength;
+
+#[cfg(test)]
+mod tests;

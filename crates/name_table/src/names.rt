@@ -1,0 +1,319 @@
+ghost use Rattle.std.specs.Prelude.{◌≡◌, ◌≢◌, ◌≤◌, ◌↔◌, ◌⊎◌, ℕ, List, Option, Some, None, length, map, option_map, IsTrue, IfOk, IfSome, IfNone};
+ghost use Rattle.std.specs.List.{Contains};
+ghost use Rattle.std.specs.Option.{option_copied};
+ghost use Rattle.ipdl_syntax.specs.Grammar.{whole_name};
+ghost use Rattle.name_table.specs.Candidates.{IsCandidate, AreOne, IsBuiltinOrEndpoint};
+ghost use Rattle.name_table.specs.Declares.{full_name_of, IsHeader};
+ghost use Rattle.name_table.specs.Finds.{Finds, FindsAsProtocol, FindsProtocol, NamesBuiltin, Counts, endpoint_word};
+ghost use Rattle.name_table.specs.Marks.{Reaches, IsFollowed, Shows};
+ghost use Rattle.name_table.specs.Rows.{declared_from, listed_under};
+ghost use Rattle.name_table.specs.Visible.{Sees};
+
+use crate::decl::{DeclId, Found};
+use crate::rows::{Rows, rows};
+use crate::sight::sights;
+use crate::texts::{builtin_of, endpoint_of, inner_of, is_name_of, word_of};
+use ipdl_base::Name;
+use ipdl_syntax::{Entry, Program};
+use std::alloc::{AllocError, Global};
+use std::marker::Model;
+
+/// What every name in a program finds. Contracts see it as that program.
+#[derive(Drop)]
+pub struct Names<'p> {
+    program: &'p [Entry],
+    rows: Rows<'p>,
+    sights: Vec<Vec<bool>>,
+}
+
+impl<'p> Model for Names<'p> {
+    ghost use Rattle.std.specs.Prelude.{List, map};
+    ghost use Rattle.std.specs.Coded.{codes};
+    ghost use Rattle.ipdl_syntax.specs.declared.program.Entry.{Entry};
+    ghost use Rattle.ipdl_syntax.specs.contracts.tree.Base as base;
+    ghost use Rattle.name_table.specs.Marks.{AreSights};
+    ghost use Rattle.name_table.specs.Rows.{AreRows};
+
+    ghost Value = { List Entry };
+
+    ghost view = { λ a. a.program.now };
+
+    ghost invariant = { λ a. AreRows a.program.now a.rows × AreSights a.program.now (map (λ marks. marks.items) a.sights.items) };
+
+    ghost coded = { Prim.hlevel (codes, base.the_row.coded) };
+}
+
+/// The full name of a declaration of a program, where it has it.
+fn full_name<'p>(program: &'p [Entry], id: DeclId) -> Option<&'p [u8]>
+    ensures { option_map (λ full. full.now) result ≡ full_name_of program.now id }
+{
+    match id {
+        DeclId::Using(file, place) => {
+            let entry = program.get(file as usize)?;
+            Some(entry.unit.usings.as_slice().get(place)?.full.as_slice())
+        }
+        DeclId::Struct(file, place) => {
+            let entry = program.get(file as usize)?;
+            Some(entry.unit.structs.as_slice().get(place)?.full.as_slice())
+        }
+        DeclId::Union(file, place) => {
+            let entry = program.get(file as usize)?;
+            Some(entry.unit.unions.as_slice().get(place)?.full.as_slice())
+        }
+        DeclId::Protocol(file) => {
+            let entry = program.get(file as usize)?;
+            Some(entry.unit.protocol.as_ref()?.full.as_slice())
+        }
+        DeclId::Builtin(_) | DeclId::Endpoint(_, _) => None,
+    }
+}
+
+/// Whether two are the same.
+fn are_same(one: DeclId, other: DeclId) -> bool
+    ensures { IsTrue result ↔ (one ≡ other) }
+{
+    one == other
+}
+
+impl<'p> Names<'p> {
+    /// The names of a program, which may have any trees, in at most 4,096 files. The only error is want of memory.
+    pub fn build(alloc: Global, program: &'p Program) -> Result<Names<'p>, AllocError>
+        requires few { length program.now ≤ 4096 }
+        ensures { IfOk result (λ names. names ≡ program.now) }
+    {
+        let program = program.as_slice();
+        Ok(Names {
+            program,
+            rows: rows(alloc, program)?,
+            sights: sights(alloc, program)?,
+        })
+    }
+
+    /// What a text, with its argument where it has one, finds in a file, as a name in a type (docs/names.md). It takes no memory.
+    pub fn find(&self, file: u32, text: &Name, argument: Option<&Name>) -> Found
+        ensures { Counts (Finds self.now file text.now (option_copied argument.entry)) result }
+    {
+        let text = text.as_slice();
+        match argument {
+            None => {
+                let first = match builtin_of(text) {
+                    Some(builtin) => Found::One(DeclId::Builtin(builtin)),
+                    None => Found::None,
+                };
+                self.with_declared(file, text, None, first)
+            }
+            Some(argument) => {
+                let inner = argument.as_slice();
+                let first = self.endpoints(file, text, inner);
+                self.with_declared(file, text, Some(inner), first)
+            }
+        }
+    }
+
+    /// What a text finds in a file as the name of a manager or of a managed protocol: `Protocol`s alone. It takes no memory.
+    pub fn find_protocol(&self, file: u32, text: &Name) -> Found
+        ensures { Counts (FindsAsProtocol self.now file text.now) result }
+    {
+        self.protocols(file, text.as_slice())
+    }
+
+    /// What is listed under a text.
+    fn row(&self, text: &[u8]) -> &[DeclId]
+        ensures { result.now ≡ listed_under text.now (declared_from 0 self.now) }
+    {
+        match self.rows.get(text) {
+            Some(row) => row.as_slice(),
+            None => &[],
+        }
+    }
+
+    /// Whether a file is reached from another.
+    fn is_reached(&self, file: u32, other: u32) -> bool
+        ensures { IsTrue result ↔ Reaches self.now file other }
+    {
+        let Some(marks) = self.sights.get(file as usize) else {
+            return false;
+        };
+        match marks.get(other as usize) {
+            Some(mark) => *mark,
+            None => false,
+        }
+    }
+
+    /// Whether a file is a header.
+    fn is_header(&self, file: u32) -> bool
+        ensures { IsTrue result ↔ IsHeader self.now file }
+    {
+        match self.program.get(file as usize) {
+            Some(entry) => entry.unit.protocol.is_none(),
+            None => false,
+        }
+    }
+
+    /// Whether a file sees a declaration, where there is such a declaration.
+    fn shows(&self, file: u32, id: DeclId) -> bool
+        ensures { IsTrue result ↔ Shows self.now file id }
+    {
+        match id {
+            DeclId::Using(other, _) => self.shows_all(file, other),
+            DeclId::Struct(other, _) => self.shows_all(file, other),
+            DeclId::Union(other, _) => self.shows_all(file, other),
+            DeclId::Protocol(other) => self.is_reached(file, other),
+            DeclId::Builtin(_) => false,
+            DeclId::Endpoint(_, _) => false,
+        }
+    }
+
+    /// Whether a file sees all that another declares.
+    fn shows_all(&self, file: u32, other: u32) -> bool
+        ensures { IsTrue result ↔ (Reaches self.now file other × IsFollowed self.now file other) }
+    {
+        self.is_reached(file, other) && (other == file || self.is_header(other))
+    }
+
+    /// The full name under which a file sees a declaration, where it does.
+    fn seen_name(&self, file: u32, id: DeclId) -> Option<&[u8]>
+        ensures some { IfSome result (λ full. Sees self.now file id full.now) }
+        ensures none { IfNone result ((full : List ℕ) → ¬ Sees self.now file id full) }
+    {
+        if self.shows(file, id) {
+            full_name(self.program, id)
+        } else {
+            None
+        }
+    }
+
+    /// How many protocols a text finds.
+    fn protocols(&self, file: u32, text: &[u8]) -> Found
+        ensures { Counts (FindsAsProtocol self.now file text.now) result }
+    {
+        let mut found = Found::None;
+        for id in self.row(text) {
+            if self.is_protocol(file, text, *id) {
+                match found {
+                    Found::None => found = Found::One(*id),
+                    Found::One(first) => {
+                        if !are_same(first, *id) {
+                            return Found::Many(first, *id);
+                        }
+                    }
+                    Found::Many(_, _) => return found,
+                }
+            }
+        }
+        found
+    }
+
+    /// How many endpoints a text with this argument finds.
+    fn endpoints(&self, file: u32, text: &[u8], inner: &[u8]) -> Found
+        ensures { Counts (λ d. IsBuiltinOrEndpoint d × Finds self.now file text.now (Some inner.now) d) result }
+    {
+        let Some(managed) = endpoint_of(text) else {
+            return Found::None;
+        };
+        match self.protocols(file, inner) {
+            Found::One(DeclId::Protocol(p)) => Found::One(DeclId::Endpoint(p, managed)),
+            Found::Many(DeclId::Protocol(p), DeclId::Protocol(q)) => {
+                Found::Many(DeclId::Endpoint(p, managed), DeclId::Endpoint(q, managed))
+            }
+            _ => Found::None,
+        }
+    }
+
+    /// Whether a text finds this as a protocol.
+    fn is_protocol(&self, file: u32, text: &[u8], id: DeclId) -> bool
+        ensures { IsTrue result ↔ FindsAsProtocol self.now file text.now id }
+    {
+        let DeclId::Protocol(_) = id else {
+            return false;
+        };
+        match self.seen_name(file, id) {
+            Some(full) => is_name_of(text, None, full),
+            None => false,
+        }
+    }
+
+    /// Whether a using of this full name names a builtin type in a file.
+    fn names_builtin(&self, file: u32, full: &[u8]) -> bool
+        ensures { IsTrue result ↔ NamesBuiltin self.now file full.now }
+    {
+        if builtin_of(full).is_some() {
+            return true;
+        }
+        if endpoint_of(full).is_some() {
+            return true;
+        }
+        if self.names_endpoint(file, full, false) {
+            return true;
+        }
+        self.names_endpoint(file, full, true)
+    }
+
+    /// Whether a full name is the word of an endpoint, or of a managed one, with an argument that finds a protocol.
+    fn names_endpoint(&self, file: u32, full: &[u8], managed: bool) -> bool
+        ensures { IsTrue result ↔ ((inner : List ℕ) × (p : ℕ) × (full.now ≡ whole_name (endpoint_word managed) (Some inner)) × FindsProtocol self.now file inner p) }
+    {
+        match inner_of(full, word_of(managed)) {
+            Some(inner) => match self.protocols(file, inner) {
+                Found::None => false,
+                Found::One(_) => true,
+                Found::Many(_, _) => true,
+            },
+            None => false,
+        }
+    }
+
+    /// Whether a declaration of this full name is no using, or one that names no builtin type in a file.
+    fn is_own(&self, file: u32, full: &[u8], id: DeclId) -> bool
+        ensures { IsTrue result ↔ ((other place : ℕ) → id ≡ DeclId.Using other place → ¬ NamesBuiltin self.now file full.now) }
+    {
+        match id {
+            DeclId::Using(_, _) => !self.names_builtin(file, full),
+            _ => true,
+        }
+    }
+
+    /// Whether a text and its argument may find a declaration.
+    fn is_candidate(&self, file: u32, text: &[u8], argument: Option<&[u8]>, id: DeclId) -> bool
+        ensures { IsTrue result ↔ IsCandidate self.now file text.now (option_map (λ inner. inner.now) argument.entry) id }
+    {
+        match self.seen_name(file, id) {
+            Some(full) => is_name_of(text, argument, full) && self.is_own(file, full, id),
+            None => false,
+        }
+    }
+
+    /// Whether two that are declared are one.
+    fn are_one(&self, one: DeclId, other: DeclId) -> bool
+        ensures { IsTrue result ↔ AreOne self.now one other }
+    {
+        match (one, other) {
+            (DeclId::Using(_, _), DeclId::Using(_, _)) => {
+                full_name(self.program, one) == full_name(self.program, other)
+            }
+            _ => one == other,
+        }
+    }
+
+    /// How many a text and its argument find, where these are the builtin types and endpoints that they find.
+    fn with_declared(&self, file: u32, text: &[u8], argument: Option<&[u8]>, first: Found) -> Found
+        requires { Counts (λ d. IsBuiltinOrEndpoint d × Finds self.now file text.now (option_map (λ inner. inner.now) argument) d) first }
+        ensures { Counts (Finds self.now file text.now (option_map (λ inner. inner.now) argument.entry)) result }
+    {
+        let mut found = first;
+        for id in self.row(text) {
+            if self.is_candidate(file, text, argument, *id) {
+                match found {
+                    Found::None => found = Found::One(*id),
+                    Found::One(one) => {
+                        if !self.are_one(one, *id) {
+                            return Found::Many(one, *id);
+                        }
+                    }
+                    Found::Many(_, _) => return found,
+                }
+            }
+        }
+        found
+    }
+}

@@ -1,0 +1,59 @@
+ghost use Rattle.std.specs.Prelude.{◌≡◌, ◌↔◌, IsTrue};
+ghost use Rattle.name_table.specs.Kinds.{level_number, strength_of_message, strength_of_protocol, Converts};
+
+use crate::kinds::{message_level, protocol_level};
+use ipdl_base::{Level, Semantics};
+use ipdl_syntax::{MessageDecl, ProtocolDecl};
+
+/// The levels, from the least to the most, and the semantics of a message or a protocol.
+#[derive(Clone, Copy, Debug, PartialEq, Eq)]
+pub struct Strength {
+    pub least: Level,
+    pub most: Level,
+    pub semantics: Semantics,
+}
+
+/// A level as a number: 0, 1 or 2.
+fn number_of(level: Level) -> u8
+    ensures { result ≡ level_number level }
+{
+    match level {
+        Level::Not => 0,
+        Level::InsideSync => 1,
+        Level::InsideCpow => 2,
+    }
+}
+
+impl Strength {
+    /// That of a message: its own level alone.
+    pub fn of_message(message: &MessageDecl) -> Strength
+        ensures { result ≡ strength_of_message message.now }
+    {
+        let level = message_level(message);
+        Strength {
+            least: level,
+            most: level,
+            semantics: message.semantics,
+        }
+    }
+
+    /// That of a protocol: all levels up to its own.
+    pub fn of_protocol(protocol: &ProtocolDecl) -> Strength
+        ensures { result ≡ strength_of_protocol protocol.now }
+    {
+        Strength {
+            least: Level::Not,
+            most: protocol_level(protocol),
+            semantics: protocol.semantics,
+        }
+    }
+
+    /// Whether it converts to the other.
+    pub fn converts_to(self, other: Strength) -> bool
+        ensures { IsTrue result ↔ Converts self other }
+    {
+        number_of(other.least) <= number_of(self.least)
+            && number_of(self.most) <= number_of(other.most)
+            && (self.semantics == Semantics::Async || other.semantics == Semantics::Sync)
+    }
+}

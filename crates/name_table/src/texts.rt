@@ -1,0 +1,109 @@
+ghost use Rattle.std.specs.Prelude.{◌≡◌, ◌==◌, ◌↔◌, ℕ, Bool, List, IsTrue, IfSome, IfNone, Some, option_map, position};
+ghost use Rattle.std.specs.List.{before_first};
+ghost use Rattle.ipdl_base.specs.Words.{short_name};
+ghost use Rattle.ipdl_base.specs.declared.builtin.Builtin.{Builtin as BuiltinType};
+ghost use Rattle.ipdl_syntax.specs.Grammar.{whole_name};
+ghost use Rattle.name_table.specs.Finds.{IsNameOf, IsNameOfBuiltin, endpoint_word};
+
+use ipdl_base::Builtin;
+
+/// The first place of a byte in a text.
+fn first(byte: u8, text: &[u8]) -> Option<usize>
+    ensures { result ≡ position (λ b. b == byte) text.now }
+{
+    text.iter().position(|b| *b == byte)
+}
+
+/// What stands in a full name before the `<` of its argument: all of it where it has none.
+pub fn before_argument(full: &[u8]) -> &[u8]
+    ensures { result.now ≡ before_first (λ b. b == 60) full.now }
+{
+    match first(b'<', full) {
+        Some(at) => &full[..at],
+        None => full,
+    }
+}
+
+/// What stands behind the last colon of a full name: all of it where it has none.
+pub fn short(full: &[u8]) -> &[u8]
+    ensures { result.now ≡ short_name full.now }
+{
+    let mut rest = full;
+    while let Some(at) = first(b':', rest) {
+        let (_, behind) = rest.split_at(at);
+        rest = &behind[1..];
+    }
+    rest
+}
+
+/// What stands in a text between a front and a `>` at its end.
+pub fn inner_of<'t>(whole: &'t [u8], front: &[u8]) -> Option<&'t [u8]>
+    ensures some { IfSome result (λ inner. whole.now ≡ whole_name front.now (Some inner.now)) }
+    ensures none { IfNone result ((inner : List ℕ) → ¬ (whole.now ≡ whole_name front.now (Some inner))) }
+{
+    whole
+        .strip_prefix(front)?
+        .strip_prefix(b"<")?
+        .strip_suffix(b">")
+}
+
+/// Whether a full name is a text with this argument.
+fn is_whole(full: &[u8], text: &[u8], inner: &[u8]) -> bool
+    ensures { IsTrue result ↔ (full.now ≡ whole_name text.now (Some inner.now)) }
+{
+    match inner_of(full, text) {
+        Some(found) => found == inner,
+        None => false,
+    }
+}
+
+/// Whether a text and its argument name what has this full name.
+pub fn is_name_of(text: &[u8], argument: Option<&[u8]>, full: &[u8]) -> bool
+    ensures { IsTrue result ↔ IsNameOf text.now (option_map (λ inner. inner.now) argument.entry) full.now }
+{
+    match argument {
+        Some(inner) => is_whole(full, text, inner) && !text.contains(&b'<'),
+        None => !full.contains(&b'<') && (full == text || short(full) == text),
+    }
+}
+
+/// The builtin type that a text names by its full name or its word.
+pub fn builtin_of(text: &[u8]) -> Option<Builtin>
+    ensures some { IfSome result (λ found. IsNameOfBuiltin found text.now) }
+    ensures none { IfNone result ((other : BuiltinType) → ¬ IsNameOfBuiltin other text.now) }
+{
+    if text == b"mozilla::ipc::ByteBuf".as_slice() {
+        Some(Builtin::ByteBuf)
+    } else if text == b"mozilla::ipc::Shmem".as_slice() {
+        Some(Builtin::Shmem)
+    } else if text == b"mozilla::ipc::FileDescriptor".as_slice() {
+        Some(Builtin::FileDescriptor)
+    } else {
+        Builtin::named(text)
+    }
+}
+
+/// Whether a text is the word of an endpoint, and whether of a managed one.
+pub fn endpoint_of(text: &[u8]) -> Option<bool>
+    ensures some { IfSome result (λ managed. text.now ≡ endpoint_word managed) }
+    ensures none { IfNone result ((managed : Bool) → ¬ (text.now ≡ endpoint_word managed)) }
+{
+    if text == b"Endpoint".as_slice() {
+        Some(false)
+    } else if text == b"ManagedEndpoint".as_slice() {
+        Some(true)
+    } else {
+        None
+    }
+}
+
+/// The word of an endpoint, or of a managed one.
+pub fn word_of(managed: bool) -> &'static [u8]
+    ensures { result.now ≡ endpoint_word managed }
+{
+    if managed {
+        b"ManagedEndpoint"
+    } else {
+        b"Endpoint"
+    }
+}
