@@ -1,0 +1,12 @@
+//! Tests of the front end over texts: what a list of files loads as, what names find
+//! in it, and what a sync list says of it.
+#![tactic(auto)]
+
+#[cfg(test)]
+mod given;
+#[cfg(test)]
+mod lists;
+#[cfg(test)]
+mod loads;
+#[cfg(test)]
+mod names;
