@@ -5,10 +5,14 @@ use Rattle.std.specs.List.{AllByRecursion, list_any}
 use Rattle.ipdl_syntax.specs.declared.tree.FileKind.{FileKind}
 use Rattle.ipdl_syntax.specs.Programs.{ending}
 
--- the key of a file: what stands behind the last `/` of its name, or all of it where there is none
+-- what stands behind the last byte of this kind, or all where there is none
+abbrev pub behind_last : ℕ → List ℕ → List ℕ
+behind_last mark [] = []
+behind_last mark (b ∷ bs) = if list_any (λ c. c == mark) bs then behind_last mark bs else (if b == mark then bs else b ∷ bs)
+
+-- the key of a file: the part of its name behind the last `/`
 abbrev pub key_of : List ℕ → List ℕ
-key_of [] = []
-key_of (b ∷ bs) = if list_any (λ c. c == 47) bs then key_of bs else (if b == 47 then bs else b ∷ bs)
+key_of name = behind_last 47 name
 
 -- it ends as the names of files of this kind do
 abbrev pub HasKind : List ℕ → FileKind → Type 0

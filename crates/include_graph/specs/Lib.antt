@@ -1,6 +1,9 @@
+pub mod Found
+pub mod Growth
 pub mod Keys
 pub mod Laws
 pub mod Load
 pub mod Reach
+pub mod Reading
 pub mod Rules
 pub mod Sources

@@ -86,7 +86,7 @@ IsSyntaxFault given keys place = OfFile keys (λ number key. HasSyntaxFault numb
 -- A word names no file, or an include names a key of the list that has none.
 abbrev pub IsNotFound : Given → List (List ℕ) → Place → Type 0
 IsNotFound given keys place =
-    OfFile keys (λ number key. IsSome (word_of given key) × IsAbsent given key × (place ≡ whole_file number))
+    OfFile keys (λ number key. IsSome (word_of given.words key) × IsAbsent given key × (place ≡ whole_file number))
     ⊎ OfUnit given keys (λ _. IncludesAt place (λ key. Contains keys key × IsAbsent given key))
 
 -- a protocol has another name than its file

@@ -14,18 +14,18 @@ pub record Given : Type 0 where
 abbrev pub in_directory : List ℕ → List ℕ → List ℕ
 in_directory directory key = if is_same directory (codes ".") then key else directory ++ codes "/" ++ key
 
--- the first word with this key
-abbrev pub word_of : Given → List ℕ → Option (List ℕ)
-word_of given key = find (λ word. is_same (key_of word) key) given.words
+-- the first of the words with this key
+abbrev pub word_of : List (List ℕ) → List ℕ → Option (List ℕ)
+word_of words key = find (λ word. is_same (key_of word) key) words
 
--- the first name at which the path has a file of this key
-abbrev pub found_on_path : Given → List ℕ → Option (List ℕ)
-found_on_path given key = find (λ name. is_some (given.files name)) (map (λ directory. in_directory directory key) given.path)
+-- the first name of this key in a directory of the path at which there is a file
+abbrev pub name_on_path : FileMap → List (List ℕ) → List ℕ → Option (List ℕ)
+name_on_path files path key = find (λ name. is_some (files name)) (map (λ directory. in_directory directory key) path)
 
 -- the name under which a key is read: the word that has the key, whether or not there is such a file; where no word
 -- has it, the first name on the path at which there is one
 abbrev pub read_name : Given → List ℕ → Option (List ℕ)
-read_name given key = option_or (word_of given key) (found_on_path given key)
+read_name given key = option_or (word_of given.words key) (name_on_path given.files given.path key)
 
 abbrev pub IsReadUnder : Given → List ℕ → List ℕ → Type 0
 IsReadUnder given key name = read_name given key ≡ Some name

@@ -2,9 +2,14 @@
 //! and named (docs/reach.md).
 #![tactic(auto)]
 
+mod content;
 mod keys;
 mod laws;
 mod loader;
+mod program;
+mod read;
+mod rules;
+mod walk;
 
 pub use keys::{are_file_words, key_of};
 pub use laws::one_reach;
