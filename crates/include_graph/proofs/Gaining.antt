@@ -1,5 +1,5 @@
 -- How a list of findings gains more.
-use Rattle.std.proofs.Common.{◌≡◌, ◌⊎◌, inl, inr, ℕ, ◌+◌, ◌<◌, List, [], ◌∷◌, ◌++◌, sym, ◌∙◌, ap, subst, arith}
+use Rattle.std.proofs.Common.{◌≡◌, ◌⊎◌, inl, inr, refl, Bool, true, false, IsTrue, ℕ, ◌+◌, ◌<◌, List, [], ◌∷◌, ◌++◌, sym, ◌∙◌, ap, subst, arith}
 use Rattle.std.specs.Prelude.{Some, slice_get, ◌↔◌}
 use Rattle.std.specs.List.{Contains}
 use Rattle.std.proofs.lemmas.Bool.{cases_lt}
@@ -8,7 +8,7 @@ use Rattle.ipdl_base.specs.declared.finding.Finding.{Finding}
 use Rattle.ipdl_syntax.specs.declared.tree.Include.{Include}
 use Rattle.include_graph.specs.declared.walk.Reached.{Reached}
 use Rattle.include_graph.specs.declared.walk.Target.{Target}
-use Rattle.include_graph.specs.Found.{Gains, Below, IsFoundFor, IsFoundAt}
+use Rattle.include_graph.specs.Found.{Gains, Below, IsFoundFor, IsFoundAt, IsFoundIn, IsFoundOf}
 
 pub gains_like : {P Q : Finding → Type 0} {a b : List Finding} → ((f : Finding) → P f → Q f) → ((f : Finding) → Q f → P f) → Gains P a b → Gains Q a b
 gains_like to from g = record {
@@ -57,3 +57,29 @@ found_at files includes targets n i t here there g = gains_like
       let two : p.1 ≡ t = same_Some _ _ (sym p.3 ∙ there) in
       subst (λ (j : Include). IsFoundFor files j t f) one (subst (λ (u : Target). IsFoundFor files p.0 u f) two p.4))
     g
+
+-- two answers to one question
+one_answer : (one other : Bool) {P : Type 0} → (IsTrue one ↔ P) → (IsTrue other ↔ P) → one ≡ other
+one_answer true true h k = refl
+one_answer true false h k = sym (k.1 (h.0 refl))
+one_answer false true h k = h.1 (k.0 refl)
+one_answer false false h k = refl
+
+-- what comes of the file of a number
+pub found_of : (words : ℕ) (keys : List (List ℕ)) (files : List Reached) (n : ℕ) (word : Bool) (key : List ℕ) (file : Reached) {a b : List Finding}
+    → (IsTrue word ↔ (n < words)) → slice_get keys n ≡ Some key → slice_get files n ≡ Some file
+    → Gains (IsFoundIn files n word key file.source.content file.targets.items) a b → Gains (IsFoundOf words keys files n) a b
+found_of words keys files n word key file is here there g = gains_like
+    (λ f p. (word, key, file, is, here, there, p))
+    (λ f p.
+      let one : p.0 ≡ word = one_answer p.0 word p.3 is in
+      let two : p.1 ≡ key = same_Some _ _ (sym p.4 ∙ here) in
+      let three : p.2 ≡ file = same_Some _ _ (sym p.5 ∙ there) in
+      subst (λ (w : Bool). IsFoundIn files n w key file.source.content file.targets.items f) one
+      (subst (λ (k : List ℕ). IsFoundIn files n p.0 k file.source.content file.targets.items f) two
+      (subst (λ (r : Reached). IsFoundIn files n p.0 p.1 r.source.content r.targets.items f) three p.6)))
+    g
+
+-- a list that gained from nothing has exactly what it gained
+pub from_nothing : {P : Finding → Type 0} {b : List Finding} → Gains P [] b → (f : Finding) → Contains b f ↔ P f
+from_nothing g f = (λ c. elim ((g.exact f).0 c) [ inl old ↦ (let k = old.1 in absurd (omega arith)) | inr p ↦ p ], λ p. (g.exact f).1 (inr p))

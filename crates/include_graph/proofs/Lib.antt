@@ -3,4 +3,7 @@ pub mod Ends
 pub mod Gaining
 pub mod Grown
 pub mod Places
+pub mod Readings
 pub mod Targets
+pub mod WholeKeys
+pub mod WordKeys

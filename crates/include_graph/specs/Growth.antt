@@ -1,7 +1,7 @@
 -- How the list of keys grows.
-use Rattle.std.specs.Prelude.{◌≡◌, ℕ, ◌<◌, if◌then◌else◌, nat_lt, List, [], ◌∷◌, ◌++◌, length, fold, Some}
-use Rattle.std.specs.List.{AllZip, list_any}
-use Rattle.include_graph.specs.Keys.{is_same, key_of, word_keys}
+use Rattle.std.specs.Prelude.{◌≡◌, ◌≢◌, ℕ, ◌≤◌, if◌then◌else◌, nat_lt, List, [], ◌∷◌, ◌++◌, length, fold, Some}
+use Rattle.std.specs.List.{AllPairs, AllZip, list_any}
+use Rattle.include_graph.specs.Keys.{is_same, word_keys}
 use Rattle.include_graph.specs.Sources.{word_of}
 
 -- the keys after this one is named: a new one goes last where there is room
@@ -12,7 +12,9 @@ add_key keys key = if list_any (is_same key) keys then keys else (if nat_lt (len
 abbrev pub add_keys : List (List ℕ) → List (List ℕ) → List (List ℕ)
 add_keys keys named = fold add_key keys named
 
--- the keys are those of the words, and beside each stands the first word that has it
+-- The keys are those of the words, none twice, and beside each stands the first word that has it.
 pub record HasWords (words list firsts : List (List ℕ)) : Type 0 where
   pub keys : list ≡ word_keys words
+  pub few : length list ≤ length words
+  pub once : AllPairs (λ one other. one ≢ other) list
   pub first : AllZip (λ key word. word_of words key ≡ Some word) list firsts

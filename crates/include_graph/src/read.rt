@@ -1,4 +1,5 @@
-ghost use Rattle.std.specs.Prelude.{◌≡◌, ◌≤◌, ◌++◌, IfOk, IfSome, Some, Option, List, ℕ, map, string_bytes};
+ghost use Rattle.std.specs.Prelude.{◌≡◌, ◌≤◌, ◌++◌, IfOk, IfSome, Some, None, Option, List, ℕ, map, string_bytes};
+ghost use Rattle.std.specs.Option.{option_copied, option_or};
 ghost use Rattle.std.specs.Str.{IsUtf8};
 ghost use Rattle.ipdl_base.specs.Outside.{Rose};
 ghost use Rattle.include_graph.specs.Keys.{IsFileWord};
@@ -82,7 +83,7 @@ fn content_of_found(
 }
 
 /// What comes of a key that is read under this word.
-pub fn read_word<F: Files>(
+fn read_word<F: Files>(
     alloc: Global,
     files: &mut F,
     word: &str,
@@ -117,7 +118,7 @@ fn in_directory(alloc: Global, directory: &str, key: &str) -> Result<String, All
 }
 
 /// What comes of a key that is looked for on the path.
-pub fn read_on_path<F: Files>(
+fn read_on_path<F: Files>(
     alloc: Global,
     files: &mut F,
     path: &[String],
@@ -151,4 +152,26 @@ pub fn read_on_path<F: Files>(
         text: Items::from_vec(Vec::from_slice(alloc, key)?),
         content: Content::Absent,
     })
+}
+
+/// What comes of a key, which is read under a word or looked for on the path.
+pub fn read_key<F: Files>(
+    alloc: Global,
+    files: &mut F,
+    word: Option<&str>,
+    path: &[String],
+    key: &[u8],
+    number: u32,
+) -> Result<Source, Stop>
+    requires word { IsFileWord key.now }
+    requires utf8 { option_copied word ≡ None → IsUtf8 key.now }
+    ensures source { IfOk result (λ source. ForMap (F.told files.old) (λ files'. IsSource number key.now files' (option_or (option_copied word.entry) (name_on_path files' (map string_bytes path.now) key.now)) source)) }
+    ensures told { F.told files.new ≡ F.told files.old }
+    ensures count { F.faults files.old ≤ F.faults files.new }
+    ensures read_fault { result ≡ Err Stop.ReadFault → Rose (F.faults files.old) (F.faults files.new) }
+{
+    match word {
+        Some(word) => read_word(alloc, files, word, key, number),
+        None => read_on_path(alloc, files, path, key, number),
+    }
 }

@@ -1,4 +1,4 @@
-ghost use Rattle.std.specs.Prelude.{◌≡◌, ◌↔◌, ◌<◌, ◌^◌, ℕ, IfOk, OnOk, IsTrue, length};
+ghost use Rattle.std.specs.Prelude.{◌≡◌, ◌↔◌, ◌≤◌, ℕ, IfOk, OnOk, IsTrue, length};
 ghost use Rattle.std.specs.List.{Contains};
 ghost use Rattle.ipdl_base.specs.declared.finding.Finding.{Finding};
 ghost use Rattle.include_graph.specs.Found.{finding_at, Gains, is_absent_at, IsFoundFor, IsFoundAmong, IsFoundOfName, IsFoundIn, IsFoundOf};
@@ -129,12 +129,17 @@ pub fn found_in(
     keys: &[Name],
     files: &[Reached],
 ) -> Result<Vec<Finding>, AllocError>
-    requires { length keys.now < 2 ^ 32 }
+    requires size { length files.now ≡ length keys.now }
+    requires few { length keys.now ≤ 4096 }
     ensures { IfOk result (λ found. (f : Finding) → Contains found.items f ↔ ((number : ℕ) × IsFoundOf words keys.now files.now number f)) }
 {
     let mut found = Vec::new(alloc);
-    for (number, (key, file)) in keys.iter().zip(files).enumerate() {
-        add_in(number as u32, number < words, key.as_slice(), file, files, &mut found)?;
+    for (number, file) in files.iter().enumerate() {
+        let Some(key) = keys.get(number) else {
+            unreachable!()
+        };
+        let word = number < words;
+        add_in(number as u32, word, key.as_slice(), file, files, &mut found)?;
     }
     Ok(found)
 }

@@ -9,9 +9,11 @@ ghost use Rattle.include_graph.specs.Reading.{IsTarget, AreTargets, AreRead, row
 
 use crate::content::Content;
 use crate::keys::{key_of, named_key_of};
-use crate::read::{Source, Stop, read_on_path, read_word};
+use crate::read::{Source, Stop, read_key};
+use grammar_laws::names_hold;
 use indexmap::IndexSet;
 use ipdl_base::{Files, Items, Name};
+use ipdl_lex::words_hold;
 use ipdl_syntax::Include;
 use std::alloc::{AllocError, Global};
 
@@ -130,13 +132,13 @@ pub fn walk<F: Files>(
     ensures count { F.faults files.old ≤ F.faults files.new }
     ensures read_fault { result ≡ Err Stop.ReadFault → Rose (F.faults files.old) (F.faults files.new) }
 {
+    words_hold();
+    names_hold();
     let mut reached = Vec::new(alloc);
     'files: while let Some(key) = keys.get_index(reached.len()) {
         let number = reached.len();
-        let source = match firsts.get(number) {
-            Some(word) => read_word(alloc, files, word, key.as_slice(), number as u32)?,
-            None => read_on_path(alloc, files, path, key.as_slice(), number as u32)?,
-        };
+        let word = firsts.get(number).copied();
+        let source = read_key(alloc, files, word, path, key.as_slice(), number as u32)?;
         let targets = add_named(alloc, &source.content, keys)?;
         reached.push(Reached { source, targets }).map_err(AllocError::from)?;
     }
