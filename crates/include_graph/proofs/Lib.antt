@@ -1,9 +1,11 @@
 pub mod Behind
+pub mod Combined
 pub mod Ends
 pub mod Gaining
 pub mod Grown
 pub mod Places
 pub mod Readings
 pub mod Targets
+pub mod Walks
 pub mod WholeKeys
 pub mod WordKeys

@@ -86,3 +86,8 @@ at_position keys k n e =
 pub goes_in : (keys : List (List ℕ)) (k : List ℕ) (n : ℕ) → list_any (is_same k) keys ≡ false → n ≡ length keys → slice_get (if list_any (is_same k) keys then keys else keys ++ k ∷ []) n ≡ Some k
 goes_in keys k n fresh size =
     rw fresh (slice_get-get_or (keys ++ k ∷ []) n k (omega (arith, length-append keys (k ∷ []))) ∙ ap Some (get_or_at keys k [] k n (sym size)))
+
+-- what is in a list of one is that one
+pub the_one : (x k : List ℕ) → Contains (x ∷ []) k → x ≡ k
+the_one x k (zero, below, is) = is
+the_one x k (suc i, below, is) = absurd (omega arith)
