@@ -62,7 +62,7 @@ module _ (key : List ℕ) (w : IsWhole key) (m m' : FileMap) (agree : (name : Li
       subst (λ o. IsSource number key m' (option_or (word_of words key) o) source) (same_path path)
       (record { called = s.called; content = subst (λ o. IsContent number key o source.content) held s.content })
 
-there_is : {X : Type 0} (xs : List X) (n : ℕ) → n < length xs → (x : X) × (slice_get xs n ≡ Some x)
+pub there_is : {X : Type 0} (xs : List X) (n : ℕ) → n < length xs → (x : X) × (slice_get xs n ≡ Some x)
 there_is [] n h = absurd (let none : ⊥ = omega arith in none)
 there_is (x ∷ xs) zero h = (x, refl)
 there_is (x ∷ xs) (suc n) h = there_is xs n (omega arith)

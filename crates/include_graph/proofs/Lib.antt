@@ -6,6 +6,7 @@ pub mod Grown
 pub mod Places
 pub mod Readings
 pub mod Targets
+pub mod WalkEnds
 pub mod Walks
 pub mod WholeKeys
 pub mod WordKeys
