@@ -2,6 +2,8 @@ pub mod Behind
 pub mod Ends
 pub mod Gaining
 pub mod Grown
+pub mod OneReach
+pub mod OneUnit
 pub mod Places
 pub mod Readings
 pub mod Targets
