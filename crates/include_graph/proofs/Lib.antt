@@ -3,6 +3,8 @@ pub mod Combined
 pub mod Ends
 pub mod Gaining
 pub mod Grown
+pub mod OneReach
+pub mod OneUnit
 pub mod Places
 pub mod Readings
 pub mod Targets
