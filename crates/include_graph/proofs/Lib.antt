@@ -1,12 +1,15 @@
 pub mod Behind
 pub mod Combined
+pub mod Contents
 pub mod Ends
+pub mod Entries
 pub mod Gaining
 pub mod Grown
 pub mod OneReach
 pub mod OneUnit
 pub mod Places
 pub mod Readings
+pub mod SyntaxPlaces
 pub mod Targets
 pub mod WalkEnds
 pub mod Walks

@@ -36,14 +36,14 @@ not_both key (front, is) (other, are) =
     omega (arith, protocol, header)
 
 -- so it has one kind
-kind_one : (key : List ℕ) (one other : FileKind) → HasKind key one → HasKind key other → one ≡ other
+pub kind_one : (key : List ℕ) (one other : FileKind) → HasKind key one → HasKind key other → one ≡ other
 kind_one key file.Protocol file.Protocol h k = refl
 kind_one key file.Header file.Header h k = refl
 kind_one key file.Protocol file.Header h k = absurd (not_both key h k)
 kind_one key file.Header file.Protocol h k = absurd (not_both key k h)
 
 -- two trees of a file have the same includes
-includes_one : AtMostOne → (number : ℕ) (key : List ℕ) (held : Option (List ℕ)) (one other : FileUnit)
+pub includes_one : AtMostOne → (number : ℕ) (key : List ℕ) (held : Option (List ℕ)) (one other : FileUnit)
     → IsUnitOf number key held one → IsUnitOf number key held other → ◌≡◌ {A = List Include} one.includes other.includes
 includes_one laws number key held one other u v =
     let bytes : u.bytes ≡ v.bytes = same_Some _ _ (sym u.has ∙ v.has) in

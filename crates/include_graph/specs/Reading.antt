@@ -109,7 +109,8 @@ pub record IsEntryFrom (key : List ℕ) (file : Reached) (entry : Entry) : Type 
   pub unit : file.source.content ≡ Read entry.unit
   pub includes : entry.includes ≡ numbers_of file.targets.items
 
--- each entry is made of the key and the file of its number
-pub record AreEntriesFrom (keys : List (List ℕ)) (files : List Reached) (program : List Entry) : Type 0 where
-  pub size : length program ≡ length keys
-  pub each : (number : ℕ) (key : List ℕ) (file : Reached) (entry : Entry) → slice_get keys number ≡ Some key → slice_get files number ≡ Some file → slice_get program number ≡ Some entry → IsEntryFrom key file entry
+-- each entry is made of the key and the file at its place
+abbrev pub AreEntriesFrom : List (List ℕ) → List Reached → List Entry → Type 0
+AreEntriesFrom [] [] [] = Unit {0}
+AreEntriesFrom (key ∷ keys) (file ∷ files) (entry ∷ program) = IsEntryFrom key file entry × AreEntriesFrom keys files program
+AreEntriesFrom _ _ _ = ⊥

@@ -52,10 +52,16 @@ pub fn program_of(
     requires trees { AllByRecursion (λ f. IsOfTree f.source.content) files.items }
     ensures { IfOk result (AreEntriesFrom keys.keys files.items) }
 {
-    let mut program = Vec::new(alloc);
-    for (key, file) in keys.into_iter().zip(files) {
+    let mut keys = keys;
+    let mut files = files;
+    let mut program = Vec::with_capacity(alloc, files.len())?;
+    while let Some(file) = files.pop() {
+        let Some(key) = keys.pop() else {
+            unreachable!()
+        };
         program.push(entry_of(alloc, key, file)?)?;
     }
+    program.reverse();
     Ok(Items::from_vec(program))
 }
 
