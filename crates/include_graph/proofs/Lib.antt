@@ -3,6 +3,7 @@ pub mod Combined
 pub mod Contents
 pub mod Ends
 pub mod Entries
+pub mod Exact
 pub mod Gaining
 pub mod Grown
 pub mod OneReach

@@ -24,10 +24,10 @@ use Rattle.include_graph.proofs.Walks.{Walking}
 use Rattle.include_graph.proofs.WholeKeys.{IsWhole, whole_word}
 use Rattle.include_graph.proofs.WordKeys.{word_found, no_word, different_has}
 
-contains_at : (xs : List (List ℕ)) (n : ℕ) (x : List ℕ) → slice_get xs n ≡ Some x → Contains xs x
+pub contains_at : (xs : List (List ℕ)) (n : ℕ) (x : List ℕ) → slice_get xs n ≡ Some x → Contains xs x
 contains_at xs n x e = (n, slice_get_within xs n x e, get_or_from_slice_get xs n x x e)
 
-zip_at : {X Y : Type 0} (R : X → Y → Type 0) (xs : List X) (ys : List Y) (n : ℕ) (x : X) → AllZip R xs ys → slice_get xs n ≡ Some x → (y : Y) × (slice_get ys n ≡ Some y) × R x y
+pub zip_at : {X Y : Type 0} (R : X → Y → Type 0) (xs : List X) (ys : List Y) (n : ℕ) (x : X) → AllZip R xs ys → slice_get xs n ≡ Some x → (y : Y) × (slice_get ys n ≡ Some y) × R x y
 zip_at R [] ys n x h e = absurd (let none : ⊥ = cc in none)
 zip_at R (x' ∷ xs) [] n x h e = elim h [ ]
 zip_at {X} {Y} R (x' ∷ xs) (y ∷ ys) zero x h e = (y, refl, subst (λ (z : X). R z y) (same_Some _ _ e) h.0)
@@ -66,8 +66,9 @@ walk_start told words path list firsts files h = record {
 }
 
 -- the word of a key, where it has one, stands beside it
-pub first_word : (told : Option FileMap) (words path first list firsts : List (List ℕ)) (files : List Reached) (number : ℕ) (key : List ℕ) → HasWords words first firsts → Walking told words path list files → slice_get list number ≡ Some key → slice_get firsts number ≡ word_of words key
-first_word told words path first list firsts files number key h w e = elim (cases_lt number (length first)) [
+pub first_word : (words first list further firsts : List (List ℕ)) (number : ℕ) (key : List ℕ) → HasWords words first firsts → list ≡ word_keys words ++ further → AllPairs (λ one other. one ≢ other) list
+    → slice_get list number ≡ Some key → slice_get firsts number ≡ word_of words key
+first_word words first list further firsts number key h begin once e = elim (cases_lt number (length first)) [
   | inl less ↦
       let z = zip_at (λ k v. word_of words k ≡ Some v) first firsts number key h.first (in_first less) in
       z.1 ∙ sym z.2
@@ -76,19 +77,19 @@ first_word told words path first list firsts files number key h w e = elim (case
       slice_get_past firsts number (omega arith) ∙ sym (no_word words key (λ c. no_key more (different_has (map key_of words) key c)))
 ]
   where
-    begins : list ≡ first ++ w.grown.further
-    begins = w.grown.begins ∙ ap (λ ks. ks ++ w.grown.further) (sym h.keys)
+    begins : list ≡ first ++ further
+    begins = begin ∙ ap (λ ks. ks ++ further) (sym h.keys)
 
     in_first : number < length first → slice_get first number ≡ Some key
-    in_first less = get_front first w.grown.further number key less (subst (λ ks. slice_get ks number ≡ Some key) begins e)
+    in_first less = get_front first further number key less (subst (λ ks. slice_get ks number ≡ Some key) begins e)
 
     no_key : length first ≤ number → ¬ Contains (word_keys words) key
     no_key more c =
         let d : Contains first key = subst (λ ks. Contains ks key) (sym h.keys) c in
         let before : d.0 < number = (let a = d.1 in omega arith) in
-        let one : get_or list d.0 key ≡ key = ap (λ ks. get_or ks d.0 key) begins ∙ get_or_append_left first w.grown.further key d.0 d.1 ∙ d.2 in
+        let one : get_or list d.0 key ≡ key = ap (λ ks. get_or ks d.0 key) begins ∙ get_or_append_left first further key d.0 d.1 ∙ d.2 in
         let other : get_or list number key ≡ key = get_or_from_slice_get list number key key e in
-        w.grown.once d.0 number key before (slice_get_within list number key e) (one ∙ sym other)
+        once d.0 number key before (slice_get_within list number key e) (one ∙ sym other)
 
 -- a number beside which no word stands is past the keys of the words
 pub past_first : (words first firsts : List (List ℕ)) (n : ℕ) → HasWords words first firsts → slice_get firsts n ≡ None → length (word_keys words) ≤ n
