@@ -49,7 +49,7 @@ from_none {P} keys e a = let b : Any P [] = subst (Any P) e a in let h = b.2 in 
 
 module _ (laws : OneAnswer) (given : Given) (keys : List (List ℕ)) (files : List Reached) (first firsts : List (List ℕ)) (h : HasWords given.words first firsts) (r : AreRead given keys files) where
   -- the file of a number
-  file_of : (number : ℕ) (key : List ℕ) → slice_get keys number ≡ Some key → (f : Reached) × (slice_get files number ≡ Some f) × IsReached given keys number key f
+  pub file_of : (number : ℕ) (key : List ℕ) → slice_get keys number ≡ Some key → (f : Reached) × (slice_get files number ≡ Some f) × IsReached given keys number key f
   file_of number key e =
       let within = slice_get_within keys number key e in
       let size = r.size in
@@ -93,7 +93,7 @@ module _ (laws : OneAnswer) (given : Given) (keys : List (List ℕ)) (files : Li
       held (Read unit) is g = absurd (true≢false (sym is))
 
   -- what is found for an include breaks a rule
-  found_for : (number : ℕ) (key : List ℕ) (unit : FileUnit) (index : ℕ) (i : Include) (t : Target) (f : Finding) → slice_get keys number ≡ Some key → IsUnitOf number key (content given key) unit
+  pub found_for : (number : ℕ) (key : List ℕ) (unit : FileUnit) (index : ℕ) (i : Include) (t : Target) (f : Finding) → slice_get keys number ≡ Some key → IsUnitOf number key (content given key) unit
       → slice_get unit.includes index ≡ Some i → IsTarget keys i t → IsFoundFor files i t f → IsBroken given keys f
   found_for number key unit index i Nothing f at u here target found = absurd found
   found_for number key unit index i LeftOut f at u here target found =

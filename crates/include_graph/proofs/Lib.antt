@@ -6,6 +6,7 @@ pub mod Entries
 pub mod Exact
 pub mod Gaining
 pub mod Grown
+pub mod Loaded
 pub mod OneReach
 pub mod OneUnit
 pub mod Places
