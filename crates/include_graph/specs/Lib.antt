@@ -3,6 +3,7 @@ pub mod Growth
 pub mod Keys
 pub mod Laws
 pub mod Load
+pub mod Outcome
 pub mod Reach
 pub mod Reading
 pub mod Rules

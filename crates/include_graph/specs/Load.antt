@@ -10,8 +10,6 @@ use Rattle.ipdl_syntax.specs.Programs.{ending}
 use Rattle.findings.specs.Report.{IsReport}
 use Rattle.include_graph.specs.declared.loader.LoadFault.{LoadFault}
 use Rattle.include_graph.specs.declared.loader.LoadFault.TheVariants.{Broken, ReadFault, NoMemory}
-use Rattle.include_graph.specs.declared.read.Stop.{Stop}
-use Rattle.include_graph.specs.declared.read.Stop.TheVariants as stop
 use Rattle.include_graph.specs.Sources.{Given, IsReadUnder, content, text_of}
 use Rattle.include_graph.specs.Reach.{IsUnitOf, IsReach}
 use Rattle.include_graph.specs.Rules.{IsBroken}
@@ -57,8 +55,3 @@ IsAnswer given answer = MatchResult answer (IsProgramOf given) (IsFaultOf given)
 -- the protocol of each file has the file's name
 abbrev pub BearTheirNames : List Entry → Type 0
 BearTheirNames program = AllByRecursion (λ e. IfSome e.unit.protocol (λ p. e.key ≡ short_name p.full ++ ending file.Protocol)) program
-
--- why files are read no further, as a fault of the load
-abbrev pub fault_of : Stop → LoadFault
-fault_of stop.ReadFault = ReadFault
-fault_of stop.NoMemory = NoMemory

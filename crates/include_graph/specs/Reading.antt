@@ -20,6 +20,7 @@ use Rattle.include_graph.specs.declared.read.Source.{Source}
 use Rattle.include_graph.specs.declared.walk.Reached.{Reached}
 use Rattle.include_graph.specs.declared.walk.Target.{Target}
 use Rattle.include_graph.specs.declared.walk.Target.TheVariants.{Nothing, LeftOut, File}
+use Rattle.include_graph.specs.Growth.{HasWords}
 use Rattle.include_graph.specs.Sources.{Given, word_of, name_on_path, content, text_of}
 use Rattle.include_graph.specs.Reach.{IsUnitOf, IsReachBy}
 use Rattle.include_graph.specs.Rules.{HasBadToken, HasSyntaxFault, IsLarge}
@@ -87,6 +88,14 @@ pub record AreRead (given : Given) (keys : List (List ℕ)) (files : List Reache
   pub size : length files ≡ length keys
   pub each : (number : ℕ) (key : List ℕ) (file : Reached) → slice_get keys number ≡ Some key → slice_get files number ≡ Some file → IsReached given keys number key file
   pub reached : IsReachBy given.words keys (rows_of files)
+
+-- the files of these keys are read, and so many keys are those of words
+pub record IsGathered (given : Given) (count : ℕ) (keys : List (List ℕ)) (files : List Reached) : Type 0 where
+  pub first : List (List ℕ)
+  pub firsts : List (List ℕ)
+  pub words : HasWords given.words first firsts
+  pub counted : length firsts ≡ count
+  pub read : AreRead given keys files
 
 -- the number of the file that an include leads to
 abbrev pub number_of : Target → Option ℕ

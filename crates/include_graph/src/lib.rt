@@ -6,6 +6,7 @@ mod content;
 mod keys;
 mod laws;
 mod loader;
+mod outcome;
 mod program;
 mod read;
 mod rules;

@@ -4,15 +4,12 @@ ghost use Rattle.ipdl_syntax.specs.Programs.{IsProgram};
 ghost use Rattle.include_graph.specs.Keys.{AreFileWords};
 ghost use Rattle.include_graph.specs.Load.{ForMap, IsAnswer, BearTheirNames};
 
-use crate::program::{program_of, texts_of};
+use crate::outcome::{Outcome, outcome_of};
 use crate::read::Stop;
-use crate::rules::found_in;
-use crate::walk::{add_words, walk};
-use findings::sorted;
-use indexmap::IndexSet;
+use crate::walk::gather;
 use ipdl_base::{Files, Findings, Texts};
 use ipdl_syntax::Program;
-use std::alloc::{AllocError, Global};
+use std::alloc::Global;
 
 /// Why files make no program.
 #[derive(Debug, Drop)]
@@ -23,29 +20,6 @@ pub enum LoadFault {
     ReadFault,
     /// Memory ran out.
     NoMemory,
-}
-
-impl From<AllocError> for LoadFault {
-    ghost use Rattle.include_graph.specs.declared.loader.LoadFault.TheVariants.{NoMemory};
-
-    ghost from_gives = { λ _ fault. fault ≡ NoMemory };
-
-    fn from(_error: AllocError) -> LoadFault {
-        LoadFault::NoMemory
-    }
-}
-
-impl From<Stop> for LoadFault {
-    ghost use Rattle.include_graph.specs.Load.{fault_of};
-
-    ghost from_gives = { λ stop fault. fault ≡ fault_of stop };
-
-    fn from(stop: Stop) -> LoadFault {
-        match stop {
-            Stop::ReadFault => LoadFault::ReadFault,
-            Stop::NoMemory => LoadFault::NoMemory,
-        }
-    }
 }
 
 /// The program of the files that the names reach, which are looked for in the directories of the path (docs/reach.md).
@@ -73,14 +47,13 @@ pub fn load<F: Files>(
     ensures count { F.faults files.old ≤ F.faults files.new }
     ensures read_fault { result ≡ Err LoadFault.ReadFault → Rose (F.faults files.old) (F.faults files.new) }
 {
-    let mut keys = IndexSet::new(alloc);
-    let mut firsts = Vec::new(alloc);
-    add_words(alloc, names, &mut keys, &mut firsts)?;
-    let read = walk(alloc, files, names, firsts.as_slice(), path, &mut keys)?;
-    let found = found_in(alloc, firsts.len(), keys.as_slice(), read.as_slice())?;
-    if found.is_empty() {
-        Ok(program_of(alloc, keys, read)?)
-    } else {
-        Err(LoadFault::Broken(sorted(found), texts_of(alloc, read)?))
+    match gather(alloc, files, names, path) {
+        Ok(gathered) => match outcome_of(alloc, gathered) {
+            Ok(Outcome::Whole(program)) => Ok(program),
+            Ok(Outcome::Report(findings, texts)) => Err(LoadFault::Broken(findings, texts)),
+            Err(_) => Err(LoadFault::NoMemory),
+        },
+        Err(Stop::ReadFault) => Err(LoadFault::ReadFault),
+        Err(Stop::NoMemory) => Err(LoadFault::NoMemory),
     }
 }

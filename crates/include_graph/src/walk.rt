@@ -5,7 +5,7 @@ ghost use Rattle.ipdl_syntax.specs.Programs.{named_key, named_keys};
 ghost use Rattle.include_graph.specs.Keys.{AreFileWords, word_keys};
 ghost use Rattle.include_graph.specs.Growth.{add_keys, HasWords};
 ghost use Rattle.include_graph.specs.Load.{ForMap};
-ghost use Rattle.include_graph.specs.Reading.{IsTarget, AreTargets, AreRead, row_of};
+ghost use Rattle.include_graph.specs.Reading.{IsTarget, AreTargets, AreRead, IsGathered, row_of};
 
 use crate::content::Content;
 use crate::keys::{key_of, named_key_of};
@@ -40,7 +40,7 @@ pub struct Reached {
 }
 
 /// Adds the keys of the words, each once, and for each key the first word that has it.
-pub fn add_words<'a>(
+fn add_words<'a>(
     alloc: Global,
     words: &'a [String],
     keys: &mut IndexSet<Name>,
@@ -117,7 +117,7 @@ fn add_named(
 }
 
 /// Reads the files of the keys, in order, and adds the keys that they name. These begin as those of the words.
-pub fn walk<F: Files>(
+fn walk<F: Files>(
     alloc: Global,
     files: &mut F,
     words: &[String],
@@ -143,4 +143,43 @@ pub fn walk<F: Files>(
         reached.push(Reached { source, targets }).map_err(AllocError::from)?;
     }
     Ok(reached)
+}
+
+/// What is kept of the files that are reached.
+#[derive(Drop)]
+pub struct Gathered {
+    /// How many keys are those of words. They come first.
+    pub words: usize,
+    pub keys: IndexSet<Name>,
+    /// What came of each key.
+    pub files: Vec<Reached>,
+}
+
+/// Reads all files that the words reach, each once, in the order of the reach.
+pub fn gather<F: Files>(
+    alloc: Global,
+    files: &mut F,
+    words: &[String],
+    path: &[String],
+) -> Result<Gathered, Stop>
+    requires { AreFileWords (map string_bytes words.now) }
+    ensures gathered { IfOk result (λ g. ForMap (F.told files.old) (λ files'. IsGathered (record { files = files'; words = map string_bytes words.now; path = map string_bytes path.now }) g.words g.keys.keys g.files.items)) }
+    ensures told { F.told files.new ≡ F.told files.old }
+    ensures count { F.faults files.old ≤ F.faults files.new }
+    ensures read_fault { result ≡ Err Stop.ReadFault → Rose (F.faults files.old) (F.faults files.new) }
+{
+    let mut keys = IndexSet::new(alloc);
+    let mut firsts = Vec::new(alloc);
+    match add_words(alloc, words, &mut keys, &mut firsts) {
+        Ok(()) => {}
+        Err(_) => return Err(Stop::NoMemory),
+    }
+    match walk(alloc, files, words, firsts.as_slice(), path, &mut keys) {
+        Ok(files) => Ok(Gathered {
+            words: firsts.len(),
+            keys,
+            files,
+        }),
+        Err(stop) => Err(stop),
+    }
 }
