@@ -28,7 +28,7 @@ use Rattle.include_graph.specs.Found.{finding_at, IsFoundOf}
 use Rattle.include_graph.specs.Growth.{HasWords}
 use Rattle.include_graph.specs.Keys.{is_same, word_keys}
 use Rattle.include_graph.specs.Load.{keys_of, IsEntryOf, IsProgramOf, IsReportOf, BearTheirNames}
-use Rattle.include_graph.specs.Reading.{IsContent, IsTarget, AreTargets, AreRead, IsReached, IsOfTree, IsEntryFrom, AreEntriesFrom, row_of, rows_of, numbers_of}
+use Rattle.include_graph.specs.Reading.{IsContent, IsTarget, AreTargets, AreRead, IsGathered, IsReached, IsOfTree, IsEntryFrom, AreEntriesFrom, row_of, rows_of, numbers_of}
 use Rattle.include_graph.specs.Reach.{IsUnitOf, Names, AreNamed, IsReach, all_named}
 use Rattle.include_graph.specs.Rules.{whole_file, IsBroken}
 use Rattle.include_graph.specs.Sources.{Given, word_of, read_name, content, text_of, IsAbsent, IsReadUnder}
@@ -287,3 +287,34 @@ module _ (laws : Laws) (given : Given) (keys : List (List ℕ)) (files : List Re
       -- whose protocols bear the names of their files
       pub bear : BearTheirNames program
       bear = recursion_from_All (λ (y : Entry). IfSome y.unit.protocol (λ p. y.key ≡ short_name p.full ++ ending file.Protocol)) program (λ n d within. bears n (get_or program n d) (slice_get-get_or program n d within))
+
+-- the findings of what is gathered are the broken rules
+exact : Laws → (given : Given) (count : ℕ) (keys : List (List ℕ)) (files : List Reached) → IsGathered given count keys files → (found : List Finding) → ((f : Finding) → Contains found f ↔ ((n : ℕ) × IsFoundOf count keys files n f))
+    → (f : Finding) → Contains found f ↔ IsBroken given keys f
+exact laws given count keys files g found is f = (
+  λ c. sound laws.answer given keys files g.first g.firsts g.words g.read f (subst (λ m. (n : ℕ) × IsFoundOf m keys files n f) (sym g.counted) ((is f).0 c)),
+  λ b. (is f).1 (subst (λ m. (n : ℕ) × IsFoundOf m keys files n f) g.counted (complete laws.answer given keys files g.first g.firsts g.words g.read f b)),
+)
+
+-- where none is found no rule is broken
+pub clean_of : Laws → (given : Given) (count : ℕ) (keys : List (List ℕ)) (files : List Reached) → IsGathered given count keys files → (found : List Finding) → ((f : Finding) → Contains found f ↔ ((n : ℕ) × IsFoundOf count keys files n f))
+    → found ≡ [] → (f : Finding) → ¬ IsBroken given keys f
+clean_of laws given count keys files g found is none f b =
+    let c : Contains [] f = subst (λ (fs : List Finding). Contains fs f) none ((exact laws given count keys files g found is f).1 b) in
+    let k = c.1 in
+    omega arith
+
+-- where some are found the report has these
+pub report_is : Laws → (given : Given) (count : ℕ) (keys : List (List ℕ)) (files : List Reached) → IsGathered given count keys files → (found : List Finding) → ((f : Finding) → Contains found f ↔ ((n : ℕ) × IsFoundOf count keys files n f))
+    → 0 < length found → (report : List Finding) → IsReport (Contains found) report → IsReportOf given report (map (λ (f : Reached). f.source.text) files)
+report_is laws given count keys files g found is some report sorted = record {
+  keys = keys;
+  reach = the_reach laws given keys files g.first g.firsts g.words g.read;
+  report = report_of found report (exact laws given count keys files g found is) sorted;
+  some = λ none.
+    let f = there_is found 0 some in
+    let c : Contains [] f.0 = subst (λ (fs : List Finding). Contains fs f.0) none ((sorted.exact f.0).1 (0, some, get_or_from_slice_get found 0 f.0 f.0 f.1)) in
+    let k = c.1 in
+    omega arith;
+  called = texts_are laws given keys files g.first g.firsts g.words g.read;
+}
