@@ -32,13 +32,37 @@ const LISTS: &[(Texts<'static>, &str, &str)] = &[
     (&[PL], "# nothing\n; listed\n  \n", "0:3:8 S1 0:4:8 S1 "),
     (&[PA], "", ""),
     // All is well.
-    (&[PL], "[PL::A]\ndescription = a\n[PL::B]\ndescription = b\n", ""),
-    (&[PL], "[PL::B]\ndescription: b\n\n[PL::A]\ndescription: a\n", ""),
-    (&[PL], "[PL::A]\r\ndescription = a\r\n[PL::B]  \r\ndescription\t:b\r\n", ""),
+    (
+        &[PL],
+        "[PL::A]\ndescription = a\n[PL::B]\ndescription = b\n",
+        "",
+    ),
+    (
+        &[PL],
+        "[PL::B]\ndescription: b\n\n[PL::A]\ndescription: a\n",
+        "",
+    ),
+    (
+        &[PL],
+        "[PL::A]\r\ndescription = a\r\n[PL::B]  \r\ndescription\t:b\r\n",
+        "",
+    ),
     // Descriptions: in a line that goes on; in a later line; of another word; of blanks.
-    (&[PL], "[PL::A]\ndescription =\n  a\n[PL::B]\ndescription =\ndescription = b\n", ""),
-    (&[PL], "[PL::A]\ndescription = a\ndescription =\n[PL::B]\nbug = 1\n", "1:4:1 S4 "),
-    (&[PL], "[PL::A]\nbug =\n  description = a\n[PL::B]\ndescription = \t\n", "1:1:1 S4 1:4:1 S4 "),
+    (
+        &[PL],
+        "[PL::A]\ndescription =\n  a\n[PL::B]\ndescription =\ndescription = b\n",
+        "",
+    ),
+    (
+        &[PL],
+        "[PL::A]\ndescription = a\ndescription =\n[PL::B]\nbug = 1\n",
+        "1:4:1 S4 ",
+    ),
+    (
+        &[PL],
+        "[PL::A]\nbug =\n  description = a\n[PL::B]\ndescription = \t\n",
+        "1:1:1 S4 1:4:1 S4 ",
+    ),
     (&[PL], "[PL::A]\n[PL::B]\ndescription = b\n", "1:1:1 S4 "),
     // S2 and S3, each with and without S4.
     (

@@ -80,7 +80,10 @@ const ABSENT: Texts<'static> = &[
         "PA.ipdl",
         "include H;\ninclude protocol PB;\ninclude   H;\nprotocol PA { };\n",
     ),
-    ("PB.ipdl", "include \"x.h\";\ninclude H;\nprotocol PB { };\n"),
+    (
+        "PB.ipdl",
+        "include \"x.h\";\ninclude H;\nprotocol PB { };\n",
+    ),
 ];
 
 const ROWS: &[Row<'static>] = &[
@@ -167,20 +170,11 @@ const ROWS: &[Row<'static>] = &[
         "PA.ipdl ",
     ),
     // Absent files: of a word at the file as a whole, and at each include that names them.
-    (
-        &["PNo.ipdl"],
-        HERE,
-        &[],
-        "PNo.ipdl:0:0 A3\n",
-        "PNo.ipdl ",
-    ),
+    (&["PNo.ipdl"], HERE, &[], "PNo.ipdl:0:0 A3\n", "PNo.ipdl "),
     (
         &["PH.ipdl"],
         HERE,
-        &[(
-            "PH.ipdl",
-            "include protocol PNone;\nprotocol PH {\n};\n",
-        )],
+        &[("PH.ipdl", "include protocol PNone;\nprotocol PH {\n};\n")],
         "PH.ipdl:1:18 A3\n",
         "PH.ipdl PNone.ipdl ",
     ),
@@ -260,12 +254,7 @@ const ROWS: &[Row<'static>] = &[
 ];
 
 /// Checks one load; the read with this number, from 1, fails.
-fn check(
-    rt: &impl Abort,
-    alloc: Global,
-    row: Row<'static>,
-    failing: u64,
-) -> Result<(), Fail> {
+fn check(rt: &impl Abort, alloc: Global, row: Row<'static>, failing: u64) -> Result<(), Fail> {
     let (words, path, texts, wanted, asked) = row;
     let words = strings(alloc, words)?;
     let path = strings(alloc, path)?;
@@ -342,11 +331,7 @@ fn many_includes(alloc: Global, count: u32) -> Result<MemoryFiles, Fail> {
 }
 
 /// What these files load as by these words, and the names that are read.
-fn load_all(
-    alloc: Global,
-    files: MemoryFiles,
-    words: &[&str],
-) -> Result<(String, String), Fail> {
+fn load_all(alloc: Global, files: MemoryFiles, words: &[&str]) -> Result<(String, String), Fail> {
     let words = strings(alloc, words)?;
     let path = strings(alloc, HERE)?;
     let mut files = NotedFiles::new(alloc, files);
@@ -372,7 +357,9 @@ fn limits(rt: HostRuntime) -> Result<(), Fail> {
     assert_eq!(rt; shown.as_str().lines().count(), 4096);
     assert_eq!(rt; asked.as_str().split(' ').count(), 4097);
     let (shown, asked) = load_all(alloc, many_includes(alloc, 4095)?, &words)?;
-    assert!(rt; shown.ends_with("PA.ipdl:4094:9 A3\nPA.ipdl:4095:9 A5\nPB.ipdl:1:9 A5\nPB.ipdl:2:9 A3\n"));
+    assert!(rt;
+        shown.ends_with("PA.ipdl:4094:9 A3\nPA.ipdl:4095:9 A5\nPB.ipdl:1:9 A5\nPB.ipdl:2:9 A3\n")
+    );
     assert_eq!(rt; shown.as_str().lines().count(), 4097);
     assert_eq!(rt; asked.as_str().split(' ').count(), 4097);
     assert!(rt; asked.ends_with(" H4093.ipdlh "));

@@ -180,7 +180,11 @@ fn finds(rt: HostRuntime) -> Result<(), Fail> {
         let inner = name(alloc, argument)?;
         let argument = if inner.is_empty() { None } else { Some(&inner) };
         let found = names.find(*file, &name(alloc, text)?, argument);
-        assert_eq!(rt; show(alloc, found)?.as_str(), *wanted, "{text} {inner:?} in {file}");
+        assert_eq!(rt;
+            show(alloc, found)?.as_str(),
+            *wanted,
+            "{text} {inner:?} in {file}"
+        );
     }
     for (file, text, wanted) in PROTOCOLS {
         let found = names.find_protocol(*file, &name(alloc, text)?);

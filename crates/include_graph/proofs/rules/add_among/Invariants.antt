@@ -1,0 +1,7 @@
+use Rattle.std.proofs.Common.{length}
+use Rattle.include_graph.specs.Found.{Gains, Below, IsFoundAt}
+use Rattle.include_graph.proofs.rules.add_among.Given as goal
+
+-- what comes of the includes so far
+abbrev pub invariant-loop-include : goal.invariant-loop-include
+invariant-loop-include l = Gains (Below (length l.yielded) (IsFoundAt l.files l.includes l.targets)) l.fn.found.items l.found.items

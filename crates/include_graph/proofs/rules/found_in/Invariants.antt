@@ -1,0 +1,7 @@
+use Rattle.std.proofs.Common.{[]}
+use Rattle.include_graph.specs.Found.{Gains, Below, IsFoundOf}
+use Rattle.include_graph.proofs.rules.found_in.Given as goal
+
+-- what comes of the files so far
+abbrev pub invariant-loop-number : goal.invariant-loop-number
+invariant-loop-number l = Gains (Below l.number (IsFoundOf l.words l.keys l.files)) [] l.found.items

@@ -1,0 +1,10 @@
+pub mod Found
+pub mod Growth
+pub mod Keys
+pub mod Laws
+pub mod Load
+pub mod Outcome
+pub mod Reach
+pub mod Reading
+pub mod Rules
+pub mod Sources

@@ -1,0 +1,57 @@
+-- What a load answers.
+use Rattle.std.specs.Prelude.{◌≡◌, ◌≢◌, ℕ, List, [], ◌++◌, map, slice_get, Option, Some, None, Result, IfSome, MatchResult}
+use Rattle.std.specs.List.{AllByRecursion}
+use Rattle.ipdl_base.specs.declared.finding.Finding.{Finding}
+use Rattle.ipdl_base.specs.Outside.{FileMap}
+use Rattle.ipdl_base.specs.Words.{short_name}
+use Rattle.ipdl_syntax.specs.declared.program.Entry.{Entry}
+use Rattle.ipdl_syntax.specs.declared.tree.FileKind.TheVariants as file
+use Rattle.ipdl_syntax.specs.Programs.{ending}
+use Rattle.findings.specs.Report.{IsReport}
+use Rattle.include_graph.specs.declared.loader.LoadFault.{LoadFault}
+use Rattle.include_graph.specs.declared.loader.LoadFault.TheVariants.{Broken, ReadFault, NoMemory}
+use Rattle.include_graph.specs.Sources.{Given, IsReadUnder, content, text_of}
+use Rattle.include_graph.specs.Reach.{IsUnitOf, IsReach}
+use Rattle.include_graph.specs.Rules.{IsBroken}
+
+-- for the map of the files where it is told, and else for some map
+abbrev pub ForMap : Option FileMap → (FileMap → Type 0) → Type 0
+ForMap None P = (files : FileMap) × P files
+ForMap (Some files) P = P files
+
+-- the keys of a program's files, in their order
+abbrev pub keys_of : List Entry → List (List ℕ)
+keys_of program = map (λ e. e.key) program
+
+-- the entry of this number is that of the file of its key
+pub record IsEntryOf (given : Given) (number : ℕ) (entry : Entry) : Type 0 where
+  pub name : IsReadUnder given entry.key entry.name
+  pub unit : IsUnitOf number entry.key (content given entry.key) entry.unit
+
+-- The program of the reach, by which no rule is broken.
+pub record IsProgramOf (given : Given) (program : List Entry) : Type 0 where
+  pub reach : IsReach given (keys_of program)
+  pub clean : (f : Finding) → ¬ IsBroken given (keys_of program) f
+  pub entries : (number : ℕ) (entry : Entry) → slice_get program number ≡ Some entry → IsEntryOf given number entry
+
+-- The report, which is not empty, on the files of the reach, and how it calls each of them.
+pub record IsReportOf (given : Given) (findings : List Finding) (texts : List (List ℕ)) : Type 0 where
+  pub keys : List (List ℕ)
+  pub reach : IsReach given keys
+  pub report : IsReport (IsBroken given keys) findings
+  pub some : findings ≢ []
+  pub called : texts ≡ map (text_of given) keys
+
+-- why there is no program: the report on the files; a failed read and want of memory have causes of their own
+abbrev pub IsFaultOf : Given → LoadFault → Type 0
+IsFaultOf given (Broken findings texts) = IsReportOf given findings texts
+IsFaultOf given ReadFault = Unit {0}
+IsFaultOf given NoMemory = Unit {0}
+
+-- The answer: the program where no rule is broken, and else the report.
+abbrev pub IsAnswer : Given → Result (List Entry) LoadFault → Type 0
+IsAnswer given answer = MatchResult answer (IsProgramOf given) (IsFaultOf given)
+
+-- the protocol of each file has the file's name
+abbrev pub BearTheirNames : List Entry → Type 0
+BearTheirNames program = AllByRecursion (λ e. IfSome e.unit.protocol (λ p. e.key ≡ short_name p.full ++ ending file.Protocol)) program

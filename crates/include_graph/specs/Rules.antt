@@ -1,0 +1,109 @@
+-- The rules that files can break by how they are read and named, each with the places at which it is broken.
+use Rattle.std.specs.Prelude.{◌≡◌, ◌≢◌, ℕ, ◌≤◌, ◌<◌, ◌⊎◌, List, ◌++◌, length, slice_get, Option, Some, None, IsSome, IsSomeAnd}
+use Rattle.std.specs.List.{Any, Contains}
+use Rattle.ipdl_base.specs.declared.finding.Finding.{Finding}
+use Rattle.ipdl_base.specs.declared.finding.Place.{Place}
+use Rattle.ipdl_base.specs.declared.finding.TheConstants.Rule as rule
+use Rattle.ipdl_base.specs.Words.{short_name}
+use Rattle.ipdl_lex.specs.declared.token.Lexed.{Lexed}
+use Rattle.ipdl_lex.specs.declared.token.LexFault.{LexFault}
+use Rattle.ipdl_lex.specs.declared.token.LexFault.TheVariants.{BadByte, OpenComment, OpenString, TooLong, NoMemory}
+use Rattle.ipdl_lex.specs.Tokens.{IsTokens, IsFault}
+use Rattle.ipdl_syntax.specs.declared.tree.FileKind.{FileKind}
+use Rattle.ipdl_syntax.specs.declared.tree.FileKind.TheVariants as file
+use Rattle.ipdl_syntax.specs.declared.tree.Unit.{Unit as FileUnit}
+use Rattle.ipdl_syntax.specs.Programs.{ending, named_key}
+use Rattle.ipdl_parse.specs.Place.{HasTree, IsSyntaxPlace, IsPlaceAt}
+use Rattle.include_graph.specs.Keys.{HasKind}
+use Rattle.include_graph.specs.Sources.{Given, word_of, content, IsAbsent}
+use Rattle.include_graph.specs.Reach.{IsUnitOf}
+
+-- a file as a whole
+abbrev pub whole_file : ℕ → Place
+whole_file number = record { file = number; line = 0; column = 0 }
+
+-- the place of a fault of the text
+abbrev pub place_of : LexFault → Option Place
+place_of (BadByte place) = Some place
+place_of (OpenComment place) = Some place
+place_of (OpenString place) = Some place
+place_of (TooLong place) = Some place
+place_of NoMemory = None
+
+-- The file of this number, which holds these bytes, has no tokens from this place on.
+pub record HasBadToken (number : ℕ) (held : Option (List ℕ)) (place : Place) : Type 0 where
+  pub bytes : List ℕ
+  pub has : held ≡ Some bytes
+  pub small : length bytes ≤ 1048576
+  pub fault : LexFault
+  pub is_fault : IsFault number bytes fault
+  pub here : place_of fault ≡ Some place
+
+-- The file of this number and key has tokens, and these have no tree: they cannot go on to one from this place on.
+pub record HasSyntaxFault (number : ℕ) (key : List ℕ) (held : Option (List ℕ)) (place : Place) : Type 0 where
+  pub bytes : List ℕ
+  pub has : held ≡ Some bytes
+  pub small : length bytes ≤ 1048576
+  pub lexed : Lexed
+  pub tokens : IsTokens number bytes lexed
+  pub kind : FileKind
+  pub is_kind : HasKind key kind
+  pub none : ¬ HasTree kind lexed.tokens
+  pub index : ℕ
+  pub longest : IsSyntaxPlace kind lexed.tokens index
+  pub here : IsPlaceAt lexed.tokens lexed.end index place
+
+-- the file has more bytes than are read
+pub record IsLarge (held : Option (List ℕ)) : Type 0 where
+  pub bytes : List ℕ
+  pub has : held ≡ Some bytes
+  pub large : 1048576 < length bytes
+
+-- this holds of the number and the key of one of the files
+abbrev pub OfFile : List (List ℕ) → (ℕ → List ℕ → Type 0) → Type 0
+OfFile keys Holds = (number : ℕ) × (key : List ℕ) × (slice_get keys number ≡ Some key) × Holds number key
+
+-- this holds of the key of one of the files and of its tree
+abbrev pub OfUnit : Given → List (List ℕ) → (List ℕ → FileUnit → Type 0) → Type 0
+OfUnit given keys Holds = OfFile keys (λ number key. (unit : FileUnit) × IsUnitOf number key (content given key) unit × Holds key unit)
+
+-- an include at this place names a key of which this holds
+abbrev pub IncludesAt : Place → (List ℕ → Type 0) → FileUnit → Type 0
+IncludesAt place Holds unit = Any (λ i. (i.place ≡ place) × Any Holds (named_key i.kind i.name)) unit.includes
+
+-- its protocol, whose name stands at this place, has another short name than its key says
+abbrev pub IsMisnamedAt : Place → List ℕ → FileUnit → Type 0
+IsMisnamedAt place key unit = IsSomeAnd unit.protocol (λ p. (p.place ≡ place) × (short_name p.full ++ ending file.Protocol ≢ key))
+
+-- a file has no tokens
+abbrev pub IsBadToken : Given → List (List ℕ) → Place → Type 0
+IsBadToken given keys place = OfFile keys (λ number key. HasBadToken number (content given key) place)
+
+-- a file has tokens that have no tree
+abbrev pub IsSyntaxFault : Given → List (List ℕ) → Place → Type 0
+IsSyntaxFault given keys place = OfFile keys (λ number key. HasSyntaxFault number key (content given key) place)
+
+-- A word names no file, or an include names a key of the list that has none.
+abbrev pub IsNotFound : Given → List (List ℕ) → Place → Type 0
+IsNotFound given keys place =
+    OfFile keys (λ number key. IsSome (word_of given.words key) × IsAbsent given key × (place ≡ whole_file number))
+    ⊎ OfUnit given keys (λ _. IncludesAt place (λ key. Contains keys key × IsAbsent given key))
+
+-- a protocol has another name than its file
+abbrev pub IsMisnamed : Given → List (List ℕ) → Place → Type 0
+IsMisnamed given keys place = OfUnit given keys (IsMisnamedAt place)
+
+-- A file has more bytes than are read, or an include names a key that is not in the list.
+abbrev pub IsTooLarge : Given → List (List ℕ) → Place → Type 0
+IsTooLarge given keys place =
+    OfFile keys (λ number key. IsLarge (content given key) × (place ≡ whole_file number))
+    ⊎ OfUnit given keys (λ _. IncludesAt place (λ key. ¬ Contains keys key))
+
+-- the finding holds of the files of these keys: its rule is broken at its place
+abbrev pub IsBroken : Given → List (List ℕ) → Finding → Type 0
+IsBroken given keys f =
+    ((f.rule ≡ rule.BAD_TOKEN) × IsBadToken given keys f.place)
+    ⊎ (((f.rule ≡ rule.SYNTAX_FAULT) × IsSyntaxFault given keys f.place)
+    ⊎ (((f.rule ≡ rule.FILE_NOT_FOUND) × IsNotFound given keys f.place)
+    ⊎ (((f.rule ≡ rule.MISNAMED_PROTOCOL) × IsMisnamed given keys f.place)
+    ⊎ ((f.rule ≡ rule.TOO_LARGE) × IsTooLarge given keys f.place))))

@@ -1,0 +1,64 @@
+ghost use Rattle.std.specs.Prelude.{◌≡◌, IfOk, Some};
+ghost use Rattle.include_graph.specs.Keys.{IsFileWord};
+ghost use Rattle.include_graph.specs.Reading.{IsContentOfTokens, IsContent};
+
+use crate::keys::kind_of;
+use ipdl_base::Place;
+use ipdl_lex::{LexFault, Lexed, lex};
+use ipdl_parse::{SyntaxFault, parse};
+use ipdl_syntax::{FileKind, Unit};
+use std::alloc::{AllocError, Global};
+
+/// The most bytes of a file that is read.
+pub const MOST_BYTES: usize = 1_048_576;
+
+/// What the file of a key is read as.
+#[derive(Drop)]
+pub enum Content {
+    /// There is no such file.
+    Absent,
+    /// It has more bytes than are read.
+    Large,
+    /// It has no tokens, from this place on.
+    BadToken(Place),
+    /// Its tokens have no tree, from this place on.
+    SyntaxFault(Place),
+    /// Its tree.
+    Read(Unit),
+}
+
+/// What tokens are read as.
+fn content_of_tokens(alloc: Global, lexed: &Lexed, kind: FileKind) -> Result<Content, AllocError>
+    ensures { IfOk result (IsContentOfTokens kind lexed.now) }
+{
+    match parse(alloc, lexed.tokens.as_slice(), lexed.end, kind) {
+        Ok(unit) => Ok(Content::Read(unit)),
+        Err(SyntaxFault::Fault { place, .. }) => Ok(Content::SyntaxFault(place)),
+        Err(SyntaxFault::NoMemory) => Err(AllocError),
+    }
+}
+
+/// What the bytes of the file of this number and key are read as.
+pub fn content_of_bytes(
+    alloc: Global,
+    number: u32,
+    key: &[u8],
+    bytes: &[u8],
+) -> Result<Content, AllocError>
+    requires { IsFileWord key.now }
+    ensures { IfOk result (IsContent number key.now (Some bytes.now)) }
+{
+    if bytes.len() > MOST_BYTES {
+        return Ok(Content::Large);
+    }
+    match lex(alloc, bytes, number) {
+        Ok(lexed) => content_of_tokens(alloc, &lexed, kind_of(key)),
+        Err(LexFault::NoMemory) => Err(AllocError),
+        Err(
+            LexFault::BadByte(place)
+            | LexFault::OpenComment(place)
+            | LexFault::OpenString(place)
+            | LexFault::TooLong(place),
+        ) => Ok(Content::BadToken(place)),
+    }
+}

@@ -1,0 +1,12 @@
+ghost use Rattle.include_graph.specs.Laws.{OneReach};
+
+use grammar_laws::one_tree;
+use ipdl_lex::one_answer;
+
+/// The law of the reach: for the same files, words and path there is at most one.
+pub fn one_reach()
+    ensures { OneReach }
+{
+    one_tree();
+    one_answer();
+}

@@ -1,0 +1,17 @@
+//! Which files a command reaches, and the program that they are, or the rules that they break by how they are read
+//! and named (docs/reach.md).
+#![tactic(auto)]
+
+mod content;
+mod keys;
+mod laws;
+mod loader;
+mod outcome;
+mod program;
+mod read;
+mod rules;
+mod walk;
+
+pub use keys::{are_file_words, key_of};
+pub use laws::one_reach;
+pub use loader::{LoadFault, load};

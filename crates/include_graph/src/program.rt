@@ -1,0 +1,86 @@
+ghost use Rattle.std.specs.Prelude.{◌≡◌, IfOk, length, map};
+ghost use Rattle.std.specs.List.{AllByRecursion};
+ghost use Rattle.include_graph.specs.Reading.{numbers_of as the_numbers_of, IsOfTree, IsEntryFrom, AreEntriesFrom};
+
+use crate::content::Content;
+use crate::read::Source;
+use crate::walk::{Reached, Target};
+use indexmap::IndexSet;
+use ipdl_base::{Items, Name, Numbers, Texts};
+use ipdl_syntax::{Entry, Program};
+use std::alloc::{AllocError, Global};
+
+/// The numbers of the files that includes lead to.
+fn numbers_of(alloc: Global, targets: &[Target]) -> Result<Numbers, AllocError>
+    ensures { IfOk result (λ numbers. numbers ≡ the_numbers_of targets.now) }
+{
+    let mut numbers = Vec::new(alloc);
+    for target in targets {
+        if let Target::File(number) = target {
+            numbers.push(*number)?;
+        }
+    }
+    Ok(Items::from_vec(numbers))
+}
+
+/// The entry of a key by what came of it, which has a tree.
+fn entry_of(alloc: Global, key: Name, file: Reached) -> Result<Entry, AllocError>
+    requires { IsOfTree file.source.content }
+    ensures { IfOk result (IsEntryFrom key file) }
+{
+    let Reached { source, targets } = file;
+    let Source { text, content } = source;
+    let includes = numbers_of(alloc, targets.as_slice())?;
+    match content {
+        Content::Read(unit) => Ok(Entry {
+            key,
+            name: text,
+            unit,
+            includes,
+        }),
+        _ => unreachable!(),
+    }
+}
+
+/// The program of the files of these keys, each of which has a tree.
+pub fn program_of(
+    alloc: Global,
+    keys: IndexSet<Name>,
+    files: Vec<Reached>,
+) -> Result<Program, AllocError>
+    requires size { length files.items ≡ length keys.keys }
+    requires trees { AllByRecursion (λ f. IsOfTree f.source.content) files.items }
+    ensures { IfOk result (AreEntriesFrom keys.keys files.items) }
+{
+    let mut keys = keys;
+    let mut files = files;
+    let mut program = Vec::with_capacity(alloc, files.len())?;
+    while let Some(file) = files.pop() {
+        let Some(key) = keys.pop() else {
+            unreachable!()
+        };
+        program.push(entry_of(alloc, key, file)?)?;
+    }
+    program.reverse();
+    Ok(Items::from_vec(program))
+}
+
+/// How a report calls a file.
+fn text_of(file: Reached) -> Name
+    ensures { result ≡ file.source.text }
+{
+    let Reached { source, .. } = file;
+    let Source { text, .. } = source;
+    text
+}
+
+/// How a report calls the files.
+pub fn texts_of(alloc: Global, files: Vec<Reached>) -> Result<Texts, AllocError>
+    ensures { IfOk result (λ texts. texts ≡ map (λ f. f.source.text) files.items) }
+{
+    let mut texts = Vec::new(alloc);
+    for file in files {
+        texts.push(text_of(file))?;
+    }
+    Ok(Items::from_vec(texts))
+}

@@ -1,0 +1,177 @@
+ghost use Rattle.std.specs.Prelude.{◌≡◌, ◌≤◌, ◌++◌, IfOk, IfSome, Some, None, Option, List, ℕ, map, string_bytes};
+ghost use Rattle.std.specs.Option.{option_copied, option_or};
+ghost use Rattle.std.specs.Str.{IsUtf8};
+ghost use Rattle.ipdl_base.specs.Outside.{Rose};
+ghost use Rattle.include_graph.specs.Keys.{IsFileWord};
+ghost use Rattle.include_graph.specs.Load.{ForMap};
+ghost use Rattle.include_graph.specs.Sources.{in_directory as the_name_in, name_on_path};
+ghost use Rattle.include_graph.specs.Reading.{IsContent, IsFound, IsSource};
+
+use crate::content::{Content, MOST_BYTES, content_of_bytes};
+use ipdl_base::{Files, Items, Name, ReadAnswer};
+use std::alloc::{AllocError, Global};
+
+/// Why files are read no further.
+#[derive(Clone, Copy, Debug, PartialEq, Eq)]
+pub enum Stop {
+    /// A read failed.
+    ReadFault,
+    /// Memory ran out.
+    NoMemory,
+}
+
+impl From<AllocError> for Stop {
+    ghost use Rattle.include_graph.specs.declared.read.Stop.TheVariants.{NoMemory};
+
+    ghost from_gives = { λ _ stop. stop ≡ NoMemory };
+
+    fn from(_error: AllocError) -> Stop {
+        Stop::NoMemory
+    }
+}
+
+/// What stands at a name.
+#[derive(Drop)]
+pub enum Found {
+    /// A file with these bytes.
+    Bytes(Vec<u8>),
+    /// A file with more bytes than are read.
+    Large,
+    /// No file.
+    Absent,
+}
+
+/// What came of a key.
+#[derive(Drop)]
+pub struct Source {
+    /// The name under which it was read, or the key where it was read under none.
+    pub text: Name,
+    pub content: Content,
+}
+
+/// Reads a name.
+fn read_name<F: Files>(alloc: Global, files: &mut F, name: &str) -> Result<Found, Stop>
+    ensures found { IfOk result (λ found. IfSome (F.told files.old) (λ map'. IsFound (map' name.now) found)) }
+    ensures told { F.told files.new ≡ F.told files.old }
+    ensures count { F.faults files.old ≤ F.faults files.new }
+    ensures read_fault { result ≡ Err Stop.ReadFault → Rose (F.faults files.old) (F.faults files.new) }
+{
+    match files.read(alloc, name, MOST_BYTES) {
+        ReadAnswer::Bytes(bytes) => Ok(Found::Bytes(bytes)),
+        ReadAnswer::Larger => Ok(Found::Large),
+        ReadAnswer::Absent => Ok(Found::Absent),
+        ReadAnswer::Failed => Err(Stop::ReadFault),
+        ReadAnswer::NoMemory => Err(Stop::NoMemory),
+    }
+}
+
+/// What the file of this number and key is read as, by what was found.
+fn content_of_found(
+    alloc: Global,
+    number: u32,
+    key: &[u8],
+    found: &Found,
+) -> Result<Content, AllocError>
+    requires { IsFileWord key.now }
+    ensures { IfOk result (λ content. (held : Option (List ℕ)) → IsFound held found.now → IsContent number key.now held content) }
+{
+    match found {
+        Found::Bytes(bytes) => content_of_bytes(alloc, number, key, bytes.as_slice()),
+        Found::Large => Ok(Content::Large),
+        Found::Absent => Ok(Content::Absent),
+    }
+}
+
+/// What comes of a key that is read under this word.
+fn read_word<F: Files>(
+    alloc: Global,
+    files: &mut F,
+    word: &str,
+    key: &[u8],
+    number: u32,
+) -> Result<Source, Stop>
+    requires { IsFileWord key.now }
+    ensures source { IfOk result (λ source. ForMap (F.told files.old) (λ files'. IsSource number key.now files' (Some word.now) source)) }
+    ensures told { F.told files.new ≡ F.told files.old }
+    ensures count { F.faults files.old ≤ F.faults files.new }
+    ensures read_fault { result ≡ Err Stop.ReadFault → Rose (F.faults files.old) (F.faults files.new) }
+{
+    let found = read_name(alloc, files, word)?;
+    let content = content_of_found(alloc, number, key, &found)?;
+    Ok(Source {
+        text: Items::from_vec(Vec::from_slice(alloc, word.as_bytes())?),
+        content,
+    })
+}
+
+/// The name of a key in a directory.
+fn in_directory(alloc: Global, directory: &str, key: &str) -> Result<String, AllocError>
+    ensures { IfOk result (λ name. string_bytes name ≡ the_name_in directory.now key.now) }
+{
+    let mut name = String::new(alloc);
+    if directory != "." {
+        name.push_str(directory)?;
+        name.push_str("/")?;
+    }
+    name.push_str(key)?;
+    Ok(name)
+}
+
+/// What comes of a key that is looked for on the path.
+fn read_on_path<F: Files>(
+    alloc: Global,
+    files: &mut F,
+    path: &[String],
+    key: &[u8],
+    number: u32,
+) -> Result<Source, Stop>
+    requires word { IsFileWord key.now }
+    requires utf8 { IsUtf8 key.now }
+    ensures source { IfOk result (λ source. ForMap (F.told files.old) (λ files'. IsSource number key.now files' (name_on_path files' (map string_bytes path.now) key.now) source)) }
+    ensures told { F.told files.new ≡ F.told files.old }
+    ensures count { F.faults files.old ≤ F.faults files.new }
+    ensures read_fault { result ≡ Err Stop.ReadFault → Rose (F.faults files.old) (F.faults files.new) }
+{
+    let Ok(text) = str::from_utf8(key) else {
+        unreachable!()
+    };
+    for directory in path {
+        let name = in_directory(alloc, directory.as_str(), text)?;
+        match read_name(alloc, files, name.as_str())? {
+            Found::Absent => {}
+            found => {
+                let content = content_of_found(alloc, number, key, &found)?;
+                return Ok(Source {
+                    text: Items::from_vec(name.into_bytes()),
+                    content,
+                });
+            }
+        }
+    }
+    Ok(Source {
+        text: Items::from_vec(Vec::from_slice(alloc, key)?),
+        content: Content::Absent,
+    })
+}
+
+/// What comes of a key, which is read under a word or looked for on the path.
+pub fn read_key<F: Files>(
+    alloc: Global,
+    files: &mut F,
+    word: Option<&str>,
+    path: &[String],
+    key: &[u8],
+    number: u32,
+) -> Result<Source, Stop>
+    requires word { IsFileWord key.now }
+    requires utf8 { option_copied word ≡ None → IsUtf8 key.now }
+    ensures source { IfOk result (λ source. ForMap (F.told files.old) (λ files'. IsSource number key.now files' (option_or (option_copied word.entry) (name_on_path files' (map string_bytes path.now) key.now)) source)) }
+    ensures told { F.told files.new ≡ F.told files.old }
+    ensures count { F.faults files.old ≤ F.faults files.new }
+    ensures read_fault { result ≡ Err Stop.ReadFault → Rose (F.faults files.old) (F.faults files.new) }
+{
+    match word {
+        Some(word) => read_word(alloc, files, word, key, number),
+        None => read_on_path(alloc, files, path, key, number),
+    }
+}

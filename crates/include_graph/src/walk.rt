@@ -1,0 +1,185 @@
+ghost use Rattle.std.specs.Prelude.{◌≡◌, ◌≤◌, [], IfOk, OnOk, map, string_bytes, length};
+ghost use Rattle.std.specs.List.{AllZip};
+ghost use Rattle.ipdl_base.specs.Outside.{Rose};
+ghost use Rattle.ipdl_syntax.specs.Programs.{named_key, named_keys};
+ghost use Rattle.include_graph.specs.Keys.{AreFileWords, word_keys};
+ghost use Rattle.include_graph.specs.Growth.{add_keys, HasWords};
+ghost use Rattle.include_graph.specs.Load.{ForMap};
+ghost use Rattle.include_graph.specs.Reading.{IsTarget, AreTargets, AreRead, IsGathered, row_of};
+
+use crate::content::Content;
+use crate::keys::{key_of, named_key_of};
+use crate::read::{Source, Stop, read_key};
+use grammar_laws::names_hold;
+use indexmap::IndexSet;
+use ipdl_base::{Files, Items, Name};
+use ipdl_lex::words_hold;
+use ipdl_syntax::Include;
+use std::alloc::{AllocError, Global};
+
+/// The most files that are reached.
+const MOST_FILES: usize = 4096;
+
+/// What an include leads to.
+#[derive(Clone, Copy)]
+pub enum Target {
+    /// It names no file.
+    Nothing,
+    /// It names a file for which there is no room.
+    LeftOut,
+    /// It names the file of this number.
+    File(u32),
+}
+
+/// A file that is reached.
+#[derive(Drop)]
+pub struct Reached {
+    pub source: Source,
+    /// What each include of its tree leads to.
+    pub targets: Vec<Target>,
+}
+
+/// Adds the keys of the words, each once, and for each key the first word that has it.
+fn add_words<'a>(
+    alloc: Global,
+    words: &'a [String],
+    keys: &mut IndexSet<Name>,
+    firsts: &mut Vec<&'a str>,
+) -> Result<(), AllocError>
+    requires keys { keys.old.keys ≡ [] }
+    requires firsts { firsts.old.items ≡ [] }
+    ensures { OnOk result (HasWords (map string_bytes words.now) keys.new.keys (map (λ first. first.now) firsts.new.items)) }
+{
+    for word in words {
+        let key = Vec::from_slice(alloc, key_of(word.as_bytes()))?;
+        if keys.insert(Items::from_vec(key))? {
+            firsts.push(word.as_str())?;
+        }
+    }
+    Ok(())
+}
+
+/// Adds the key of an include, where it names one and there is room.
+fn add_include(
+    alloc: Global,
+    include: &Include,
+    keys: &mut IndexSet<Name>,
+) -> Result<Target, AllocError>
+    requires { length keys.old.keys ≤ 4096 }
+    ensures keys { OnOk result (keys.new.keys ≡ add_keys keys.old.keys (named_key include.now.kind include.now.name)) }
+    ensures target { IfOk result (IsTarget keys.new.keys include.now) }
+{
+    let Some(key) = named_key_of(alloc, include)? else {
+        return Ok(Target::Nothing);
+    };
+    if let Some(number) = keys.get_index_of(&key) {
+        return Ok(Target::File(number as u32));
+    }
+    let number = keys.len();
+    if number >= MOST_FILES {
+        return Ok(Target::LeftOut);
+    }
+    keys.insert(key)?;
+    Ok(Target::File(number as u32))
+}
+
+/// Adds the keys of the includes in turn.
+fn add_includes(
+    alloc: Global,
+    includes: &[Include],
+    keys: &mut IndexSet<Name>,
+) -> Result<Vec<Target>, AllocError>
+    requires { length keys.old.keys ≤ 4096 }
+    ensures keys { OnOk result (keys.new.keys ≡ add_keys keys.old.keys (named_keys includes.now)) }
+    ensures targets { IfOk result (λ targets. AllZip (IsTarget keys.new.keys) includes.now targets.items) }
+{
+    let mut targets = Vec::new(alloc);
+    for include in includes {
+        targets.push(add_include(alloc, include, keys)?)?;
+    }
+    Ok(targets)
+}
+
+/// Adds the keys that a file names.
+fn add_named(
+    alloc: Global,
+    content: &Content,
+    keys: &mut IndexSet<Name>,
+) -> Result<Vec<Target>, AllocError>
+    requires { length keys.old.keys ≤ 4096 }
+    ensures keys { OnOk result (keys.new.keys ≡ add_keys keys.old.keys (row_of content.now)) }
+    ensures targets { IfOk result (λ targets. AreTargets keys.new.keys content.now targets.items) }
+{
+    match content {
+        Content::Read(unit) => add_includes(alloc, unit.includes.as_slice(), keys),
+        _ => Ok(Vec::new(alloc)),
+    }
+}
+
+/// Reads the files of the keys, in order, and adds the keys that they name. These begin as those of the words.
+fn walk<F: Files>(
+    alloc: Global,
+    files: &mut F,
+    words: &[String],
+    firsts: &[&str],
+    path: &[String],
+    keys: &mut IndexSet<Name>,
+) -> Result<Vec<Reached>, Stop>
+    requires words { AreFileWords (map string_bytes words.now) }
+    requires keys { HasWords (map string_bytes words.now) keys.old.keys (map (λ first. first.now) firsts.now) }
+    ensures read { IfOk result (λ reached. ForMap (F.told files.old) (λ files'. AreRead (record { files = files'; words = map string_bytes words.now; path = map string_bytes path.now }) keys.new.keys reached.items)) }
+    ensures told { F.told files.new ≡ F.told files.old }
+    ensures count { F.faults files.old ≤ F.faults files.new }
+    ensures read_fault { result ≡ Err Stop.ReadFault → Rose (F.faults files.old) (F.faults files.new) }
+{
+    words_hold();
+    names_hold();
+    let mut reached = Vec::new(alloc);
+    'files: while let Some(key) = keys.get_index(reached.len()) {
+        let number = reached.len();
+        let word = firsts.get(number).copied();
+        let source = read_key(alloc, files, word, path, key.as_slice(), number as u32)?;
+        let targets = add_named(alloc, &source.content, keys)?;
+        reached.push(Reached { source, targets }).map_err(AllocError::from)?;
+    }
+    Ok(reached)
+}
+
+/// What is kept of the files that are reached.
+#[derive(Drop)]
+pub struct Gathered {
+    /// How many keys are those of words. They come first.
+    pub words: usize,
+    pub keys: IndexSet<Name>,
+    /// What came of each key.
+    pub files: Vec<Reached>,
+}
+
+/// Reads all files that the words reach, each once, in the order of the reach.
+pub fn gather<F: Files>(
+    alloc: Global,
+    files: &mut F,
+    words: &[String],
+    path: &[String],
+) -> Result<Gathered, Stop>
+    requires { AreFileWords (map string_bytes words.now) }
+    ensures gathered { IfOk result (λ g. ForMap (F.told files.old) (λ files'. IsGathered (record { files = files'; words = map string_bytes words.now; path = map string_bytes path.now }) g.words g.keys.keys g.files.items)) }
+    ensures told { F.told files.new ≡ F.told files.old }
+    ensures count { F.faults files.old ≤ F.faults files.new }
+    ensures read_fault { result ≡ Err Stop.ReadFault → Rose (F.faults files.old) (F.faults files.new) }
+{
+    let mut keys = IndexSet::new(alloc);
+    let mut firsts = Vec::new(alloc);
+    match add_words(alloc, words, &mut keys, &mut firsts) {
+        Ok(()) => {}
+        Err(_) => return Err(Stop::NoMemory),
+    }
+    match walk(alloc, files, words, firsts.as_slice(), path, &mut keys) {
+        Ok(files) => Ok(Gathered {
+            words: firsts.len(),
+            keys,
+            files,
+        }),
+        Err(stop) => Err(stop),
+    }
+}
