@@ -61,12 +61,12 @@ impl NotedFiles {
             asked: String::new(alloc),
         }
     }
+}
 
-    /// Keeps a name.
-    fn keep(&mut self, name: &str) -> Result<(), AllocError> {
-        self.asked.push_str(name)?;
-        self.asked.push(' ')
-    }
+/// Appends a name and a blank.
+fn note(asked: &mut String, name: &str) -> Result<(), AllocError> {
+    asked.push_str(name)?;
+    asked.push(' ')
 }
 
 impl Files for NotedFiles {
@@ -78,7 +78,7 @@ impl Files for NotedFiles {
     ghost faults = { λ f. f.files.faults };
 
     fn read(&mut self, alloc: Global, name: &str, limit: usize) -> ReadAnswer {
-        match self.keep(name) {
+        match note(&mut self.asked, name) {
             Ok(()) => self.files.read(alloc, name, limit),
             Err(AllocError) => ReadAnswer::NoMemory,
         }

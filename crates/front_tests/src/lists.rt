@@ -122,8 +122,8 @@ const BAD_LISTS: &[(&str, u32)] = &[
 
 /// The findings of a program and a list, each as `FILE:LINE:COLUMN RULE` and a blank.
 fn show_findings(alloc: Global, program: &Program, text: &str) -> Result<String, Fail> {
-    if text.len() > 1_048_576 {
-        return Err("a list that is too large".into());
+    if text.len() > 1_048_576 || program.len() > 4096 {
+        return Err("a list or a program that is too large".into());
     }
     let list = read_list(alloc, text.as_bytes()).map_err(|_| "no list")?;
     let mut shown = String::new(alloc);

@@ -17,7 +17,7 @@ fn push_entry(shown: &mut String, entry: &Entry) -> Result<(), Fail> {
 }
 
 /// A finding as `NAME:LINE:COLUMN RULE`.
-fn push_finding(shown: &mut String, finding: &Finding, names: &Names) -> Result<(), Fail> {
+fn push_finding(shown: &mut String, finding: Finding, names: &Names) -> Result<(), Fail> {
     let place = finding.place;
     let name = names.as_slice().get(place.file as usize).ok_or("no name")?;
     let letter = char::from(finding.rule.letter);
@@ -43,7 +43,7 @@ fn show_program(alloc: Global, program: &Program) -> Result<String, Fail> {
 fn show_findings(alloc: Global, findings: &Findings, names: &Names) -> Result<String, Fail> {
     let mut shown = String::new(alloc);
     for finding in findings.as_slice() {
-        push_finding(&mut shown, finding, names)?;
+        push_finding(&mut shown, *finding, names)?;
     }
     Ok(shown)
 }
