@@ -88,17 +88,19 @@ module _ (words path list : List (List ℕ)) (files : List Reached)
       let k = there_is list n (omega arith) in
       let f = there_is files n (omega arith) in
       let own = each n k.0 f.0 k.1 f.1 in
-      let both : FileMap = λ name. cond (is_same (key_of name) k.0) (own.0 name) (rest.0 name) in
-      (both, λ number key file before a b. elim (cases_lt number n) [
-        | inl less ↦ same_source key (whole number key a) rest.0 both
-            (λ name is. by_test (is_same (key_of name) k.0) (λ e. absurd (apart number n key k.0 less a k.1 (sym is ∙ same_is (key_of name) k.0 e))) (λ e. rw e refl))
-            number words path file.source (rest.1 number key file less a b)
-        | inr more ↦
-            let n_is : n ≡ number = omega arith in
-            let key_is : k.0 ≡ key = same_Some _ _ (sym k.1 ∙ (ap (slice_get list) n_is ∙ a)) in
-            let file_is : f.0 ≡ file = same_Some _ _ (sym f.1 ∙ (ap (slice_get files) n_is ∙ b)) in
-            same_source key (whole number key a) own.0 both
-            (λ name is. let e : is_same (key_of name) k.0 ≡ true = subst (λ x. is_same (key_of name) x ≡ true) (is ∙ sym key_is) (is_itself (key_of name)) in rw e refl)
-            number words path file.source
-            (subst (λ i. By words path i key file own.0) n_is (subst (λ x. By words path n x file own.0) key_is (subst (λ (g : Reached). By words path n k.0 g own.0) file_is own.1)))
-      ])
+      let both : FileMap = λ name. cond (is_same (key_of name) k.0) (own.0 name) (rest.0 name) in (
+        both,
+        λ number key file before a b. elim (cases_lt number n) [
+          | inl less ↦ same_source key (whole number key a) rest.0 both
+              (λ name is. by_test (is_same (key_of name) k.0) (λ e. absurd (apart number n key k.0 less a k.1 (sym is ∙ same_is (key_of name) k.0 e))) (λ e. rw e refl))
+              number words path file.source (rest.1 number key file less a b)
+          | inr more ↦
+              let n_is : n ≡ number = omega arith in
+              let key_is : k.0 ≡ key = same_Some _ _ (sym k.1 ∙ (ap (slice_get list) n_is ∙ a)) in
+              let file_is : f.0 ≡ file = same_Some _ _ (sym f.1 ∙ (ap (slice_get files) n_is ∙ b)) in
+              same_source key (whole number key a) own.0 both
+              (λ name is. let e : is_same (key_of name) k.0 ≡ true = subst (λ x. is_same (key_of name) x ≡ true) (is ∙ sym key_is) (is_itself (key_of name)) in rw e refl)
+              number words path file.source
+              (subst (λ i. By words path i key file own.0) n_is (subst (λ x. By words path n x file own.0) key_is (subst (λ (g : Reached). By words path n k.0 g own.0) file_is own.1)))
+        ],
+      )

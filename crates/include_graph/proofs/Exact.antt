@@ -56,19 +56,15 @@ module _ (laws : OneAnswer) (given : Given) (keys : List (List ℕ)) (files : Li
       let f = there_is files number (omega arith) in
       (f.0, f.1, r.each number key f.0 e f.1)
 
-  key_of_file : (number : ℕ) (f : Reached) → slice_get files number ≡ Some f → (key : List ℕ) × (slice_get keys number ≡ Some key)
-  key_of_file number f e = let within = slice_get_within files number f e in let size = r.size in there_is keys number (omega arith)
-
   -- a key has a word just where it is one of the first
   has_word : (number : ℕ) (key : List ℕ) → slice_get keys number ≡ Some key → (number < length firsts) ↔ IsSome (word_of given.words key)
   has_word number key e =
-      let is = first_word given.words first keys r.reached.further firsts number key h r.reached.begins r.reached.once e in
-      (
+      let is = first_word given.words first keys r.reached.further firsts number key h r.reached.begins r.reached.once e in (
         λ less. let w = there_is firsts number less in ap is_some (sym is ∙ w.1),
         λ some. elim (cases_lt number (length firsts)) [
           | inl less ↦ less
           | inr more ↦ absurd (true≢false (sym some ∙ ap is_some (sym is ∙ slice_get_past firsts number more)))
-        ]
+        ],
       )
 
   -- an absent key has an absent file

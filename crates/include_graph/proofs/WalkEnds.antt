@@ -59,9 +59,9 @@ walk_start told words path list firsts files h = record {
   room = omega arith;
   each = λ number key file e none. absurd (let no : ⊥ = cc in no);
   whole = λ number key e.
-    let z = zip_at (λ k w. word_of words k ≡ Some w) list firsts number key h.first e in
-    let found = word_found words key z.0 z.2 in
-    subst IsWhole found.1 (whole_word z.0 (All-contains IsFileWord words z.0 (All-from_recursion IsFileWord words files.files) found.0));
+      let z = zip_at (λ k w. word_of words k ≡ Some w) list firsts number key h.first e in
+      let found = word_found words key z.0 z.2 in
+      subst IsWhole found.1 (whole_word z.0 (All-contains IsFileWord words z.0 (All-from_recursion IsFileWord words files.files) found.0));
   plain = λ number key e past. (let a = slice_get_within list number key e in let b = ap length h.keys in absurd (omega arith));
 }
 
@@ -123,12 +123,14 @@ walk_end told words path list files w all = whole told w
     whole : (t : Option FileMap) → Walking t words path list files → ForMap t (λ m. AreRead (record { files = m; words = words; path = path }) list files)
     whole None v =
         let r = v.room in
-        let one = together words path list files v.room v.grown.once v.whole (λ number key file a b. (v.each number key file a b).source) (length files) (omega arith) in
-        (one.0, record {
-          size = omega arith;
-          each = λ number key file a b. record { source = one.1 number key file (slice_get_within files number file b) a b; targets = (v.each number key file a b).targets };
-          reached = reached None v;
-        })
+        let one = together words path list files v.room v.grown.once v.whole (λ number key file a b. (v.each number key file a b).source) (length files) (omega arith) in (
+          one.0,
+          record {
+            size = omega arith;
+            each = λ number key file a b. record { source = one.1 number key file (slice_get_within files number file b) a b; targets = (v.each number key file a b).targets };
+            reached = reached None v;
+          },
+        )
     whole (Some m) v = let r = v.room in record {
       size = omega arith;
       each = λ number key file a b. record { source = (v.each number key file a b).source; targets = (v.each number key file a b).targets };

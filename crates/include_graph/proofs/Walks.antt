@@ -56,15 +56,15 @@ added_one : (list : List (List ℕ)) (k : List ℕ) (n : ℕ) (key : List ℕ) �
 added_one list k n key e = by_test (list_any (is_same k) list)
     (λ a. inl (subst (λ ks. slice_get ks n ≡ Some key) (add_old list k a) e))
     (λ a. by_test (nat_lt (length list) 4096)
-      (λ b. elim (got_last list k n key (subst (λ ks. slice_get ks n ≡ Some key) (add_new list k a b) e)) [ inl h ↦ inl h | inr h ↦ (let m = h.0 in inr (omega arith, h.1)) ])
-      (λ b. inl (subst (λ ks. slice_get ks n ≡ Some key) (add_past list k a b) e)))
+    (λ b. elim (got_last list k n key (subst (λ ks. slice_get ks n ≡ Some key) (add_new list k a b) e)) [ inl h ↦ inl h | inr h ↦ (let m = h.0 in inr (omega arith, h.1)) ])
+    (λ b. inl (subst (λ ks. slice_get ks n ≡ Some key) (add_past list k a b) e)))
 
 long_one : (list : List (List ℕ)) (k : List ℕ) → length list ≤ length (add_key list k)
 long_one list k = by_test (list_any (is_same k) list)
     (λ a. subst (λ ks. length list ≤ length ks) (sym (add_old list k a)) (omega arith))
     (λ a. by_test (nat_lt (length list) 4096)
-      (λ b. subst (λ ks. length list ≤ length ks) (sym (add_new list k a b)) (omega (arith, length-append list (k ∷ []))))
-      (λ b. subst (λ ks. length list ≤ length ks) (sym (add_past list k a b)) (omega arith)))
+    (λ b. subst (λ ks. length list ≤ length ks) (sym (add_new list k a b)) (omega (arith, length-append list (k ∷ []))))
+    (λ b. subst (λ ks. length list ≤ length ks) (sym (add_past list k a b)) (omega arith)))
 
 pub long_more : (list row : List (List ℕ)) → length list ≤ length (add_keys list row)
 long_more list [] = omega arith
@@ -81,8 +81,8 @@ key_one : (list : List (List ℕ)) (k : List ℕ) (n : ℕ) (key : List ℕ) →
 key_one list k n key e = by_test (list_any (is_same k) list)
     (λ a. subst (λ ks. slice_get ks n ≡ Some key) (sym (add_old list k a)) e)
     (λ a. by_test (nat_lt (length list) 4096)
-      (λ b. subst (λ ks. slice_get ks n ≡ Some key) (sym (add_new list k a b)) (get_append list (k ∷ []) n key e))
-      (λ b. subst (λ ks. slice_get ks n ≡ Some key) (sym (add_past list k a b)) e))
+    (λ b. subst (λ ks. slice_get ks n ≡ Some key) (sym (add_new list k a b)) (get_append list (k ∷ []) n key e))
+    (λ b. subst (λ ks. slice_get ks n ≡ Some key) (sym (add_past list k a b)) e))
 
 key_more : (list row : List (List ℕ)) (n : ℕ) (key : List ℕ) → slice_get list n ≡ Some key → slice_get (add_keys list row) n ≡ Some key
 key_more list [] n key e = e

@@ -52,8 +52,8 @@ ends_so [] kind = ([], bare (ending kind) (no_slash_ending kind))
 ends_so (b ∷ front) kind = by_test (list_any slash (front ++ ending kind))
     (λ e. subst (λ k. HasKind k kind) (sym (picked e)) (ends_so front kind))
     (λ e. by_test (slash b)
-      (λ f. (front, rw e (rw f refl)))
-      (λ f. (b ∷ front, rw e (rw f refl))))
+    (λ f. (front, rw e (rw f refl)))
+    (λ f. (b ∷ front, rw e (rw f refl))))
   where
     picked : list_any slash (front ++ ending kind) ≡ true → key_of (b ∷ front ++ ending kind) ≡ key_of (front ++ ending kind)
     picked e = rw e refl

@@ -58,7 +58,7 @@ returns-in_default-2 g c =
     let first = found_first told c.args.number (map string_bytes (take i path)) (map string_bytes (drop (i + 1) path)) (string_bytes item) key found source there called (λ held h. c.in_ok-content-in_default-2.ensures held h) c.loop-directory.invariant.none here in
     record {
       source = subst (λ (o : Option FileMap). ForMap o (λ files. IsSource c.args.number key files (name_on_path files (map string_bytes path) key) source)) c.loop-directory.invariant.told
-        (subst (λ ds. ForMap told (λ files. IsSource c.args.number key files (name_on_path files ds key) source)) whole first);
+          (subst (λ ds. ForMap told (λ files. IsSource c.args.number key files (name_on_path files ds key) source)) whole first);
       told = c.read_name.ensures.told ∙ c.loop-directory.invariant.told;
       count = (let a = c.loop-directory.invariant.count in let b = c.read_name.ensures.count in omega arith);
       read_fault = λ e. absurd (let none : ⊥ = cc in none);
