@@ -1,6 +1,6 @@
 -- One map for all keys, where each key has a map of its own.
-use Rattle.std.proofs.Common.{◌≡◌, ◌≢◌, ◌⊎◌, inl, inr, ℕ, zero, suc, ◌<◌, ◌≤◌, Bool, true, false, cond, nat_eq, List, [], ◌∷◌, ◌++◌, length, map, get_or, is_some, refl, sym, ◌∙◌, ap, subst, arith, true≢false}
-use Rattle.std.specs.Prelude.{Option, Some, None, find, slice_get, codes, unwrap_or}
+use Rattle.std.proofs.Common.{◌≡◌, ◌≢◌, inl, inr, ℕ, zero, suc, ◌<◌, ◌≤◌, true, false, cond, List, [], ◌∷◌, ◌++◌, length, is_some, refl, sym, ◌∙◌, ap, subst, arith}
+use Rattle.std.specs.Prelude.{Option, Some, None, slice_get, codes}
 use Rattle.std.specs.List.{AllPairs, list_any}
 use Rattle.std.specs.Option.{option_and_then, option_or}
 use Rattle.std.proofs.lemmas.Bool.{cases_lt}
@@ -8,10 +8,10 @@ use Rattle.std.proofs.lemmas.Option.{same_Some, slice_get_within, get_or_from_sl
 use Rattle.ipdl_base.specs.Outside.{FileMap}
 use Rattle.include_graph.specs.declared.read.Source.{Source}
 use Rattle.include_graph.specs.declared.walk.Reached.{Reached}
-use Rattle.include_graph.specs.Keys.{behind_last, key_of, is_same}
+use Rattle.include_graph.specs.Keys.{key_of, is_same}
 use Rattle.include_graph.specs.Reading.{IsContent, IsSource}
 use Rattle.include_graph.specs.Sources.{in_directory, word_of, name_on_path}
-use Rattle.include_graph.proofs.Ends.{by_test, same_is, is_itself, other_is}
+use Rattle.include_graph.proofs.Ends.{by_test, same_is, is_itself}
 use Rattle.include_graph.proofs.WholeKeys.{IsWhole, no_slash, slash}
 use Rattle.include_graph.proofs.WordKeys.{word_found}
 

@@ -1,8 +1,8 @@
 -- The entries of a program, made from the last one on.
-use Rattle.std.proofs.Common.{◌≡◌, ℕ, List, [], ◌∷◌, ◌++◌, length, reverse, refl, sym, ◌∙◌, ap, subst, append_assoc}
+use Rattle.std.proofs.Common.{◌≡◌, ℕ, List, [], ◌∷◌, ◌++◌, reverse, sym, ◌∙◌, ap, subst, append_assoc}
 use Rattle.std.specs.List.{AllByRecursion, Contains}
 use Rattle.std.proofs.lemmas.List.{append-nil, reverse-append}
-use Rattle.std.proofs.lemmas.List.Elements.{All-from_recursion, All-contains, Contains-append_left, Contains-append_right, Contains-push}
+use Rattle.std.proofs.lemmas.List.Elements.{All-from_recursion, All-contains, Contains-append_left, Contains-push}
 use Rattle.ipdl_syntax.specs.declared.program.Entry.{Entry}
 use Rattle.include_graph.specs.declared.walk.Reached.{Reached}
 use Rattle.include_graph.specs.Reading.{IsOfTree, IsEntryFrom, AreEntriesFrom}

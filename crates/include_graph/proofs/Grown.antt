@@ -1,16 +1,15 @@
 -- How the keys stand while files are read: as a reach of what is named so far.
-use Rattle.std.proofs.Common.{◌≡◌, ◌≢◌, ◌⊎◌, inl, inr, ℕ, zero, suc, ◌+◌, ◌<◌, ◌≤◌, Bool, true, false, nat_lt, cond, List, [], ◌∷◌, ◌++◌, length, take, get_or, refl, sym, ◌∙◌, ap, subst, arith, append_assoc, length-append}
-use Rattle.std.specs.Prelude.{Some, slice_get}
-use Rattle.std.specs.List.{All, AllPairs, Contains, list_any, fold}
+use Rattle.std.proofs.Common.{◌≡◌, ◌≢◌, ◌⊎◌, inl, inr, ℕ, ◌<◌, ◌≤◌, true, false, nat_lt, List, [], ◌∷◌, ◌++◌, length, get_or, refl, sym, ◌∙◌, ap, subst, arith, append_assoc, length-append}
+use Rattle.std.specs.List.{All, AllPairs, Contains, list_any}
 use Rattle.std.proofs.lemmas.Bool.{ltb-true, ltb-false}
 use Rattle.std.proofs.lemmas.List.{append-nil}
-use Rattle.std.proofs.lemmas.List.Elements.{All-contains, All-get_or, All-push, All-weaker, Contains-append_left, Contains-append_right, Contains-push, Contains-push_cases, Contains-get_or}
+use Rattle.std.proofs.lemmas.List.Elements.{All-push, Contains-append_left, Contains-push, Contains-push_cases, Contains-get_or}
 use Rattle.std.proofs.lemmas.List.Quantifiers.{all_pairs_push}
 use Rattle.include_graph.specs.Growth.{add_key, add_keys}
 use Rattle.include_graph.specs.Keys.{is_same}
 use Rattle.include_graph.specs.Reach.{first_place, IsLeftOut}
 use Rattle.include_graph.proofs.Ends.{by_test}
-use Rattle.include_graph.proofs.Places.{among, is_among, not_among, found_or_not, place_append, place_within, place_new}
+use Rattle.include_graph.proofs.Places.{among, not_among, found_or_not, place_append, place_within, place_new}
 
 -- The keys begin with those of the words, and further ones follow in the order in which they are named first; all that
 -- is named is among them, unless it is left out.

@@ -1,8 +1,8 @@
 -- What the files that are kept make: a program where no rule is broken, and else a report.
-use Rattle.std.proofs.Common.{◌≡◌, ◌≢◌, ◌⊎◌, inl, inr, ℕ, zero, suc, ◌<◌, ◌≤◌, Bool, true, false, List, [], ◌∷◌, ◌++◌, length, map, take, get_or, is_some, refl, sym, ◌∙◌, ap, subst, arith, true≢false}
-use Rattle.std.specs.Prelude.{Option, Some, None, slice_get, unwrap_or, IsSome, IfSome, IsSomeAnd, option_map, ◌↔◌}
-use Rattle.std.specs.List.{All, AllByRecursion, AllPairs, AllZip, Any, Contains, flat_map}
-use Rattle.std.specs.Option.{option_and_then, option_or}
+use Rattle.std.proofs.Common.{◌≡◌, ◌≢◌, inl, inr, ℕ, zero, suc, ◌<◌, List, [], ◌∷◌, ◌++◌, length, map, take, get_or, is_some, refl, sym, ◌∙◌, ap, subst, arith}
+use Rattle.std.specs.Prelude.{Option, Some, None, slice_get, unwrap_or, IfSome, IsSomeAnd, option_map, ◌↔◌}
+use Rattle.std.specs.List.{AllByRecursion, AllPairs, AllZip, Any, Contains}
+use Rattle.std.specs.Option.{option_and_then}
 use Rattle.std.proofs.lemmas.List.{length-map, get_or-map}
 use Rattle.std.proofs.lemmas.List.Elements.{Contains-append_cases, Contains-append_left, Contains-append_right, recursion_from_All}
 use Rattle.std.proofs.lemmas.Option.{same_Some, slice_get_within, slice_get_read, slice_get-get_or, slice_get-map, get_or_from_slice_get}
@@ -26,12 +26,12 @@ use Rattle.include_graph.specs.declared.walk.Target.{Target}
 use Rattle.include_graph.specs.declared.walk.Target.TheVariants.{Nothing, LeftOut, File}
 use Rattle.include_graph.specs.Found.{finding_at, IsFoundOf}
 use Rattle.include_graph.specs.Growth.{HasWords}
-use Rattle.include_graph.specs.Keys.{is_same, word_keys}
+use Rattle.include_graph.specs.Keys.{is_same}
 use Rattle.include_graph.specs.Load.{keys_of, IsEntryOf, IsProgramOf, IsReportOf, BearTheirNames}
 use Rattle.include_graph.specs.Reading.{IsContent, IsTarget, AreTargets, AreRead, IsGathered, IsReached, IsOfTree, IsEntryFrom, AreEntriesFrom, row_of, rows_of, numbers_of}
 use Rattle.include_graph.specs.Reach.{IsUnitOf, Names, AreNamed, IsReach, all_named}
 use Rattle.include_graph.specs.Rules.{whole_file, IsBroken}
-use Rattle.include_graph.specs.Sources.{Given, word_of, read_name, content, text_of, IsAbsent, IsReadUnder}
+use Rattle.include_graph.specs.Sources.{Given, word_of, read_name, content, text_of, IsAbsent}
 use Rattle.include_graph.proofs.Combined.{there_is}
 use Rattle.include_graph.proofs.Contents.{OneAnswer, unit_is}
 use Rattle.include_graph.proofs.Ends.{by_test, same_is, other_is}

@@ -1,5 +1,5 @@
 -- The first place of a key among names.
-use Rattle.std.proofs.Common.{◌≡◌, ◌≢◌, ◌⊎◌, inl, inr, ℕ, zero, suc, ◌+◌, ◌<◌, Bool, true, false, cond, not, List, [], ◌∷◌, ◌++◌, length, refl, sym, ◌∙◌, ap, subst, arith, get_or}
+use Rattle.std.proofs.Common.{◌≡◌, ◌⊎◌, inl, inr, ℕ, zero, suc, ◌+◌, ◌<◌, true, false, List, [], ◌∷◌, ◌++◌, length, refl, sym, ◌∙◌, ap, subst, arith, get_or}
 use Rattle.std.specs.Prelude.{Some, slice_get, position, if◌then◌else◌}
 use Rattle.std.specs.List.{Contains, list_any}
 use Rattle.std.proofs.lemmas.List.{get_or_at, length-append}

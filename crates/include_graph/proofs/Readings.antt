@@ -1,14 +1,13 @@
 -- What comes of a key, by what its names have.
-use Rattle.std.proofs.Common.{◌≡◌, ◌≢◌, ◌⊎◌, inl, inr, ℕ, ◌<◌, ◌≤◌, Bool, true, false, cond, List, [], ◌∷◌, ◌++◌, length, take, drop, refl, sym, ◌∙◌, ap, subst, arith, map, is_some, true≢false}
-use Rattle.std.specs.Prelude.{Option, Some, None, IfSome, find, unwrap_or}
+use Rattle.std.proofs.Common.{◌≡◌, ◌≢◌, ℕ, cond, List, [], ◌∷◌, ◌++◌, length, refl, sym, ◌∙◌, ap, subst, arith, map, is_some, true≢false}
+use Rattle.std.specs.Prelude.{Option, Some, None, IfSome, find}
 use Rattle.std.specs.List.{Contains}
-use Rattle.std.specs.Option.{option_and_then, option_or}
+use Rattle.std.specs.Option.{option_or}
 use Rattle.std.proofs.Math.ListN.{replicate}
-use Rattle.std.proofs.lemmas.List.{length-replicate, take-append-drop, map-append}
+use Rattle.std.proofs.lemmas.List.{length-replicate, map-append}
 use Rattle.std.proofs.lemmas.List.Folds.{find-append}
 use Rattle.std.proofs.lemmas.List.Elements.{Contains-append_left, Contains-push}
 use Rattle.ipdl_base.specs.Outside.{FileMap}
-use Rattle.include_graph.specs.declared.content.Content.{Content}
 use Rattle.include_graph.specs.declared.content.Content.TheVariants as content
 use Rattle.include_graph.specs.declared.read.Found.{Found}
 use Rattle.include_graph.specs.declared.read.Found.TheVariants.{Bytes, Large, Absent}

@@ -1,11 +1,11 @@
 -- The walk over the files at its start and at its end.
-use Rattle.std.proofs.Common.{◌≡◌, ◌≢◌, ◌⊎◌, inl, inr, ℕ, zero, suc, ◌<◌, ◌≤◌, List, [], ◌∷◌, ◌++◌, length, take, get_or, map, refl, sym, ◌∙◌, ap, subst, arith, Bor}
+use Rattle.std.proofs.Common.{◌≡◌, ◌≢◌, inl, inr, ℕ, zero, suc, ◌<◌, ◌≤◌, List, [], ◌∷◌, ◌++◌, length, get_or, map, refl, sym, ◌∙◌, ap, subst, arith, Bor}
 use Rattle.std.specs.Prelude.{Option, Some, None, slice_get, option_map, MatchOption}
 use Rattle.std.specs.Option.{option_or}
-use Rattle.std.specs.List.{All, AllPairs, AllZip, AllByRecursion, Contains}
+use Rattle.std.specs.List.{AllPairs, AllZip, Contains}
 use Rattle.std.proofs.lemmas.Bool.{cases_lt}
 use Rattle.std.proofs.lemmas.List.{append-nil, length-map, get_or_append_left}
-use Rattle.std.proofs.lemmas.List.Elements.{All-from_recursion, All-contains, Contains-get_or}
+use Rattle.std.proofs.lemmas.List.Elements.{All-from_recursion, All-contains}
 use Rattle.std.proofs.lemmas.Option.{slice_get_within, slice_get-map, slice_get_read, slice_get_past, get_or_from_slice_get, same_Some}
 use Rattle.std.proofs.lemmas.Slice.Zip.{AllZip-long}
 use Rattle.ipdl_base.specs.Outside.{FileMap}
@@ -18,8 +18,7 @@ use Rattle.include_graph.specs.declared.read.Source.{Source}
 use Rattle.include_graph.specs.Reading.{AreRead, IsSource, rows_of}
 use Rattle.include_graph.specs.Sources.{word_of, name_on_path}
 use Rattle.include_graph.proofs.Combined.{together, there_is}
-use Rattle.include_graph.proofs.Places.{in_none, found_or_not}
-use Rattle.include_graph.proofs.Targets.{get_append}
+use Rattle.include_graph.proofs.Places.{in_none}
 use Rattle.include_graph.proofs.Walks.{Walking}
 use Rattle.include_graph.proofs.WholeKeys.{IsWhole, whole_word}
 use Rattle.include_graph.proofs.WordKeys.{word_found, no_word, different_has}

@@ -1,8 +1,8 @@
-use Rattle.std.proofs.Common.{◌≡◌, ◌<◌, refl, ℕ, List, map, length, take, get_or, sym, subst, ap, ◌∙◌, arith, string_bytes, true≢false, String, Global}
+use Rattle.std.proofs.Common.{◌<◌, refl, map, length, get_or, sym, subst, ◌∙◌, arith, string_bytes, true≢false, String, Global}
 use Rattle.std.specs.List.{All}
 use Rattle.std.proofs.lemmas.List.{take_all, length-map, get_or-map}
 use Rattle.std.proofs.lemmas.List.Elements.{All-more, All-map, All-from_recursion, recursion_from_All, All-get_or}
-use Rattle.include_graph.specs.Keys.{IsFileWord, AreFileWords}
+use Rattle.include_graph.specs.Keys.{IsFileWord}
 use Rattle.include_graph.proofs.keys.are_file_words.Goals as goal
 
 pub loop-word-preserved : goal.loop-word-preserved

@@ -1,8 +1,7 @@
-use Rattle.std.proofs.Common.{◌≡◌, List, ℕ, Bool, false, sym, ◌∙◌, IsTrue}
+use Rattle.std.proofs.Common.{sym, ◌∙◌}
 use Rattle.std.specs.Prelude.{codes}
 use Rattle.std.proofs.lemmas.Bool.{true≢false}
 use Rattle.ipdl_syntax.specs.declared.tree.FileKind.TheVariants as file
-use Rattle.include_graph.specs.Keys.{HasKind, IsFileWord}
 use Rattle.include_graph.proofs.Ends.{ends, has_ending, of_kinds}
 use Rattle.include_graph.proofs.keys.is_file_word.Goals as goal
 

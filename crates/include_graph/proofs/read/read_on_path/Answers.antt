@@ -1,4 +1,4 @@
-use Rattle.std.proofs.Common.{◌≡◌, ◌≤◌, ℕ, ◌+◌, List, ◌∷◌, [], ◌++◌, length, map, take, drop, get_or, sym, ◌∙◌, ap, subst, arith, string_bytes, String, Global, refl, ◌<◌, ◌≢◌}
+use Rattle.std.proofs.Common.{◌≡◌, ℕ, ◌+◌, List, ◌∷◌, [], ◌++◌, length, map, take, drop, get_or, sym, ◌∙◌, ap, subst, arith, string_bytes, String, Global, refl, ◌<◌, ◌≢◌}
 use Rattle.std.specs.Prelude.{IfSome, None, Option}
 use Rattle.std.proofs.lemmas.List.{take_more, take_all, map-append, take-append-drop}
 use Rattle.ipdl_base.specs.Outside.{FileMap}
@@ -6,7 +6,6 @@ use Rattle.include_graph.specs.Reading.{IsFound, IsSource}
 use Rattle.include_graph.specs.Load.{ForMap}
 use Rattle.include_graph.specs.Sources.{in_directory, name_on_path}
 use Rattle.include_graph.specs.declared.read.Source.{Source}
-use Rattle.include_graph.specs.declared.read.Found.{Found}
 use Rattle.include_graph.specs.declared.read.Found.TheVariants.{Absent}
 use Rattle.std.specs.declared.vec.Vec.{Vec}
 use Rattle.include_graph.proofs.Readings.{none_step, found_first, found_nowhere}

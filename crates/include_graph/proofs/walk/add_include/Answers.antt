@@ -1,4 +1,4 @@
-use Rattle.std.proofs.Common.{◌≡◌, ℕ, length, List, ◌∷◌, [], ◌++◌, sym, ◌∙◌, subst, ap, is_some, arith}
+use Rattle.std.proofs.Common.{◌≡◌, ℕ, List, sym, ◌∙◌, subst, ap, is_some, arith}
 use Rattle.std.specs.Prelude.{Some, slice_get, option_to_list}
 use Rattle.include_graph.proofs.Places.{at_position, not_among, goes_in}
 use Rattle.include_graph.proofs.walk.add_include.Goals as goal

@@ -1,10 +1,9 @@
-use Rattle.std.proofs.Common.{◌≡◌, ◌≤◌, ◌<◌, ℕ, List, ◌∷◌, [], ◌++◌, length, map, sym, ◌∙◌, ap, subst, arith, string_bytes, Bor, refl, true≢false, inl, inr, if◌then◌else◌}
-use Rattle.std.specs.Prelude.{Option, Some, None, slice_get}
+use Rattle.std.proofs.Common.{◌≡◌, ◌≤◌, ℕ, List, ◌∷◌, [], ◌++◌, length, map, sym, ◌∙◌, ap, subst, arith, string_bytes, Bor, refl, true≢false, inl, inr, if◌then◌else◌}
+use Rattle.std.specs.Prelude.{Some, None, slice_get}
 use Rattle.std.specs.Option.{option_or, option_copied}
 use Rattle.std.specs.Str.{IsUtf8}
 use Rattle.std.proofs.lemmas.Bool.{cases_lt}
 use Rattle.std.proofs.lemmas.Str.{IsUtf8-from_ascii}
-use Rattle.ipdl_base.specs.Outside.{FileMap}
 use Rattle.include_graph.specs.declared.walk.Reached.{Reached}
 use Rattle.include_graph.specs.Keys.{IsFileWord}
 use Rattle.include_graph.specs.Load.{ForMap}
