@@ -1,6 +1,6 @@
 -- One map for all keys, where each key has a map of its own.
-use Rattle.std.proofs.Common.{◌≡◌, ◌≢◌, ◌⊎◌, inl, inr, ℕ, zero, suc, ◌<◌, ◌≤◌, Bool, true, false, cond, nat_eq, List, [], ◌∷◌, ◌++◌, length, map, get_or, is_some, refl, sym, ◌∙◌, ap, subst, arith, true≢false}
-use Rattle.std.specs.Prelude.{Option, Some, None, find, slice_get, codes, unwrap_or}
+use Rattle.std.proofs.Common.{◌≡◌, ◌≢◌, inl, inr, ℕ, zero, suc, ◌<◌, ◌≤◌, true, false, cond, List, [], ◌∷◌, ◌++◌, length, is_some, refl, sym, ◌∙◌, ap, subst, arith}
+use Rattle.std.specs.Prelude.{Option, Some, None, slice_get, codes}
 use Rattle.std.specs.List.{AllPairs, list_any}
 use Rattle.std.specs.Option.{option_and_then, option_or}
 use Rattle.std.proofs.lemmas.Bool.{cases_lt}
@@ -8,10 +8,10 @@ use Rattle.std.proofs.lemmas.Option.{same_Some, slice_get_within, get_or_from_sl
 use Rattle.ipdl_base.specs.Outside.{FileMap}
 use Rattle.include_graph.specs.declared.read.Source.{Source}
 use Rattle.include_graph.specs.declared.walk.Reached.{Reached}
-use Rattle.include_graph.specs.Keys.{behind_last, key_of, is_same}
+use Rattle.include_graph.specs.Keys.{key_of, is_same}
 use Rattle.include_graph.specs.Reading.{IsContent, IsSource}
 use Rattle.include_graph.specs.Sources.{in_directory, word_of, name_on_path}
-use Rattle.include_graph.proofs.Ends.{by_test, same_is, is_itself, other_is}
+use Rattle.include_graph.proofs.Ends.{by_test, same_is, is_itself}
 use Rattle.include_graph.proofs.WholeKeys.{IsWhole, no_slash, slash}
 use Rattle.include_graph.proofs.WordKeys.{word_found}
 
@@ -88,17 +88,19 @@ module _ (words path list : List (List ℕ)) (files : List Reached)
       let k = there_is list n (omega arith) in
       let f = there_is files n (omega arith) in
       let own = each n k.0 f.0 k.1 f.1 in
-      let both : FileMap = λ name. cond (is_same (key_of name) k.0) (own.0 name) (rest.0 name) in
-      (both, λ number key file before a b. elim (cases_lt number n) [
-        | inl less ↦ same_source key (whole number key a) rest.0 both
-            (λ name is. by_test (is_same (key_of name) k.0) (λ e. absurd (apart number n key k.0 less a k.1 (sym is ∙ same_is (key_of name) k.0 e))) (λ e. rw e refl))
-            number words path file.source (rest.1 number key file less a b)
-        | inr more ↦
-            let n_is : n ≡ number = omega arith in
-            let key_is : k.0 ≡ key = same_Some _ _ (sym k.1 ∙ (ap (slice_get list) n_is ∙ a)) in
-            let file_is : f.0 ≡ file = same_Some _ _ (sym f.1 ∙ (ap (slice_get files) n_is ∙ b)) in
-            same_source key (whole number key a) own.0 both
-            (λ name is. let e : is_same (key_of name) k.0 ≡ true = subst (λ x. is_same (key_of name) x ≡ true) (is ∙ sym key_is) (is_itself (key_of name)) in rw e refl)
-            number words path file.source
-            (subst (λ i. By words path i key file own.0) n_is (subst (λ x. By words path n x file own.0) key_is (subst (λ (g : Reached). By words path n k.0 g own.0) file_is own.1)))
-      ])
+      let both : FileMap = λ name. cond (is_same (key_of name) k.0) (own.0 name) (rest.0 name) in (
+        both,
+        λ number key file before a b. elim (cases_lt number n) [
+          | inl less ↦ same_source key (whole number key a) rest.0 both
+              (λ name is. by_test (is_same (key_of name) k.0) (λ e. absurd (apart number n key k.0 less a k.1 (sym is ∙ same_is (key_of name) k.0 e))) (λ e. rw e refl))
+              number words path file.source (rest.1 number key file less a b)
+          | inr more ↦
+              let n_is : n ≡ number = omega arith in
+              let key_is : k.0 ≡ key = same_Some _ _ (sym k.1 ∙ (ap (slice_get list) n_is ∙ a)) in
+              let file_is : f.0 ≡ file = same_Some _ _ (sym f.1 ∙ (ap (slice_get files) n_is ∙ b)) in
+              same_source key (whole number key a) own.0 both
+              (λ name is. let e : is_same (key_of name) k.0 ≡ true = subst (λ x. is_same (key_of name) x ≡ true) (is ∙ sym key_is) (is_itself (key_of name)) in rw e refl)
+              number words path file.source
+              (subst (λ i. By words path i key file own.0) n_is (subst (λ x. By words path n x file own.0) key_is (subst (λ (g : Reached). By words path n k.0 g own.0) file_is own.1)))
+        ],
+      )

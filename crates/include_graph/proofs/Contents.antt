@@ -1,5 +1,5 @@
 -- What a file is read as is one thing.
-use Rattle.std.proofs.Common.{◌≡◌, ◌≤◌, ◌<◌, ℕ, List, length, refl, sym, ◌∙◌, ap, subst, arith}
+use Rattle.std.proofs.Common.{◌≡◌, ◌≤◌, ℕ, List, length, refl, sym, ◌∙◌, ap, subst, arith}
 use Rattle.std.specs.Prelude.{Option, Some, None}
 use Rattle.std.proofs.lemmas.Option.{same_Some}
 use Rattle.ipdl_base.specs.declared.finding.Place.{Place}
@@ -9,7 +9,7 @@ use Rattle.ipdl_lex.specs.Tokens.{IsTokens, IsFault}
 use Rattle.ipdl_syntax.specs.declared.tree.FileKind.{FileKind}
 use Rattle.ipdl_syntax.specs.declared.tree.Unit.{Unit as FileUnit}
 use Rattle.ipdl_syntax.specs.Program.{Tree}
-use Rattle.ipdl_parse.specs.Place.{HasTree, IsSyntaxPlace, IsPlaceAt}
+use Rattle.ipdl_parse.specs.Place.{IsSyntaxPlace, IsPlaceAt}
 use Rattle.grammar_laws.specs.Boxes.{unboxed}
 use Rattle.include_graph.specs.declared.content.Content.{Content}
 use Rattle.include_graph.specs.declared.content.Content.TheVariants.{Absent, Large, BadToken, SyntaxFault, Read}

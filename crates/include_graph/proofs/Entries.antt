@@ -1,8 +1,8 @@
 -- The entries of a program, made from the last one on.
-use Rattle.std.proofs.Common.{◌≡◌, ℕ, List, [], ◌∷◌, ◌++◌, length, reverse, refl, sym, ◌∙◌, ap, subst, append_assoc}
+use Rattle.std.proofs.Common.{◌≡◌, ℕ, List, [], ◌∷◌, ◌++◌, reverse, sym, ◌∙◌, ap, subst, append_assoc}
 use Rattle.std.specs.List.{AllByRecursion, Contains}
 use Rattle.std.proofs.lemmas.List.{append-nil, reverse-append}
-use Rattle.std.proofs.lemmas.List.Elements.{All-from_recursion, All-contains, Contains-append_left, Contains-append_right, Contains-push}
+use Rattle.std.proofs.lemmas.List.Elements.{All-from_recursion, All-contains, Contains-append_left, Contains-push}
 use Rattle.ipdl_syntax.specs.declared.program.Entry.{Entry}
 use Rattle.include_graph.specs.declared.walk.Reached.{Reached}
 use Rattle.include_graph.specs.Reading.{IsOfTree, IsEntryFrom, AreEntriesFrom}
@@ -28,8 +28,8 @@ making_more keys files left_keys rest_keys left rest program key file entry m a 
   all_keys = m.all_keys ∙ ap (λ ks. ks ++ m.done_keys) a ∙ append_assoc rest_keys (key ∷ []) m.done_keys;
   all = m.all ∙ ap (λ (fs : List Reached). fs ++ m.done) b ∙ append_assoc rest (file ∷ []) m.done;
   made =
-    let first : AreEntriesFrom (key ∷ m.done_keys) (file ∷ m.done) (entry ∷ reverse program) = (e, m.made) in
-    subst (λ (es : List Entry). AreEntriesFrom (key ∷ m.done_keys) (file ∷ m.done) es) (sym (reverse-append program (entry ∷ []))) first;
+      let first : AreEntriesFrom (key ∷ m.done_keys) (file ∷ m.done) (entry ∷ reverse program) = (e, m.made) in
+      subst (λ (es : List Entry). AreEntriesFrom (key ∷ m.done_keys) (file ∷ m.done) es) (sym (reverse-append program (entry ∷ []))) first;
 }
 
 -- a file that is left is one of all

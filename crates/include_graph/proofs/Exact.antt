@@ -1,7 +1,7 @@
 -- The findings of the files that are kept are those of the files.
-use Rattle.std.proofs.Common.{◌≡◌, ◌≢◌, ◌⊎◌, inl, inr, ℕ, zero, suc, ◌<◌, ◌≤◌, Bool, true, false, IsTrue, nat_lt, List, [], ◌∷◌, ◌++◌, length, map, get_or, is_some, refl, sym, ◌∙◌, ap, subst, arith, true≢false}
+use Rattle.std.proofs.Common.{◌≡◌, ◌≢◌, ◌⊎◌, inl, inr, ℕ, ◌<◌, Bool, true, false, IsTrue, nat_lt, List, [], ◌∷◌, ◌++◌, length, is_some, refl, sym, ◌∙◌, ap, subst, arith, true≢false}
 use Rattle.std.specs.Prelude.{Option, Some, None, slice_get, ◌↔◌, IsSome, IsSomeAnd}
-use Rattle.std.specs.List.{AllZip, Any, Contains, flat_map}
+use Rattle.std.specs.List.{AllZip, Any, Contains}
 use Rattle.std.specs.Option.{option_map_or}
 use Rattle.std.proofs.lemmas.Bool.{ltb-true, lt-ltb, cases_lt}
 use Rattle.std.proofs.lemmas.Option.{same_Some, slice_get_within, slice_get_past, slice_get_read, get_or_from_slice_get}
@@ -15,13 +15,13 @@ use Rattle.ipdl_syntax.specs.declared.tree.Include.{Include}
 use Rattle.ipdl_syntax.specs.declared.tree.ProtocolDecl.{ProtocolDecl}
 use Rattle.ipdl_syntax.specs.declared.tree.Unit.{Unit as FileUnit}
 use Rattle.ipdl_syntax.specs.Programs.{ending, named_key}
-use Rattle.grammar_laws.specs.Boxes.{unboxed, unboxed_held, unboxed_protocol}
+use Rattle.grammar_laws.specs.Boxes.{unboxed, unboxed_held}
 use Rattle.include_graph.specs.declared.content.Content.{Content}
 use Rattle.include_graph.specs.declared.content.Content.TheVariants.{Absent, Large, BadToken, SyntaxFault, Read}
 use Rattle.include_graph.specs.declared.walk.Reached.{Reached}
 use Rattle.include_graph.specs.declared.walk.Target.{Target}
 use Rattle.include_graph.specs.declared.walk.Target.TheVariants.{Nothing, LeftOut, File}
-use Rattle.include_graph.specs.Found.{finding_at, is_absent, is_absent_at, IsFoundFor, IsFoundAt, IsFoundAmong, IsFoundOfName, IsFoundIn, IsFoundOf}
+use Rattle.include_graph.specs.Found.{finding_at, is_absent, is_absent_at, IsFoundFor, IsFoundAmong, IsFoundOfName, IsFoundIn, IsFoundOf}
 use Rattle.include_graph.specs.Growth.{HasWords}
 use Rattle.include_graph.specs.Reading.{IsContent, IsTarget, AreTargets, AreRead, IsReached}
 use Rattle.include_graph.specs.Reach.{IsUnitOf}
@@ -56,19 +56,15 @@ module _ (laws : OneAnswer) (given : Given) (keys : List (List ℕ)) (files : Li
       let f = there_is files number (omega arith) in
       (f.0, f.1, r.each number key f.0 e f.1)
 
-  key_of_file : (number : ℕ) (f : Reached) → slice_get files number ≡ Some f → (key : List ℕ) × (slice_get keys number ≡ Some key)
-  key_of_file number f e = let within = slice_get_within files number f e in let size = r.size in there_is keys number (omega arith)
-
   -- a key has a word just where it is one of the first
   has_word : (number : ℕ) (key : List ℕ) → slice_get keys number ≡ Some key → (number < length firsts) ↔ IsSome (word_of given.words key)
   has_word number key e =
-      let is = first_word given.words first keys r.reached.further firsts number key h r.reached.begins r.reached.once e in
-      (
+      let is = first_word given.words first keys r.reached.further firsts number key h r.reached.begins r.reached.once e in (
         λ less. let w = there_is firsts number less in ap is_some (sym is ∙ w.1),
         λ some. elim (cases_lt number (length firsts)) [
           | inl less ↦ less
           | inr more ↦ absurd (true≢false (sym some ∙ ap is_some (sym is ∙ slice_get_past firsts number more)))
-        ]
+        ],
       )
 
   -- an absent key has an absent file

@@ -1,5 +1,5 @@
 -- How a list of findings gains more.
-use Rattle.std.proofs.Common.{◌≡◌, ◌⊎◌, inl, inr, refl, Bool, true, false, IsTrue, ℕ, ◌+◌, ◌<◌, List, [], ◌∷◌, ◌++◌, sym, ◌∙◌, ap, subst, arith}
+use Rattle.std.proofs.Common.{◌≡◌, ◌⊎◌, inl, inr, refl, Bool, true, false, IsTrue, ℕ, ◌+◌, ◌<◌, List, [], sym, ◌∙◌, subst, arith}
 use Rattle.std.specs.Prelude.{Some, slice_get, ◌↔◌}
 use Rattle.std.specs.List.{Contains}
 use Rattle.std.proofs.lemmas.Bool.{cases_lt}
@@ -14,7 +14,7 @@ pub gains_like : {P Q : Finding → Type 0} {a b : List Finding} → ((f : Findi
 gains_like to from g = record {
   exact = λ f. (
     λ c. elim ((g.exact f).0 c) [ inl old ↦ inl old | inr p ↦ inr (to f p) ],
-    λ h. (g.exact f).1 (elim h [ inl old ↦ inl old | inr q ↦ inr (from f q) ])
+    λ h. (g.exact f).1 (elim h [ inl old ↦ inl old | inr q ↦ inr (from f q) ]),
   );
 }
 
@@ -25,7 +25,7 @@ pub gains_both : {P Q : Finding → Type 0} {a b c : List Finding} → Gains P a
 gains_both g h = record {
   exact = λ f. (
     λ c. elim ((h.exact f).0 c) [ inl mid ↦ elim ((g.exact f).0 mid) [ inl old ↦ inl old | inr p ↦ inr (inl p) ] | inr q ↦ inr (inr q) ],
-    λ c. (h.exact f).1 (elim c [ inl old ↦ inl ((g.exact f).1 (inl old)) | inr r ↦ elim r [ inl p ↦ inl ((g.exact f).1 (inr p)) | inr q ↦ inr q ] ])
+    λ c. (h.exact f).1 (elim c [ inl old ↦ inl ((g.exact f).1 (inl old)) | inr r ↦ elim r [ inl p ↦ inl ((g.exact f).1 (inr p)) | inr q ↦ inr q ] ]),
   );
 }
 
@@ -53,9 +53,9 @@ pub found_at : (files : List Reached) (includes : List Include) (targets : List 
 found_at files includes targets n i t here there g = gains_like
     (λ f p. (i, t, here, there, p))
     (λ f p.
-      let one : p.0 ≡ i = same_Some _ _ (sym p.2 ∙ here) in
-      let two : p.1 ≡ t = same_Some _ _ (sym p.3 ∙ there) in
-      subst (λ (j : Include). IsFoundFor files j t f) one (subst (λ (u : Target). IsFoundFor files p.0 u f) two p.4))
+    let one : p.0 ≡ i = same_Some _ _ (sym p.2 ∙ here) in
+    let two : p.1 ≡ t = same_Some _ _ (sym p.3 ∙ there) in
+    subst (λ (j : Include). IsFoundFor files j t f) one (subst (λ (u : Target). IsFoundFor files p.0 u f) two p.4))
     g
 
 -- two answers to one question
@@ -72,12 +72,12 @@ pub found_of : (words : ℕ) (keys : List (List ℕ)) (files : List Reached) (n 
 found_of words keys files n word key file is here there g = gains_like
     (λ f p. (word, key, file, is, here, there, p))
     (λ f p.
-      let one : p.0 ≡ word = one_answer p.0 word p.3 is in
-      let two : p.1 ≡ key = same_Some _ _ (sym p.4 ∙ here) in
-      let three : p.2 ≡ file = same_Some _ _ (sym p.5 ∙ there) in
-      subst (λ (w : Bool). IsFoundIn files n w key file.source.content file.targets.items f) one
-      (subst (λ (k : List ℕ). IsFoundIn files n p.0 k file.source.content file.targets.items f) two
-      (subst (λ (r : Reached). IsFoundIn files n p.0 p.1 r.source.content r.targets.items f) three p.6)))
+    let one : p.0 ≡ word = one_answer p.0 word p.3 is in
+    let two : p.1 ≡ key = same_Some _ _ (sym p.4 ∙ here) in
+    let three : p.2 ≡ file = same_Some _ _ (sym p.5 ∙ there) in
+    subst (λ (w : Bool). IsFoundIn files n w key file.source.content file.targets.items f) one
+    (subst (λ (k : List ℕ). IsFoundIn files n p.0 k file.source.content file.targets.items f) two
+    (subst (λ (r : Reached). IsFoundIn files n p.0 p.1 r.source.content r.targets.items f) three p.6)))
     g
 
 -- a list that gained from nothing has exactly what it gained

@@ -1,16 +1,15 @@
 -- How the keys stand while files are read: as a reach of what is named so far.
-use Rattle.std.proofs.Common.{◌≡◌, ◌≢◌, ◌⊎◌, inl, inr, ℕ, zero, suc, ◌+◌, ◌<◌, ◌≤◌, Bool, true, false, nat_lt, cond, List, [], ◌∷◌, ◌++◌, length, take, get_or, refl, sym, ◌∙◌, ap, subst, arith, append_assoc, length-append}
-use Rattle.std.specs.Prelude.{Some, slice_get}
-use Rattle.std.specs.List.{All, AllPairs, Contains, list_any, fold}
+use Rattle.std.proofs.Common.{◌≡◌, ◌≢◌, ◌⊎◌, inl, inr, ℕ, ◌<◌, ◌≤◌, true, false, nat_lt, List, [], ◌∷◌, ◌++◌, length, get_or, refl, sym, ◌∙◌, ap, subst, arith, append_assoc, length-append}
+use Rattle.std.specs.List.{All, AllPairs, Contains, list_any}
 use Rattle.std.proofs.lemmas.Bool.{ltb-true, ltb-false}
 use Rattle.std.proofs.lemmas.List.{append-nil}
-use Rattle.std.proofs.lemmas.List.Elements.{All-contains, All-get_or, All-push, All-weaker, Contains-append_left, Contains-append_right, Contains-push, Contains-push_cases, Contains-get_or}
+use Rattle.std.proofs.lemmas.List.Elements.{All-push, Contains-append_left, Contains-push, Contains-push_cases, Contains-get_or}
 use Rattle.std.proofs.lemmas.List.Quantifiers.{all_pairs_push}
 use Rattle.include_graph.specs.Growth.{add_key, add_keys}
 use Rattle.include_graph.specs.Keys.{is_same}
 use Rattle.include_graph.specs.Reach.{first_place, IsLeftOut}
 use Rattle.include_graph.proofs.Ends.{by_test}
-use Rattle.include_graph.proofs.Places.{among, is_among, not_among, found_or_not, place_append, place_within, place_new}
+use Rattle.include_graph.proofs.Places.{among, not_among, found_or_not, place_append, place_within, place_new}
 
 -- The keys begin with those of the words, and further ones follow in the order in which they are named first; all that
 -- is named is among them, unless it is left out.
@@ -38,8 +37,8 @@ pub add_full : (keys : List (List ℕ)) (k : List ℕ) → length keys ≡ 4096 
 add_full keys k full = by_test (list_any (is_same k) keys)
     (λ e. add_old keys k e)
     (λ e. by_test (nat_lt (length keys) 4096)
-      (λ f. let below : length keys < 4096 = ltb-true (length keys) 4096 f in absurd (omega arith))
-      (λ f. add_past keys k e f))
+    (λ f. let below : length keys < 4096 = ltb-true (length keys) 4096 f in absurd (omega arith))
+    (λ f. add_past keys k e f))
 
 module _ (words keys named : List (List ℕ)) (k : List ℕ) (g : Grown words keys named) where
   -- the order of what was named stays, whatever is named behind
@@ -57,10 +56,10 @@ module _ (words keys named : List (List ℕ)) (k : List ℕ) (g : Grown words ke
   left_still key c l = record {
     full = l.full;
     behind = λ i d within.
-      let a = place_append named (k ∷ []) (get_or g.further i d) (g.told i d within) in
-      let b = place_append named (k ∷ []) key c in
-      let h = l.behind i d within in
-      omega (arith, a, b, h);
+        let a = place_append named (k ∷ []) (get_or g.further i d) (g.told i d within) in
+        let b = place_append named (k ∷ []) key c in
+        let h = l.behind i d within in
+        omega (arith, a, b, h);
   }
 
   -- what is behind all that was named is left out of a full list
@@ -68,10 +67,10 @@ module _ (words keys named : List (List ℕ)) (k : List ℕ) (g : Grown words ke
   left_new full fresh = record {
     full = full;
     behind = λ i d within.
-      let a = place_append named (k ∷ []) (get_or g.further i d) (g.told i d within) in
-      let w = place_within named (get_or g.further i d) (g.told i d within) in
-      let b = place_new named [] k fresh in
-      omega (arith, a, b, w);
+        let a = place_append named (k ∷ []) (get_or g.further i d) (g.told i d within) in
+        let w = place_within named (get_or g.further i d) (g.told i d within) in
+        let b = place_new named [] k fresh in
+        omega (arith, a, b, w);
   }
 
   -- the keys stay, where the key has its place
@@ -100,10 +99,10 @@ module _ (words keys named : List (List ℕ)) (k : List ℕ) (g : Grown words ke
         begins = ap (λ ks. ks ++ k ∷ []) g.begins ∙ append_assoc words g.further (k ∷ []);
         told = All-push (Contains (named ++ k ∷ [])) g.further k told_more (Contains-push named k);
         ordered = all_pairs_push (λ one other. first_place (named ++ k ∷ []) one < first_place (named ++ k ∷ []) other) g.further k same_order (λ i d within.
-          let a = place_append named (k ∷ []) (get_or g.further i d) (g.told i d within) in
-          let w = place_within named (get_or g.further i d) (g.told i d within) in
-          let b = place_new named [] k unnamed in
-          omega (arith, a, b, w));
+            let a = place_append named (k ∷ []) (get_or g.further i d) (g.told i d within) in
+            let w = place_within named (get_or g.further i d) (g.told i d within) in
+            let b = place_new named [] k unnamed in
+            omega (arith, a, b, w));
         whole = λ key c. elim (Contains-push_cases named k key c) [
           | inl old ↦ elim (g.whole key old) [ inl there ↦ inl (Contains-append_left keys (k ∷ []) key there) | inr left ↦ (let f = left.full in absurd (omega arith)) ]
           | inr is ↦ inl (subst (Contains (keys ++ k ∷ [])) is (Contains-push keys k))
@@ -115,15 +114,15 @@ module _ (words keys named : List (List ℕ)) (k : List ℕ) (g : Grown words ke
   grown_one = by_test (list_any (is_same k) keys)
       (λ e. subst (λ ks. Grown words ks (named ++ k ∷ [])) (sym (add_old keys k e)) (stays (inl (among keys k e))))
       (λ e. by_test (nat_lt (length keys) 4096)
-        (λ f. subst (λ ks. Grown words ks (named ++ k ∷ [])) (sym (add_new keys k e f)) (goes_last (not_among keys k e) (ltb-true (length keys) 4096 f)))
-        (λ f.
-          let few = g.few in
-          let past : 4096 ≤ length keys = ltb-false (length keys) 4096 f in
-          let full : length keys ≡ 4096 = omega arith in
-          subst (λ ks. Grown words ks (named ++ k ∷ [])) (sym (add_past keys k e f)) (stays (elim (found_or_not named k) [
-            | inl old ↦ elim (g.whole k old) [ inl there ↦ inl there | inr left ↦ inr (left_still k old left) ]
-            | inr fresh ↦ inr (left_new full fresh)
-          ]))))
+      (λ f. subst (λ ks. Grown words ks (named ++ k ∷ [])) (sym (add_new keys k e f)) (goes_last (not_among keys k e) (ltb-true (length keys) 4096 f)))
+      (λ f.
+      let few = g.few in
+      let past : 4096 ≤ length keys = ltb-false (length keys) 4096 f in
+      let full : length keys ≡ 4096 = omega arith in
+      subst (λ ks. Grown words ks (named ++ k ∷ [])) (sym (add_past keys k e f)) (stays (elim (found_or_not named k) [
+        | inl old ↦ elim (g.whole k old) [ inl there ↦ inl there | inr left ↦ inr (left_still k old left) ]
+        | inr fresh ↦ inr (left_new full fresh)
+      ]))))
 
 -- more keys are named in turn
 pub grown_more : (words keys named row : List (List ℕ)) → Grown words keys named → Grown words (add_keys keys row) (named ++ row)

@@ -1,8 +1,8 @@
 -- What the files that are kept make: a program where no rule is broken, and else a report.
-use Rattle.std.proofs.Common.{◌≡◌, ◌≢◌, ◌⊎◌, inl, inr, ℕ, zero, suc, ◌<◌, ◌≤◌, Bool, true, false, List, [], ◌∷◌, ◌++◌, length, map, take, get_or, is_some, refl, sym, ◌∙◌, ap, subst, arith, true≢false}
-use Rattle.std.specs.Prelude.{Option, Some, None, slice_get, unwrap_or, IsSome, IfSome, IsSomeAnd, option_map, ◌↔◌}
-use Rattle.std.specs.List.{All, AllByRecursion, AllPairs, AllZip, Any, Contains, flat_map}
-use Rattle.std.specs.Option.{option_and_then, option_or}
+use Rattle.std.proofs.Common.{◌≡◌, ◌≢◌, inl, inr, ℕ, zero, suc, ◌<◌, List, [], ◌∷◌, ◌++◌, length, map, take, get_or, is_some, refl, sym, ◌∙◌, ap, subst, arith}
+use Rattle.std.specs.Prelude.{Option, Some, None, slice_get, unwrap_or, IfSome, IsSomeAnd, option_map, ◌↔◌}
+use Rattle.std.specs.List.{AllByRecursion, AllPairs, AllZip, Any, Contains}
+use Rattle.std.specs.Option.{option_and_then}
 use Rattle.std.proofs.lemmas.List.{length-map, get_or-map}
 use Rattle.std.proofs.lemmas.List.Elements.{Contains-append_cases, Contains-append_left, Contains-append_right, recursion_from_All}
 use Rattle.std.proofs.lemmas.Option.{same_Some, slice_get_within, slice_get_read, slice_get-get_or, slice_get-map, get_or_from_slice_get}
@@ -26,12 +26,12 @@ use Rattle.include_graph.specs.declared.walk.Target.{Target}
 use Rattle.include_graph.specs.declared.walk.Target.TheVariants.{Nothing, LeftOut, File}
 use Rattle.include_graph.specs.Found.{finding_at, IsFoundOf}
 use Rattle.include_graph.specs.Growth.{HasWords}
-use Rattle.include_graph.specs.Keys.{is_same, word_keys}
+use Rattle.include_graph.specs.Keys.{is_same}
 use Rattle.include_graph.specs.Load.{keys_of, IsEntryOf, IsProgramOf, IsReportOf, BearTheirNames}
 use Rattle.include_graph.specs.Reading.{IsContent, IsTarget, AreTargets, AreRead, IsGathered, IsReached, IsOfTree, IsEntryFrom, AreEntriesFrom, row_of, rows_of, numbers_of}
 use Rattle.include_graph.specs.Reach.{IsUnitOf, Names, AreNamed, IsReach, all_named}
 use Rattle.include_graph.specs.Rules.{whole_file, IsBroken}
-use Rattle.include_graph.specs.Sources.{Given, word_of, read_name, content, text_of, IsAbsent, IsReadUnder}
+use Rattle.include_graph.specs.Sources.{Given, word_of, read_name, content, text_of, IsAbsent}
 use Rattle.include_graph.proofs.Combined.{there_is}
 use Rattle.include_graph.proofs.Contents.{OneAnswer, unit_is}
 use Rattle.include_graph.proofs.Ends.{by_test, same_is, other_is}
@@ -118,8 +118,7 @@ numbers keys (i ∷ is) (Nothing ∷ ts) h none =
     (rest.0 ∙ ap (λ ks. map Some (ks ++ named_keys is)) (sym h.0), rest.1)
 numbers keys (i ∷ is) (LeftOut ∷ ts) h none = absurd (none 0 i refl h.0)
 numbers keys (i ∷ is) (File n ∷ ts) h none =
-    let rest = numbers keys is ts h.1 (λ m j e. none (suc m) j e) in
-    (
+    let rest = numbers keys is ts h.1 (λ m j e. none (suc m) j e) in (
       ap (λ o. o ∷ map (slice_get keys) (numbers_of ts)) h.0.2 ∙ ap (λ os. Some h.0.0 ∷ os) rest.0 ∙ ap (λ ks. map Some (ks ++ named_keys is)) (sym h.0.1),
       (slice_get_within keys n h.0.0 h.0.2, rest.1),
     )
@@ -130,9 +129,9 @@ module _ (laws : Laws) (given : Given) (keys : List (List ℕ)) (files : List Re
   rows_named = record {
     size = length-map files (λ (f : Reached). row_of f.source.content) ∙ r.size;
     each = λ number key row a b.
-      let f = file_of laws.answer given keys files first firsts h r number key a in
-      let is : row_of f.0.source.content ≡ row = same_Some _ _ (sym (slice_get-map (λ (g : Reached). row_of g.source.content) files number ∙ ap (option_map (λ (g : Reached). row_of g.source.content)) f.1) ∙ b) in
-      subst (Names number key (content given key)) is (named number key f.0.source.content f.2.source.content);
+        let f = file_of laws.answer given keys files first firsts h r number key a in
+        let is : row_of f.0.source.content ≡ row = same_Some _ _ (sym (slice_get-map (λ (g : Reached). row_of g.source.content) files number ∙ ap (option_map (λ (g : Reached). row_of g.source.content)) f.1) ∙ b) in
+        subst (Names number key (content given key)) is (named number key f.0.source.content f.2.source.content);
   }
     where
       none : (number : ℕ) (key : List ℕ) (c : Content) → IsContent number key (content given key) c → ((unit : FileUnit) → ¬ (c ≡ Read unit)) → (unit : FileUnit) → ¬ IsUnitOf number key (content given key) unit
@@ -209,8 +208,7 @@ module _ (laws : Laws) (given : Given) (keys : List (List ℕ)) (files : List Re
       entry_is : (number : ℕ) (entry : Entry) → slice_get program number ≡ Some entry → (f : Reached) × (slice_get keys number ≡ Some entry.key) × IsReached given keys number entry.key f × IsEntryFrom entry.key f entry
       entry_is number entry e =
           let x = entry_at keys files program number entry made e in
-          let key = x.4.has_key in
-          (
+          let key = x.4.has_key in (
             x.1,
             x.2 ∙ ap Some (sym key),
             subst (λ k. IsReached given keys number k x.1) (sym key) (r.each number x.0 x.1 x.2 x.3),
@@ -269,8 +267,8 @@ module _ (laws : Laws) (given : Given) (keys : List (List ℕ)) (files : List Re
           record {
             few = (let a = r.reached.few in omega arith);
             distinct = λ i j d before within.
-              let differ = subst (λ ks. AllPairs (λ one other. one ≢ other) ks) (sym all_keys) r.reached.once i j d.key before (omega (arith, length-map program (λ (y : Entry). y.key))) in
-              λ same. differ (get_or-map (λ (y : Entry). y.key) program i d d.key (omega arith) ∙ (same ∙ sym (get_or-map (λ (y : Entry). y.key) program j d d.key within)));
+                let differ = subst (λ ks. AllPairs (λ one other. one ≢ other) ks) (sym all_keys) r.reached.once i j d.key before (omega (arith, length-map program (λ (y : Entry). y.key))) in
+                λ same. differ (get_or-map (λ (y : Entry). y.key) program i d d.key (omega arith) ∙ (same ∙ sym (get_or-map (λ (y : Entry). y.key) program j d d.key within)));
             entries = good_entry;
           }
 
@@ -281,8 +279,19 @@ module _ (laws : Laws) (given : Given) (keys : List (List ℕ)) (files : List Re
           by None is = tt
           by (Some p) is = by_test (is_same entry.key (short_name p.full ++ ending file.Protocol))
               (λ t. same_is entry.key (short_name p.full ++ ending file.Protocol) t)
-              (λ t. absurd (clean (finding_at rule.MISNAMED_PROTOCOL p.place) (inr (inr (inr (inl (refl, (number, entry.key, (entry_is number entry e).1, (entry.unit, unit_of_entry number entry e,
-                subst (λ (o : Option ProtocolDecl). IsSomeAnd o (λ q. (q.place ≡ p.place) × (short_name q.full ++ ending file.Protocol ≢ entry.key))) (sym is) (refl, λ same. other_is entry.key (short_name p.full ++ ending file.Protocol) t (sym same)))))))))))
+              (λ t. absurd (clean (finding_at rule.MISNAMED_PROTOCOL p.place) (inr (inr (inr (inl (
+                refl,
+                (
+                  number,
+                  entry.key,
+                  (entry_is number entry e).1,
+                  (
+                    entry.unit,
+                    unit_of_entry number entry e,
+                    subst (λ (o : Option ProtocolDecl). IsSomeAnd o (λ q. (q.place ≡ p.place) × (short_name q.full ++ ending file.Protocol ≢ entry.key))) (sym is) (refl, λ same. other_is entry.key (short_name p.full ++ ending file.Protocol) t (sym same)),
+                  ),
+                ),
+              )))))))
 
       -- whose protocols bear the names of their files
       pub bear : BearTheirNames program
@@ -312,9 +321,9 @@ report_is laws given count keys files g found is some report sorted = record {
   reach = the_reach laws given keys files g.first g.firsts g.words g.read;
   report = report_of found report (exact laws given count keys files g found is) sorted;
   some = λ none.
-    let f = there_is found 0 some in
-    let c : Contains [] f.0 = subst (λ (fs : List Finding). Contains fs f.0) none ((sorted.exact f.0).1 (0, some, get_or_from_slice_get found 0 f.0 f.0 f.1)) in
-    let k = c.1 in
-    omega arith;
+      let f = there_is found 0 some in
+      let c : Contains [] f.0 = subst (λ (fs : List Finding). Contains fs f.0) none ((sorted.exact f.0).1 (0, some, get_or_from_slice_get found 0 f.0 f.0 f.1)) in
+      let k = c.1 in
+      omega arith;
   called = texts_are laws given keys files g.first g.firsts g.words g.read;
 }

@@ -1,5 +1,5 @@
 -- The first place of a key among names.
-use Rattle.std.proofs.Common.{◌≡◌, ◌≢◌, ◌⊎◌, inl, inr, ℕ, zero, suc, ◌+◌, ◌<◌, Bool, true, false, cond, not, List, [], ◌∷◌, ◌++◌, length, refl, sym, ◌∙◌, ap, subst, arith, get_or}
+use Rattle.std.proofs.Common.{◌≡◌, ◌⊎◌, inl, inr, ℕ, zero, suc, ◌+◌, ◌<◌, true, false, List, [], ◌∷◌, ◌++◌, length, refl, sym, ◌∙◌, ap, subst, arith, get_or}
 use Rattle.std.specs.Prelude.{Some, slice_get, position, if◌then◌else◌}
 use Rattle.std.specs.List.{Contains, list_any}
 use Rattle.std.proofs.lemmas.List.{get_or_at, length-append}
@@ -68,13 +68,13 @@ pub place_one : (named : List (List ℕ)) (k l : List ℕ) → Contains named k 
 place_one [] k l c d same = absurd (in_none k c)
 place_one (x ∷ xs) k l c d same = by_test (is_same x k)
     (λ e. by_test (is_same x l)
-      (λ f. sym (same_is x k e) ∙ same_is x l f)
-      (λ f. let g : 0 ≡ 1 + first_place xs l = rw f at (rw e at same) in absurd (omega arith)))
+    (λ f. sym (same_is x k e) ∙ same_is x l f)
+    (λ f. let g : 0 ≡ 1 + first_place xs l = rw f at (rw e at same) in absurd (omega arith)))
     (λ e. by_test (is_same x l)
-      (λ f. let g : 1 + first_place xs k ≡ 0 = rw f at (rw e at same) in absurd (omega arith))
-      (λ f.
-        let g : 1 + first_place xs k ≡ 1 + first_place xs l = rw f at (rw e at same) in
-        place_one xs k l (in_tail x xs k c (other_is x k e)) (in_tail x xs l d (other_is x l f)) (omega arith)))
+    (λ f. let g : 1 + first_place xs k ≡ 0 = rw f at (rw e at same) in absurd (omega arith))
+    (λ f.
+    let g : 1 + first_place xs k ≡ 1 + first_place xs l = rw f at (rw e at same) in
+    place_one xs k l (in_tail x xs k c (other_is x k e)) (in_tail x xs l d (other_is x l f)) (omega arith)))
 
 -- the key stands at its position
 pub at_position : (keys : List (List ℕ)) (k : List ℕ) (n : ℕ) → position (is_same k) keys ≡ Some n → slice_get keys n ≡ Some k

@@ -1,14 +1,13 @@
 -- What comes of a key, by what its names have.
-use Rattle.std.proofs.Common.{◌≡◌, ◌≢◌, ◌⊎◌, inl, inr, ℕ, ◌<◌, ◌≤◌, Bool, true, false, cond, List, [], ◌∷◌, ◌++◌, length, take, drop, refl, sym, ◌∙◌, ap, subst, arith, map, is_some, true≢false}
-use Rattle.std.specs.Prelude.{Option, Some, None, IfSome, find, unwrap_or}
+use Rattle.std.proofs.Common.{◌≡◌, ◌≢◌, ℕ, cond, List, [], ◌∷◌, ◌++◌, length, refl, sym, ◌∙◌, ap, subst, arith, map, is_some, true≢false}
+use Rattle.std.specs.Prelude.{Option, Some, None, IfSome, find}
 use Rattle.std.specs.List.{Contains}
-use Rattle.std.specs.Option.{option_and_then, option_or}
+use Rattle.std.specs.Option.{option_or}
 use Rattle.std.proofs.Math.ListN.{replicate}
-use Rattle.std.proofs.lemmas.List.{length-replicate, take-append-drop, map-append}
+use Rattle.std.proofs.lemmas.List.{length-replicate, map-append}
 use Rattle.std.proofs.lemmas.List.Folds.{find-append}
 use Rattle.std.proofs.lemmas.List.Elements.{Contains-append_left, Contains-push}
 use Rattle.ipdl_base.specs.Outside.{FileMap}
-use Rattle.include_graph.specs.declared.content.Content.{Content}
 use Rattle.include_graph.specs.declared.content.Content.TheVariants as content
 use Rattle.include_graph.specs.declared.read.Found.{Found}
 use Rattle.include_graph.specs.declared.read.Found.TheVariants.{Bytes, Large, Absent}
@@ -59,10 +58,7 @@ path_more files path directory key =
     ap (find (λ name. is_some (files name))) (map-append (λ d. in_directory d key) path (directory ∷ []))
     ∙ find-append (λ name. is_some (files name)) (map (λ d. in_directory d key) path) (in_directory directory key ∷ [])
 
--- directories without a file of the key
-pub no_directory : (files : FileMap) (key : List ℕ) → name_on_path files [] key ≡ None
-no_directory files key = refl
-
+-- a further directory without a file of the key
 pub none_more : (files : FileMap) (path : List (List ℕ)) (directory key : List ℕ) → name_on_path files path key ≡ None → files (in_directory directory key) ≡ None → name_on_path files (path ++ directory ∷ []) key ≡ None
 none_more files path directory key none absent =
     path_more files path directory key
@@ -124,9 +120,11 @@ found_first None number path more directory key found source there called has no
     let b = held_some held.0 found there held.1 in
     let all = (path ++ directory ∷ []) ++ more in
     let among = Contains-append_left (map (λ d. in_directory d key) (path ++ directory ∷ [])) (map (λ d. in_directory d key) more) name (subst (λ ns. Contains ns name) (sym (map-append (λ d. in_directory d key) path (directory ∷ []))) (Contains-push (map (λ d. in_directory d key) path) name)) in
-    let is : name_on_path (only name (Some b.0)) all key ≡ Some name = only_first name b.0 (map (λ d. in_directory d key) all) (subst (λ ns. Contains ns name) (sym (map-append (λ d. in_directory d key) (path ++ directory ∷ []) more)) among) in
-    (only name (Some b.0), of_name number key (only name (Some b.0)) (name_on_path (only name (Some b.0)) all key) source name is called
-      (subst (λ o. IsContent number key o source.content) (b.1 ∙ sym (only_there name (Some b.0))) (has held.0 held.1)))
+    let is : name_on_path (only name (Some b.0)) all key ≡ Some name = only_first name b.0 (map (λ d. in_directory d key) all) (subst (λ ns. Contains ns name) (sym (map-append (λ d. in_directory d key) (path ++ directory ∷ []) more)) among) in (
+      only name (Some b.0),
+      of_name number key (only name (Some b.0)) (name_on_path (only name (Some b.0)) all key) source name is called
+          (subst (λ o. IsContent number key o source.content) (b.1 ∙ sym (only_there name (Some b.0))) (has held.0 held.1)),
+    )
 found_first (Some files) number path more directory key found source there called has none h =
     let name = in_directory directory key in
     let b = held_some (files name) found there h in

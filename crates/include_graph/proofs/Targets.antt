@@ -1,12 +1,11 @@
 -- What includes lead to, while more keys are added.
-use Rattle.std.proofs.Common.{◌≡◌, ℕ, zero, suc, ◌<◌, ◌≤◌, ◌+◌, Bool, true, false, nat_lt, List, [], ◌∷◌, ◌++◌, length, refl, sym, ◌∙◌, ap, subst, arith, length-append}
+use Rattle.std.proofs.Common.{◌≡◌, ℕ, zero, suc, ◌<◌, ◌≤◌, nat_lt, List, [], ◌∷◌, ◌++◌, length, refl, sym, ◌∙◌, ap, subst, arith, length-append}
 use Rattle.std.specs.Prelude.{Some, slice_get}
 use Rattle.std.specs.List.{AllZip, list_any}
-use Rattle.std.proofs.lemmas.Bool.{ltb-true, ltb-false}
+use Rattle.std.proofs.lemmas.Bool.{ltb-true}
 use Rattle.std.proofs.lemmas.Slice.Zip.{all_zipped_more}
 use Rattle.std.proofs.lemmas.List.Concat.{flat_map-append}
 use Rattle.std.proofs.lemmas.List.{append-nil}
-use Rattle.std.proofs.lemmas.Option.{slice_get_within}
 use Rattle.ipdl_syntax.specs.declared.tree.Include.{Include}
 use Rattle.ipdl_syntax.specs.Programs.{named_key, named_keys}
 use Rattle.include_graph.specs.declared.walk.Target.{Target}
@@ -27,11 +26,15 @@ get_append (y ∷ xs) ys (suc i) x h = get_append xs ys i x h
 target_one : (keys : List (List ℕ)) (k : List ℕ) (i : Include) (t : Target) → IsTarget keys i t → IsTarget (add_key keys k) i t
 target_one keys k i Nothing h = h
 target_one keys k i LeftOut h = subst (λ ks. IsTarget ks i LeftOut) (sym (add_full keys k h.2)) h
-target_one keys k i (File n) h = (h.0, h.1, by_test (list_any (is_same k) keys)
-    (λ e. subst (λ ks. slice_get ks n ≡ Some h.0) (sym (add_old keys k e)) h.2)
-    (λ e. by_test (nat_lt (length keys) 4096)
+target_one keys k i (File n) h = (
+  h.0,
+  h.1,
+  by_test (list_any (is_same k) keys)
+      (λ e. subst (λ ks. slice_get ks n ≡ Some h.0) (sym (add_old keys k e)) h.2)
+      (λ e. by_test (nat_lt (length keys) 4096)
       (λ f. subst (λ ks. slice_get ks n ≡ Some h.0) (sym (add_new keys k e f)) (get_append keys (k ∷ []) n h.0 h.2))
-      (λ f. subst (λ ks. slice_get ks n ≡ Some h.0) (sym (add_past keys k e f)) h.2)))
+      (λ f. subst (λ ks. slice_get ks n ≡ Some h.0) (sym (add_past keys k e f)) h.2)),
+)
 
 pub target_more : (keys row : List (List ℕ)) (i : Include) (t : Target) → IsTarget keys i t → IsTarget (add_keys keys row) i t
 target_more keys [] i t h = h
@@ -52,8 +55,8 @@ add_key_few : (keys : List (List ℕ)) (k : List ℕ) → length keys ≤ 4096 �
 add_key_few keys k few = by_test (list_any (is_same k) keys)
     (λ e. subst (λ ks. length ks ≤ 4096) (sym (add_old keys k e)) few)
     (λ e. by_test (nat_lt (length keys) 4096)
-      (λ f. let below : length keys < 4096 = ltb-true (length keys) 4096 f in subst (λ ks. length ks ≤ 4096) (sym (add_new keys k e f)) (omega (arith, length-append keys (k ∷ []))))
-      (λ f. subst (λ ks. length ks ≤ 4096) (sym (add_past keys k e f)) few))
+    (λ f. let below : length keys < 4096 = ltb-true (length keys) 4096 f in subst (λ ks. length ks ≤ 4096) (sym (add_new keys k e f)) (omega (arith, length-append keys (k ∷ []))))
+    (λ f. subst (λ ks. length ks ≤ 4096) (sym (add_past keys k e f)) few))
 
 pub add_keys_few : (keys row : List (List ℕ)) → length keys ≤ 4096 → length (add_keys keys row) ≤ 4096
 add_keys_few keys [] few = few
@@ -64,17 +67,13 @@ pub record Adding (includes : List Include) (old new : List (List ℕ)) (targets
   pub keys : new ≡ add_keys old (named_keys includes)
   pub each : AllZip (IsTarget new) includes targets
 
--- nothing was added
-pub adding_none : (old : List (List ℕ)) → Adding [] old old []
-adding_none old = record { keys = refl; each = tt }
-
 -- the keys of one more include are added
 pub adding_more : (includes : List Include) (old mid new : List (List ℕ)) (targets : List Target) (i : Include) (t : Target)
     → Adding includes old mid targets → new ≡ add_keys mid (named_key i.kind i.name) → IsTarget new i t → Adding (includes ++ i ∷ []) old new (targets ++ t ∷ [])
 adding_more includes old mid new targets i t a e h = record {
   keys =
-    e ∙ ap (λ ks. add_keys ks (named_key i.kind i.name)) a.keys
-    ∙ sym (add_keys-append old (named_keys includes) (named_key i.kind i.name))
-    ∙ ap (add_keys old) (sym (flat_map-append (λ (j : Include). named_key j.kind j.name) includes (i ∷ []) ∙ ap (λ ks. named_keys includes ++ ks) (append-nil (named_key i.kind i.name))));
+      e ∙ ap (λ ks. add_keys ks (named_key i.kind i.name)) a.keys
+      ∙ sym (add_keys-append old (named_keys includes) (named_key i.kind i.name))
+      ∙ ap (add_keys old) (sym (flat_map-append (λ (j : Include). named_key j.kind j.name) includes (i ∷ []) ∙ ap (λ ks. named_keys includes ++ ks) (append-nil (named_key i.kind i.name))));
   each = all_zipped_more (IsTarget new) includes targets i t (subst (λ ks. AllZip (IsTarget ks) includes targets) (sym e) (targets_more mid (named_key i.kind i.name) includes targets a.each)) h;
 }

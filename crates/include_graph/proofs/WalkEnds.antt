@@ -1,11 +1,11 @@
 -- The walk over the files at its start and at its end.
-use Rattle.std.proofs.Common.{◌≡◌, ◌≢◌, ◌⊎◌, inl, inr, ℕ, zero, suc, ◌<◌, ◌≤◌, List, [], ◌∷◌, ◌++◌, length, take, get_or, map, refl, sym, ◌∙◌, ap, subst, arith, Bor}
+use Rattle.std.proofs.Common.{◌≡◌, ◌≢◌, inl, inr, ℕ, zero, suc, ◌<◌, ◌≤◌, List, [], ◌∷◌, ◌++◌, length, get_or, map, refl, sym, ◌∙◌, ap, subst, arith, Bor}
 use Rattle.std.specs.Prelude.{Option, Some, None, slice_get, option_map, MatchOption}
 use Rattle.std.specs.Option.{option_or}
-use Rattle.std.specs.List.{All, AllPairs, AllZip, AllByRecursion, Contains}
+use Rattle.std.specs.List.{AllPairs, AllZip, Contains}
 use Rattle.std.proofs.lemmas.Bool.{cases_lt}
 use Rattle.std.proofs.lemmas.List.{append-nil, length-map, get_or_append_left}
-use Rattle.std.proofs.lemmas.List.Elements.{All-from_recursion, All-contains, Contains-get_or}
+use Rattle.std.proofs.lemmas.List.Elements.{All-from_recursion, All-contains}
 use Rattle.std.proofs.lemmas.Option.{slice_get_within, slice_get-map, slice_get_read, slice_get_past, get_or_from_slice_get, same_Some}
 use Rattle.std.proofs.lemmas.Slice.Zip.{AllZip-long}
 use Rattle.ipdl_base.specs.Outside.{FileMap}
@@ -18,8 +18,7 @@ use Rattle.include_graph.specs.declared.read.Source.{Source}
 use Rattle.include_graph.specs.Reading.{AreRead, IsSource, rows_of}
 use Rattle.include_graph.specs.Sources.{word_of, name_on_path}
 use Rattle.include_graph.proofs.Combined.{together, there_is}
-use Rattle.include_graph.proofs.Places.{in_none, found_or_not}
-use Rattle.include_graph.proofs.Targets.{get_append}
+use Rattle.include_graph.proofs.Places.{in_none}
 use Rattle.include_graph.proofs.Walks.{Walking}
 use Rattle.include_graph.proofs.WholeKeys.{IsWhole, whole_word}
 use Rattle.include_graph.proofs.WordKeys.{word_found, no_word, different_has}
@@ -59,9 +58,9 @@ walk_start told words path list firsts files h = record {
   room = omega arith;
   each = λ number key file e none. absurd (let no : ⊥ = cc in no);
   whole = λ number key e.
-    let z = zip_at (λ k w. word_of words k ≡ Some w) list firsts number key h.first e in
-    let found = word_found words key z.0 z.2 in
-    subst IsWhole found.1 (whole_word z.0 (All-contains IsFileWord words z.0 (All-from_recursion IsFileWord words files.files) found.0));
+      let z = zip_at (λ k w. word_of words k ≡ Some w) list firsts number key h.first e in
+      let found = word_found words key z.0 z.2 in
+      subst IsWhole found.1 (whole_word z.0 (All-contains IsFileWord words z.0 (All-from_recursion IsFileWord words files.files) found.0));
   plain = λ number key e past. (let a = slice_get_within list number key e in let b = ap length h.keys in absurd (omega arith));
 }
 
@@ -123,12 +122,14 @@ walk_end told words path list files w all = whole told w
     whole : (t : Option FileMap) → Walking t words path list files → ForMap t (λ m. AreRead (record { files = m; words = words; path = path }) list files)
     whole None v =
         let r = v.room in
-        let one = together words path list files v.room v.grown.once v.whole (λ number key file a b. (v.each number key file a b).source) (length files) (omega arith) in
-        (one.0, record {
-          size = omega arith;
-          each = λ number key file a b. record { source = one.1 number key file (slice_get_within files number file b) a b; targets = (v.each number key file a b).targets };
-          reached = reached None v;
-        })
+        let one = together words path list files v.room v.grown.once v.whole (λ number key file a b. (v.each number key file a b).source) (length files) (omega arith) in (
+          one.0,
+          record {
+            size = omega arith;
+            each = λ number key file a b. record { source = one.1 number key file (slice_get_within files number file b) a b; targets = (v.each number key file a b).targets };
+            reached = reached None v;
+          },
+        )
     whole (Some m) v = let r = v.room in record {
       size = omega arith;
       each = λ number key file a b. record { source = (v.each number key file a b).source; targets = (v.each number key file a b).targets };

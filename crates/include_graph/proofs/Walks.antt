@@ -1,31 +1,29 @@
 -- How far the walk over the files has come, and what it is at its end.
-use Rattle.std.proofs.Common.{◌≡◌, ◌≢◌, ◌⊎◌, inl, inr, ℕ, zero, suc, ◌+◌, ◌-◌, ◌<◌, ◌≤◌, Bool, true, false, nat_lt, List, [], ◌∷◌, ◌++◌, length, take, get_or, map, refl, sym, ◌∙◌, ap, subst, arith, length-append}
-use Rattle.std.specs.Prelude.{Option, Some, None, slice_get}
-use Rattle.std.specs.List.{All, AllPairs, AllZip, Contains, flat_map, list_any}
+use Rattle.std.proofs.Common.{◌≡◌, ◌⊎◌, inl, inr, ℕ, zero, suc, ◌<◌, ◌≤◌, nat_lt, List, [], ◌∷◌, ◌++◌, length, take, refl, sym, ◌∙◌, ap, subst, arith, length-append}
+use Rattle.std.specs.Prelude.{Option, Some, slice_get}
+use Rattle.std.specs.List.{Contains, list_any}
 use Rattle.std.specs.Option.{option_or}
 use Rattle.std.specs.Str.{IsAscii}
-use Rattle.std.proofs.lemmas.Bool.{cases_lt}
-use Rattle.std.proofs.lemmas.List.{map-append, append-nil, length-map, take_all, take-append-le, get_or_append_left}
+use Rattle.std.proofs.lemmas.List.{map-append, append-nil, length-map, take_all}
 use Rattle.std.proofs.lemmas.List.Concat.{flat_map-append}
-use Rattle.std.proofs.lemmas.List.Elements.{Contains-append_left, Contains-append_right, Contains-append_cases, Contains-get_or}
-use Rattle.std.proofs.lemmas.Option.{slice_get_within, slice_get-get_or, slice_get_past, get_or_from_slice_get, same_Some}
+use Rattle.std.proofs.lemmas.List.Elements.{Contains-append_left, Contains-append_right, Contains-append_cases}
+use Rattle.std.proofs.lemmas.Option.{slice_get_within, same_Some}
 use Rattle.ipdl_base.specs.Outside.{FileMap}
 use Rattle.ipdl_lex.specs.Laws.{WordsHold}
 use Rattle.grammar_laws.specs.Laws.{NamesHold}
 use Rattle.include_graph.specs.declared.content.Content.{Content}
 use Rattle.include_graph.specs.declared.content.Content.TheVariants.{Absent, Large, BadToken, SyntaxFault, Read}
-use Rattle.include_graph.specs.declared.read.Source.{Source}
 use Rattle.include_graph.specs.declared.walk.Reached.{Reached}
 use Rattle.include_graph.specs.declared.walk.Target.{Target}
-use Rattle.include_graph.specs.Growth.{add_key, add_keys, HasWords}
+use Rattle.include_graph.specs.Growth.{add_key, add_keys}
 use Rattle.include_graph.specs.Keys.{is_same, word_keys}
 use Rattle.include_graph.specs.Load.{ForMap}
-use Rattle.include_graph.specs.Reach.{all_named, IsUnitOf}
+use Rattle.include_graph.specs.Reach.{all_named}
 use Rattle.include_graph.specs.Reading.{IsContent, IsSource, AreTargets, row_of, rows_of}
 use Rattle.include_graph.specs.Sources.{word_of, name_on_path}
 use Rattle.include_graph.proofs.Ends.{by_test}
 use Rattle.include_graph.proofs.Grown.{Grown, add_old, add_new, add_past, grown_more}
-use Rattle.include_graph.proofs.Places.{in_head, in_more, in_none, the_one}
+use Rattle.include_graph.proofs.Places.{in_head, in_more, in_none}
 use Rattle.include_graph.proofs.Readings.{for_some}
 use Rattle.include_graph.proofs.Targets.{get_append, targets_more}
 use Rattle.include_graph.proofs.WholeKeys.{IsWhole, keys_whole}
@@ -56,15 +54,15 @@ added_one : (list : List (List ℕ)) (k : List ℕ) (n : ℕ) (key : List ℕ) �
 added_one list k n key e = by_test (list_any (is_same k) list)
     (λ a. inl (subst (λ ks. slice_get ks n ≡ Some key) (add_old list k a) e))
     (λ a. by_test (nat_lt (length list) 4096)
-      (λ b. elim (got_last list k n key (subst (λ ks. slice_get ks n ≡ Some key) (add_new list k a b) e)) [ inl h ↦ inl h | inr h ↦ (let m = h.0 in inr (omega arith, h.1)) ])
-      (λ b. inl (subst (λ ks. slice_get ks n ≡ Some key) (add_past list k a b) e)))
+    (λ b. elim (got_last list k n key (subst (λ ks. slice_get ks n ≡ Some key) (add_new list k a b) e)) [ inl h ↦ inl h | inr h ↦ (let m = h.0 in inr (omega arith, h.1)) ])
+    (λ b. inl (subst (λ ks. slice_get ks n ≡ Some key) (add_past list k a b) e)))
 
 long_one : (list : List (List ℕ)) (k : List ℕ) → length list ≤ length (add_key list k)
 long_one list k = by_test (list_any (is_same k) list)
     (λ a. subst (λ ks. length list ≤ length ks) (sym (add_old list k a)) (omega arith))
     (λ a. by_test (nat_lt (length list) 4096)
-      (λ b. subst (λ ks. length list ≤ length ks) (sym (add_new list k a b)) (omega (arith, length-append list (k ∷ []))))
-      (λ b. subst (λ ks. length list ≤ length ks) (sym (add_past list k a b)) (omega arith)))
+    (λ b. subst (λ ks. length list ≤ length ks) (sym (add_new list k a b)) (omega (arith, length-append list (k ∷ []))))
+    (λ b. subst (λ ks. length list ≤ length ks) (sym (add_past list k a b)) (omega arith)))
 
 pub long_more : (list row : List (List ℕ)) → length list ≤ length (add_keys list row)
 long_more list [] = omega arith
@@ -81,8 +79,8 @@ key_one : (list : List (List ℕ)) (k : List ℕ) (n : ℕ) (key : List ℕ) →
 key_one list k n key e = by_test (list_any (is_same k) list)
     (λ a. subst (λ ks. slice_get ks n ≡ Some key) (sym (add_old list k a)) e)
     (λ a. by_test (nat_lt (length list) 4096)
-      (λ b. subst (λ ks. slice_get ks n ≡ Some key) (sym (add_new list k a b)) (get_append list (k ∷ []) n key e))
-      (λ b. subst (λ ks. slice_get ks n ≡ Some key) (sym (add_past list k a b)) e))
+    (λ b. subst (λ ks. slice_get ks n ≡ Some key) (sym (add_new list k a b)) (get_append list (k ∷ []) n key e))
+    (λ b. subst (λ ks. slice_get ks n ≡ Some key) (sym (add_past list k a b)) e))
 
 key_more : (list row : List (List ℕ)) (n : ℕ) (key : List ℕ) → slice_get list n ≡ Some key → slice_get (add_keys list row) n ≡ Some key
 key_more list [] n key e = e

@@ -1,13 +1,13 @@
 -- Keys are whole: none has a slash, and each has its ending.
-use Rattle.std.proofs.Common.{◌≡◌, ◌≢◌, ◌⊎◌, inl, inr, ℕ, ◌<◌, ◌≤◌, ◌||◌, ◌&&◌, Bool, true, false, cond, nat_eq, List, [], ◌∷◌, ◌++◌, refl, sym, ◌∙◌, ap, subst, arith, true≢false}
+use Rattle.std.proofs.Common.{◌≡◌, ◌⊎◌, inl, inr, ℕ, ◌<◌, ◌||◌, ◌&&◌, Bool, true, false, nat_eq, List, [], ◌∷◌, ◌++◌, refl, sym, ◌∙◌, ap, subst, arith, true≢false}
 use Rattle.std.specs.Prelude.{nat_le, nat_lt}
 use Rattle.std.proofs.lemmas.Bool.{leb-true, ltb-true, eqb-true}
-use Rattle.std.specs.List.{All, AllByRecursion, Contains, list_any, list_all, flat_map}
+use Rattle.std.specs.List.{AllByRecursion, Contains, list_any, list_all}
 use Rattle.std.specs.Str.{IsAscii}
 use Rattle.std.proofs.lemmas.Str.Ascii.{IsAscii-nil, IsAscii-cons}
 use Rattle.std.proofs.lemmas.Str.{IsAscii-append}
 use Rattle.std.proofs.lemmas.List.Elements.{Contains-append_cases}
-use Rattle.ipdl_base.specs.Words.{is_word, is_word_start, is_word_byte, IsWord}
+use Rattle.ipdl_base.specs.Words.{is_word_start, is_word_byte, IsWord}
 use Rattle.ipdl_syntax.specs.declared.tree.FileKind.{FileKind}
 use Rattle.ipdl_syntax.specs.declared.tree.FileKind.TheVariants as file
 use Rattle.ipdl_syntax.specs.declared.tree.Include.{Include}
@@ -15,7 +15,7 @@ use Rattle.ipdl_syntax.specs.declared.tree.IncludeKind.{IncludeKind}
 use Rattle.ipdl_syntax.specs.declared.tree.IncludeKind.TheVariants as kind
 use Rattle.ipdl_syntax.specs.Programs.{ending, named_key, named_keys}
 use Rattle.ipdl_syntax.specs.Units.{IncludeHasWord}
-use Rattle.include_graph.specs.Keys.{behind_last, key_of, HasKind, IsFileWord}
+use Rattle.include_graph.specs.Keys.{key_of, HasKind, IsFileWord}
 use Rattle.include_graph.proofs.Ends.{by_test}
 use Rattle.include_graph.proofs.Places.{in_none, the_one}
 
@@ -52,8 +52,8 @@ ends_so [] kind = ([], bare (ending kind) (no_slash_ending kind))
 ends_so (b ∷ front) kind = by_test (list_any slash (front ++ ending kind))
     (λ e. subst (λ k. HasKind k kind) (sym (picked e)) (ends_so front kind))
     (λ e. by_test (slash b)
-      (λ f. (front, rw e (rw f refl)))
-      (λ f. (b ∷ front, rw e (rw f refl))))
+    (λ f. (front, rw e (rw f refl)))
+    (λ f. (b ∷ front, rw e (rw f refl))))
   where
     picked : list_any slash (front ++ ending kind) ≡ true → key_of (b ∷ front ++ ending kind) ≡ key_of (front ++ ending kind)
     picked e = rw e refl

@@ -1,10 +1,10 @@
 -- The keys of words.
-use Rattle.std.proofs.Common.{◌≡◌, ◌≢◌, ◌⊎◌, inl, inr, ℕ, zero, suc, ◌+◌, ◌<◌, ◌≤◌, Bool, true, false, cond, not, List, [], ◌∷◌, ◌++◌, length, map, filter, get_or, refl, sym, ◌∙◌, ap, subst, arith, true≢false}
-use Rattle.std.specs.Prelude.{Some, None, find, Option}
-use Rattle.std.specs.List.{AllPairs, AllZip, Contains, list_any}
+use Rattle.std.proofs.Common.{◌≡◌, ◌≢◌, ◌⊎◌, inl, inr, ℕ, zero, suc, Bool, true, false, not, List, [], ◌∷◌, ◌++◌, map, filter, refl, sym, ◌∙◌, ap, subst, arith, true≢false}
+use Rattle.std.specs.Prelude.{Some, None, find}
+use Rattle.std.specs.List.{AllZip, Contains, list_any}
 use Rattle.std.specs.Option.{option_or}
 use Rattle.std.proofs.lemmas.List.{map-append, length-append, append-nil}
-use Rattle.std.proofs.lemmas.List.Elements.{filter-append, Contains-get_or, Contains-push}
+use Rattle.std.proofs.lemmas.List.Elements.{filter-append, Contains-get_or}
 use Rattle.std.proofs.lemmas.List.Folds.{find-append}
 use Rattle.std.proofs.lemmas.List.Quantifiers.{all_pairs_push}
 use Rattle.std.proofs.lemmas.Option.{same_Some}
@@ -64,12 +64,11 @@ different_old [] k c = absurd (in_none k c)
 different_old (x ∷ xs) k c = by_test (list_any (is_same k) (different xs))
     (λ e. ap (λ ys. x ∷ filter (λ y. not (is_same x y)) ys) (different_old xs k (among (different xs) k e)))
     (λ e.
-      let fresh = not_among (different xs) k e in
-      let same : x ≡ k = elim (head_or_tail x (filter (λ y. not (is_same x y)) (different xs)) k c) [ inl is ↦ is | inr tail ↦ absurd (fresh (filter_has (λ y. not (is_same x y)) (different xs) k tail)) ] in
-      let test : is_same x k ≡ true = subst (λ z. is_same x z ≡ true) same (is_itself x) in
-      ap (λ ys. x ∷ filter (λ y. not (is_same x y)) ys) (different_new xs k fresh)
-      ∙ ap (λ ys. x ∷ ys) (filter-append (λ y. not (is_same x y)) (different xs) (k ∷ []) ∙ rw test (append-nil (filter (λ y. not (is_same x y)) (different xs)))))
-
+    let fresh = not_among (different xs) k e in
+    let same : x ≡ k = elim (head_or_tail x (filter (λ y. not (is_same x y)) (different xs)) k c) [ inl is ↦ is | inr tail ↦ absurd (fresh (filter_has (λ y. not (is_same x y)) (different xs) k tail)) ] in
+    let test : is_same x k ≡ true = subst (λ z. is_same x z ≡ true) same (is_itself x) in
+    ap (λ ys. x ∷ filter (λ y. not (is_same x y)) ys) (different_new xs k fresh)
+    ∙ ap (λ ys. x ∷ ys) (filter-append (λ y. not (is_same x y)) (different xs) (k ∷ []) ∙ rw test (append-nil (filter (λ y. not (is_same x y)) (different xs)))))
 
 -- a word that is found is among the words, and has the key
 pub word_found : (words : List (List ℕ)) (k w : List ℕ) → word_of words k ≡ Some w → Contains words w × (key_of w ≡ k)
@@ -97,10 +96,6 @@ all_still words more [] [] h = h
 all_still words more [] (f ∷ fs) h = h
 all_still words more (k ∷ ks) [] h = h
 all_still words more (k ∷ ks) (f ∷ fs) h = (still_found words k f more h.0, all_still words more ks fs h.1)
-
--- no word yet
-pub words_none : HasWords [] [] []
-words_none = record { keys = refl; few = omega arith; once = λ i j d before within. absurd (omega arith); first = tt }
 
 module _ (words list firsts : List (List ℕ)) (w : List ℕ) (h : HasWords words list firsts) where
   keys_more : word_keys (words ++ w ∷ []) ≡ different (map key_of words ++ key_of w ∷ [])

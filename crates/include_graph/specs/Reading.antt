@@ -1,8 +1,7 @@
 -- What is kept of a file that was looked for.
-use Rattle.std.specs.Prelude.{◌≡◌, ◌≢◌, ℕ, List, [], ◌∷◌, length, map, slice_get, Option, Some, None, option_map, unwrap_or}
+use Rattle.std.specs.Prelude.{◌≡◌, ℕ, List, [], ◌∷◌, length, map, slice_get, Option, Some, None, unwrap_or}
 use Rattle.std.specs.List.{AllZip, Contains, filter_map}
 use Rattle.std.specs.Option.{option_and_then, option_or}
-use Rattle.ipdl_base.specs.declared.finding.Place.{Place}
 use Rattle.ipdl_base.specs.Outside.{FileMap}
 use Rattle.ipdl_lex.specs.declared.token.Lexed.{Lexed}
 use Rattle.ipdl_syntax.specs.declared.program.Entry.{Entry}
@@ -21,7 +20,7 @@ use Rattle.include_graph.specs.declared.walk.Reached.{Reached}
 use Rattle.include_graph.specs.declared.walk.Target.{Target}
 use Rattle.include_graph.specs.declared.walk.Target.TheVariants.{Nothing, LeftOut, File}
 use Rattle.include_graph.specs.Growth.{HasWords}
-use Rattle.include_graph.specs.Sources.{Given, word_of, name_on_path, content, text_of}
+use Rattle.include_graph.specs.Sources.{Given, word_of, name_on_path, content}
 use Rattle.include_graph.specs.Reach.{IsUnitOf, IsReachBy}
 use Rattle.include_graph.specs.Rules.{HasBadToken, HasSyntaxFault, IsLarge}
 

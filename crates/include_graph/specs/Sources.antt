@@ -1,5 +1,5 @@
 -- Where the file of a key is looked for, and what it has.
-use Rattle.std.specs.Prelude.{◌≡◌, ℕ, Bool, if◌then◌else◌, List, ◌++◌, map, find, Option, Some, None, is_some, unwrap_or, codes}
+use Rattle.std.specs.Prelude.{◌≡◌, ℕ, if◌then◌else◌, List, ◌++◌, map, find, Option, Some, None, is_some, unwrap_or, codes}
 use Rattle.std.specs.Option.{option_and_then, option_or}
 use Rattle.ipdl_base.specs.Outside.{FileMap}
 use Rattle.include_graph.specs.Keys.{key_of, is_same}

@@ -97,8 +97,16 @@ pub fn named_key_of(alloc: Global, include: &Include) -> Result<Option<Name>, Al
     ensures { IfOk result (λ key. option_to_list key ≡ named_key include.now.kind include.now.name) }
 {
     match include.kind {
-        IncludeKind::Protocol => Ok(Some(with_ending(alloc, include.name.as_slice(), PROTOCOL_ENDING)?)),
-        IncludeKind::Header => Ok(Some(with_ending(alloc, include.name.as_slice(), HEADER_ENDING)?)),
+        IncludeKind::Protocol => Ok(Some(with_ending(
+            alloc,
+            include.name.as_slice(),
+            PROTOCOL_ENDING,
+        )?)),
+        IncludeKind::Header => Ok(Some(with_ending(
+            alloc,
+            include.name.as_slice(),
+            HEADER_ENDING,
+        )?)),
         IncludeKind::Quoted => Ok(None),
     }
 }

@@ -15,3 +15,6 @@ mod walk;
 pub use keys::{are_file_words, key_of};
 pub use laws::one_reach;
 pub use loader::{LoadFault, load};
+
+#[cfg(test)]
+mod tests;

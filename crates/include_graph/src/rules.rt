@@ -117,7 +117,12 @@ fn add_in(
         Content::SyntaxFault(place) => add(Rule::SYNTAX_FAULT, *place, found),
         Content::Read(unit) => {
             add_of_name(key, unit, found)?;
-            add_among(unit.includes.as_slice(), file.targets.as_slice(), files, found)
+            add_among(
+                unit.includes.as_slice(),
+                file.targets.as_slice(),
+                files,
+                found,
+            )
         }
     }
 }

@@ -140,7 +140,9 @@ fn walk<F: Files>(
         let word = firsts.get(number).copied();
         let source = read_key(alloc, files, word, path, key.as_slice(), number as u32)?;
         let targets = add_named(alloc, &source.content, keys)?;
-        reached.push(Reached { source, targets }).map_err(AllocError::from)?;
+        reached
+            .push(Reached { source, targets })
+            .map_err(AllocError::from)?;
     }
     Ok(reached)
 }

@@ -1,6 +1,6 @@
 use Rattle.std.proofs.Common.{sym, ◌∙◌}
 use Rattle.std.specs.Prelude.{codes}
-use Rattle.include_graph.proofs.Ends.{ends, has_ending}
+use Rattle.include_graph.proofs.Ends.{ends}
 use Rattle.include_graph.proofs.keys.kind_of.Goals as goal
 
 pub returns-then-ends_with : goal.returns-then-ends_with

@@ -40,8 +40,7 @@ returns-in_ok-program_of-clause-good c =
     let found = same a.words c.in_ok-found.found.items c.as_slice.result.now a.keys.keys c.as_slice-2.result.now a.files.items c.as_slice.ensures.keys c.as_slice-2.ensures.value c.in_ok-found.ensures in
     let empty : c.in_ok-found.found.items ≡ [] = nil_from_length c.in_ok-found.found.items (omega (arith, eqb-true (vec_len c.in_ok-found.found) 0 (sym c.is_empty.ensures ∙ c.if-is_empty.true), c.in_ok-found.found.ok.0)) in
     let g = c.requires.1 in
-    let clean = clean_of laws c.requires.0 a.words a.keys.keys a.files.items g c.in_ok-found.found.items found empty in
-    (
+    let clean = clean_of laws c.requires.0 a.words a.keys.keys a.files.items g c.in_ok-found.found.items found empty in (
       a_program laws c.requires.0 a.keys.keys a.files.items g.first g.firsts g.words g.read clean c.in_ok-program_of.field-0 c.in_ok-program_of.ensures,
       bear laws c.requires.0 a.keys.keys a.files.items g.first g.firsts g.words g.read clean c.in_ok-program_of.field-0 c.in_ok-program_of.ensures,
     )

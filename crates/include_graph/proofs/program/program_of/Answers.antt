@@ -1,8 +1,6 @@
-use Rattle.std.proofs.Common.{◌≡◌, ℕ, List, [], ◌∷◌, ◌++◌, length, reverse, sym, ◌∙◌, ap, subst, arith, length-append}
-use Rattle.std.proofs.lemmas.List.{nil_from_length}
+use Rattle.std.proofs.Common.{List, [], ◌∷◌, length, sym, ap, subst, arith, length-append}
 use Rattle.ipdl_syntax.specs.declared.program.Entry.{Entry}
-use Rattle.include_graph.specs.Reading.{AreEntriesFrom}
-use Rattle.include_graph.proofs.Entries.{Making, making_none, making_more, making_all, left_tree}
+use Rattle.include_graph.proofs.Entries.{Making, making_none, making_more, left_tree}
 use Rattle.include_graph.proofs.program.program_of.Goals as goal
 
 pub loop-file-init : goal.loop-file-init

@@ -1,4 +1,4 @@
-use Rattle.std.proofs.Common.{◌≡◌, ◌≤◌, ℕ, ◌+◌, List, ◌∷◌, [], ◌++◌, length, map, take, drop, get_or, sym, ◌∙◌, ap, subst, arith, string_bytes, String, Global, refl, ◌<◌, ◌≢◌}
+use Rattle.std.proofs.Common.{◌≡◌, ℕ, ◌+◌, List, ◌∷◌, [], ◌++◌, length, map, take, drop, get_or, sym, ◌∙◌, ap, subst, arith, string_bytes, String, Global, refl, ◌<◌, ◌≢◌}
 use Rattle.std.specs.Prelude.{IfSome, None, Option}
 use Rattle.std.proofs.lemmas.List.{take_more, take_all, map-append, take-append-drop}
 use Rattle.ipdl_base.specs.Outside.{FileMap}
@@ -6,7 +6,6 @@ use Rattle.include_graph.specs.Reading.{IsFound, IsSource}
 use Rattle.include_graph.specs.Load.{ForMap}
 use Rattle.include_graph.specs.Sources.{in_directory, name_on_path}
 use Rattle.include_graph.specs.declared.read.Source.{Source}
-use Rattle.include_graph.specs.declared.read.Found.{Found}
 use Rattle.include_graph.specs.declared.read.Found.TheVariants.{Absent}
 use Rattle.std.specs.declared.vec.Vec.{Vec}
 use Rattle.include_graph.proofs.Readings.{none_step, found_first, found_nowhere}
@@ -58,7 +57,7 @@ returns-in_default-2 g c =
     let first = found_first told c.args.number (map string_bytes (take i path)) (map string_bytes (drop (i + 1) path)) (string_bytes item) key found source there called (λ held h. c.in_ok-content-in_default-2.ensures held h) c.loop-directory.invariant.none here in
     record {
       source = subst (λ (o : Option FileMap). ForMap o (λ files. IsSource c.args.number key files (name_on_path files (map string_bytes path) key) source)) c.loop-directory.invariant.told
-        (subst (λ ds. ForMap told (λ files. IsSource c.args.number key files (name_on_path files ds key) source)) whole first);
+          (subst (λ ds. ForMap told (λ files. IsSource c.args.number key files (name_on_path files ds key) source)) whole first);
       told = c.read_name.ensures.told ∙ c.loop-directory.invariant.told;
       count = (let a = c.loop-directory.invariant.count in let b = c.read_name.ensures.count in omega arith);
       read_fault = λ e. absurd (let none : ⊥ = cc in none);

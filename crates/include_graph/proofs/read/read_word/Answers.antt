@@ -1,4 +1,4 @@
-use Rattle.std.proofs.Common.{◌∙◌, subst}
+use Rattle.std.proofs.Common.{◌∙◌}
 use Rattle.include_graph.proofs.Readings.{of_word}
 use Rattle.include_graph.proofs.read.read_word.Goals as goal
 

@@ -1,7 +1,7 @@
-use Rattle.std.proofs.Common.{◌≡◌, ◌≤◌, ℕ, ◌+◌, length, List, take, get_or, subst, sym, ap, ◌∙◌, ◌++◌, ◌∷◌, []}
-use Rattle.std.proofs.lemmas.List.{take_more, take_all}
+use Rattle.std.proofs.Common.{◌≡◌, ◌≤◌, ℕ, ◌+◌, length, List, take, subst, sym, ap, ◌∙◌, ◌++◌, ◌∷◌, []}
+use Rattle.std.proofs.lemmas.List.{take_more}
 use Rattle.ipdl_syntax.specs.declared.tree.Include.{Include}
-use Rattle.ipdl_syntax.specs.Programs.{named_keys, named_key}
+use Rattle.ipdl_syntax.specs.Programs.{named_keys}
 use Rattle.include_graph.specs.declared.walk.Target.{Target}
 use Rattle.include_graph.proofs.Targets.{Adding, adding_more, add_keys_few}
 use Rattle.include_graph.proofs.walk.add_includes.Goals as goal

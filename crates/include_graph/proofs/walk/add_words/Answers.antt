@@ -38,10 +38,10 @@ loop-word-preserved c =
       | then-branch+in_ok-push w ↦
           let fresh = turned c.in_ok-insert.field-0 (list_any (is_same (key_of word)) list) added w.if-branch.true in
           let told : map (λ (f : Bor (List ℕ)). f.now) c.if-branch.firsts.items ≡ firsts ++ word ∷ [] =
-            ap (λ (v : Vec (Bor (List ℕ)) Global). map (λ (f : Bor (List ℕ)). f.now) v.items) w.firsts-is
-            ∙ ap (map (λ (f : Bor (List ℕ)). f.now)) w.in_ok-push.ensures.items
-            ∙ map-append (λ (f : Bor (List ℕ)). f.now) c.loop-word.firsts.items (w.as_str.result ∷ [])
-            ∙ ap (λ x. firsts ++ x ∷ []) w.as_str.ensures.value in
+          ap (λ (v : Vec (Bor (List ℕ)) Global). map (λ (f : Bor (List ℕ)). f.now) v.items) w.firsts-is
+          ∙ ap (map (λ (f : Bor (List ℕ)). f.now)) w.in_ok-push.ensures.items
+          ∙ map-append (λ (f : Bor (List ℕ)). f.now) c.loop-word.firsts.items (w.as_str.result ∷ [])
+          ∙ ap (λ x. firsts ++ x ∷ []) w.as_str.ensures.value in
           subst (λ ws. HasWords ws c.insert.new.self.keys (map (λ (f : Bor (List ℕ)). f.now) c.if-branch.firsts.items)) front
           (subst (λ fs. HasWords (before ++ word ∷ []) c.insert.new.self.keys fs) (sym told)
           (subst (λ ks. HasWords (before ++ word ∷ []) ks (firsts ++ word ∷ [])) (sym (rw fresh at put)) (words_new before list firsts word c.loop-word.invariant fresh)))

@@ -1,10 +1,9 @@
-use Rattle.std.proofs.Common.{◌≡◌, ◌≤◌, ◌<◌, ℕ, List, ◌∷◌, [], ◌++◌, length, map, sym, ◌∙◌, ap, subst, arith, string_bytes, Bor, refl, true≢false, inl, inr, if◌then◌else◌}
-use Rattle.std.specs.Prelude.{Option, Some, None, slice_get}
+use Rattle.std.proofs.Common.{◌≡◌, ◌≤◌, ℕ, List, ◌∷◌, [], ◌++◌, length, map, sym, ◌∙◌, ap, subst, arith, string_bytes, Bor, refl, true≢false, inl, inr, if◌then◌else◌}
+use Rattle.std.specs.Prelude.{Some, None, slice_get}
 use Rattle.std.specs.Option.{option_or, option_copied}
 use Rattle.std.specs.Str.{IsUtf8}
 use Rattle.std.proofs.lemmas.Bool.{cases_lt}
 use Rattle.std.proofs.lemmas.Str.{IsUtf8-from_ascii}
-use Rattle.ipdl_base.specs.Outside.{FileMap}
 use Rattle.include_graph.specs.declared.walk.Reached.{Reached}
 use Rattle.include_graph.specs.Keys.{IsFileWord}
 use Rattle.include_graph.specs.Load.{ForMap}
@@ -59,7 +58,7 @@ files-preserved g c =
     let w = c.files.invariant.walking in
     let told = g.F.Files.told c.args.files.now in
     let word : option_copied c.copied-word.result ≡ word_of words key =
-        ap option_copied c.copied-word.ensures ∙ (copied_is c.args.firsts.now c.len-number.result c.get.result c.get.ensures.lookup.3 ∙ (ap (slice_get firsts) again ∙ first_word words c.args.keys.now.keys list w.grown.further firsts n key c.requires.keys w.grown.begins w.grown.once at)) in
+    ap option_copied c.copied-word.ensures ∙ (copied_is c.args.firsts.now c.len-number.result c.get.result c.get.ensures.lookup.3 ∙ (ap (slice_get firsts) again ∙ first_word words c.args.keys.now.keys list w.grown.further firsts n key c.requires.keys w.grown.begins w.grown.once at)) in
     let read = c.in_ok-source.ensures.source in
     let here : ForMap told (λ m. IsSource n key m (option_or (word_of words key) (name_on_path m path key)) c.in_ok-source.source) = same_key path c.in_ok-source.source c.files.invariant.told again c.as_slice.ensures word read in
     let file : Reached = record { source = c.in_ok-source.source; targets = c.in_ok-targets.targets } in
