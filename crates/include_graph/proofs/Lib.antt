@@ -17,3 +17,4 @@ pub mod WalkEnds
 pub mod Walks
 pub mod WholeKeys
 pub mod WordKeys
+pub mod WorkedReach
