@@ -38,9 +38,3 @@ pub left_tree : (keys : List (List ℕ)) (files : List Reached) (left_keys : Lis
 left_tree keys files left_keys left rest program file m b all =
     All-contains (λ (f : Reached). IsOfTree f.source.content) files file (All-from_recursion (λ (f : Reached). IsOfTree f.source.content) files all)
     (subst (λ (fs : List Reached). Contains fs file) (sym m.all) (Contains-append_left left m.done file (subst (λ (fs : List Reached). Contains fs file) (sym b) (Contains-push rest file))))
-
--- with none left all are made
-pub making_all : (keys : List (List ℕ)) (files : List Reached) (left_keys : List (List ℕ)) (left : List Reached) (program : List Entry) → Making keys files left_keys left program → left_keys ≡ [] → left ≡ [] → AreEntriesFrom keys files (reverse program)
-making_all keys files left_keys left program m a b =
-    subst (λ ks. AreEntriesFrom ks files (reverse program)) (sym (m.all_keys ∙ ap (λ ks. ks ++ m.done_keys) a))
-    (subst (λ (fs : List Reached). AreEntriesFrom m.done_keys fs (reverse program)) (sym (m.all ∙ ap (λ (fs : List Reached). fs ++ m.done) b)) m.made)

@@ -29,9 +29,6 @@ gains_both g h = record {
   );
 }
 
-pub below_none : {P : ℕ → Finding → Type 0} (a : List Finding) → Gains (Below 0 P) a a
-below_none a = gains_none a (λ f p. let k = p.1 in omega arith)
-
 at_most : (P : ℕ → Finding → Type 0) (n : ℕ) (f : Finding) → Below (n + 1) P f → Below n P f ⊎ P n f
 at_most P n f p = elim (cases_lt p.0 n) [
   | inl less ↦ inl (p.0, less, p.2)

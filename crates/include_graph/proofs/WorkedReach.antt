@@ -1,6 +1,6 @@
 -- Worked cases of keys, of the names under which they are read, and of a reach with wrong neighbours.
 use Rattle.std.proofs.Common.{◌≡◌, ◌≢◌, ◌<◌, ◌⊎◌, ◌∙◌, inl, inr, ℕ, zero, suc, if◌then◌else◌, List, [], ◌∷◌, length, take, refl, sym, subst, arith}
-use Rattle.std.specs.Prelude.{Option, Some, None, slice_get, codes}
+use Rattle.std.specs.Prelude.{Some, None, slice_get, codes}
 use Rattle.std.specs.List.{AllPairs, Contains}
 use Rattle.std.proofs.lemmas.List.Kept.{AllPairs-cons}
 use Rattle.std.proofs.lemmas.List.Elements.{All-from_recursion}

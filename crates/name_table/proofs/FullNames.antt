@@ -6,7 +6,6 @@ use Rattle.std.specs.Cmp.Lexicographic.{pointwise}
 use Rattle.std.proofs.lemmas.Bool.Decides.{eqb_tells}
 use Rattle.std.proofs.lemmas.Iterator.Adapters.{position_from-zero}
 use Rattle.std.proofs.lemmas.List.{take-append-drop, take_all, length-drop, append_cancel_left, append_cancel_right}
-use Rattle.std.proofs.lemmas.List.Prefix.{end_rest}
 use Rattle.std.proofs.lemmas.Slice.Eq.{bytes_eq-Decides}
 use Rattle.std.proofs.Math.Seq.{take-append_seam}
 use Rattle.ipdl_base.specs.Words.{short_name}
@@ -179,14 +178,10 @@ pub behind_first : (n : ℕ) (xs part : List ℕ) → part ≡ drop n xs → tak
 behind_first n xs part e =
     take_all (length part - 1) (drop 1 part) (omega (arith, length-drop 1 part)) ∙ ap (drop 1) e ∙ drop-drop n xs
 
--- a text that ends with one byte, and one that does not
+-- a text that ends with one byte
 pub last_is : (whole : List ℕ) (b : ℕ) → pointwise nat_eq (drop (length whole - 1) whole) (b ∷ []) ≡ true → whole ≡ take (length whole - 1) whole ++ b ∷ []
 last_is whole b same =
     sym (take-append-drop (length whole - 1) whole) ∙ ap (λ xs. take (length whole - 1) whole ++ xs) ((bytes_eq-Decides (drop (length whole - 1) whole) (b ∷ [])).0 same)
-
-pub last_not : (whole : List ℕ) (b : ℕ) → pointwise nat_eq (drop (length whole - 1) whole) (b ∷ []) ≡ false → (front : List ℕ) → ¬ (whole ≡ front ++ b ∷ [])
-last_not whole b differ front e =
-    true≢false (sym ((bytes_eq-Decides (drop (length whole - 1) whole) (b ∷ [])).1 (end_rest whole (b ∷ []) front e)) ∙ differ)
 
 -- a name with its argument, from its front
 pub whole_name-parts : (text inner : List ℕ) → whole_name text (Some inner) ≡ text ++ (60 ∷ (inner ++ 62 ∷ []))
