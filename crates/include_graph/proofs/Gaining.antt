@@ -18,9 +18,6 @@ gains_like to from g = record {
   );
 }
 
-pub gains_none : {P : Finding → Type 0} (a : List Finding) → ((f : Finding) → ¬ P f) → Gains P a a
-gains_none a none = record { exact = λ f. (λ c. inl c, λ h. elim h [ inl old ↦ old | inr p ↦ absurd (none f p) ]) }
-
 pub gains_both : {P Q : Finding → Type 0} {a b c : List Finding} → Gains P a b → Gains Q b c → Gains (λ f. P f ⊎ Q f) a c
 gains_both g h = record {
   exact = λ f. (

@@ -20,10 +20,11 @@ use Rattle.actor_tables.specs.TableText.{table_text}
 use Rattle.findings.proofs.Reports.{same_report}
 use Rattle.ipdl_top.specs.declared.answer.Answer.{Answer}
 use Rattle.ipdl_top.specs.Answer.{IsTableOfTokens, IsTable, IsTableOf, IsReportedOf, IsCompilation, table_answer, report_answer}
-use Rattle.ipdl_top.specs.Command.{IsCommand, IsKeyOf}
+use Rattle.command_words.specs.Keys.{IsKeyOf}
+use Rattle.ipdl_top.specs.Command.{IsCommand}
 use Rattle.ipdl_top.specs.Laws.{OneAnswer}
 use Rattle.ipdl_top.specs.Report.{finding_at, place_of, IsReportOfLexed, IsReportOfBytes, IsReportOf}
-use Rattle.ipdl_top.proofs.OneKey.{one_key}
+use Rattle.command_words.proofs.OneKey.{one_key}
 use Rattle.ipdl_top.proofs.Unboxing.{same_unit}
 use Rattle.ipdl_top.proofs.OneFault.{one_syntax_fault}
 

@@ -6,7 +6,7 @@ use Rattle.ipdl_base.specs.declared.finding.Finding.{Finding}
 use Rattle.ipdl_top.specs.declared.answer.Answer.{Answer}
 use Rattle.ipdl_top.specs.Answer.{IsCompilation, report_answer}
 use Rattle.ipdl_top.specs.Checked.{IsNonEmpty}
-use Rattle.ipdl_top.specs.Command.{IsKeyOf}
+use Rattle.command_words.specs.Keys.{IsKeyOf}
 use Rattle.ipdl_top.specs.Outcome.{ForMap}
 use Rattle.ipdl_top.specs.Report.{IsReportOfBytes, not_built}
 use Rattle.std.specs.Option.{IfSome}

@@ -1,10 +1,8 @@
-pub mod Keys
 pub mod Pieces
 pub mod Reports
 pub mod Compilations
 pub mod Answered
 pub mod SmallSchema
-pub mod OneKey
 pub mod Unboxing
 pub mod OneFault
 pub mod AtMostOne

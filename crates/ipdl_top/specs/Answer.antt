@@ -8,13 +8,14 @@ use Rattle.ipdl_lex.specs.Tokens.{IsTokens}
 use Rattle.ipdl_syntax.specs.declared.tree.FileKind.TheVariants as file
 use Rattle.ipdl_syntax.specs.declared.tree.Unit.{Unit as FileUnit}
 use Rattle.ipdl_syntax.specs.Program.{Tree}
+use Rattle.command_words.specs.Keys.{IsKeyOf}
 use Rattle.narrow_rules.specs.Broken.{IsReport}
 use Rattle.narrow_rules.specs.Narrow.{IsNarrow}
 use Rattle.actor_tables.specs.SchemaOf.{IsSchemaOf}
 use Rattle.actor_tables.specs.TableText.{table_text}
 use Rattle.ipdl_top.specs.declared.answer.Answer.{Answer}
 use Rattle.ipdl_top.specs.declared.status.Status.TheVariants.{Done, Broken, Usage}
-use Rattle.ipdl_top.specs.Command.{IsCommand, IsNoCommand, IsKeyOf, usage_text}
+use Rattle.ipdl_top.specs.Command.{IsCommand, IsNoCommand, usage_text}
 use Rattle.ipdl_top.specs.Report.{IsReportOf, report_text}
 
 -- The text is the table text of the schema of the program whose tree is the grammar's for these tokens, which are a narrow file of this key that breaks no rule.

@@ -1,6 +1,5 @@
 -- The words of a command.
-use Rattle.std.specs.Prelude.{◌≡◌, ◌≢◌, ℕ, ◌⊎◌, List, [], ◌∷◌, ◌++◌, codes}
-use Rattle.std.specs.List.{AllByRecursion}
+use Rattle.std.specs.Prelude.{◌≡◌, ◌≢◌, ℕ, List, [], ◌∷◌, ◌++◌, codes}
 
 -- a word that names a protocol file: it ends in `.ipdl` and does not begin with `-`
 pub record IsFileWord (word : List ℕ) : Type 0 where
@@ -16,11 +15,6 @@ pub record IsCommand (words : List (List ℕ)) (file : List ℕ) : Type 0 where
 -- no command has these words
 abbrev pub IsNoCommand : List (List ℕ) → Type 0
 IsNoCommand words = (file : List ℕ) → ¬ IsCommand words file
-
--- the key of a file: the part of its name behind the last `/`
-pub record IsKeyOf (name key : List ℕ) : Type 0 where
-  pub no_slash : AllByRecursion (λ b. b ≢ 47) key
-  pub behind : (name ≡ key) ⊎ ((front : List ℕ) × (name ≡ front ++ 47 ∷ key))
 
 -- the text that says how the program is called
 abbrev pub usage_text : List ℕ

@@ -1,13 +1,13 @@
 ghost use Rattle.std.specs.Prelude.{◌≡◌, IfOk, IsOkUnless, Some};
 ghost use Rattle.ipdl_base.specs.Outside.{Rose};
+ghost use Rattle.command_words.specs.Keys.{IsKeyOf};
 ghost use Rattle.ipdl_top.specs.Answer.{IsCompilation, report_answer};
-ghost use Rattle.ipdl_top.specs.Command.{IsKeyOf};
 ghost use Rattle.ipdl_top.specs.Outcome.{ForMap};
 ghost use Rattle.ipdl_top.specs.Report.{not_built};
 
 use crate::answer::{Answer, Failure};
 use crate::check::{Checked, check_bytes, not_built_report};
-use crate::words::key_of;
+use command_words::key_of;
 use ipdl_base::{Files, ReadAnswer};
 use std::alloc::Global;
 

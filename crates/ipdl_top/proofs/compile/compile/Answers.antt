@@ -3,7 +3,7 @@ use Rattle.std.specs.Prelude.{Option, None, Some, Err, IfOk}
 use Rattle.std.proofs.lemmas.Result.{IfOk-weaker}
 use Rattle.ipdl_top.specs.declared.answer.Failure.TheVariants.{ReadFault, NoMemory}
 use Rattle.ipdl_top.specs.Answer.{IsCompilation}
-use Rattle.ipdl_top.specs.Command.{IsKeyOf}
+use Rattle.command_words.specs.Keys.{IsKeyOf}
 use Rattle.ipdl_top.proofs.Compilations.{absent, too_large, for_map, for_all}
 use Rattle.ipdl_top.proofs.compile.compile.Goals as goal
 
