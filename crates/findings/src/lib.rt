@@ -2,9 +2,11 @@
 #![tactic(auto)]
 
 mod laws;
+mod repeats;
 mod report;
 
 pub use laws::one_report;
+pub use repeats::{NamePlace, add_repeated};
 pub use report::sorted;
 
 #[cfg(test)]

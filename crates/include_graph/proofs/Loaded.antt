@@ -15,7 +15,7 @@ use Rattle.ipdl_syntax.specs.declared.tree.FileKind.TheVariants as file
 use Rattle.ipdl_syntax.specs.declared.tree.Include.{Include}
 use Rattle.ipdl_syntax.specs.declared.tree.ProtocolDecl.{ProtocolDecl}
 use Rattle.ipdl_syntax.specs.declared.tree.Unit.{Unit as FileUnit}
-use Rattle.ipdl_syntax.specs.Programs.{ending, named_key, named_keys, IsEntry, IsProgram}
+use Rattle.ipdl_syntax.specs.Programs.{ending, named_key, named_keys, BearTheirNames, IsEntry, IsProgram}
 use Rattle.grammar_laws.specs.Laws.{FilesHold, NamesHold, PlacesHold}
 use Rattle.findings.specs.Report.{IsReport}
 use Rattle.findings.proofs.Reports.{report_of}
@@ -27,7 +27,7 @@ use Rattle.include_graph.specs.declared.walk.Target.TheVariants.{Nothing, LeftOu
 use Rattle.include_graph.specs.Found.{finding_at, IsFoundOf}
 use Rattle.include_graph.specs.Growth.{HasWords}
 use Rattle.include_graph.specs.Keys.{is_same}
-use Rattle.include_graph.specs.Load.{keys_of, IsEntryOf, IsProgramOf, IsReportOf, BearTheirNames}
+use Rattle.include_graph.specs.Load.{keys_of, IsEntryOf, IsProgramOf, IsReportOf}
 use Rattle.include_graph.specs.Reading.{IsContent, IsTarget, AreTargets, AreRead, IsGathered, IsReached, IsOfTree, IsEntryFrom, AreEntriesFrom, row_of, rows_of, numbers_of}
 use Rattle.include_graph.specs.Reach.{IsUnitOf, Names, AreNamed, IsReach, all_named}
 use Rattle.include_graph.specs.Rules.{whole_file, IsBroken}

@@ -51,7 +51,3 @@ IsFaultOf given NoMemory = Unit {0}
 -- The answer: the program where no rule is broken, and else the report.
 abbrev pub IsAnswer : Given → Result (List Entry) LoadFault → Type 0
 IsAnswer given answer = MatchResult answer (IsProgramOf given) (IsFaultOf given)
-
--- the protocol of each file has the file's name
-abbrev pub BearTheirNames : List Entry → Type 0
-BearTheirNames program = AllByRecursion (λ e. IfSome e.unit.protocol (λ p. e.key ≡ short_name p.full ++ ending file.Protocol)) program

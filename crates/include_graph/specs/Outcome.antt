@@ -1,8 +1,8 @@
 -- What the files that are reached make.
-use Rattle.ipdl_syntax.specs.Programs.{IsProgram}
+use Rattle.ipdl_syntax.specs.Programs.{IsProgram, BearTheirNames}
 use Rattle.include_graph.specs.declared.outcome.Outcome.{Outcome}
 use Rattle.include_graph.specs.declared.outcome.Outcome.TheVariants.{Whole, Report}
-use Rattle.include_graph.specs.Load.{IsProgramOf, IsReportOf, BearTheirNames}
+use Rattle.include_graph.specs.Load.{IsProgramOf, IsReportOf}
 use Rattle.include_graph.specs.Sources.{Given}
 
 -- the program of the reach, or the report on it

@@ -1,8 +1,8 @@
 ghost use Rattle.std.specs.Prelude.{◌≡◌, ◌≤◌, IfOk, Err, map, string_bytes};
 ghost use Rattle.ipdl_base.specs.Outside.{Rose};
-ghost use Rattle.ipdl_syntax.specs.Programs.{IsProgram};
+ghost use Rattle.ipdl_syntax.specs.Programs.{IsProgram, BearTheirNames};
 ghost use Rattle.include_graph.specs.Keys.{AreFileWords};
-ghost use Rattle.include_graph.specs.Load.{ForMap, IsAnswer, BearTheirNames};
+ghost use Rattle.include_graph.specs.Load.{ForMap, IsAnswer};
 
 use crate::outcome::{Outcome, outcome_of};
 use crate::read::Stop;

@@ -1,6 +1,7 @@
 -- What a program is: the files that are reached, in their order.
-use Rattle.std.specs.Prelude.{◌≡◌, ◌≢◌, ℕ, ◌≤◌, ◌<◌, List, [], ◌∷◌, ◌++◌, map, length, slice_get, Option, Some, codes}
+use Rattle.std.specs.Prelude.{◌≡◌, ◌≢◌, ℕ, ◌≤◌, ◌<◌, List, [], ◌∷◌, ◌++◌, map, length, slice_get, Option, Some, IfSome, codes}
 use Rattle.std.specs.List.{AllPairs, AllByRecursion, flat_map}
+use Rattle.ipdl_base.specs.Words.{short_name}
 use Rattle.ipdl_syntax.specs.declared.program.Entry.{Entry}
 use Rattle.ipdl_syntax.specs.declared.tree.FileKind.{FileKind}
 use Rattle.ipdl_syntax.specs.declared.tree.FileKind.TheVariants as file
@@ -49,3 +50,7 @@ pub record IsProgram (program : List Entry) : Type 0 where
   pub few : length program ≤ 4096
   pub distinct : AllPairs (λ a b. a.key ≢ b.key) program
   pub entries : (index : ℕ) (entry : Entry) → slice_get program index ≡ Some entry → IsEntry program index entry
+
+-- the protocol of each file has the name of its file
+abbrev pub BearTheirNames : List Entry → Type 0
+BearTheirNames program = AllByRecursion (λ e. IfSome e.unit.protocol (λ p. e.key ≡ short_name p.full ++ ending file.Protocol)) program

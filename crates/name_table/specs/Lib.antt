@@ -1,3 +1,4 @@
+pub mod Decls
 pub mod Declares
 pub mod Visible
 pub mod Finds

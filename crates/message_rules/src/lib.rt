@@ -1,0 +1,7 @@
+//! The rules on messages: their number, levels and semantics, compression, constructors and destructors, parameters
+//! (docs/protocols.md).
+#![tactic(auto)]
+
+mod report;
+
+pub use report::add_of_messages;

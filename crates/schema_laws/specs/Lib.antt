@@ -1,0 +1,5 @@
+pub mod Clean
+pub mod Laws
+pub mod Numbers
+pub mod SchemaOf
+pub mod Shapes

@@ -1,0 +1,3 @@
+//! What the schema of a program is, and its laws: a program has at most one, and where it breaks no rule that is sound
+//! (docs/tables.md). No function that runs.
+#![tactic(auto)]
