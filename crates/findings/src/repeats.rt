@@ -19,5 +19,14 @@ pub fn add_repeated(
 ) -> Result<(), AllocError>
     ensures { OnOk result (Adds rule (IsRepeatedAt (map (λ n. (n.0.now, n.1)) names.now)) found.old.items found.new.items) }
 {
-    Err(AllocError)
+    let mut seen = HashSet::new(alloc);
+    for (name, place) in names {
+        if !seen.insert(*name)? {
+            found.push(Finding {
+                place: *place,
+                rule,
+            })?;
+        }
+    }
+    Ok(())
 }
