@@ -1,5 +1,6 @@
 pub mod Elements
 pub mod Indexed
+pub mod Gathers
 pub mod Same
 pub mod Gains
 pub mod Order

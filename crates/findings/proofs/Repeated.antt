@@ -1,12 +1,12 @@
 -- Names that stand a second time, when one more name stands behind them.
-use Rattle.std.proofs.Common.{◌≡◌, ℕ, ◌+◌, ◌<◌, ◌≤◌, Bool, true, false, not, cond, ◌||◌, List, [], ◌∷◌, ◌++◌, length, take, get_or, map, Bor, ◌⊎◌, inl, inr, refl, sym, ◌∙◌, ap, subst, arith}
+use Rattle.std.proofs.Common.{◌≡◌, ℕ, ◌+◌, ◌<◌, ◌≤◌, Bool, true, false, not, cond, List, [], ◌∷◌, ◌++◌, length, take, get_or, map, Bor, ◌⊎◌, inl, inr, refl, sym, ◌∙◌, ap, subst, arith}
 use Rattle.std.specs.Prelude.{nat_eq}
-use Rattle.std.specs.List.{list_any, Any, Contains}
+use Rattle.std.specs.List.{Contains}
 use Rattle.std.specs.Cmp.Lexicographic.{pointwise}
 use Rattle.std.specs.Bool.{Decides}
 use Rattle.std.proofs.lemmas.Bool.{true≢false}
 use Rattle.std.proofs.lemmas.Bool.Decides.{Decides-eqb}
-use Rattle.std.proofs.lemmas.List.{take_more, take-append-le, take_all, length-take, map-append, take-map}
+use Rattle.std.proofs.lemmas.List.{take_more, take-append-le, take_all, map-append}
 use Rattle.std.proofs.lemmas.List.Elements.{Contains-append_left, Contains-push, Contains-push_cases}
 use Rattle.std.proofs.lemmas.Option.{slice_get_within}
 use Rattle.std.proofs.lemmas.Slice.Eq.{slice_eq-Decides}
@@ -14,7 +14,6 @@ use Rattle.ipdl_base.specs.declared.finding.Finding.{Finding}
 use Rattle.ipdl_base.specs.declared.finding.Place.{Place}
 use Rattle.ipdl_base.specs.declared.finding.Rule.{Rule}
 use Rattle.findings.specs.Adds.{Adds}
-use Rattle.findings.specs.Gains.{AtSome}
 use Rattle.findings.specs.Repeats.{IsRepeatedAt}
 use Rattle.findings.proofs.Gains.{Adds-none, Adds-like, Adds-then, Adds-push}
 use Rattle.findings.proofs.Indexed.{slice_get-push, slice_get-left, slice_get-last}
@@ -54,8 +53,7 @@ pub told_more : (names : List Given) (i : ℕ) (d : Given) (q : List ℕ) (befor
 told_more names i d q before after lt put was =
     let old = texts (map plain_name (take i names)) in
     let y = (get_or names i d).0.now in
-    rw (texts-more names i d lt)
-    (
+    rw (texts-more names i d lt) (
       (λ h. elim (cond_true (pointwise nat_eq y q) before (sym put ∙ h)) [
         | inl same ↦ (let P : List ℕ → Type 0 = λ z. Contains (old ++ y ∷ []) z in subst P ((decided y q).0 same) (Contains-push old y))
         | inr h ↦ Contains-append_left old (y ∷ []) q (was.0 h)

@@ -1,2 +1,4 @@
+pub mod Breaches
 pub mod Broken
+pub mod Gathered
 pub mod Messages

@@ -2,6 +2,9 @@
 //! (docs/protocols.md).
 #![tactic(auto)]
 
+mod kinds;
+mod message;
+mod params;
 mod report;
 
 pub use report::add_of_messages;

@@ -1,9 +1,8 @@
-use Rattle.std.proofs.Common.{◌≡◌, ℕ, true, false, List, [], get_or, Bor, map, sym, ◌∙◌, arith, rules}
+use Rattle.std.proofs.Common.{◌≡◌, ℕ, false, List, [], get_or, Bor, sym, ◌∙◌, arith, rules}
 use Rattle.std.specs.Prelude.{nat_eq}
 use Rattle.std.specs.Cmp.Lexicographic.{pointwise}
 use Rattle.std.specs.HashSet.{contains}
 use Rattle.std.proofs.lemmas.Bool.{true≢false}
-use Rattle.std.proofs.lemmas.Bool.Decides.{Decides-not}
 use Rattle.std.proofs.lemmas.List.{take_all}
 use Rattle.findings.proofs.Repeated.{Given, told_more, Adds-repeated, Adds-new, Adds-no_name, was_there, was_new}
 use Rattle.findings.proofs.repeats.add_repeated.Goals as goal

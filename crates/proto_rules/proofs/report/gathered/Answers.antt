@@ -1,0 +1,18 @@
+use Rattle.std.proofs.Common.{List, inl, inr, subst, arith}
+use Rattle.std.specs.List.{Contains}
+use Rattle.ipdl_base.specs.declared.finding.Finding.{Finding}
+use Rattle.proto_rules.proofs.report.gathered.Goals as goal
+
+pub returns : goal.returns
+returns c f =
+    let one = c.in_ok-add_of_managers.ensures in
+    let two = c.in_ok-add_of_messages.ensures in (
+      (λ h. elim ((two.exact f).0 h) [
+        | inl x ↦ elim ((one.exact f).0 x) [
+          | inl none ↦ (let P : List Finding → Type 0 = λ fs. Contains fs f in let z = subst P c.new-found.ensures.items none in let no : ⊥ = omega (arith, z.1) in absurd no)
+          | inr y ↦ inl y
+        ]
+        | inr y ↦ inr y
+      ]),
+      (λ h. elim h [ inl y ↦ (two.exact f).1 (inl ((one.exact f).1 (inr y))) | inr y ↦ (two.exact f).1 (inr y) ]),
+    )
