@@ -1,0 +1,4 @@
+pub mod Growth
+pub mod Visited
+pub mod Rows
+pub mod Working

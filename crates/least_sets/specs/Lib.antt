@@ -1,1 +1,3 @@
 pub mod Derived
+pub mod Marking
+pub mod Starting

@@ -1,5 +1,8 @@
-ghost use Rattle.std.specs.Prelude.{IfOk};
+ghost use Rattle.std.specs.Prelude.{◌≡◌, ◌↔◌, ℕ, Some, slice_get, IfOk};
+ghost use Rattle.std.specs.List.{Contains};
 
+use crate::marking::visit_all;
+use crate::users::users;
 use std::alloc::{AllocError, Global};
 
 /// How many of its parts a node needs.
@@ -11,7 +14,8 @@ pub enum Need {
     One,
 }
 
-/// A node, with the numbers of the nodes that are its parts. A number that no node has is a part that is never derived.
+/// A node, with the numbers of the nodes that are its parts. A number that no node has is a part that
+/// is never derived.
 #[derive(Debug, Drop)]
 pub struct Node {
     pub need: Need,
@@ -19,12 +23,38 @@ pub struct Node {
 }
 
 ghost use Rattle.least_sets.specs.Derived.{AreMarks};
+ghost use Rattle.least_sets.specs.Starting.{NeedsAll};
 
-/// For each node whether it is derived: whether it is in the least set of nodes that has each node that needs all of its parts
-/// and has all of them in the set, and each that needs one and has one there. Takes time in proportion to the nodes and their
-/// parts. The only error is want of memory.
+/// The nodes that need all of their parts.
+fn starters(alloc: Global, nodes: &[Node]) -> Result<Vec<usize>, AllocError>
+    ensures { IfOk result (λ starters. (k : ℕ) → Contains starters.items k ↔ NeedsAll nodes.now k) }
+{
+    let mut starters = Vec::new(alloc);
+    for (number, node) in nodes.iter().enumerate() {
+        match node.need {
+            Need::All => starters.push(number)?,
+            Need::One => {}
+        }
+    }
+    Ok(starters)
+}
+
+/// For each node whether it is derived: whether it is in the least set of nodes that has each node that
+/// needs all of its parts and has all of them in the set, and each that needs one and has one there.
+/// Takes time in proportion to the nodes and their parts. The only error is want of memory.
 pub fn derived(alloc: Global, nodes: &[Node]) -> Result<Vec<bool>, AllocError>
     ensures { IfOk result (λ marks. AreMarks nodes.now marks.items) }
 {
-    Err(AllocError)
+    let users = users(alloc, nodes)?;
+    let mut marks = Vec::from_elem(alloc, false, nodes.len())?;
+    let mut seen = Vec::from_elem(alloc, 0, nodes.len())?;
+    let mut work = Vec::new(alloc);
+    let starters = starters(alloc, nodes)?;
+    visit_all(starters.as_slice(), nodes, &mut seen, &mut marks, &mut work)?;
+    while let Some(part) = work.pop() {
+        if let Some(row) = users.get(part) {
+            visit_all(row.as_slice(), nodes, &mut seen, &mut marks, &mut work)?;
+        }
+    }
+    Ok(marks)
 }
