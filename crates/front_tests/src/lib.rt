@@ -10,3 +10,5 @@ mod lists;
 mod loads;
 #[cfg(test)]
 mod names;
+#[cfg(test)]
+mod rules;
