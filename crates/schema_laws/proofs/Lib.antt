@@ -1,0 +1,4 @@
+pub mod Lists
+pub mod Numberings
+pub mod OneShape
+pub mod Uncarried
