@@ -2,3 +2,4 @@ pub mod Lists
 pub mod Numberings
 pub mod OneShape
 pub mod Uncarried
+pub mod OneSchema
