@@ -3,3 +3,5 @@ pub mod Numberings
 pub mod OneShape
 pub mod Uncarried
 pub mod OneSchema
+pub mod Unbroken
+pub mod Numbered
