@@ -5,3 +5,5 @@ pub mod Uncarried
 pub mod OneSchema
 pub mod Unbroken
 pub mod Numbered
+pub mod KindsOfMessages
+pub mod SoundMessages

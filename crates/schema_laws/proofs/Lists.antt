@@ -1,6 +1,7 @@
 -- Lists: members by their places, lists in order, and lists that stand side by side.
-use Rattle.std.proofs.Common.{◌≡◌, ◌⊎◌, inl, inr, ◌∙◌, ◌<◌, ◌+◌, ℕ, zero, suc, List, [], ◌∷◌, length, map, get_or, Some, slice_get, refl, sym, ap, subst, arith}
-use Rattle.std.specs.List.{AllPairs, AllZip, Any, Contains}
+use Rattle.std.proofs.Common.{◌≡◌, ◌⊎◌, inl, inr, ◌∙◌, ◌<◌, ◌+◌, ℕ, zero, suc, List, [], ◌∷◌, length, map, get_or, Some, slice_get, zero-add, refl, sym, ap, subst, arith}
+use Rattle.std.specs.List.{AllByRecursion, AllPairs, AllZip, Any, Contains}
+use Rattle.std.proofs.lemmas.List.Elements.{All-contains, All-from_recursion}
 use Rattle.std.proofs.lemmas.Bool.{cases_order}
 use Rattle.std.proofs.lemmas.Option.{slice_get-get_or, slice_get_within, get_or_from_slice_get}
 use Rattle.name_table.proofs.Order.{in_front, in_tail, in_cons, in_none}
@@ -19,6 +20,10 @@ any_place P xs (k, x, within, at, holds) = (k, x, slice_get-get_or xs k x within
 
 pub any_at : {X : Type 0} (P : X → Type 0) (xs : List X) (k : ℕ) (x : X) → slice_get xs k ≡ Some x → P x → Any P xs
 any_at P xs k x at holds = (k, x, slice_get_within xs k x at, get_or_from_slice_get xs k x x at, holds)
+
+-- what holds of each, holds of what stands at a place
+pub holds_at : {X : Type 0} (P : X → Type 0) (xs : List X) (k : ℕ) (x : X) → AllByRecursion P xs → slice_get xs k ≡ Some x → P x
+holds_at P xs k x all at = All-contains P xs x (All-from_recursion P xs all) (in_place xs k x at)
 
 -- Lists in order
 
@@ -85,28 +90,34 @@ rows_length R index (x ∷ xs) [] are = absurd are
 rows_length R index (x ∷ xs) (y ∷ ys) are = ap suc (rows_length R (index + 1) xs ys are.1)
 
 -- what has the row at a place
-pub row_at : {X Y : Type 0} (R : ℕ → X → Y → Type 0) (index : ℕ) (xs : List X) (ys : List Y) → AreRows R index xs ys → (k : ℕ) (y : Y) → slice_get ys k ≡ Some y → (x : X) × (slice_get xs k ≡ Some x) × R (index + k) x y
-row_at R index [] [] are k y at = cc
-row_at R index [] (y ∷ ys) are k z at = absurd are
-row_at R index (x ∷ xs) [] are k y at = absurd are
-row_at R index (x ∷ xs) (y ∷ ys) are zero z at =
+had_from : {X Y : Type 0} (R : ℕ → X → Y → Type 0) (index : ℕ) (xs : List X) (ys : List Y) → AreRows R index xs ys → (k : ℕ) (y : Y) → slice_get ys k ≡ Some y → (x : X) × (slice_get xs k ≡ Some x) × R (index + k) x y
+had_from R index [] [] are k y at = cc
+had_from R index [] (y ∷ ys) are k z at = absurd are
+had_from R index (x ∷ xs) [] are k y at = absurd are
+had_from R index (x ∷ xs) (y ∷ ys) are zero z at =
     let same : y ≡ z = cc in
     (x, refl, subst (λ n. R n x z) (omega arith) (subst (R index x) same are.0))
-row_at R index (x ∷ xs) (y ∷ ys) are (suc k) z at =
-    let there = row_at R (index + 1) xs ys are.1 k z at in
+had_from R index (x ∷ xs) (y ∷ ys) are (suc k) z at =
+    let there = had_from R (index + 1) xs ys are.1 k z at in
     (there.0, there.1, subst (λ n. R n there.0 z) (omega arith) there.2)
 
+pub row_had : {X Y : Type 0} (R : ℕ → X → Y → Type 0) (xs : List X) (ys : List Y) → AreRows R 0 xs ys → (k : ℕ) (y : Y) → slice_get ys k ≡ Some y → (x : X) × (slice_get xs k ≡ Some x) × R k x y
+row_had R xs ys are k y at = let there = had_from R 0 xs ys are k y at in (there.0, there.1, subst (λ n. R n there.0 y) (zero-add k) there.2)
+
 -- the row of what stands at a place
-pub row_of : {X Y : Type 0} (R : ℕ → X → Y → Type 0) (index : ℕ) (xs : List X) (ys : List Y) → AreRows R index xs ys → (k : ℕ) (x : X) → slice_get xs k ≡ Some x → (y : Y) × (slice_get ys k ≡ Some y) × R (index + k) x y
-row_of R index [] [] are k x at = cc
-row_of R index [] (y ∷ ys) are k x at = absurd are
-row_of R index (x ∷ xs) [] are k z at = absurd are
-row_of R index (x ∷ xs) (y ∷ ys) are zero z at =
+row_from : {X Y : Type 0} (R : ℕ → X → Y → Type 0) (index : ℕ) (xs : List X) (ys : List Y) → AreRows R index xs ys → (k : ℕ) (x : X) → slice_get xs k ≡ Some x → (y : Y) × (slice_get ys k ≡ Some y) × R (index + k) x y
+row_from R index [] [] are k x at = cc
+row_from R index [] (y ∷ ys) are k x at = absurd are
+row_from R index (x ∷ xs) [] are k z at = absurd are
+row_from R index (x ∷ xs) (y ∷ ys) are zero z at =
     let same : x ≡ z = cc in
     (y, refl, subst (λ n. R n z y) (omega arith) (subst (λ w. R index w y) same are.0))
-row_of R index (x ∷ xs) (y ∷ ys) are (suc k) z at =
-    let there = row_of R (index + 1) xs ys are.1 k z at in
+row_from R index (x ∷ xs) (y ∷ ys) are (suc k) z at =
+    let there = row_from R (index + 1) xs ys are.1 k z at in
     (there.0, there.1, subst (λ n. R n z there.0) (omega arith) there.2)
+
+pub row_of : {X Y : Type 0} (R : ℕ → X → Y → Type 0) (xs : List X) (ys : List Y) → AreRows R 0 xs ys → (k : ℕ) (x : X) → slice_get xs k ≡ Some x → (y : Y) × (slice_get ys k ≡ Some y) × R k x y
+row_of R xs ys are k x at = let there = row_from R 0 xs ys are k x at in (there.0, there.1, subst (λ n. R n x there.0) (zero-add k) there.2)
 
 -- where each has one row, up to what is looked at, so has a list
 pub same_rows : {X Y Z : Type 0} (look : Y → Z) (R S : ℕ → X → Y → Type 0) → ((n : ℕ) (x : X) (a b : Y) → R n x a → S n x b → look a ≡ look b) → (index : ℕ) (xs : List X) (us vs : List Y) → AreRows R index xs us → AreRows S index xs vs → map look us ≡ map look vs

@@ -26,7 +26,7 @@ use Rattle.name_table.specs.Decls.{protocol_of, struct_of, union_of}
 use Rattle.schema_laws.specs.Numbers.{Numbering, AreProtocolFiles}
 use Rattle.schema_laws.specs.SchemaOf.{AreParamRows, IsNumberOfName, IsParamRow, IsTypeRow}
 use Rattle.schema_laws.specs.Shapes.{IsShapeOf, IsShapeOfBase, IsShapeOfDecl, IsSuffixed, IsSuffixedBy}
-use Rattle.schema_laws.proofs.Lists.{any_place, in_place, row_at, rows_of}
+use Rattle.schema_laws.proofs.Lists.{any_place, in_place}
 use Rattle.schema_laws.proofs.Numberings.{HasOneNumberEach, some_of}
 use Rattle.schema_laws.proofs.OneShape.{builtin_shape, using_shape, struct_shape, union_shape, protocol_shape, endpoint_shape, array_shape, maybe_shape, unique_shape}
 use Rattle.schema_laws.proofs.Unbroken.{entry_with, some_and}
@@ -67,44 +67,49 @@ suffixes_keep P array maybe (Maybe ∷ rest) Holds keeps s is =
 
 -- Numbers in range
 
+abbrev pub InRange : Numbering → Shape → Type 0
+InRange n = IsInRange (length n.files) (length n.types)
+
+abbrev pub FieldInRange : Numbering → ParamRow → Type 0
+FieldInRange n = IsFieldInRange (length n.files) (length n.types)
+
+abbrev pub TypeInRange : Numbering → TypeRow → Type 0
+TypeInRange n = IsTypeInRange (length n.files) (length n.types)
+
 module _ (program : List Entry) (n : Numbering) where
-  InRange : Shape → Type 0
-  InRange = IsInRange (length n.files) (length n.types)
+  decl_in_range : (nullable : Bool) (d : DeclId) (s : Shape) → IsShapeOfDecl program n nullable d s → InRange n s
+  decl_in_range nullable (Builtin type) s is = subst (InRange n) (sym (builtin_shape program n nullable type s is)) tt
+  decl_in_range nullable (Using file index) s is = let x = using_shape program n nullable file index s is in subst (InRange n) (sym x.1) tt
+  decl_in_range nullable (Struct file index) s is = let x = struct_shape program n nullable file index s is in subst (InRange n) (sym x.1) (slice_get_within n.types x.0 (Struct file index) x.2)
+  decl_in_range nullable (Union file index) s is = let x = union_shape program n nullable file index s is in subst (InRange n) (sym x.1) (slice_get_within n.types x.0 (Union file index) x.2)
+  decl_in_range nullable (Protocol file) s is = let x = protocol_shape program n nullable file s is in subst (InRange n) (sym x.1) (slice_get_within n.files x.0 file x.2)
+  decl_in_range nullable (Endpoint file managed) s is = let x = endpoint_shape program n nullable file managed s is in subst (InRange n) (sym x.1) (slice_get_within n.files x.0 file x.2)
 
-  decl_in_range : (nullable : Bool) (d : DeclId) (s : Shape) → IsShapeOfDecl program n nullable d s → IsInRange (length n.files) (length n.types) s
-  decl_in_range nullable (Builtin type) s is = subst (IsInRange (length n.files) (length n.types)) (sym (builtin_shape program n nullable type s is)) tt
-  decl_in_range nullable (Using file index) s is = let x = using_shape program n nullable file index s is in subst (IsInRange (length n.files) (length n.types)) (sym x.1) tt
-  decl_in_range nullable (Struct file index) s is = let x = struct_shape program n nullable file index s is in subst (IsInRange (length n.files) (length n.types)) (sym x.1) (slice_get_within n.types x.0 (Struct file index) x.2)
-  decl_in_range nullable (Union file index) s is = let x = union_shape program n nullable file index s is in subst (IsInRange (length n.files) (length n.types)) (sym x.1) (slice_get_within n.types x.0 (Union file index) x.2)
-  decl_in_range nullable (Protocol file) s is = let x = protocol_shape program n nullable file s is in subst (IsInRange (length n.files) (length n.types)) (sym x.1) (slice_get_within n.files x.0 file x.2)
-  decl_in_range nullable (Endpoint file managed) s is = let x = endpoint_shape program n nullable file managed s is in subst (IsInRange (length n.files) (length n.types)) (sym x.1) (slice_get_within n.files x.0 file x.2)
-
-  base_in_range : (file : ℕ) (nullable : Bool) (base : Base) (s : Shape) → IsShapeOfBase program n file nullable base s → IsInRange (length n.files) (length n.types) s
+  base_in_range : (file : ℕ) (nullable : Bool) (base : Base) (s : Shape) → IsShapeOfBase program n file nullable base s → InRange n s
   base_in_range file nullable (Named name argument) s is = decl_in_range nullable is.0 s is.2
   base_in_range file nullable (Unique' at inner_nullable inner after place) s is =
       let part = unique_shape (IsSuffixed (IsShapeOfBase program n file inner_nullable inner) after) s is in
-      let P = IsInRange (length n.files) (length n.types) in
-      subst P (sym part.2) (suffixes_keep P (λ at u h. h) (λ at u h. h) after (IsShapeOfBase program n file inner_nullable inner) (base_in_range file inner_nullable inner) part.1 part.3)
+      subst (InRange n) (sym part.2) (suffixes_keep (InRange n) (λ at u h. h) (λ at u h. h) after (IsShapeOfBase program n file inner_nullable inner) (base_in_range file inner_nullable inner) part.1 part.3)
 
-  shape_in_range : (file : ℕ) (spec : TypeSpec) (s : Shape) → IsShapeOf program n file spec s → IsInRange (length n.files) (length n.types) s
+  shape_in_range : (file : ℕ) (spec : TypeSpec) (s : Shape) → IsShapeOf program n file spec s → InRange n s
   shape_in_range file spec s is =
-      suffixes_keep (IsInRange (length n.files) (length n.types)) (λ at u h. h) (λ at u h. h) spec.suffixes (IsShapeOfBase program n file spec.nullable spec.base) (base_in_range file spec.nullable spec.base) s is
+      suffixes_keep (InRange n) (λ at u h. h) (λ at u h. h) spec.suffixes (IsShapeOfBase program n file spec.nullable spec.base) (base_in_range file spec.nullable spec.base) s is
 
-  pub params_in_range : (file : ℕ) (ps : List Param) (rows : List ParamRow) → AreParamRows program n file ps rows → All (IsFieldInRange (length n.files) (length n.types)) rows
-  params_in_range file [] [] are = All-nil (IsFieldInRange (length n.files) (length n.types))
+  pub params_in_range : (file : ℕ) (ps : List Param) (rows : List ParamRow) → AreParamRows program n file ps rows → All (FieldInRange n) rows
+  params_in_range file [] [] are = All-nil (FieldInRange n)
   params_in_range file [] (r ∷ rows) are = absurd are
   params_in_range file (p ∷ ps) [] are = absurd are
   params_in_range file (p ∷ ps) (r ∷ rows) are =
-      All-cons (IsFieldInRange (length n.files) (length n.types)) r rows (shape_in_range file p.spec r.shape are.0.shape) (params_in_range file ps rows are.1)
+      All-cons (FieldInRange n) r rows (shape_in_range file p.spec r.shape are.0.shape) (params_in_range file ps rows are.1)
 
-  shapes_in_range : (file : ℕ) (specs : List TypeSpec) (shapes : List Shape) → AllZip (IsShapeOf program n file) specs shapes → All (IsInRange (length n.files) (length n.types)) shapes
-  shapes_in_range file [] [] are = All-nil (IsInRange (length n.files) (length n.types))
+  shapes_in_range : (file : ℕ) (specs : List TypeSpec) (shapes : List Shape) → AllZip (IsShapeOf program n file) specs shapes → All (InRange n) shapes
+  shapes_in_range file [] [] are = All-nil (InRange n)
   shapes_in_range file [] (s ∷ shapes) are = absurd are
   shapes_in_range file (spec ∷ specs) [] are = absurd are
   shapes_in_range file (spec ∷ specs) (s ∷ shapes) are =
-      All-cons (IsInRange (length n.files) (length n.types)) s shapes (shape_in_range file spec s are.0) (shapes_in_range file specs shapes are.1)
+      All-cons (InRange n) s shapes (shape_in_range file spec s are.0) (shapes_in_range file specs shapes are.1)
 
-  type_in_range : (d : DeclId) (r : TypeRow) → IsTypeRow program n d r → IsTypeInRange (length n.files) (length n.types) r
+  type_in_range : (d : DeclId) (r : TypeRow) → IsTypeRow program n d r → TypeInRange n r
   type_in_range (Struct file index) (row.Struct name fields) is =
       let s = some_and (struct_of program file index) _ is in
       params_in_range file s.0.fields fields s.2.1
@@ -118,11 +123,11 @@ module _ (program : List Entry) (n : Numbering) where
   type_in_range (Protocol file) r is = absurd is
   type_in_range (Endpoint file managed) r is = absurd is
 
-  pub types_in_range : (ids : List DeclId) (rows : List TypeRow) → AllZip (IsTypeRow program n) ids rows → All (IsTypeInRange (length n.files) (length n.types)) rows
-  types_in_range [] [] are = All-nil (IsTypeInRange (length n.files) (length n.types))
+  pub types_in_range : (ids : List DeclId) (rows : List TypeRow) → AllZip (IsTypeRow program n) ids rows → All (TypeInRange n) rows
+  types_in_range [] [] are = All-nil (TypeInRange n)
   types_in_range [] (r ∷ rows) are = absurd are
   types_in_range (d ∷ ids) [] are = absurd are
-  types_in_range (d ∷ ids) (r ∷ rows) are = All-cons (IsTypeInRange (length n.files) (length n.types)) r rows (type_in_range d r are.0) (types_in_range ids rows are.1)
+  types_in_range (d ∷ ids) (r ∷ rows) are = All-cons (TypeInRange n) r rows (type_in_range d r are.0) (types_in_range ids rows are.1)
 
   -- numbers of names
   pub names_in_range : (file : ℕ) (names : List NameAt) (numbers : List ℕ) → AllZip (λ (at : NameAt) m. IsNumberOfName program n file at.name m) names numbers → All (λ m. m < length n.files) numbers
