@@ -7,3 +7,4 @@ pub mod Unbroken
 pub mod Numbered
 pub mod KindsOfMessages
 pub mod SoundMessages
+pub mod SoundProtocols
