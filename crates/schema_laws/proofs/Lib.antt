@@ -8,3 +8,6 @@ pub mod Numbered
 pub mod KindsOfMessages
 pub mod SoundMessages
 pub mod SoundProtocols
+pub mod DefinedOrNot
+pub mod DefinedTypes
+pub mod Soundness

@@ -4,4 +4,4 @@
 
 mod laws;
 
-pub use laws::one_schema;
+pub use laws::{clean_is_sound, one_schema};
