@@ -1,12 +1,11 @@
 -- Of the types of a schema each is defined or not: marks on those that are, one more as long as a row earns one.
 use Rattle.std.proofs.Common.{◌≡◌, ◌⊎◌, inl, inr, ◌∙◌, ◌<◌, ◌≤◌, ◌+◌, ◌==◌, ℕ, zero, suc, Bool, true, false, true≢false, cond, List, [], ◌∷◌, length, Option, Some, None, slice_get, refl, sym, ap, subst, arith}
-use Rattle.std.specs.List.{Any, Contains, list_any, list_all}
+use Rattle.std.specs.List.{Contains, list_any, list_all}
 use Rattle.std.proofs.lemmas.Bool.{and_from, and_parts, cases_Bool, cases_eq, eq-eqb, ne_eqb}
 use Rattle.std.proofs.lemmas.List.Folds.{Any-from_list_any, list_any-from_Any}
 use Rattle.std.proofs.lemmas.Option.{slice_get_cases}
 use Rattle.ipdl_base.specs.Sound.{IsDefined}
 use Rattle.ipdl_base.specs.Sound.{builtin, using_type, actor, endpoint, array, maybe, unique, struct, union}
-use Rattle.ipdl_base.specs.declared.schema.ParamRow.{ParamRow}
 use Rattle.ipdl_base.specs.declared.schema.Shape.{Shape, Builtin, Using, Actor, Named, Array', Maybe', Unique', Endpoint}
 use Rattle.ipdl_base.specs.declared.schema.TypeRow.{TypeRow}
 use Rattle.ipdl_base.specs.declared.schema.TypeRow.TheVariants.{Struct, Union}
@@ -200,6 +199,6 @@ module _ (types : List TypeRow) where
   defined_undenied t undenied =
       let final = settle (unmarked (length types) no_marks) no_marks none_sound (omega arith) in
       elim (cases_Bool (final.0 t)) [
-      | inl marked ↦ final.1 t marked
-      | inr bare ↦ absurd (undenied (λ d. true≢false (sym (complete types final.0 final.2 d) ∙ bare)))
+        | inl marked ↦ final.1 t marked
+        | inr bare ↦ absurd (undenied (λ d. true≢false (sym (complete types final.0 final.2 d) ∙ bare)))
       ]

@@ -1,17 +1,15 @@
 -- In the schema of a clean program each type is defined.
-use Rattle.std.proofs.Common.{◌≡◌, ◌∙◌, ◌⊎◌, inl, inr, ◌<◌, ℕ, Bool, List, length, Option, Some, slice_get, refl, sym, ap, subst, arith}
+use Rattle.std.proofs.Common.{◌≡◌, ◌∙◌, inl, inr, ◌<◌, ℕ, Bool, List, length, Some, slice_get, sym, subst, arith}
 use Rattle.std.specs.List.{AllZip, Contains}
 use Rattle.std.proofs.lemmas.Option.{slice_get_cases}
 use Rattle.ipdl_base.specs.Sound.{IsDefined}
 use Rattle.ipdl_base.specs.Sound as sound
-use Rattle.ipdl_base.specs.declared.schema.ParamRow.{ParamRow}
-use Rattle.ipdl_base.specs.declared.schema.Schema.{Schema}
 use Rattle.ipdl_base.specs.declared.schema.Shape.{Shape}
 use Rattle.ipdl_base.specs.declared.schema.Shape as shape
 use Rattle.ipdl_base.specs.declared.schema.TypeRow.{TypeRow}
 use Rattle.ipdl_base.specs.declared.schema.TypeRow.TheVariants as row
 use Rattle.ipdl_syntax.specs.declared.program.Entry.{Entry}
-use Rattle.ipdl_syntax.specs.declared.tree.Base.{Base, Named, Unique'}
+use Rattle.ipdl_syntax.specs.declared.tree.Base.{Base}
 use Rattle.ipdl_syntax.specs.declared.tree.Param.{Param}
 use Rattle.ipdl_syntax.specs.declared.tree.StructDecl.{StructDecl}
 use Rattle.ipdl_syntax.specs.declared.tree.Suffix.{Suffix}
@@ -20,11 +18,11 @@ use Rattle.ipdl_syntax.specs.declared.tree.UnionDecl.{UnionDecl}
 use Rattle.name_table.specs.declared.decl.DeclId.{DeclId}
 use Rattle.name_table.specs.declared.decl.DeclId.TheVariants.{Builtin, Using, Struct, Union, Protocol, Endpoint}
 use Rattle.name_table.specs.Decls.{struct_of, union_of}
-use Rattle.type_rules.specs.Defined.{IsCompound, IsDefinedStruct, IsDefinedUnion}
+use Rattle.type_rules.specs.Defined.{IsCompound}
 use Rattle.type_rules.specs.Defined.{IsDefined as IsDefinedBase, loose, atom, struct, union, inside}
 use Rattle.schema_laws.specs.Clean.{IsClean}
 use Rattle.schema_laws.specs.Numbers.{Numbering}
-use Rattle.schema_laws.specs.SchemaOf.{AreParamRows, IsParamRow, IsSchemaOf, IsTypeRow}
+use Rattle.schema_laws.specs.SchemaOf.{AreParamRows, IsTypeRow}
 use Rattle.schema_laws.specs.Shapes.{IsShapeOf, IsShapeOfBase, IsShapeOfDecl, IsSuffixed}
 use Rattle.schema_laws.proofs.DefinedOrNot.{defined_undenied}
 use Rattle.schema_laws.proofs.Lists.{in_place, place_in, row_had, row_of, rows_of}
@@ -39,7 +37,7 @@ module _ (program : List Entry) (n : Numbering) (types : List TypeRow) (rows : A
 
   -- the type of a struct is defined where the shapes of its fields are
   struct_row_defined : (t file index : ℕ) (r : TypeRow) (s : StructDecl) → slice_get types t ≡ Some r → IsTypeRow program n (Struct file index) r → struct_of program file index ≡ Some s
-    → ((field : Param) → Contains s.fields field → (u : Shape) → IsShapeOf program n file field.spec u → IsDefined types u) → IsDefined types (shape.Named t)
+      → ((field : Param) → Contains s.fields field → (u : Shape) → IsShapeOf program n file field.spec u → IsDefined types u) → IsDefined types (shape.Named t)
   struct_row_defined t file index (row.Union name components) s at is there each = absurd is
   struct_row_defined t file index (row.Struct name fields) s at is there each =
       let its = some_and (struct_of program file index) _ is in
@@ -47,19 +45,19 @@ module _ (program : List Entry) (n : Numbering) (types : List TypeRow) (rows : A
       let same : its.0 ≡ s = cc in
       let params : AreParamRows program n file s.fields fields = subst (λ (d : StructDecl). AreParamRows program n file d.fields fields) same its.2.1 in
       sound.struct name fields at (λ field among.
-        let place = place_in fields field among in
-        let had = row_had _ s.fields fields (rows_of _ 0 s.fields fields params) place.0 field place.1 in
-        each had.0 (in_place s.fields place.0 had.0 had.1) field.shape had.2.shape)
+      let place = place_in fields field among in
+      let had = row_had _ s.fields fields (rows_of _ 0 s.fields fields params) place.0 field place.1 in
+      each had.0 (in_place s.fields place.0 had.0 had.1) field.shape had.2.shape)
 
   struct_defined : (t file index : ℕ) (s : StructDecl) → slice_get n.types t ≡ Some (Struct file index) → struct_of program file index ≡ Some s
-    → ((field : Param) → Contains s.fields field → (u : Shape) → IsShapeOf program n file field.spec u → IsDefined types u) → IsDefined types (shape.Named t)
+      → ((field : Param) → Contains s.fields field → (u : Shape) → IsShapeOf program n file field.spec u → IsDefined types u) → IsDefined types (shape.Named t)
   struct_defined t file index s at there each =
       let r = row_of _ n.types types (rows_of _ 0 n.types types rows) t (Struct file index) at in
       struct_row_defined t file index r.0 s r.1 r.2 there each
 
   -- the type of a union is defined where the shapes of one component are
   union_row_defined : (t file index : ℕ) (r : TypeRow) (u : UnionDecl) (component : TypeSpec) → slice_get types t ≡ Some r → IsTypeRow program n (Union file index) r → union_of program file index ≡ Some u → Contains u.components component
-    → ((s : Shape) → IsShapeOf program n file component s → IsDefined types s) → IsDefined types (shape.Named t)
+      → ((s : Shape) → IsShapeOf program n file component s → IsDefined types s) → IsDefined types (shape.Named t)
   union_row_defined t file index (row.Struct name fields) u component at is there among each = absurd is
   union_row_defined t file index (row.Union name components) u component at is there among each =
       let its = some_and (union_of program file index) _ is in
@@ -71,7 +69,7 @@ module _ (program : List Entry) (n : Numbering) (types : List TypeRow) (rows : A
       sound.union name components its_row.0 at (in_place components place.0 its_row.0 its_row.1) (each its_row.0 its_row.2)
 
   union_defined : (t file index : ℕ) (u : UnionDecl) (component : TypeSpec) → slice_get n.types t ≡ Some (Union file index) → union_of program file index ≡ Some u → Contains u.components component
-    → ((s : Shape) → IsShapeOf program n file component s → IsDefined types s) → IsDefined types (shape.Named t)
+      → ((s : Shape) → IsShapeOf program n file component s → IsDefined types s) → IsDefined types (shape.Named t)
   union_defined t file index u component at there among each =
       let r = row_of _ n.types types (rows_of _ 0 n.types types rows) t (Union file index) at in
       union_row_defined t file index r.0 u component r.1 r.2 there among each
@@ -95,12 +93,12 @@ module _ (program : List Entry) (n : Numbering) (types : List TypeRow) (rows : A
       let same : Struct other place ≡ is.0 = is.1.1 (Struct other place) finds.0 in
       let x = struct_shape program n nullable other place s (subst (λ e. IsShapeOfDecl program n nullable e s) (sym same) is.2) in
       subst (IsDefined types) (sym x.1) (struct_defined x.0 other place decl x.2 there (λ field among u its.
-        with_suffixes field.spec.suffixes (IsShapeOfBase program n other field.spec.nullable field.spec.base) (base_defined (fields field among) field.spec.nullable) u its))
+      with_suffixes field.spec.suffixes (IsShapeOfBase program n other field.spec.nullable field.spec.base) (base_defined (fields field among) field.spec.nullable) u its))
   base_defined (union other place decl component finds there among d) nullable s is =
       let same : Union other place ≡ is.0 = is.1.1 (Union other place) finds.0 in
       let x = union_shape program n nullable other place s (subst (λ e. IsShapeOfDecl program n nullable e s) (sym same) is.2) in
       subst (IsDefined types) (sym x.1) (union_defined x.0 other place decl component x.2 there among (λ u its.
-        with_suffixes component.suffixes (IsShapeOfBase program n other component.nullable component.base) (base_defined d component.nullable) u its))
+      with_suffixes component.suffixes (IsShapeOfBase program n other component.nullable component.base) (base_defined d component.nullable) u its))
   base_defined (inside {file} {at} {nullable = inner_nullable} {inner} {after} {place} d) nullable s is =
       let Holds = IsShapeOfBase program n file inner_nullable inner in
       let part = unique_shape (IsSuffixed Holds after) s is in

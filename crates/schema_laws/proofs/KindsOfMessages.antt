@@ -1,5 +1,5 @@
 -- The kinds of messages in a schema are those that their names give.
-use Rattle.std.proofs.Common.{◌≡◌, ◌≢◌, ◌∙◌, ◌⊎◌, inl, inr, ℕ, Bool, true, false, true≢false, ◌&&◌, ◌==◌, IsTrue, List, [], ◌∷◌, Option, Some, None, IsSomeAnd, option_map, codes, slice_get, bytes_eq, nat_le, refl, sym, ap, subst}
+use Rattle.std.proofs.Common.{◌≡◌, ◌≢◌, ◌∙◌, inl, inr, ℕ, Bool, true, false, true≢false, ◌&&◌, List, [], ◌∷◌, Some, None, option_map, codes, slice_get, bytes_eq, nat_le, refl, sym, ap, subst}
 use Rattle.std.specs.Prelude.{if◌then◌else◌}
 use Rattle.std.specs.List.{AllZip, Contains, list_any, list_all}
 use Rattle.std.proofs.lemmas.Bool.{and_from, and_parts, eqb-true, false_from_ne_true, or_from, or_left}
@@ -16,14 +16,13 @@ use Rattle.ipdl_syntax.specs.declared.program.Entry.{Entry}
 use Rattle.ipdl_syntax.specs.declared.tree.MessageDecl.{MessageDecl}
 use Rattle.ipdl_syntax.specs.declared.tree.NameAt.{NameAt}
 use Rattle.ipdl_syntax.specs.declared.tree.ProtocolDecl.{ProtocolDecl}
-use Rattle.name_table.specs.declared.decl.DeclId.TheVariants.{Protocol}
 use Rattle.name_table.specs.declared.kinds.MessageKind.{MessageKind}
 use Rattle.name_table.specs.declared.kinds.MessageKind.TheVariants as kind
 use Rattle.name_table.specs.Decls.{FindsOneProtocol, protocol_of}
 use Rattle.name_table.specs.Finds.{IsNameOf}
 use Rattle.name_table.proofs.FullNames.{colon, short_name-whole}
 use Rattle.name_table.proofs.Seeing.{sees_shown}
-use Rattle.schema_laws.specs.SchemaOf.{AreRows, IsNumberOfName, IsProtocolRow, IsRowKind, IsSchemaOf}
+use Rattle.schema_laws.specs.SchemaOf.{IsNumberOfName, IsRowKind, IsSchemaOf}
 use Rattle.schema_laws.proofs.Lists.{any_at, any_place, holds_at, in_place, place_in, row_had, row_of, rows_of}
 use Rattle.schema_laws.proofs.Numberings.{one_number_each}
 use Rattle.schema_laws.proofs.OneSchema.{one_number_of_name}

@@ -1,5 +1,5 @@
 -- Lists: members by their places, lists in order, and lists that stand side by side.
-use Rattle.std.proofs.Common.{◌≡◌, ◌⊎◌, inl, inr, ◌∙◌, ◌<◌, ◌+◌, ℕ, zero, suc, List, [], ◌∷◌, length, map, get_or, Some, slice_get, zero-add, refl, sym, ap, subst, arith}
+use Rattle.std.proofs.Common.{◌≡◌, inl, inr, ◌∙◌, ◌<◌, ◌+◌, ℕ, zero, suc, List, [], ◌∷◌, length, map, get_or, Some, slice_get, zero-add, refl, sym, ap, subst, arith}
 use Rattle.std.specs.List.{AllByRecursion, AllPairs, AllZip, Any, Contains}
 use Rattle.std.proofs.lemmas.List.Elements.{All-contains, All-from_recursion}
 use Rattle.std.proofs.lemmas.Bool.{cases_order}
@@ -71,8 +71,8 @@ module _ {X : Type 0} (R : X → X → Type 0) (Good : X → Type 0) (apart : (x
   same_ordered (x ∷ xs) (y ∷ ys) p q good to back =
       let first = same_first x xs y ys (good x (in_front x xs)) (good y (back y (in_front y ys))) p q (to x (in_front x xs)) (back y (in_front y ys)) in
       let others = same_ordered xs ys (ordered_rest R x xs p) (ordered_rest R y ys q) (λ z h. good z (in_tail x xs z h))
-        (λ z h. in_rest x xs y ys (good x (in_front x xs)) first p z (to z (in_tail x xs z h)) h)
-        (λ z h. in_rest y ys x xs (good y (back y (in_front y ys))) (sym first) q z (back z (in_tail y ys z h)) h) in
+      (λ z h. in_rest x xs y ys (good x (in_front x xs)) first p z (to z (in_tail x xs z h)) h)
+      (λ z h. in_rest y ys x xs (good y (back y (in_front y ys))) (sym first) q z (back z (in_tail y ys z h)) h) in
       ap (λ z. z ∷ xs) first ∙ ap (λ zs. y ∷ zs) others
 
 -- Lists side by side

@@ -1,6 +1,6 @@
 -- The numbers in a schema: few protocols, and each number stands for one.
-use Rattle.std.proofs.Common.{◌≡◌, ◌⊎◌, inl, inr, ◌∙◌, ◌<◌, ◌≤◌, ◌+◌, ℕ, zero, suc, Bool, true, false, List, [], ◌∷◌, length, get_or, eqb, Option, Some, None, IsSome, slice_get, refl, sym, ap, subst, arith}
-use Rattle.std.specs.List.{All, AllZip, Any, Contains, IsDistinct, list_any}
+use Rattle.std.proofs.Common.{◌≡◌, ◌∙◌, ◌<◌, ◌≤◌, ℕ, Bool, true, List, [], ◌∷◌, length, get_or, eqb, Some, IsSome, slice_get, sym, ap, subst, arith}
+use Rattle.std.specs.List.{All, AllZip, IsDistinct}
 use Rattle.std.proofs.lemmas.Bool.{eqb-true, false_from_ne_true}
 use Rattle.std.proofs.lemmas.List.Folds.{Any-from_list_any}
 use Rattle.std.proofs.lemmas.List.Elements.{All-nil, All-cons}
@@ -24,7 +24,7 @@ use Rattle.name_table.specs.declared.decl.DeclId.{DeclId}
 use Rattle.name_table.specs.declared.decl.DeclId.TheVariants.{Builtin, Using, Struct, Union, Protocol, Endpoint}
 use Rattle.name_table.specs.Decls.{protocol_of, struct_of, union_of}
 use Rattle.schema_laws.specs.Numbers.{Numbering, AreProtocolFiles}
-use Rattle.schema_laws.specs.SchemaOf.{AreParamRows, IsNumberOfName, IsParamRow, IsTypeRow}
+use Rattle.schema_laws.specs.SchemaOf.{AreParamRows, IsNumberOfName, IsTypeRow}
 use Rattle.schema_laws.specs.Shapes.{IsShapeOf, IsShapeOfBase, IsShapeOfDecl, IsSuffixed, IsSuffixedBy}
 use Rattle.schema_laws.proofs.Lists.{any_place, in_place}
 use Rattle.schema_laws.proofs.Numberings.{HasOneNumberEach, some_of}
@@ -35,11 +35,11 @@ use Rattle.schema_laws.proofs.Unbroken.{entry_with, some_and}
 
 files_distinct : (n : Numbering) → HasOneNumberEach n → IsDistinct eqb n.files
 files_distinct n each = IsDistinct-from_apart eqb n.files (λ i j d before within. false_from_ne_true _ (λ same.
-  let a = get_or n.files i d in
-  let one : slice_get n.files i ≡ Some a = slice_get-get_or n.files i d (omega arith) in
-  let other : slice_get n.files j ≡ Some a = slice_get-get_or n.files j d within ∙ ap Some (sym (eqb-true a (get_or n.files j d) same)) in
-  let places : i ≡ j = each.files i j a one other in
-  omega arith))
+    let a = get_or n.files i d in
+    let one : slice_get n.files i ≡ Some a = slice_get-get_or n.files i d (omega arith) in
+    let other : slice_get n.files j ≡ Some a = slice_get-get_or n.files j d within ∙ ap Some (sym (eqb-true a (get_or n.files j d) same)) in
+    let places : i ≡ j = each.files i j a one other in
+    omega arith))
 
 file_below : (program : List Entry) (file : ℕ) → IsSome (protocol_of program file) → file < length program
 file_below program file is =
@@ -50,15 +50,15 @@ file_below program file is =
 pub few_files : (program : List Entry) (n : Numbering) → AreProtocolFiles program n.files → HasOneNumberEach n → length program ≤ 4096 → length n.files ≤ 4096
 few_files program n are each few =
     let most = length-le_from_distinct_below n.files (length program) (files_distinct n each) (λ q h.
-      let found = any_place (λ x. eqb q x ≡ true) n.files (Any-from_list_any (eqb q) n.files h) in
-      file_below program q ((are.exact q).0 (in_place n.files found.0 q (found.2 ∙ ap Some (sym (eqb-true q found.1 found.3)))))) in
+    let found = any_place (λ x. eqb q x ≡ true) n.files (Any-from_list_any (eqb q) n.files h) in
+    file_below program q ((are.exact q).0 (in_place n.files found.0 q (found.2 ∙ ap Some (sym (eqb-true q found.1 found.3)))))) in
     omega arith
 
 -- Suffixes
 
 -- what holds of shapes and passes to arrays and maybes, holds behind suffixes
 pub suffixes_keep : (P : Shape → Type 0) → ((at : _) (s : Shape) → P s → P (shape.Array' at s)) → ((at : _) (s : Shape) → P s → P (shape.Maybe' at s))
-  → (after : List Suffix) (Holds : Shape → Type 0) → ((s : Shape) → Holds s → P s) → (s : Shape) → IsSuffixed Holds after s → P s
+    → (after : List Suffix) (Holds : Shape → Type 0) → ((s : Shape) → Holds s → P s) → (s : Shape) → IsSuffixed Holds after s → P s
 suffixes_keep P array maybe [] Holds keeps s is = keeps s is
 suffixes_keep P array maybe (Array ∷ rest) Holds keeps s is =
     suffixes_keep P array maybe rest (IsSuffixedBy Array Holds) (λ u h. let part = array_shape Holds u h in subst P (sym part.2) (array part.0 part.1 (keeps part.1 part.3))) s is

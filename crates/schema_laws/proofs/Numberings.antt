@@ -1,13 +1,10 @@
 -- A program has one numbering, and in it what has a number has one.
 use Rattle.std.proofs.Common.{◌≡◌, ◌∙◌, ℕ, List, Option, Some, None, IsSome, slice_get, refl, sym, ap, Ordering, Less}
-use Rattle.std.specs.List.{Contains}
 use Rattle.std.specs.Cmp.{IsTotalOrder}
-use Rattle.std.specs.Cmp.Lexicographic.{slice_cmp}
 use Rattle.std.specs.Ordering.{nat_cmp, ordering_reverse, ordering_then}
 use Rattle.std.proofs.lemmas.Cmp.{nat_cmp_total, nat_list_cmp_total, on_total, then_total}
 use Rattle.ipdl_base.specs.declared.finding.Place.{Place}
 use Rattle.ipdl_syntax.specs.declared.program.Entry.{Entry}
-use Rattle.ipdl_syntax.specs.declared.tree.ProtocolDecl.{ProtocolDecl}
 use Rattle.findings.specs.Order.{place_cmp}
 use Rattle.findings.proofs.Order.{place_total}
 use Rattle.name_table.specs.declared.decl.DeclId.{DeclId}
@@ -74,7 +71,7 @@ pub record HasOneNumberEach (n : Numbering) : Type 0 where
 pub one_number_each : (program : List Entry) (n : Numbering) → AreProtocolFiles program n.files → AreTypes program n.types → HasOneNumberEach n
 one_number_each program n files types = record {
   files = one_number_of_file program n.files files;
-  types = one_number_of_type program n.types types
+  types = one_number_of_type program n.types types;
 }
 
 abbrev numbering_of : List ℕ → List DeclId → Numbering

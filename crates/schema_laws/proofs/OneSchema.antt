@@ -22,17 +22,14 @@ use Rattle.ipdl_syntax.specs.declared.tree.NameAt.{NameAt}
 use Rattle.ipdl_syntax.specs.declared.tree.Param.{Param}
 use Rattle.ipdl_syntax.specs.declared.tree.ProtocolDecl.{ProtocolDecl}
 use Rattle.ipdl_syntax.specs.declared.tree.StructDecl.{StructDecl}
-use Rattle.ipdl_syntax.specs.declared.tree.TypeSpec.{TypeSpec}
 use Rattle.ipdl_syntax.specs.declared.tree.UnionDecl.{UnionDecl}
 use Rattle.name_table.specs.declared.decl.DeclId.{DeclId}
 use Rattle.name_table.specs.declared.decl.DeclId.TheVariants.{Builtin, Using, Struct, Union, Protocol, Endpoint}
-use Rattle.name_table.specs.declared.kinds.MessageKind.{MessageKind}
 use Rattle.name_table.specs.declared.kinds.MessageKind.TheVariants as kind
 use Rattle.name_table.specs.Decls.{protocol_of, struct_of, union_of}
-use Rattle.name_table.specs.Kinds.{kind_of_message}
 use Rattle.schema_laws.specs.Laws.{OneSchema, plain_message_row, plain_param_row, plain_protocol_row, plain_schema, plain_type_row}
-use Rattle.schema_laws.specs.Numbers.{Numbering, AreProtocolFiles, AreTypes}
-use Rattle.schema_laws.specs.SchemaOf.{AreParamRows, AreReturnRows, AreRows, IsMessageRow, IsNumberOfName, IsParamRow, IsProtocolRow, IsRowKind, IsSchemaOf, IsTypeRow}
+use Rattle.schema_laws.specs.Numbers.{Numbering}
+use Rattle.schema_laws.specs.SchemaOf.{AreParamRows, AreReturnRows, AreRows, IsMessageRow, IsNumberOfName, IsParamRow, IsProtocolRow, IsRowKind, IsTypeRow}
 use Rattle.schema_laws.specs.Shapes.{IsShapeOf}
 use Rattle.schema_laws.proofs.Lists.{map-itself, rows_of, same_rows}
 use Rattle.schema_laws.proofs.Numberings.{HasOneNumberEach, one_number_each, one_numbering}
@@ -118,7 +115,7 @@ module _ (program : List Entry) (n : Numbering) (each : HasOneNumberEach n) wher
   one_kind file p m Delete Delete x y = refl
 
   one_message : (types others : List TypeRow) → map plain_type_row types ≡ map plain_type_row others → (number file : ℕ) (p : ProtocolDecl) (index : ℕ) (m : MessageDecl) (a b : MessageRow)
-    → IsMessageRow program n types number file p index m a → IsMessageRow program n others number file p index m b → plain_message_row a ≡ plain_message_row b
+      → IsMessageRow program n types number file p index m a → IsMessageRow program n others number file p index m b → plain_message_row a ≡ plain_message_row b
   one_message types others same number file p index m a b x y =
       let params = one_params file m.params a.params b.params x.params y.params in
       let returns = one_returns file m.returns a.returns b.returns x.returns y.returns in
@@ -133,19 +130,19 @@ module _ (program : List Entry) (n : Numbering) (each : HasOneNumberEach n) wher
       sym (map-itself us) ∙ same ∙ map-itself vs
 
   one_protocol : (types others : List TypeRow) → map plain_type_row types ≡ map plain_type_row others → (number file : ℕ) (p : ProtocolDecl) (a b : ProtocolRow)
-    → IsProtocolRow program n types number file p a → IsProtocolRow program n others number file p b → plain_protocol_row a ≡ plain_protocol_row b
+      → IsProtocolRow program n types number file p a → IsProtocolRow program n others number file p b → plain_protocol_row a ≡ plain_protocol_row b
   one_protocol types others same number file p a b x y =
       same_protocol (plain_protocol_row a) (plain_protocol_row b) (x.name ∙ sym y.name) (x.semantics ∙ sym y.semantics) (x.level ∙ sym y.level)
       (one_names file p.managers a.managers b.managers x.managers y.managers) (one_names file p.manages a.manages b.manages x.manages y.manages)
       (same_rows plain_message_row (IsMessageRow program n types number file p) (IsMessageRow program n others number file p) (one_message types others same number file p) 0 p.messages a.messages b.messages x.messages y.messages)
 
   one_of_file : (types others : List TypeRow) → map plain_type_row types ≡ map plain_type_row others → (number file : ℕ) (p : Option ProtocolDecl) (a b : ProtocolRow)
-    → IsSomeAnd p (λ d. IsProtocolRow program n types number file d a) → IsSomeAnd p (λ d. IsProtocolRow program n others number file d b) → plain_protocol_row a ≡ plain_protocol_row b
+      → IsSomeAnd p (λ d. IsProtocolRow program n types number file d a) → IsSomeAnd p (λ d. IsProtocolRow program n others number file d b) → plain_protocol_row a ≡ plain_protocol_row b
   one_of_file types others same number file None a b x y = absurd x
   one_of_file types others same number file (Some p) a b x y = one_protocol types others same number file p a b x y
 
   one_struct : (file : ℕ) (s : Option StructDecl) (name other : List ℕ) (us vs : List ParamRow) → IsSomeAnd s (λ d. (name ≡ d.full) × AreParamRows program n file d.fields us) → IsSomeAnd s (λ d. (other ≡ d.full) × AreParamRows program n file d.fields vs)
-    → plain_type_row (row.Struct name us) ≡ plain_type_row (row.Struct other vs)
+      → plain_type_row (row.Struct name us) ≡ plain_type_row (row.Struct other vs)
   one_struct file None name other us vs x y = absurd x
   one_struct file (Some s) name other us vs x y =
       let names : name ≡ other = x.0 ∙ sym y.0 in
@@ -153,7 +150,7 @@ module _ (program : List Entry) (n : Numbering) (each : HasOneNumberEach n) wher
       cc
 
   one_union : (file : ℕ) (u : Option UnionDecl) (name other : List ℕ) (us vs : List Shape) → IsSomeAnd u (λ d. (name ≡ d.full) × AllZip (IsShapeOf program n file) d.components us) → IsSomeAnd u (λ d. (other ≡ d.full) × AllZip (IsShapeOf program n file) d.components vs)
-    → plain_type_row (row.Union name us) ≡ plain_type_row (row.Union other vs)
+      → plain_type_row (row.Union name us) ≡ plain_type_row (row.Union other vs)
   one_union file None name other us vs x y = absurd x
   one_union file (Some u) name other us vs x y =
       let names : name ≡ other = x.0 ∙ sym y.0 in

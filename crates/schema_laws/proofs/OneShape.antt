@@ -1,5 +1,5 @@
 -- A type of a program has one shape in its schema, up to where boxes lie.
-use Rattle.std.proofs.Common.{◌≡◌, ◌∙◌, ℕ, Bool, List, [], ◌∷◌, Option, Some, refl, sym, ap, subst}
+use Rattle.std.proofs.Common.{◌≡◌, ◌∙◌, ℕ, Bool, List, [], ◌∷◌, Some, refl, sym, ap, subst}
 use Rattle.ipdl_base.specs.Plain.{plain_shape, one_box}
 use Rattle.ipdl_base.specs.declared.builtin.Builtin.{Builtin as BuiltinType}
 use Rattle.ipdl_base.specs.declared.schema.Shape.{Shape}

@@ -1,12 +1,10 @@
 -- The messages of a clean program's schema are as the rules demand.
-use Rattle.std.proofs.Common.{◌≡◌, ◌≢◌, ◌∙◌, ◌⊎◌, inl, inr, ◌+◌, ◌*◌, ℕ, Bool, true, false, IsTrue, List, [], ◌∷◌, length, Option, Some, None, IsSome, IfSome, slice_get, refl, sym, ap, subst}
+use Rattle.std.proofs.Common.{◌≡◌, ◌≢◌, ◌∙◌, inl, inr, ℕ, IsTrue, List, length, Option, Some, None, IsSome, IfSome, slice_get, refl, sym, subst}
 use Rattle.std.specs.List.{All}
 use Rattle.ipdl_base.specs.Sound.{IsFieldInRange, IsSoundMessage, IsPlainAsync as IsPlainRow, IsKindOf as IsSoundKind}
 use Rattle.ipdl_base.specs.Words.{IsWord}
-use Rattle.ipdl_base.specs.declared.kinds.Compress.TheVariants as compress
 use Rattle.ipdl_base.specs.declared.kinds.Direction.{Direction}
 use Rattle.ipdl_base.specs.declared.kinds.Direction.TheVariants as direction
-use Rattle.ipdl_base.specs.declared.kinds.Level.TheVariants as level
 use Rattle.ipdl_base.specs.declared.kinds.Semantics.{Semantics}
 use Rattle.ipdl_base.specs.declared.kinds.Semantics.TheVariants.{Async, Sync}
 use Rattle.ipdl_base.specs.declared.schema.Kind.{Kind}
@@ -20,7 +18,7 @@ use Rattle.ipdl_syntax.specs.declared.program.Entry.{Entry}
 use Rattle.ipdl_syntax.specs.declared.tree.MessageDecl.{MessageDecl}
 use Rattle.ipdl_syntax.specs.declared.tree.Param.{Param}
 use Rattle.ipdl_syntax.specs.declared.tree.ProtocolDecl.{ProtocolDecl}
-use Rattle.message_rules.specs.Messages.{IsPlainAsync, IsPlainSyncToChild, IsAsyncInsideSync, IsInsideCpowToChild}
+use Rattle.message_rules.specs.Messages.{IsPlainAsync}
 use Rattle.name_table.specs.declared.kinds.MessageKind.{MessageKind}
 use Rattle.name_table.specs.declared.kinds.MessageKind.TheVariants as kind
 use Rattle.name_table.specs.Decls.{protocol_of}
@@ -117,5 +115,5 @@ module _ (program : List Entry) (schema : Schema) (clean : IsClean program) (is 
             compressed = λ compressed. plain_row (λ other. not_bad_compress program clean file p there index m at (record { compressed = λ plain. compressed (told.compress ∙ plain); other = other }));
             lazy = λ lazy. plain_row (λ other. not_bad_lazy program clean file p there index m at (record { lazy = subst IsTrue told.lazy lazy; other = other }));
             delete = delete_row;
-            constructor = constructor_row
+            constructor = constructor_row;
           }

@@ -1,7 +1,7 @@
 -- The schema of a program that breaks no rule is sound.
 use Rattle.std.proofs.Common.{◌≡◌, List, length, sym, subst}
 use Rattle.std.specs.List.{All}
-use Rattle.ipdl_base.specs.Sound.{IsSound, IsTypeInRange}
+use Rattle.ipdl_base.specs.Sound.{IsTypeInRange}
 use Rattle.ipdl_base.specs.declared.schema.Schema.{Schema}
 use Rattle.ipdl_syntax.specs.declared.program.Entry.{Entry}
 use Rattle.schema_laws.specs.Laws.{CleanIsSound}
@@ -23,5 +23,5 @@ clean_is_sound program schema clean is =
       protocols = sound_protocol program schema clean is types;
       types = subst (λ k. All (IsTypeInRange k (length schema.types)) schema.types) (sym protocols) (subst (λ k. All (IsTypeInRange (length is.numbering.files) k) schema.types) (sym types) (types_in_range program is.numbering is.numbering.types schema.types is.types));
       defined = types_defined program is.numbering schema.types is.types clean;
-      distinct = protocols_distinct program schema clean is
+      distinct = protocols_distinct program schema clean is;
     }

@@ -1,6 +1,6 @@
 -- What a program that breaks no rule has, place by place.
-use Rattle.std.proofs.Common.{◌≡◌, ◌≢◌, ◌⊎◌, inl, inr, ◌∙◌, ◌<◌, ◌≤◌, ℕ, zero, suc, List, [], ◌∷◌, map, length, take, Option, Some, None, IsSomeAnd, IsSome, IsTrue, option_map, option_and_then, slice_get, refl, sym, ap, subst, arith}
-use Rattle.std.specs.List.{Any, AllPairs, Contains}
+use Rattle.std.proofs.Common.{◌≡◌, ◌≢◌, inl, inr, ◌∙◌, ◌<◌, ◌≤◌, ℕ, zero, suc, List, [], ◌∷◌, map, length, take, Option, Some, None, IsSomeAnd, option_map, option_and_then, slice_get, refl, sym, ap, subst, arith}
+use Rattle.std.specs.List.{Contains}
 use Rattle.std.proofs.lemmas.Option.{slice_get-map, slice_get_cases}
 use Rattle.ipdl_base.specs.declared.finding.Place.{Place}
 use Rattle.ipdl_base.specs.declared.finding.Finding.{Finding}

@@ -1,5 +1,5 @@
 -- Whether a message mentions a type that is not carried does not depend on where boxes lie.
-use Rattle.std.proofs.Common.{◌≡◌, ◌∙◌, ◌⊎◌, inl, inr, ℕ, Bool, List, map, length, get_or, Option, Some, None, IsSomeAnd, option_map, slice_get, refl, sym, ap, subst}
+use Rattle.std.proofs.Common.{◌≡◌, ◌∙◌, inl, inr, ℕ, Bool, List, map, Option, Some, None, IsSomeAnd, option_map, refl, sym, ap, subst}
 use Rattle.std.specs.List.{Any, Contains}
 use Rattle.ipdl_base.specs.Plain.{plain_shape, one_box}
 use Rattle.ipdl_base.specs.Sound.{MentionsUncarried, MessageMentionsUncarried}
@@ -7,7 +7,7 @@ use Rattle.ipdl_base.specs.Sound.{builtin, endpoint, in_array, in_maybe, in_uniq
 use Rattle.ipdl_base.specs.declared.builtin.Builtin.{Builtin as BuiltinType}
 use Rattle.ipdl_base.specs.declared.schema.MessageRow.{MessageRow}
 use Rattle.ipdl_base.specs.declared.schema.ParamRow.{ParamRow}
-use Rattle.ipdl_base.specs.declared.schema.Shape.{Shape, Builtin, Using, Actor, Named, Array', Maybe', Unique', Endpoint}
+use Rattle.ipdl_base.specs.declared.schema.Shape.{Shape, Builtin, Named, Array', Maybe', Unique', Endpoint}
 use Rattle.ipdl_base.specs.declared.schema.TypeRow.{TypeRow}
 use Rattle.ipdl_base.specs.declared.schema.TypeRow.TheVariants.{Struct, Union}
 use Rattle.schema_laws.specs.Laws.{plain_param_row, plain_type_row}
@@ -76,23 +76,23 @@ module _ (others : List TypeRow) where
       let its = like_struct name fields row.0 row.2 in
       let there = alike_in plain_param_row fields its.0 its.2 field among in
       subst (MentionsUncarried others) (sym (like_named t u like))
-        (in_struct name its.0 there.0 (row.1 ∙ ap Some its.1) there.1 (still_mentions types same m there.0.shape (ap (λ (r : ParamRow). r.shape) there.2)))
+      (in_struct name its.0 there.0 (row.1 ∙ ap Some its.1) there.1 (still_mentions types same m there.0.shape (ap (λ (r : ParamRow). r.shape) there.2)))
   still_mentions types same (in_union {t} name components component at among m) u like =
       let row = alike_at plain_type_row types others same t (Union name components) at in
       let its = like_union name components row.0 row.2 in
       let there = alike_in plain_shape components its.0 its.2 component among in
       subst (MentionsUncarried others) (sym (like_named t u like))
-        (in_union name its.0 there.0 (row.1 ∙ ap Some its.1) there.1 (still_mentions types same m there.0 there.2))
+      (in_union name its.0 there.0 (row.1 ∙ ap Some its.1) there.1 (still_mentions types same m there.0 there.2))
 
   params_mention : (types : List TypeRow) → map plain_type_row types ≡ map plain_type_row others → (us vs : List ParamRow) → map plain_param_row us ≡ map plain_param_row vs
-    → Any (λ p. MentionsUncarried types p.shape) us → Any (λ p. MentionsUncarried others p.shape) vs
+      → Any (λ p. MentionsUncarried types p.shape) us → Any (λ p. MentionsUncarried others p.shape) vs
   params_mention types same us vs alike some =
       let place = any_place (λ (p : ParamRow). MentionsUncarried types p.shape) us some in
       let there = alike_at plain_param_row us vs alike place.0 place.1 place.2 in
       any_at (λ (p : ParamRow). MentionsUncarried others p.shape) vs place.0 there.0 there.1 (still_mentions types same place.3 there.0.shape (ap (λ (r : ParamRow). r.shape) there.2))
 
   returns_mention : (types : List TypeRow) → map plain_type_row types ≡ map plain_type_row others → (us vs : Option (List ParamRow)) → option_map (map plain_param_row) us ≡ option_map (map plain_param_row) vs
-    → IsSomeAnd us (λ ps. Any (λ p. MentionsUncarried types p.shape) ps) → IsSomeAnd vs (λ ps. Any (λ p. MentionsUncarried others p.shape) ps)
+      → IsSomeAnd us (λ ps. Any (λ p. MentionsUncarried types p.shape) ps) → IsSomeAnd vs (λ ps. Any (λ p. MentionsUncarried others p.shape) ps)
   returns_mention types same None vs alike m = absurd m
   returns_mention types same (Some us) None alike m = cc
   returns_mention types same (Some us) (Some vs) alike m =
@@ -100,6 +100,6 @@ module _ (others : List TypeRow) where
       params_mention types same us vs rows m
 
   pub message_mentions : (types : List TypeRow) → map plain_type_row types ≡ map plain_type_row others → (a b : MessageRow) → map plain_param_row a.params ≡ map plain_param_row b.params
-    → option_map (map plain_param_row) a.returns ≡ option_map (map plain_param_row) b.returns → MessageMentionsUncarried types a → MessageMentionsUncarried others b
+      → option_map (map plain_param_row) a.returns ≡ option_map (map plain_param_row) b.returns → MessageMentionsUncarried types a → MessageMentionsUncarried others b
   message_mentions types same a b params returns (inl m) = inl (params_mention types same a.params b.params params m)
   message_mentions types same a b params returns (inr m) = inr (returns_mention types same a.returns b.returns returns m)
