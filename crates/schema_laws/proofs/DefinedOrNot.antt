@@ -1,15 +1,17 @@
 -- Of the types of a schema each is defined or not: marks on those that are, one more as long as a row earns one.
-use Rattle.std.proofs.Common.{◌≡◌, ◌⊎◌, inl, inr, ◌∙◌, ◌<◌, ◌≤◌, ◌+◌, ◌==◌, ℕ, zero, suc, Bool, true, false, true≢false, cond, List, [], ◌∷◌, length, Option, Some, None, slice_get, refl, sym, ap, subst, arith}
+use Rattle.std.proofs.Common.{get_or, ◌≡◌, ◌⊎◌, inl, inr, ◌∙◌, ◌<◌, ◌≤◌, ◌+◌, ◌==◌, ℕ, zero, suc, Bool, true, false, true≢false, cond, List, [], ◌∷◌, length, Option, Some, None, slice_get, refl, sym, ap, subst, arith}
 use Rattle.std.specs.List.{Contains, list_any, list_all}
 use Rattle.std.proofs.lemmas.Bool.{and_from, and_parts, cases_Bool, cases_eq, eq-eqb, ne_eqb}
+use Rattle.std.proofs.lemmas.List.Elements.{All-contains, Contains-get_or}
+use Rattle.std.proofs.lemmas.List.Sums.{AllPass-from_list_all, list_all-from_AllPass}
 use Rattle.std.proofs.lemmas.List.Folds.{Any-from_list_any, list_any-from_Any}
 use Rattle.std.proofs.lemmas.Option.{slice_get_cases}
 use Rattle.ipdl_base.specs.Sound.{IsDefined}
 use Rattle.ipdl_base.specs.Sound.{builtin, using_type, actor, endpoint, array, maybe, unique, struct, union}
+use Rattle.ipdl_base.specs.declared.schema.ParamRow.{ParamRow}
 use Rattle.ipdl_base.specs.declared.schema.Shape.{Shape, Builtin, Using, Actor, Named, Array', Maybe', Unique', Endpoint}
 use Rattle.ipdl_base.specs.declared.schema.TypeRow.{TypeRow}
 use Rattle.ipdl_base.specs.declared.schema.TypeRow.TheVariants.{Struct, Union}
-use Rattle.name_table.proofs.Order.{in_front, in_tail}
 use Rattle.schema_laws.proofs.Lists.{any_at, any_place, in_place, place_in}
 
 -- marks on the numbers of types
@@ -28,17 +30,6 @@ abbrev row_earns : Marks → Option TypeRow → Bool
 row_earns marks None = false
 row_earns marks (Some (Struct name fields)) = list_all (λ f. shape_earns marks f.shape) fields
 row_earns marks (Some (Union name components)) = list_any (shape_earns marks) components
-
-all_from : {X : Type 0} (test : X → Bool) (xs : List X) → ((x : X) → Contains xs x → test x ≡ true) → list_all test xs ≡ true
-all_from test [] each = refl
-all_from test (x ∷ xs) each = and_from (test x) (list_all test xs) (each x (in_front x xs)) (all_from test xs (λ z among. each z (in_tail x xs z among)))
-
-all_at : {X : Type 0} (test : X → Bool) (xs : List X) (k : ℕ) (x : X) → list_all test xs ≡ true → slice_get xs k ≡ Some x → test x ≡ true
-all_at test [] k x all at = cc
-all_at test (y ∷ ys) zero x all at =
-    let same : y ≡ x = cc in
-    sym (ap test same) ∙ (and_parts (test y) (list_all test ys) all).0
-all_at test (y ∷ ys) (suc k) x all at = all_at test ys k x (and_parts (test y) (list_all test ys) all).1 at
 
 module _ (types : List TypeRow) where
   -- what is marked is defined
@@ -62,7 +53,8 @@ module _ (types : List TypeRow) where
   row_sound : (marks : Marks) → AreSound marks → (t : ℕ) (row : Option TypeRow) → slice_get types t ≡ row → row_earns marks row ≡ true → IsDefined types (Named t)
   row_sound marks sound t None at is = cc
   row_sound marks sound t (Some (Struct name fields)) at is =
-      struct name fields at (λ field among. let place = place_in fields field among in shape_sound marks sound field.shape (all_at (λ f. shape_earns marks f.shape) fields place.0 field is place.1))
+      struct name fields at (λ field among. shape_sound marks sound field.shape
+      (All-contains (λ (f : ParamRow). shape_earns marks f.shape ≡ true) fields field (AllPass-from_list_all (λ (f : ParamRow). shape_earns marks f.shape) fields is) among))
   row_sound marks sound t (Some (Union name components)) at is =
       let found = any_place _ components (Any-from_list_any (shape_earns marks) components is) in
       union name components found.1 at (in_place components found.0 found.1 found.2) (shape_sound marks sound found.1 found.3)
@@ -77,7 +69,7 @@ module _ (types : List TypeRow) where
   complete marks closed (maybe d) = complete marks closed d
   complete marks closed (unique d) = complete marks closed d
   complete marks closed (struct {t} name fields at each) =
-      closed t (ap (row_earns marks) at ∙ all_from (λ f. shape_earns marks f.shape) fields (λ field among. complete marks closed (each field among)))
+      closed t (ap (row_earns marks) at ∙ list_all-from_AllPass (λ (f : ParamRow). shape_earns marks f.shape) fields (λ k d within. complete marks closed (each (get_or fields k d) (Contains-get_or fields k d within))))
   complete marks closed (union {t} name components component at among d) =
       let place = place_in components component among in
       closed t (ap (row_earns marks) at ∙ list_any-from_Any (shape_earns marks) components (any_at _ components place.0 component place.1 (complete marks closed d)))

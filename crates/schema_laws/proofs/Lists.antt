@@ -131,10 +131,6 @@ same_rows look R S one index (x ∷ xs) (u ∷ us) (v ∷ vs) p q =
     let others = same_rows look R S one (index + 1) xs us vs p.1 q.1 in
     cc
 
-pub map-itself : {X : Type 0} (xs : List X) → map (λ x. x) xs ≡ xs
-map-itself [] = refl
-map-itself (x ∷ xs) = ap (λ zs. x ∷ zs) (map-itself xs)
-
 -- of lists that look alike, what stands at a place has one at that place that looks like it
 pub alike_at : {Y Z : Type 0} (look : Y → Z) (us vs : List Y) → map look us ≡ map look vs → (k : ℕ) (u : Y) → slice_get us k ≡ Some u → (v : Y) × (slice_get vs k ≡ Some v) × (look v ≡ look u)
 alike_at look [] vs same k u at = cc

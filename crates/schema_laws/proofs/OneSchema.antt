@@ -1,5 +1,5 @@
 -- A program has one schema, up to where boxes lie.
-use Rattle.std.proofs.Common.{◌≡◌, ◌↔◌, ◌∙◌, ℕ, Bool, true, false, true≢false, IsTrue, List, map, Option, Some, None, IsSomeAnd, option_map, refl, sym, ap, subst}
+use Rattle.std.proofs.Common.{map-id, ◌≡◌, ◌↔◌, ◌∙◌, ℕ, Bool, true, false, true≢false, IsTrue, List, map, Option, Some, None, IsSomeAnd, option_map, refl, sym, ap, subst}
 use Rattle.std.specs.List.{AllZip}
 use Rattle.ipdl_base.specs.Plain.{plain_shape}
 use Rattle.ipdl_base.specs.Sound.{MessageMentionsUncarried}
@@ -31,7 +31,7 @@ use Rattle.schema_laws.specs.Laws.{OneSchema, plain_message_row, plain_param_row
 use Rattle.schema_laws.specs.Numbers.{Numbering}
 use Rattle.schema_laws.specs.SchemaOf.{AreParamRows, AreReturnRows, AreRows, IsMessageRow, IsNumberOfName, IsParamRow, IsProtocolRow, IsRowKind, IsTypeRow}
 use Rattle.schema_laws.specs.Shapes.{IsShapeOf}
-use Rattle.schema_laws.proofs.Lists.{map-itself, rows_of, same_rows}
+use Rattle.schema_laws.proofs.Lists.{rows_of, same_rows}
 use Rattle.schema_laws.proofs.Numberings.{HasOneNumberEach, one_number_each, one_numbering}
 use Rattle.schema_laws.proofs.OneShape.{one_shape}
 use Rattle.schema_laws.proofs.Uncarried.{message_mentions}
@@ -127,7 +127,7 @@ module _ (program : List Entry) (n : Numbering) (each : HasOneNumberEach n) wher
   one_names file names us vs x y =
       let Is = λ (at : NameAt) (m : ℕ). IsNumberOfName program n file at.name m in
       let same = same_rows (λ (m : ℕ). m) (λ k. Is) (λ k. Is) (λ k at a b. one_number_of_name file at.name a b) 0 names us vs (rows_of Is 0 names us x) (rows_of Is 0 names vs y) in
-      sym (map-itself us) ∙ same ∙ map-itself vs
+      sym (map-id us) ∙ same ∙ map-id vs
 
   one_protocol : (types others : List TypeRow) → map plain_type_row types ≡ map plain_type_row others → (number file : ℕ) (p : ProtocolDecl) (a b : ProtocolRow)
       → IsProtocolRow program n types number file p a → IsProtocolRow program n others number file p b → plain_protocol_row a ≡ plain_protocol_row b
