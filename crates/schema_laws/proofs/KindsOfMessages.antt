@@ -3,6 +3,7 @@ use Rattle.std.proofs.Common.{◌≡◌, ◌≢◌, ◌∙◌, inl, inr, ℕ, Bo
 use Rattle.std.specs.Prelude.{if◌then◌else◌}
 use Rattle.std.specs.List.{AllZip, Contains, list_any, list_all}
 use Rattle.std.proofs.lemmas.Bool.{and_from, and_parts, eqb-true, false_from_ne_true, or_from, or_left}
+use Rattle.std.proofs.lemmas.Bool.Decides.{not_from_Decides}
 use Rattle.std.proofs.lemmas.List.Folds.{Any-from_list_any, list_any-from_Any}
 use Rattle.std.proofs.lemmas.Slice.Eq.{bytes_eq-Decides}
 use Rattle.ipdl_base.specs.Sound.{IsKindOf as IsSoundKind, IsNamed}
@@ -85,9 +86,6 @@ normal_tests true managed is = cc
 normal_tests false true is = cc
 normal_tests false false is = (refl, refl)
 
-not_delete : (text : List ℕ) → bytes_eq text (codes "__delete__") ≡ false → text ≢ codes "__delete__"
-not_delete text other same = true≢false (sym ((bytes_eq-Decides text (codes "__delete__")).1 same) ∙ other)
-
 -- Kinds
 
 module _ (program : List Entry) (schema : Schema) (is : IsSchemaOf program schema) where
@@ -128,8 +126,8 @@ module _ (program : List Entry) (schema : Schema) (is : IsSchemaOf program schem
     pub sound_kind : (k : Kind) → IsRowKind program is.numbering file p m k → IsSoundKind schema.protocols row m.name k
     sound_kind Normal told =
         let tests = normal_tests _ _ told in
-        (not_delete m.name tests.0, none_named tests.1)
+        (not_from_Decides _ (bytes_eq-Decides m.name (codes "__delete__")) tests.0, none_named tests.1)
     sound_kind (Constructor c) told =
         let tests = constructor_tests _ _ told.0 in
-        (not_delete m.name tests.0, managed_number tests.1 c told.1, word_is_named file m.name c word told.1)
+        (not_from_Decides _ (bytes_eq-Decides m.name (codes "__delete__")) tests.0, managed_number tests.1 c told.1, word_is_named file m.name c word told.1)
     sound_kind Delete told = (bytes_eq-Decides m.name (codes "__delete__")).0 (delete_tests _ _ told)

@@ -11,3 +11,5 @@ pub mod SoundProtocols
 pub mod DefinedOrNot
 pub mod DefinedTypes
 pub mod Soundness
+pub mod Worked
+pub mod WorkedClean
