@@ -1,6 +1,6 @@
 -- The schema of a worked program: a protocol that manages another, and a header with a struct. Neighbours of it that differ in one part are none.
-use Rattle.std.proofs.Common.{◌≡◌, ◌↔◌, ◌∙◌, ◌⊎◌, inl, inr, ◌<◌, ℕ, zero, suc, Bool, true, false, leb, IsTrue, List, [], ◌∷◌, map, length, Option, Some, None, IsSome, slice_get, bytes_eq, codes, ◌==◌, refl, sym, ap, subst, arith, Ordering, Less}
-use Rattle.std.specs.List.{AllPairs, AllZip, Any, Contains, list_any}
+use Rattle.std.proofs.Common.{◌≡◌, ◌∙◌, ◌⊎◌, inl, inr, ℕ, zero, suc, true, false, leb, List, [], ◌∷◌, map, length, Option, Some, None, IsSome, slice_get, bytes_eq, codes, ◌==◌, refl, sym, ap, subst, arith, Less}
+use Rattle.std.specs.List.{AllPairs, Any, Contains, list_any}
 use Rattle.std.specs.Cmp.Lexicographic.{slice_cmp}
 use Rattle.std.specs.Ordering.{nat_cmp}
 use Rattle.std.proofs.lemmas.Bool.{true≢false}
@@ -43,15 +43,14 @@ use Rattle.name_table.specs.declared.decl.DeclId.{DeclId}
 use Rattle.name_table.specs.declared.decl.DeclId.TheVariants.{Builtin, Using, Struct, Union, Protocol, Endpoint}
 use Rattle.name_table.specs.Declares.{full_name_of}
 use Rattle.name_table.specs.Decls.{FindsOne, FindsOneProtocol, protocol_of}
-use Rattle.name_table.specs.Finds.{Finds, FindsAsProtocol, IsNameOf, IsNameOfBuiltin, SeesNamed, builtin_full_name}
+use Rattle.name_table.specs.Finds.{Finds, FindsAsProtocol, IsNameOf, IsNameOfBuiltin, builtin_full_name}
 use Rattle.name_table.specs.Visible.{Sees, own, protocol, header}
 use Rattle.name_table.proofs.BuiltinNames.{one_builtin}
 use Rattle.name_table.proofs.FullNames.{contains_any}
 use Rattle.name_table.proofs.Order.{in_front, in_tail, in_cons, in_none}
 use Rattle.name_table.proofs.Seeing.{sees_shown}
-use Rattle.schema_laws.specs.Laws.{plain_schema}
-use Rattle.schema_laws.specs.Numbers.{Numbering, IsNamedBefore, IsDeclaredBefore, AreProtocolFiles, AreTypes, place_of}
-use Rattle.schema_laws.specs.SchemaOf.{IsMessageRow, IsNumberOfName, IsProtocolRow, IsSchemaOf}
+use Rattle.schema_laws.specs.Numbers.{Numbering, IsNamedBefore, place_of}
+use Rattle.schema_laws.specs.SchemaOf.{IsProtocolRow, IsSchemaOf}
 use Rattle.schema_laws.proofs.Lists.{any_place}
 use Rattle.schema_laws.proofs.OneSchema.{one_schema}
 
@@ -208,7 +207,7 @@ no_open xs none among = true≢false (sym (contains_any 60 xs among) ∙ none)
 
 -- what is seen under a name is one of the three
 find_cases : (file : ℕ) (text : List ℕ) (d : DeclId) (full : List ℕ) → Sees program file d full → IsNameOf text None full
-  → ((d ≡ Protocol 0) × IsNameOf text None (codes "PB")) ⊎ (((d ≡ Protocol 1) × IsNameOf text None (codes "N::PA")) ⊎ ((d ≡ Struct 2 0) × IsNameOf text None (codes "N::S")))
+    → ((d ≡ Protocol 0) × IsNameOf text None (codes "PB")) ⊎ (((d ≡ Protocol 1) × IsNameOf text None (codes "N::PA")) ⊎ ((d ≡ Struct 2 0) × IsNameOf text None (codes "N::S")))
 find_cases file text d full seen named = elim (declared d full (sees_shown program seen).1) [
   | inl first ↦ inl (first.0, subst (IsNameOf text None) first.1 named)
   | inr (inl second) ↦ inr (inl (second.0, subst (IsNameOf text None) second.1 named))
@@ -296,8 +295,8 @@ struct_carried : ¬ MentionsUncarried types (shape.Named 0)
 struct_carried (mentions.in_struct name fields field at among m) =
     let same : fields ≡ the_field ∷ [] = cc in
     elim (in_cons the_field [] field (subst (λ (fs : List ParamRow). Contains fs field) same among)) [
-    | inl is ↦ no_builtin builtin.Int32 refl (subst (λ (f : ParamRow). MentionsUncarried types f.shape) is m)
-    | inr none ↦ in_none field none
+      | inl is ↦ no_builtin builtin.Int32 refl (subst (λ (f : ParamRow). MentionsUncarried types f.shape) is m)
+      | inr none ↦ in_none field none
     ]
 struct_carried (mentions.in_union name components component at among m) = cc
 
@@ -333,10 +332,22 @@ managed_is = record {
   level = refl;
   managers = ((1, finds_manager, refl), tt);
   manages = tt;
-  messages = (record {
-    number_is = refl; name = refl; direction = refl; semantics = refl; level = refl; compress = refl; kind_is = refl;
-    params = tt; returns = tt; carried = (λ is. bare_carried, λ none. refl); lazy = refl
-  }, tt)
+  messages = (
+    record {
+      number_is = refl;
+      name = refl;
+      direction = refl;
+      semantics = refl;
+      level = refl;
+      compress = refl;
+      kind_is = refl;
+      params = tt;
+      returns = tt;
+      carried = (λ is. bare_carried, λ none. refl);
+      lazy = refl;
+    },
+    tt,
+  );
 }
 
 manager_is : IsProtocolRow program numbering types 0 1 manager (manager_row 2)
@@ -346,13 +357,37 @@ manager_is = record {
   level = refl;
   managers = tt;
   manages = ((0, finds_managed, refl), tt);
-  messages = (record {
-    number_is = refl; name = refl; direction = refl; semantics = refl; level = refl; compress = refl; kind_is = (refl, (0, finds_managed, refl));
-    params = tt; returns = tt; carried = (λ is. bare_carried, λ none. refl); lazy = refl
-  }, (record {
-    number_is = refl; name = refl; direction = refl; semantics = refl; level = refl; compress = refl; kind_is = refl;
-    params = (record { name = refl; shape = (Struct 2 0, finds_struct, refl) }, tt); returns = tt; carried = (λ is. list_carried, λ none. refl); lazy = refl
-  }, tt))
+  messages = (
+    record {
+      number_is = refl;
+      name = refl;
+      direction = refl;
+      semantics = refl;
+      level = refl;
+      compress = refl;
+      kind_is = (refl, (0, finds_managed, refl));
+      params = tt;
+      returns = tt;
+      carried = (λ is. bare_carried, λ none. refl);
+      lazy = refl;
+    },
+    (
+      record {
+        number_is = refl;
+        name = refl;
+        direction = refl;
+        semantics = refl;
+        level = refl;
+        compress = refl;
+        kind_is = refl;
+        params = (record { name = refl; shape = (Struct 2 0, finds_struct, refl) }, tt);
+        returns = tt;
+        carried = (λ is. list_carried, λ none. refl);
+        lazy = refl;
+      },
+      tt,
+    ),
+  );
 }
 
 pub is_schema : IsSchemaOf program schema
@@ -361,7 +396,7 @@ is_schema = record {
   files = record { ordered = files_ordered; exact = λ file. (with_protocol file, among_files file) };
   ids = record { ordered = λ i j d before within. absurd (omega arith); exact = λ d. (with_place d, among_types d) };
   protocols = (manager_is, (managed_is, tt));
-  types = ((refl, (record { name = refl; shape = (Builtin builtin.Int32, finds_int, refl) }, tt)), tt)
+  types = ((refl, (record { name = refl; shape = (Builtin builtin.Int32, finds_int, refl) }, tt)), tt);
 }
 
 -- Neighbours: by the law, what differs from the schema in more than its boxes is none

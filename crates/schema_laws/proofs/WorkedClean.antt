@@ -1,8 +1,7 @@
 -- A program that breaks no rule, of one protocol with one message; so its schema would be sound.
-use Rattle.std.proofs.Common.{◌≡◌, ◌≢◌, ◌↔◌, ◌∙◌, ◌⊎◌, inl, inr, ◌<◌, ℕ, zero, suc, Bool, true, false, leb, IsTrue, List, [], ◌∷◌, map, length, take, Option, Some, None, IsSome, slice_get, bytes_eq, codes, refl, sym, ap, subst, arith}
-use Rattle.std.specs.List.{AllPairs, Any, Contains}
+use Rattle.std.proofs.Common.{◌≡◌, ◌≢◌, ◌∙◌, inl, inr, ℕ, zero, suc, true, false, leb, List, [], ◌∷◌, map, length, Some, None, slice_get, codes, refl, sym, ap, subst, arith}
+use Rattle.std.specs.List.{Any}
 use Rattle.std.proofs.lemmas.Bool.{true≢false}
-use Rattle.ipdl_base.specs.Builtins.{builtin_name}
 use Rattle.ipdl_base.specs.declared.finding.Finding.{Finding}
 use Rattle.ipdl_base.specs.declared.finding.Place.{Place}
 use Rattle.ipdl_base.specs.declared.kinds.Direction.TheVariants as direction
@@ -11,10 +10,8 @@ use Rattle.ipdl_syntax.specs.declared.program.Entry.{Entry}
 use Rattle.ipdl_syntax.specs.declared.tree.FileKind.TheVariants as file
 use Rattle.ipdl_syntax.specs.declared.tree.MessageDecl.{MessageDecl}
 use Rattle.ipdl_syntax.specs.declared.tree.ProtocolDecl.{ProtocolDecl}
-use Rattle.ipdl_syntax.specs.declared.tree.Unit.{Unit as FileUnit}
 use Rattle.findings.specs.Gains.{AtSome}
 use Rattle.findings.specs.Repeats.{IsRepeatedAt}
-use Rattle.name_table.specs.declared.decl.DeclId.TheVariants.{Protocol}
 use Rattle.name_table.specs.declared.kinds.MessageKind.TheVariants as kind
 use Rattle.name_table.specs.Finds.{FindsProtocol, IsNameOf}
 use Rattle.name_table.proofs.Seeing.{sees_shown}
@@ -79,17 +76,17 @@ the_entry = record {
     includes = tt;
     structs = tt;
     unions = tt;
-    protocol = record { full = (codes "PA", [], (refl, tt), refl); managers = tt; manages = tt; messages = (record { name = refl; params = tt; returns = tt }, tt) }
+    protocol = record { full = (codes "PA", [], (refl, tt), refl); managers = tt; manages = tt; messages = (record { name = refl; params = tt; returns = tt }, tt) };
   };
   places = record {
     includes = tt;
     usings = tt;
     structs = tt;
     unions = tt;
-    protocol = record { place = refl; managers = tt; manages = tt; messages = (record { place = refl; params = tt; returns = tt; attributes = tt }, tt); attributes = tt }
+    protocol = record { place = refl; managers = tt; manages = tt; messages = (record { place = refl; params = tt; returns = tt; attributes = tt }, tt); attributes = tt };
   };
   below = tt;
-  includes = refl
+  includes = refl;
 }
 
 entries : (index : ℕ) (entry : Entry) → slice_get program index ≡ Some entry → IsEntry program index entry
