@@ -75,8 +75,8 @@ returns_in_range program n file (Some ps) (Some rows) are = params_in_range prog
 -- a message that is normal has a normal row
 normal_row : (program : List Entry) (n : Numbering) (file : ℕ) (p : ProtocolDecl) (m : MessageDecl) (k : Kind) → IsRowKind program n file p m k → kind.Normal ≡ kind_of_message p m → k ≡ Normal
 normal_row program n file p m Normal told is = refl
-normal_row program n file p m (Constructor c) told is = let no-way : kind.Constructor ≡ kind.Normal = told.0 ∙ sym is in cc
-normal_row program n file p m Delete told is = let no-way : kind.Destructor ≡ kind.Normal = told ∙ sym is in cc
+normal_row program n file p m (Constructor c) told is = let clash : kind.Constructor ≡ kind.Normal = told.0 ∙ sym is in cc
+normal_row program n file p m Delete told is = let clash : kind.Destructor ≡ kind.Normal = told ∙ sym is in cc
 
 module _ (program : List Entry) (schema : Schema) (clean : IsClean program) (is : IsSchemaOf program schema) where
   module _ (number file : ℕ) (p : ProtocolDecl) (row : ProtocolRow) (there : protocol_of program file ≡ Some p) (words : ProtocolHasWords p) (its : IsProtocolRow program is.numbering schema.types number file p row) where
