@@ -10,7 +10,7 @@ use Rattle.ipdl_base.specs.declared.finding.Rule.{Rule}
 use Rattle.findings.specs.Order.{place_cmp, rule_cmp, finding_cmp}
 use Rattle.findings.proofs.Same.{same_finding}
 
-place_total : IsTotalOrder place_cmp
+pub place_total : IsTotalOrder place_cmp
 place_total = then_total (on_total (λ (p : Place). p.file) nat_cmp_total) (then_total (on_total (λ (p : Place). p.line) nat_cmp_total) (on_total (λ (p : Place). p.column) nat_cmp_total))
 
 rule_total : IsTotalOrder rule_cmp

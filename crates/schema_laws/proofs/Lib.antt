@@ -1,0 +1,15 @@
+pub mod Lists
+pub mod Numberings
+pub mod OneShape
+pub mod Uncarried
+pub mod OneSchema
+pub mod Unbroken
+pub mod Numbered
+pub mod KindsOfMessages
+pub mod SoundMessages
+pub mod SoundProtocols
+pub mod DefinedOrNot
+pub mod DefinedTypes
+pub mod Soundness
+pub mod Worked
+pub mod WorkedClean

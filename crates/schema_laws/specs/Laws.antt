@@ -1,5 +1,5 @@
 -- What follows from the definitions, for every program.
-use Rattle.std.specs.Prelude.{◌≡◌, List, map, Option, Some, None, option_map}
+use Rattle.std.specs.Prelude.{◌≡◌, List, map, option_map}
 use Rattle.ipdl_base.specs.Plain.{plain_shape}
 use Rattle.ipdl_base.specs.Sound.{IsSound}
 use Rattle.ipdl_base.specs.declared.schema.MessageRow.{MessageRow}

@@ -9,7 +9,7 @@ use Rattle.ipdl_syntax.specs.declared.program.Entry.{Entry}
 use Rattle.ipdl_syntax.specs.declared.tree.ProtocolDecl.{ProtocolDecl}
 use Rattle.findings.specs.Order.{place_cmp}
 use Rattle.name_table.specs.declared.decl.DeclId.{DeclId}
-use Rattle.name_table.specs.declared.decl.DeclId.TheVariants.{Builtin, Using, Struct, Union, Protocol, Endpoint}
+use Rattle.name_table.specs.declared.decl.DeclId.TheVariants.{Struct, Union}
 use Rattle.name_table.specs.Decls.{protocol_of, struct_of, union_of}
 
 -- Protocols

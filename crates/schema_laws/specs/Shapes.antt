@@ -1,5 +1,5 @@
 -- Which types of a schema the types of a program stand for.
-use Rattle.std.specs.Prelude.{◌≡◌, ℕ, Bool, List, [], ◌∷◌, Option, Some}
+use Rattle.std.specs.Prelude.{◌≡◌, ℕ, Bool, List, [], ◌∷◌, Some}
 use Rattle.ipdl_base.specs.declared.schema.Shape.{Shape}
 use Rattle.ipdl_base.specs.declared.schema.Shape as shape
 use Rattle.ipdl_syntax.specs.declared.program.Entry.{Entry}
