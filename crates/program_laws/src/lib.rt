@@ -1,0 +1,2 @@
+//! Laws of programs as a whole: no rule and no schema looks at where boxes lie. No function that runs.
+#![tactic(auto)]
