@@ -11,9 +11,13 @@ use Rattle.manager_rules.specs.Broken as managers
 use Rattle.message_rules.specs.Broken as messages
 use Rattle.schema_laws.specs.SchemaOf.{IsSchemaOf}
 
--- a program with every box at one place
+-- a file of a program with every box at one place
+abbrev pub unboxed_entry : Entry → Entry
+unboxed_entry e = record e { unit = unboxed e.unit }
+
+-- a program with every box there
 abbrev pub unboxed_program : List Entry → List Entry
-unboxed_program program = map (λ e. record e { unit = unboxed e.unit }) program
+unboxed_program program = map unboxed_entry program
 
 -- two programs are the same, up to where their boxes lie
 abbrev pub AreAlike : List Entry → List Entry → Type 0
