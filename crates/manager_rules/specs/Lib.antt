@@ -1,2 +1,4 @@
 pub mod Broken
 pub mod Managers
+pub mod Rows
+pub mod Sides

@@ -2,5 +2,7 @@
 #![tactic(auto)]
 
 mod report;
+mod rows;
+mod side;
 
 pub use report::add_of_managers;
