@@ -1,2 +1,3 @@
+pub mod Bonds
 pub mod Counted
 pub mod Listed

@@ -1,4 +1,5 @@
-ghost use Rattle.std.specs.Prelude.{◌≡◌, ◌≢◌, ◌↔◌, ◌≤◌, ℕ, length, slice_get, IfOk, IfSome, IfNone, IsTrue};
+ghost use Rattle.std.specs.Prelude.{◌≡◌, ◌≢◌, ◌↔◌, ◌≤◌, ℕ, length, slice_get, IfOk, IfSome, IfNone, IsTrue, nat_eq};
+ghost use Rattle.std.specs.HashSet.{IsFromIterResult};
 ghost use Rattle.std.specs.List.{Any, Contains};
 ghost use Rattle.std.specs.Option.{option_copied};
 ghost use Rattle.name_table.specs.Decls.{FindsNoProtocol, FindsOneProtocol};
@@ -68,6 +69,13 @@ fn files_of(
     Ok(files)
 }
 
+/// The set of these numbers.
+fn set_of(alloc: Global, files: &[u32]) -> Result<HashSet<u32>, AllocError>
+    ensures { IfOk result (IsFromIterResult nat_eq files.now) }
+{
+    files.iter().copied().collect(alloc)
+}
+
 /// The row of these names in a file.
 fn row_of(
     alloc: Global,
@@ -78,7 +86,7 @@ fn row_of(
     ensures { IfOk result (IsRow (λ other. Any (λ n. FindsOneProtocol names.now file n.name other) list.now)) }
 {
     let files = files_of(alloc, names, file, list)?;
-    let set = files.iter().copied().collect(alloc)?;
+    let set = set_of(alloc, files.as_slice())?;
     Ok(Row { files, set })
 }
 
