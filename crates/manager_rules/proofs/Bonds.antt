@@ -2,7 +2,7 @@
 use Rattle.std.proofs.Common.{◌≡◌, ℕ, ◌+◌, ◌<◌, List, [], ◌∷◌, ◌++◌, length, Option, Some, None, slice_get, inl, inr, refl, sym, ◌∙◌, ap, subst, arith}
 use Rattle.std.specs.Option.{option_and_then, option_map_or}
 use Rattle.std.specs.List.{Any}
-use Rattle.std.proofs.lemmas.Option.{same_Some, slice_get_within}
+use Rattle.std.proofs.lemmas.Option.{slice_get_within, slice_get_cases}
 use Rattle.ipdl_syntax.specs.declared.program.Entry.{Entry}
 use Rattle.ipdl_syntax.specs.declared.tree.NameAt.{NameAt}
 use Rattle.ipdl_syntax.specs.declared.tree.ProtocolDecl.{ProtocolDecl}
@@ -10,6 +10,8 @@ use Rattle.name_table.specs.Decls.{FindsOneProtocol, protocol_of}
 use Rattle.name_table.proofs.Places.{read_more}
 use Rattle.manager_rules.specs.declared.rows.Row.{Row}
 use Rattle.manager_rules.specs.declared.side.Side.{Side}
+use Rattle.manager_rules.specs.declared.side.Side.TheVariants.{Managers}
+use Rattle.manager_rules.specs.Managers.{HasManager}
 use Rattle.manager_rules.specs.Rows.{IsRow, AreRows}
 use Rattle.manager_rules.specs.Sides.{names_on, names_in, HasBond}
 
@@ -58,3 +60,18 @@ rows_more side program old file entry one new at long e before is k row there =
           subst P (sym (h.0 ∙ long)) (subst Q h.1 (row_like side program file entry one at is))
           )
     ]
+
+-- a file without a row names none
+pub no_row : (side : Side) (program : List Entry) (rows : List Row) (file other : ℕ) → AreRows side program rows → slice_get rows file ≡ None → ¬ HasBond side program file other
+no_row side program rows file other are none bond =
+    elim (slice_get_cases rows file).1 [
+      | inl h ↦ (let e = sym none ∙ h.2 in let x : ⊥ = cc in x)
+      | inr h ↦ (let within = protocol_within program file bond.protocol bond.there in omega (arith, within, h.0, are.size))
+    ]
+
+-- the managers are the bonds on their side
+pub bond_of : (program : List Entry) (file other : ℕ) → HasManager program file other → HasBond Managers program file other
+bond_of program file other h = record { protocol = h.protocol; there = h.there; names = h.names }
+
+pub manager_of : (program : List Entry) (file other : ℕ) → HasBond Managers program file other → HasManager program file other
+manager_of program file other h = record { protocol = h.protocol; there = h.there; names = h.names }

@@ -1,3 +1,4 @@
 pub mod Bonds
 pub mod Counted
+pub mod Cycles
 pub mod Listed

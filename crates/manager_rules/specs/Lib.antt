@@ -1,4 +1,5 @@
 pub mod Broken
+pub mod Knowing
 pub mod Managers
 pub mod Rows
 pub mod Sides

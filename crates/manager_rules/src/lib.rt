@@ -1,6 +1,8 @@
 //! The rules on managers: who manages whom, constructors and destructors, cycles, repeated names (docs/protocols.md).
 #![tactic(auto)]
 
+mod cycle;
+mod known;
 mod report;
 mod rows;
 mod side;
