@@ -1,8 +1,10 @@
 -- Rows of the files whose protocols a file's protocol names.
-use Rattle.std.proofs.Common.{◌≡◌, ℕ, ◌+◌, ◌<◌, List, [], ◌∷◌, ◌++◌, length, Option, Some, None, slice_get, inl, inr, refl, sym, ◌∙◌, ap, subst, arith}
+use Rattle.std.proofs.Common.{◌≡◌, ℕ, Bool, ◌+◌, ◌<◌, List, [], ◌∷◌, ◌++◌, length, Option, Some, None, slice_get, inl, inr, refl, sym, ◌∙◌, ap, subst, arith}
 use Rattle.std.specs.Option.{option_and_then, option_map_or}
+use Rattle.std.specs.Bool.{Decides}
 use Rattle.std.specs.List.{Any}
-use Rattle.std.proofs.lemmas.Option.{slice_get_within, slice_get_cases}
+use Rattle.std.proofs.lemmas.Bool.Decides.{Decides-like}
+use Rattle.std.proofs.lemmas.Option.{same_Some, slice_get_within, slice_get_cases}
 use Rattle.ipdl_syntax.specs.declared.program.Entry.{Entry}
 use Rattle.ipdl_syntax.specs.declared.tree.NameAt.{NameAt}
 use Rattle.ipdl_syntax.specs.declared.tree.ProtocolDecl.{ProtocolDecl}
@@ -13,7 +15,7 @@ use Rattle.manager_rules.specs.declared.side.Side.{Side}
 use Rattle.manager_rules.specs.declared.side.Side.TheVariants.{Managers}
 use Rattle.manager_rules.specs.Managers.{HasManager}
 use Rattle.manager_rules.specs.Rows.{IsRow, AreRows}
-use Rattle.manager_rules.specs.Sides.{names_on, names_in, HasBond}
+use Rattle.manager_rules.specs.Sides.{names_on, names_in, NamesOn, HasBond}
 
 -- the protocol of the entry at a number is that of the file
 pub protocol_at : (program : List Entry) (file : ℕ) (entry : Entry) → slice_get program file ≡ Some entry → protocol_of program file ≡ entry.unit.protocol
@@ -75,3 +77,11 @@ bond_of program file other h = record { protocol = h.protocol; there = h.there; 
 
 pub manager_of : (program : List Entry) (file other : ℕ) → HasBond Managers program file other → HasManager program file other
 manager_of program file other h = record { protocol = h.protocol; there = h.there; names = h.names }
+
+-- a file's protocol names another on a side where there is such a bond
+pub bond_names : (side : Side) (program : List Entry) (file other : ℕ) (p : ProtocolDecl) (told : Bool) → protocol_of program file ≡ Some p → Decides told (HasBond side program file other) → Decides told (NamesOn side program file p other)
+bond_names side program file other p told there decides =
+    Decides-like told
+    (λ bond. let P : ProtocolDecl → Type 0 = λ q. NamesOn side program file q other in subst P (same_Some bond.protocol p (sym bond.there ∙ there)) bond.names)
+    (λ names. record { protocol = p; there = there; names = names })
+    decides

@@ -1,4 +1,6 @@
 pub mod Bonds
 pub mod Counted
 pub mod Cycles
+pub mod Found
 pub mod Listed
+pub mod Texts

@@ -1,5 +1,7 @@
+pub mod Breaches
 pub mod Broken
 pub mod Knowing
 pub mod Managers
 pub mod Rows
 pub mod Sides
+pub mod Subjects
