@@ -1,5 +1,6 @@
 pub mod Breaches
 pub mod Broken
+pub mod InProtocol
 pub mod Knowing
 pub mod Managers
 pub mod Rows
