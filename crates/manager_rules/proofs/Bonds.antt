@@ -1,5 +1,5 @@
 -- Rows of the files whose protocols a file's protocol names.
-use Rattle.std.proofs.Common.{◌≡◌, ℕ, Bool, ◌+◌, ◌<◌, List, [], ◌∷◌, ◌++◌, length, Option, Some, None, slice_get, inl, inr, refl, sym, ◌∙◌, ap, subst, arith}
+use Rattle.std.proofs.Common.{◌≡◌, ℕ, Bool, ◌<◌, List, [], ◌∷◌, ◌++◌, length, Option, Some, None, slice_get, inl, inr, refl, sym, ◌∙◌, ap, subst, arith}
 use Rattle.std.specs.Option.{option_and_then, option_map_or}
 use Rattle.std.specs.Bool.{Decides}
 use Rattle.std.specs.List.{Any}
@@ -42,9 +42,9 @@ row_like : (side : Side) (program : List Entry) (file : ℕ) (entry : Entry) (ro
 row_like side program file entry row at is =
     let Finds : ℕ → NameAt → Type 0 = λ other n. FindsOneProtocol program file n.name other in
     let to : (other : ℕ) → Any (Finds other) (names_in side entry) → HasBond side program file other =
-        λ other any. let some = some_names {P = Finds other} side entry.unit.protocol any in record { protocol = some.0; there = protocol_at program file entry at ∙ some.1; names = some.2 } in
+    λ other any. let some = some_names {P = Finds other} side entry.unit.protocol any in record { protocol = some.0; there = protocol_at program file entry at ∙ some.1; names = some.2 } in
     let from : (other : ℕ) → HasBond side program file other → Any (Finds other) (names_in side entry) =
-        λ other bond. names_some {P = Finds other} side entry.unit.protocol bond.protocol (sym (protocol_at program file entry at) ∙ bond.there) bond.names in
+    λ other bond. names_some {P = Finds other} side entry.unit.protocol bond.protocol (sym (protocol_at program file entry at) ∙ bond.there) bond.names in
     record {
       files = λ other. (λ c. to other ((is.files other).0 c), λ h. (is.files other).1 (from other h));
       set = λ other. (λ c. to other ((is.set other).0 c), λ h. (is.set other).1 (from other h));

@@ -1,5 +1,5 @@
 -- What an answer on how many there are tells of the one.
-use Rattle.std.proofs.Common.{◌≡◌, ℕ, List, ap, sym, refl, ◌∙◌}
+use Rattle.std.proofs.Common.{◌≡◌, ℕ, ap, sym, ◌∙◌}
 use Rattle.name_table.specs.declared.decl.DeclId.{DeclId}
 use Rattle.name_table.specs.declared.decl.DeclId.TheVariants.{Protocol}
 use Rattle.name_table.specs.declared.decl.Found.{Found}
@@ -11,12 +11,6 @@ pub counted_one : (P : DeclId → Type 0) (answer : Found) (d : DeclId) → Coun
 counted_one P found.None d counts one = absurd (counts d one.0)
 counted_one P (found.One e) d counts one = ap found.One (one.1 e counts.0)
 counted_one P (found.Many e f) d counts one = absurd (counts.2 (one.1 e counts.0 ∙ sym (one.1 f counts.1)))
-
--- where there is none, the answer says so
-pub counted_none : (P : DeclId → Type 0) (answer : Found) → Counts P answer → Counts P found.None → answer ≡ found.None
-counted_none P found.None counts none = refl
-counted_none P (found.One e) counts none = absurd (none e counts.0)
-counted_none P (found.Many e f) counts none = absurd (none e counts.0)
 
 protocol_number : DeclId → ℕ
 protocol_number (Protocol p) = p

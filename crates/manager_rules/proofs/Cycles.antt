@@ -8,7 +8,7 @@ use Rattle.std.proofs.lemmas.Map.Made.{is_member-Decides, is_member-filter}
 use Rattle.std.proofs.lemmas.List.Elements.{Contains-append_left, Contains-append_right, Contains-append_cases}
 use Rattle.ipdl_syntax.specs.declared.program.Entry.{Entry}
 use Rattle.name_table.specs.Marks.{IsMarked, Marks}
-use Rattle.name_table.proofs.Marking.{the_one, has_one, marked_within}
+use Rattle.name_table.proofs.Marking.{the_one, has_one}
 use Rattle.manager_rules.specs.Managers.{HasManager, LeadsTo, one, more, IsInCycle}
 use Rattle.manager_rules.proofs.Bonds.{protocol_within}
 

@@ -34,7 +34,11 @@ fn mark_all(files: &[u32], marks: &mut Vec<bool>, work: &mut Vec<u32>) -> Result
 fn without(alloc: Global, files: &[u32], one: u32) -> Result<Vec<u32>, AllocError>
     ensures { IfOk result (λ others. others.items ≡ filter (λ n. not (n == one)) files.now) }
 {
-    files.iter().copied().filter(|file| *file != one).collect(alloc)
+    files
+        .iter()
+        .copied()
+        .filter(|file| *file != one)
+        .collect(alloc)
 }
 
 /// Whether managers lead from the protocol of a file to another one and back: whether a manager other than itself leads

@@ -1,12 +1,10 @@
-use Rattle.std.proofs.Common.{arith, ℕ, ◌≡◌, ◌≢◌, ◌<◌, ◌∙◌, List, [], ◌∷◌, ◌++◌, length, Bool, false, true≢false, refl, sym, ap, subst}
-use Rattle.std.specs.Prelude.{◌↔◌}
+use Rattle.std.proofs.Common.{arith, ℕ, ◌≡◌, ◌<◌, ◌∙◌, List, [], ◌∷◌, length, Bool, false, true≢false, refl, sym, ap, subst}
 use Rattle.std.specs.List.{Contains}
 use Rattle.std.proofs.Math.ListN.{replicate}
 use Rattle.std.proofs.lemmas.List.{get_or-replicate, length-replicate, nil_from_length}
 use Rattle.std.proofs.lemmas.List.Elements.{Contains-append_right}
 use Rattle.name_table.specs.Marks.{IsMarked, Marks}
 use Rattle.name_table.proofs.Marking.{has_one, marked_within}
-use Rattle.manager_rules.specs.Managers.{HasManager}
 use Rattle.manager_rules.proofs.Cycles.{Searches, searches_first, searches_more, others_are, cycle_met, no_cycle}
 use Rattle.manager_rules.proofs.cycle.is_in_cycle.Goals as goal
 

@@ -1,8 +1,6 @@
-use Rattle.std.proofs.Common.{◌≡◌, ◌++◌, ◌∷◌, [], ap, sym, ◌∙◌, refl}
+use Rattle.std.proofs.Common.{◌≡◌, sym, ◌∙◌, refl}
 use Rattle.std.proofs.lemmas.Bool.{true≢false}
 use Rattle.std.proofs.lemmas.List.{take_all}
-use Rattle.ipdl_base.specs.declared.finding.Finding.{Finding}
-use Rattle.ipdl_base.specs.declared.finding.Rule.{Rule}
 use Rattle.ipdl_syntax.specs.declared.tree.NameAt.{NameAt}
 use Rattle.manager_rules.specs.Breaches.{rule_of, Breaks}
 use Rattle.manager_rules.proofs.Gathered.{adds_first, adds_hit, adds_miss}

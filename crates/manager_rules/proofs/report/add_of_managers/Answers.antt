@@ -1,4 +1,4 @@
-use Rattle.std.proofs.Common.{◌≡◌, ℕ, List, length, refl, subst}
+use Rattle.std.proofs.Common.{ℕ, List, length, refl, subst}
 use Rattle.std.specs.Prelude.{IsSomeAnd}
 use Rattle.std.proofs.lemmas.Option.{slice_get_read}
 use Rattle.ipdl_base.specs.declared.finding.Finding.{Finding}

@@ -1,4 +1,4 @@
-use Rattle.std.proofs.Common.{◌≡◌, ℕ, refl}
+use Rattle.std.proofs.Common.{ℕ, refl}
 use Rattle.std.proofs.lemmas.List.{take_all}
 use Rattle.ipdl_syntax.specs.declared.tree.NameAt.{NameAt}
 use Rattle.name_table.specs.Decls.{FindsOneProtocol}

@@ -1,7 +1,5 @@
-use Rattle.std.proofs.Common.{◌≡◌, ◌∙◌, sym, ap}
+use Rattle.std.proofs.Common.{◌∙◌, sym}
 use Rattle.name_table.specs.declared.decl.DeclId.TheVariants.{Protocol}
-use Rattle.name_table.specs.declared.decl.Found.{Found}
-use Rattle.name_table.specs.declared.decl.Found.TheVariants as found
 use Rattle.name_table.specs.Finds.{FindsAsProtocol}
 use Rattle.manager_rules.proofs.Counted.{counted_one}
 use Rattle.manager_rules.proofs.rows.find_one.Goals as goal

@@ -1,8 +1,7 @@
-use Rattle.std.proofs.Common.{◌≡◌, ◌+◌, ◌∙◌, ap, refl, length, length-append, arith, subst, List}
+use Rattle.std.proofs.Common.{◌+◌, ◌∙◌, ap, refl, length, length-append, arith, subst, List}
 use Rattle.std.specs.List.{Any}
 use Rattle.std.proofs.lemmas.Option.{slice_get_read}
 use Rattle.ipdl_syntax.specs.declared.program.Entry.{Entry}
-use Rattle.ipdl_syntax.specs.declared.tree.NameAt.{NameAt}
 use Rattle.name_table.specs.Decls.{FindsOneProtocol}
 use Rattle.manager_rules.specs.Rows.{IsRow}
 use Rattle.manager_rules.specs.Sides.{names_in}
