@@ -1,0 +1,13 @@
+pub mod Lists
+pub mod Placed
+pub mod Gains
+pub mod Named
+pub mod Firsts
+pub mod Broken
+pub mod Types
+pub mod Numbering
+pub mod Needs
+pub mod Unmarked
+pub mod Definedness
+pub mod Reported
+pub mod Gathered

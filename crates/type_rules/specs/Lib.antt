@@ -1,6 +1,12 @@
 pub mod Attributes
+pub mod Bearers
+pub mod Breaks
 pub mod Broken
+pub mod Compounds
 pub mod Declarations
 pub mod Defined
+pub mod Firsts
+pub mod Parts
+pub mod Steps
 pub mod TypeNames
 pub mod Written

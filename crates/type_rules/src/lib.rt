@@ -2,6 +2,13 @@
 //! (docs/types.md).
 #![tactic(auto)]
 
+mod attributes;
+mod compounds;
+mod declarations;
+mod fields;
+mod parts;
 mod report;
+mod undefined;
+mod written;
 
 pub use report::type_findings;

@@ -1,0 +1,23 @@
+use Rattle.std.proofs.Common.{◌≡◌, true, ◌++◌, ap, append-nil, sym, List, map, ℕ}
+use Rattle.std.proofs.lemmas.List.{take_all}
+use Rattle.ipdl_syntax.specs.declared.tree.Using.{Using}
+use Rattle.type_rules.specs.Declarations.{Declaration}
+use Rattle.type_rules.specs.Firsts.{told}
+use Rattle.type_rules.proofs.Named.{map-turn}
+use Rattle.type_rules.proofs.declarations.list_usings.Goals as goal
+
+abbrev seen : Using → Declaration
+seen x = record { full = x.full; place = x.place; is_using = true }
+
+pub loop-item-init : goal.loop-item-init
+loop-item-init c = sym (append-nil (map told c.args.all.now.items))
+
+pub loop-item-preserved : goal.loop-item-preserved
+loop-item-preserved c =
+    let x = c.item-item.result in
+    let D : List ℕ → Declaration = λ n. record { full = n; place = x.place; is_using = true } in
+    map-turn told seen (map told c.args.all.now.items) c.args.usings.now c.loop-item.item-index x c.loop-item.all.items c.push.new.self.items _ c.loop-item-test.true c.item-item.is c.in_ok-push.ensures.items
+    (ap D c.as_slice.ensures) c.loop-item.invariant
+
+pub returns : goal.returns
+returns c = rw (take_all c.loop-item.item-index c.args.usings.now c.loop-item-test.false) at c.loop-item.invariant

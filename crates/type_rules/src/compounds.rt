@@ -1,0 +1,121 @@
+ghost use Rattle.std.specs.Prelude.{◌≡◌, ◌≤◌, ℕ, List, ◌++◌, length, map, IfOk, OnOk};
+ghost use Rattle.std.specs.Option.{option_copied};
+ghost use Rattle.type_rules.specs.Compounds.{told, place_of, struct, union, AreNumbers, AreOfFile, number_found, AllNumbered};
+
+use ipdl_base::Place;
+use ipdl_syntax::{Entry, StructDecl, UnionDecl, Unit};
+use name_table::{DeclId, Found};
+use std::alloc::{AllocError, Global};
+
+/// A struct or a union, with the number of its file.
+#[derive(Clone, Copy)]
+pub enum Compound<'p> {
+    Struct(u32, &'p StructDecl),
+    Union(u32, &'p UnionDecl),
+}
+
+impl Compound<'_> {
+    /// The place of its name.
+    pub fn place(&self) -> Place
+        ensures { result ≡ place_of (told self.now) }
+    {
+        match self {
+            Compound::Struct(_, item) => item.place,
+            Compound::Union(_, item) => item.place,
+        }
+    }
+}
+
+/// The numbers of the structs and of the unions of a file.
+#[derive(Drop)]
+pub struct FileNumbers {
+    pub structs: Vec<usize>,
+    pub unions: Vec<usize>,
+}
+
+/// The structs and unions of a program, and the numbers of those of each file, which are their places
+/// in the list of all.
+#[derive(Drop)]
+pub struct Compounds<'p> {
+    pub all: Vec<Compound<'p>>,
+    pub files: Vec<FileNumbers>,
+}
+
+/// Puts the structs of a file into the list, and gives their numbers.
+fn number_structs<'p>(
+    alloc: Global,
+    file: u32,
+    structs: &'p [StructDecl],
+    all: &mut Vec<Compound<'p>>,
+) -> Result<Vec<usize>, AllocError>
+    ensures { IfOk result (λ numbers. AreNumbers (struct file) structs.now numbers.items (map told all.old.items) (map told all.new.items)) }
+{
+    let mut numbers = Vec::new(alloc);
+    for item in structs {
+        numbers.push(all.len())?;
+        all.push(Compound::Struct(file, item))?;
+    }
+    Ok(numbers)
+}
+
+/// Puts the unions of a file into the list, and gives their numbers.
+fn number_unions<'p>(
+    alloc: Global,
+    file: u32,
+    unions: &'p [UnionDecl],
+    all: &mut Vec<Compound<'p>>,
+) -> Result<Vec<usize>, AllocError>
+    ensures { IfOk result (λ numbers. AreNumbers (union file) unions.now numbers.items (map told all.old.items) (map told all.new.items)) }
+{
+    let mut numbers = Vec::new(alloc);
+    for item in unions {
+        numbers.push(all.len())?;
+        all.push(Compound::Union(file, item))?;
+    }
+    Ok(numbers)
+}
+
+/// Puts the structs and unions of a file into the list, and gives their numbers.
+fn number_file<'p>(
+    alloc: Global,
+    file: u32,
+    unit: &'p Unit,
+    all: &mut Vec<Compound<'p>>,
+) -> Result<FileNumbers, AllocError>
+    ensures { IfOk result (λ numbers. AreOfFile file unit.now numbers (map told all.old.items) (map told all.new.items)) }
+{
+    Ok(FileNumbers {
+        structs: number_structs(alloc, file, unit.structs.as_slice(), all)?,
+        unions: number_unions(alloc, file, unit.unions.as_slice(), all)?,
+    })
+}
+
+/// The structs and unions of a program, numbered.
+pub fn compounds_of(alloc: Global, program: &[Entry]) -> Result<Compounds<'_>, AllocError>
+    requires { length program.now ≤ 4096 }
+    ensures { IfOk result (λ compounds. AllNumbered program.now (map told compounds.all.items) compounds.files.items) }
+{
+    let mut all = Vec::new(alloc);
+    let mut files = Vec::new(alloc);
+    for (file, entry) in program.iter().enumerate() {
+        files.push(number_file(alloc, file as u32, &entry.unit, &mut all)?)?;
+    }
+    Ok(Compounds { all, files })
+}
+
+/// The number of what a name finds, where that is one struct or union.
+pub fn number_found(files: &[FileNumbers], finds: Found) -> Option<usize>
+    ensures { result ≡ number_found files.now finds }
+{
+    match finds {
+        Found::One(DeclId::Struct(file, place)) => {
+            let numbers = files.get(file as usize)?;
+            numbers.structs.get(place).copied()
+        }
+        Found::One(DeclId::Union(file, place)) => {
+            let numbers = files.get(file as usize)?;
+            numbers.unions.get(place).copied()
+        }
+        _ => None,
+    }
+}
