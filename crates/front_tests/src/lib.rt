@@ -5,6 +5,8 @@
 #[cfg(test)]
 mod given;
 #[cfg(test)]
+mod large;
+#[cfg(test)]
 mod lists;
 #[cfg(test)]
 mod loads;
