@@ -2,7 +2,10 @@
 #![tactic(auto)]
 
 mod laws;
+mod numbers;
 mod rows;
+mod shapes;
+mod source;
 mod words;
 mod writer;
 
