@@ -1,7 +1,10 @@
+pub mod CleanTypes
 pub mod Listed
 pub mod Lookups
 pub mod One
 pub mod Pieces
+pub mod Rowed
 pub mod Sight
 pub mod Suffixes
+pub mod Uncarried
 pub mod Whole

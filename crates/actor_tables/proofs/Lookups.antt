@@ -27,6 +27,10 @@ some_below {X} P xs i h = go (slice_get xs i) refl h
     go None e k = absurd k
     go (Some x) e k = slice_get_within xs i x e
 
+-- what was read
+pub read_at : {X : Type 0} (xs read : List X) (i : ℕ) (x : X) → read ≡ xs → i < length read → ((d : X) → x ≡ get_or read i d) → slice_get xs i ≡ Some x
+read_at {X} xs read i x same below at = let P : List X → Type 0 = λ ys. slice_get ys i ≡ Some x in subst P same (slice_get_read read (length read) i x refl below (at x))
+
 -- Protocols
 
 number_of_file : (program : List Entry) (numbers : Numbers) (file : ℕ) → AreNumbersOf program numbers → IsSome (protocol_of program file) → IsSomeAnd (slice_get numbers.of_files.items file) (λ number. slice_get numbers.files.items number ≡ Some file)
@@ -41,8 +45,7 @@ file_within program numbers file read are there same past =
 pub file_number : (program : List Entry) (numbers : Numbers) (file number : ℕ) (read : List ℕ) → AreNumbersOf program numbers → IsSome (protocol_of program file) → read ≡ numbers.of_files.items → file < length read
     → ((d : ℕ) → number ≡ get_or read file d) → slice_get numbers.files.items number ≡ Some file
 file_number program numbers file number read are there same below at =
-    let found : slice_get read file ≡ Some number = slice_get_read read (length read) file number refl below (at number) in
-    at_some (λ k. slice_get numbers.files.items k ≡ Some file) (slice_get numbers.of_files.items file) number (subst (λ (xs : List ℕ). slice_get xs file ≡ Some number) same found) (number_of_file program numbers file are there)
+    at_some (λ k. slice_get numbers.files.items k ≡ Some file) (slice_get numbers.of_files.items file) number (read_at numbers.of_files.items read file number same below at) (number_of_file program numbers file are there)
 
 -- Types
 

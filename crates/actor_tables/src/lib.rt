@@ -1,11 +1,13 @@
 //! The schema of a narrow file, and the text of the tables of any schema (docs/tables.md).
 #![tactic(auto)]
 
+mod carried;
 mod laws;
 mod numbers;
 mod rows;
 mod shapes;
 mod source;
+mod types;
 mod words;
 mod writer;
 
