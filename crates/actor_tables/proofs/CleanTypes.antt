@@ -25,10 +25,10 @@ never_ambiguous : (program : List Entry) → IsClean program → (place : Place)
 never_ambiguous program clean place h = clean.types (record { place = place; rule = rule.AMBIGUOUS_TYPE }) (inr (inl (refl, h)))
 
 -- what is said of a type's name at a place
-abbrev Unknown : List Entry → ℕ → Place → OfType
+abbrev pub Unknown : List Entry → ℕ → Place → OfType
 Unknown program file place = λ nullable base here. IsUnknown program file base × (here ≡ place)
 
-abbrev Ambiguous : List Entry → ℕ → Place → OfType
+abbrev pub Ambiguous : List Entry → ℕ → Place → OfType
 Ambiguous program file place = λ nullable base here. IsAmbiguous program file base × (here ≡ place)
 
 within_sole : (program : List Entry) (file : ℕ) (nullable : Bool) (base : Base) (here : Place) → ((place : Place) → ¬ HoldsWithin (Unknown program file place) nullable base here)

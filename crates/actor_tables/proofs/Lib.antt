@@ -1,8 +1,10 @@
+pub mod CleanProtocols
 pub mod CleanTypes
 pub mod Listed
 pub mod Lookups
 pub mod One
 pub mod Pieces
+pub mod Protocols
 pub mod Rowed
 pub mod Sight
 pub mod Suffixes

@@ -1,11 +1,15 @@
 -- Rows beside what they are of.
-use Rattle.std.proofs.Common.{◌≡◌, ℕ, ◌+◌, ◌<◌, ◌≤◌, List, inl, inr, arith, [], ◌∷◌, ◌++◌, length, take, get_or, subst, sym, ap, ◌∙◌, refl, Option, Some, None}
+use Rattle.std.proofs.Common.{◌≡◌, ℕ, ◌+◌, ◌<◌, List, [], ◌∷◌, ◌++◌, length, take, get_or, subst, sym, ap, ◌∙◌, refl, arith, Bool, Option, Some, None, IsSomeAnd, ◌⊎◌, add-zero, length-take}
+use Rattle.std.specs.Prelude.{◌↔◌, IsTrue}
 use Rattle.std.specs.List.{Any, AllZip, filter_map, cons_option}
 use Rattle.std.specs.Option.{option_to_list}
 use Rattle.std.proofs.lemmas.List.Elements.{filter_map-append}
-use Rattle.std.proofs.lemmas.Bool.{cases_lt}
-use Rattle.std.proofs.lemmas.List.{take_more, get_or_read}
+use Rattle.std.proofs.lemmas.List.{take_more}
 use Rattle.std.proofs.lemmas.Slice.Zip.{all_zipped_more}
+use Rattle.ipdl_base.specs.Sound.{MentionsUncarried}
+use Rattle.ipdl_base.specs.declared.schema.ParamRow.{ParamRow}
+use Rattle.ipdl_base.specs.declared.schema.TypeRow.{TypeRow}
+use Rattle.schema_laws.specs.SchemaOf.{AreRows}
 
 -- one row more
 pub zip_at : {X Y : Type 0} (R : X → Y → Type 0) (xs : List X) (ys : List Y) (i : ℕ) (d : X) (y : Y) → i < length xs → AllZip R (take i xs) ys → R (get_or xs i d) y → AllZip R (take (i + 1) xs) (ys ++ y ∷ [])
@@ -27,13 +31,23 @@ filter_map_next {X = X} f xs i x old new below at so_far more =
     one None e = refl
     one (Some y) e = refl
 
--- it holds of none so far, nor of the next
-pub none_next : {X : Type 0} (P : X → Type 0) (xs : List X) (i : ℕ) (x : X) → i < length xs → x ≡ get_or xs i x → ((k : ℕ) (d : X) → k < i → ¬ P (get_or xs k d)) → ¬ P x → (k : ℕ) (d : X) → k < i + 1 → ¬ P (get_or xs k d)
-none_next {X = X} P xs i x below at before here k d within h =
-    elim (cases_lt k i) [
-      | inl earlier ↦ before k d earlier h
-      | inr past ↦ here (subst P (sym (get_or_read xs i x below at d)) (subst (λ (j : ℕ). P (get_or xs j d)) (let same : k ≡ i = omega arith in same) h))
-    ]
+rows_push : {X Y : Type 0} (R : ℕ → X → Y → Type 0) (from : ℕ) (xs : List X) (ys : List Y) (at : ℕ) (x : X) (y : Y) → at ≡ from + length xs → AreRows R from xs ys → R at x y → AreRows R from (xs ++ x ∷ []) (ys ++ y ∷ [])
+rows_push R from [] [] at x y is rows here = (subst (λ (n : ℕ). R n x y) (is ∙ add-zero from) here, tt)
+rows_push R from [] (v ∷ ys) at x y is rows here = absurd rows
+rows_push R from (u ∷ xs) [] at x y is rows here = absurd rows
+rows_push R from (u ∷ xs) (v ∷ ys) at x y is rows here = (rows.0, rows_push R (from + 1) xs ys at x y (let next : at ≡ from + 1 + length xs = omega arith in next) rows.1 here)
 
-pub none_at_all : {X : Type 0} (P : X → Type 0) (xs : List X) (i : ℕ) → length xs ≤ i → ((k : ℕ) (d : X) → k < i → ¬ P (get_or xs k d)) → ¬ Any P xs
-none_at_all {X = X} P xs i over none (k, x, below, at, h) = none k x (let within : k < i = omega arith in within) (subst P (sym at) h)
+-- one row more, by indices
+pub rows_next : {X Y : Type 0} (R : ℕ → X → Y → Type 0) (xs : List X) (ys : List Y) (i : ℕ) (d : X) (y : Y) → i < length xs → AreRows R 0 (take i xs) ys → R i (get_or xs i d) y → AreRows R 0 (take (i + 1) xs) (ys ++ y ∷ [])
+rows_next {X = X} R xs ys i d y below so_far here =
+    let P : List X → Type 0 = λ zs. AreRows R 0 zs (ys ++ y ∷ []) in
+    let long : i ≡ 0 + length (take i xs) = simp length-take (omega arith) in
+    subst P (sym (take_more xs i d below)) (rows_push R 0 (take i xs) ys i (get_or xs i d) y long so_far here)
+
+-- what is said of lists is said of the same lists
+pub carried_like : (types : List TypeRow) (a b : List ParamRow) (o p : Option (List ParamRow)) (r : Bool) → a ≡ b → o ≡ p
+    → IsTrue r ↔ ¬ (Any (λ (q : ParamRow). MentionsUncarried types q.shape) a ⊎ IsSomeAnd o (λ rows. Any (λ (q : ParamRow). MentionsUncarried types q.shape) rows))
+    → IsTrue r ↔ ¬ (Any (λ (q : ParamRow). MentionsUncarried types q.shape) b ⊎ IsSomeAnd p (λ rows. Any (λ (q : ParamRow). MentionsUncarried types q.shape) rows))
+carried_like types a b o p r params returns h =
+    let P : List ParamRow → Option (List ParamRow) → Type 0 = λ xs ys. IsTrue r ↔ ¬ (Any (λ (q : ParamRow). MentionsUncarried types q.shape) xs ⊎ IsSomeAnd ys (λ rows. Any (λ (q : ParamRow). MentionsUncarried types q.shape) rows)) in
+    subst (λ (ys : Option (List ParamRow)). P b ys) returns (subst (λ (xs : List ParamRow). P xs o) params h)

@@ -3,6 +3,7 @@
 
 mod carried;
 mod laws;
+mod messages;
 mod numbers;
 mod rows;
 mod shapes;
