@@ -1,5 +1,5 @@
 -- The numbers of protocols and types as they are made and looked up.
-use Rattle.std.specs.Prelude.{◌≡◌, ◌↔◌, ◌⊎◌, ℕ, ◌<◌, ◌≤◌, Bool, true, false, ◌&&◌, ◌==◌, if◌then◌else◌, List, map, length, Option, Some, IsSome, IsSomeAnd, slice_get}
+use Rattle.std.specs.Prelude.{◌≡◌, ◌↔◌, ◌⊎◌, ℕ, ◌<◌, ◌≤◌, Bool, true, false, ◌&&◌, ◌==◌, if◌then◌else◌, List, map, length, Option, Some, IsSome, IsSomeAnd, slice_get, option_map}
 use Rattle.std.specs.Borrow.{Bor}
 use Rattle.std.specs.HashMap.{get, HashMap}
 use Rattle.std.specs.List.{All, AllPairs, Contains}
@@ -10,12 +10,11 @@ use Rattle.std.specs.declared.cmp.Ordering.TheVariants.{Less}
 use Rattle.ipdl_syntax.specs.declared.program.Entry.{Entry}
 use Rattle.ipdl_syntax.specs.declared.tree.StructDecl.{StructDecl}
 use Rattle.ipdl_syntax.specs.declared.tree.UnionDecl.{UnionDecl}
-use Rattle.findings.specs.Gains.{AtSome}
 use Rattle.findings.specs.Order.{place_cmp}
 use Rattle.name_table.specs.declared.decl.DeclId.{DeclId}
 use Rattle.name_table.specs.declared.decl.DeclId.TheVariants.{Struct, Union}
 use Rattle.name_table.specs.Decls.{protocol_of}
-use Rattle.schema_laws.specs.Numbers.{Numbering, AreProtocolFiles, AreTypes}
+use Rattle.schema_laws.specs.Numbers.{Numbering, AreProtocolFiles, AreTypes, place_of}
 use Rattle.actor_tables.specs.declared.numbers.Numbers.{Numbers}
 use Rattle.actor_tables.specs.declared.numbers.TypeId.{TypeId}
 use Rattle.actor_tables.specs.declared.numbers.TypeKey.{TypeKey}
@@ -40,20 +39,25 @@ FindsNumbers files numbers = (file : ℕ) → Contains files file → IsSomeAnd 
 abbrev pub decl_of : TypeId → DeclId
 decl_of id = if id.is_union then Union id.file id.index else Struct id.file id.index
 
--- the key of a struct, or of a union, of these
+-- the struct or union of a key
+abbrev pub id_of_key : TypeKey → TypeId
+id_of_key key = record { file = key.place.file; is_union = key.is_union; index = key.index }
+
+-- the key of a struct of these, or of a union
 abbrev pub IsStructKey : List StructDecl → TypeKey → Type 0
-IsStructKey structs key = AtSome (λ index s. key ≡ record { place = s.place; is_union = false; index = index }) structs
+IsStructKey structs key = (key.is_union ≡ false) × (option_map (λ s. s.place) (slice_get structs key.index) ≡ Some key.place)
 
 abbrev pub IsUnionKey : List UnionDecl → TypeKey → Type 0
-IsUnionKey unions key = AtSome (λ index u. key ≡ record { place = u.place; is_union = true; index = index }) unions
+IsUnionKey unions key = (key.is_union ≡ true) × (option_map (λ u. u.place) (slice_get unions key.index) ≡ Some key.place)
 
 -- the new list has what the old one has and the keys of which this holds, and no other
 pub record AddsKeys (IsKey : TypeKey → Type 0) (old new : List TypeKey) : Type 0 where
   pub exact : (key : TypeKey) → Contains new key ↔ (Contains old key ⊎ IsKey key)
 
--- the key of a struct or a union of the program
-abbrev pub IsKeyOf : List Entry → TypeKey → Type 0
-IsKeyOf program key = AtSome (λ file e. IsStructKey e.unit.structs key ⊎ IsUnionKey e.unit.unions key) program
+-- the key of a struct or a union of one of the first files
+abbrev pub IsKeyBelow : List Entry → ℕ → TypeKey → Type 0
+IsKeyBelow program limit key =
+    (file : ℕ) × (file < limit) × (place_of program (decl_of (record { file = file; is_union = key.is_union; index = key.index })) ≡ Some key.place)
 
 -- the order of keys: by place, structs before unions, and then by index
 abbrev pub key_cmp : TypeKey → TypeKey → Ordering

@@ -1,8 +1,8 @@
-ghost use Rattle.std.specs.Prelude.{◌≡◌, ◌↔◌, ◌≤◌, ◌<◌, [], map, length, vec_len, IfOk, OnOk};
+ghost use Rattle.std.specs.Prelude.{◌≡◌, ◌↔◌, ◌≤◌, ◌<◌, [], map, length, IfOk, OnOk};
 ghost use Rattle.std.specs.List.{All, AllPairs, Contains};
 ghost use Rattle.ipdl_syntax.specs.Programs.{IsProgram, BearTheirNames};
 ghost use Rattle.schema_laws.specs.Numbers.{AreProtocolFiles, AreTypes};
-ghost use Rattle.actor_tables.specs.Numbered.{decl_of, AreNamedFiles, AddsKeys, IsStructKey, IsUnionKey, IsKeyOf, IsBefore, GivesNumbers, FindsNumbers, AreNumbersOf};
+ghost use Rattle.actor_tables.specs.Numbered.{decl_of, id_of_key, AreNamedFiles, AddsKeys, IsStructKey, IsUnionKey, IsKeyBelow, IsBefore, GivesNumbers, FindsNumbers, AreNumbersOf};
 
 use ipdl_base::Place;
 use ipdl_syntax::{Entry, StructDecl, UnionDecl, Unit};
@@ -55,16 +55,23 @@ fn named_files(alloc: Global, program: &[Entry]) -> Result<Vec<NamedFile<'_>>, A
     Ok(named)
 }
 
+/// The files, without the names.
+fn files_of(alloc: Global, named: &[NamedFile<'_>]) -> Result<Vec<u32>, AllocError>
+    ensures { IfOk result (λ files. files.items ≡ map (λ n. n.1) named.now) }
+{
+    named.iter().map(|named| named.1).collect(alloc)
+}
+
 /// The files that have protocols, in the order of the full names of these.
 fn protocol_files(alloc: Global, program: &[Entry]) -> Result<Vec<u32>, AllocError>
     requires is_program { IsProgram program.now }
     requires named { BearTheirNames program.now }
     ensures files { IfOk result (λ files. AreProtocolFiles program.now files.items) }
-    ensures few { IfOk result (λ files. vec_len files ≤ 4096) }
+    ensures few { IfOk result (λ files. length files.items ≤ 4096) }
 {
     let mut named = named_files(alloc, program)?;
     named.sort_unstable();
-    named.iter().map(|named| named.1).collect(alloc)
+    files_of(alloc, named.as_slice())
 }
 
 /// For each of these files its place among them, in a list of this many.
@@ -110,7 +117,7 @@ fn add_unions(unions: &[UnionDecl], keys: &mut Vec<TypeKey>) -> Result<(), Alloc
 
 /// The keys of the structs and unions of a program.
 fn type_keys(alloc: Global, program: &[Entry]) -> Result<Vec<TypeKey>, AllocError>
-    ensures { IfOk result (λ keys. AddsKeys (IsKeyOf program.now) [] keys.items) }
+    ensures { IfOk result (λ keys. AddsKeys (IsKeyBelow program.now (length program.now)) [] keys.items) }
 {
     let mut keys = Vec::new(alloc);
     for entry in program {
@@ -131,12 +138,10 @@ fn sorted_keys(keys: Vec<TypeKey>) -> Vec<TypeKey>
     keys
 }
 
-/// The structs and unions of a program, in the order of the text.
-fn type_ids(alloc: Global, program: &[Entry]) -> Result<Vec<TypeId>, AllocError>
-    requires { IsProgram program.now }
-    ensures { IfOk result (λ ids. AreTypes program.now (map decl_of ids.items)) }
+/// The structs and unions that have these keys.
+fn ids_of(alloc: Global, keys: &[TypeKey]) -> Result<Vec<TypeId>, AllocError>
+    ensures { IfOk result (λ ids. ids.items ≡ map id_of_key keys.now) }
 {
-    let keys = sorted_keys(type_keys(alloc, program)?);
     keys.iter()
         .map(|key| TypeId {
             file: key.place.file,
@@ -144,6 +149,15 @@ fn type_ids(alloc: Global, program: &[Entry]) -> Result<Vec<TypeId>, AllocError>
             index: key.index,
         })
         .collect(alloc)
+}
+
+/// The structs and unions of a program, in the order of the text.
+fn type_ids(alloc: Global, program: &[Entry]) -> Result<Vec<TypeId>, AllocError>
+    requires { IsProgram program.now }
+    ensures { IfOk result (λ ids. AreTypes program.now (map decl_of ids.items)) }
+{
+    let keys = sorted_keys(type_keys(alloc, program)?);
+    ids_of(alloc, keys.as_slice())
 }
 
 /// For each of these its place among them. More of them than there are numbers count as want of memory.
