@@ -9,5 +9,8 @@ pub mod Protocols
 pub mod Rowed
 pub mod Sight
 pub mod Suffixes
+pub mod TypeKeys
+pub mod TypeNumbers
+pub mod TypeOrder
 pub mod Uncarried
 pub mod Whole

@@ -117,7 +117,7 @@ named_total : IsTotalOrder named_cmp
 named_total = then_total (on_total (λ (n : Named). n.0.now) nat_list_cmp_total) (on_total (λ (n : Named). n.1) nat_cmp_total)
 
 -- an element that there is
-element : {X : Type 0} (xs : List X) (i : ℕ) → i < length xs → X
+pub element : {X : Type 0} (xs : List X) (i : ℕ) → i < length xs → X
 element xs i below = elim (slice_get_cases xs i).1 [ inl one ↦ one.0 | inr past ↦ absurd (omega arith) ]
 
 apart : (named : List Named) → AllPairs (λ a b. a.1 < b.1) named → IsDistinct nat_eq (Files named)
