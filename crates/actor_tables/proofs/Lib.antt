@@ -2,6 +2,7 @@ pub mod CleanProtocols
 pub mod CleanTypes
 pub mod Listed
 pub mod Lookups
+pub mod Made
 pub mod NamedFiles
 pub mod One
 pub mod Pieces

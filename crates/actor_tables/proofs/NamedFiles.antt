@@ -8,7 +8,7 @@ use Rattle.std.specs.List.Sorted.{IsSorted, IsPermutation}
 use Rattle.std.specs.Ordering.{nat_cmp, ordering_then, ordering_reverse, is_lt}
 use Rattle.std.proofs.lemmas.Bool.{cases_eq, cases_lt}
 use Rattle.std.proofs.lemmas.List.{map-append, length-map, get_or-map, get_or_read}
-use Rattle.std.proofs.lemmas.List.Elements.{All-push, All-weaker, All-contains, All-map, Contains-append_left, Contains-push}
+use Rattle.std.proofs.lemmas.List.Elements.{All-push, All-weaker, All-contains, All-map, Contains-append_left, Contains-get_or, Contains-push}
 use Rattle.std.proofs.lemmas.List.Quantifiers.{all_pairs_push}
 use Rattle.std.proofs.lemmas.Bool.Decides.{Decides-eqb, eqb_tells, not_from_Decides}
 use Rattle.std.proofs.lemmas.Cmp.{then_total, on_total, nat_cmp_total, nat_list_cmp_total, nat_eq_equiv}
@@ -194,3 +194,6 @@ files_few program named sorted files is are moved same =
     let few : length named ≤ length program = are.few in
     let all : length program ≤ 4096 = is.few in
     omega arith
+
+pub files_below : (program : List Entry) (files read : List ℕ) → AreProtocolFiles program files → read ≡ files → All (λ file. file < length program) read
+files_below program files read are same = subst (All (λ (file : ℕ). file < length program)) (sym same) (λ k d below. within program (get_or files k d) ((are.exact (get_or files k d)).0 (Contains-get_or files k d below)))
