@@ -1,8 +1,7 @@
 -- In a program that breaks no rule the names in a protocol find neither nothing nor two.
-use Rattle.std.proofs.Common.{◌≡◌, ℕ, ◌<◌, ◌≤◌, Bool, true, false, List, length, get_or, Option, Some, None, IsSome, IsSomeAnd, slice_get, inl, inr, refl, sym, ap, subst, arith}
-use Rattle.std.specs.Prelude.{option_and_then, IfSome, codes, if◌then◌else◌}
-use Rattle.std.specs.List.{All, AllByRecursion, Any, list_any}
-use Rattle.std.specs.Option.{ForSome}
+use Rattle.std.proofs.Common.{◌≡◌, ℕ, ◌<◌, ◌≤◌, Bool, true, false, List, length, get_or, Option, Some, IsSomeAnd, slice_get, inl, inr, refl, sym, subst, arith}
+use Rattle.std.specs.Prelude.{IfSome, codes, if◌then◌else◌}
+use Rattle.std.specs.List.{Any, list_any}
 use Rattle.std.specs.Str.{bytes_eq}
 use Rattle.std.proofs.lemmas.Bool.{cases_lt}
 use Rattle.std.proofs.lemmas.List.Elements.{All-from_recursion}
@@ -10,26 +9,22 @@ use Rattle.std.proofs.lemmas.List.Folds.{Any-from_list_any}
 use Rattle.std.proofs.lemmas.Option.{slice_get-get_or, slice_get_cases, option_and_then_some}
 use Rattle.std.proofs.lemmas.Slice.Eq.{bytes_eq-Decides}
 use Rattle.ipdl_base.specs.Words.{IsWord}
-use Rattle.ipdl_base.specs.declared.finding.Finding.{Finding}
 use Rattle.ipdl_base.specs.declared.finding.Place.{Place}
 use Rattle.ipdl_base.specs.declared.finding.TheConstants.Rule as rule
 use Rattle.ipdl_syntax.specs.declared.program.Entry.{Entry}
 use Rattle.ipdl_syntax.specs.declared.tree.MessageDecl.{MessageDecl}
 use Rattle.ipdl_syntax.specs.declared.tree.NameAt.{NameAt}
-use Rattle.ipdl_syntax.specs.declared.tree.Param.{Param}
 use Rattle.ipdl_syntax.specs.declared.tree.ProtocolDecl.{ProtocolDecl}
 use Rattle.ipdl_syntax.specs.Units.{ProtocolHasWords}
 use Rattle.findings.specs.Gains.{AtSome}
 use Rattle.manager_rules.specs.Broken.{IsUnknownProtocol}
 use Rattle.message_rules.specs.Broken as messages
 use Rattle.message_rules.specs.Messages.{IsTooMany}
-use Rattle.name_table.specs.Kinds.{IsKindOf, kind_of_message}
-use Rattle.name_table.specs.declared.kinds.MessageKind.{MessageKind}
 use Rattle.name_table.specs.declared.kinds.MessageKind.TheVariants as kind
 use Rattle.name_table.specs.Decls.{FindsNoProtocol, protocol_of}
-use Rattle.type_rules.specs.Written.{OfType, InParams, InMessage}
+use Rattle.type_rules.specs.Written.{InParams, InMessage}
 use Rattle.schema_laws.specs.Clean.{IsClean}
-use Rattle.actor_tables.specs.Source.{FindsSoleProtocol, ParamsFindSole, NamesFindSole, MessageFindsSole, ProtocolFindsSole}
+use Rattle.actor_tables.specs.Source.{FindsSoleProtocol, NamesFindSole, MessageFindsSole, ProtocolFindsSole}
 use Rattle.actor_tables.proofs.CleanTypes.{Unknown, Ambiguous, any_at, params_sole, unit_unknown, unit_ambiguous}
 use Rattle.actor_tables.proofs.Protocols.{never_two}
 
@@ -85,24 +80,24 @@ module _ (program : List Entry) (file : ℕ) (e : Entry) (p : ProtocolDecl) (cle
       too_many : 32768 < length p.messages → ⊥
       too_many more = elim (slice_get_cases p.messages 32768).1 [
         | inl one ↦ never_many program clean one.0.place (any_at (λ (x : Entry). IsSomeAnd x.unit.protocol (λ q. AtSome (λ index m. IsTooMany index × (m.place ≡ one.0.place)) q.messages)) program file e at
-          (held (λ q. AtSome (λ index m. IsTooMany index × (m.place ≡ one.0.place)) q.messages) e.unit.protocol p has (32768, one.0, one.2, (let few_more : 32768 ≤ 32768 = omega arith in few_more, refl))))
+            (held (λ q. AtSome (λ index m. IsTooMany index × (m.place ≡ one.0.place)) q.messages) e.unit.protocol p has (32768, one.0, one.2, (let few_more : 32768 ≤ 32768 = omega arith in few_more, refl))))
         | inr past ↦ absurd (omega arith)
       ]
 
   message_sole : (k : ℕ) (m : MessageDecl) → slice_get p.messages k ≡ Some m → MessageFindsSole program file p m
   message_sole k m there = record {
     params = params_sole program file m.params
-      (λ place h. unit_unknown program file e clean at place (inr (inr (held (λ q. Any (InMessage (Unknown program file place)) q.messages) e.unit.protocol p has (any_at (InMessage (Unknown program file place)) p.messages k m there (inl h))))))
-      (λ place h. unit_ambiguous program file e clean at place (inr (inr (held (λ q. Any (InMessage (Ambiguous program file place)) q.messages) e.unit.protocol p has (any_at (InMessage (Ambiguous program file place)) p.messages k m there (inl h))))));
+        (λ place h. unit_unknown program file e clean at place (inr (inr (held (λ q. Any (InMessage (Unknown program file place)) q.messages) e.unit.protocol p has (any_at (InMessage (Unknown program file place)) p.messages k m there (inl h))))))
+        (λ place h. unit_ambiguous program file e clean at place (inr (inr (held (λ q. Any (InMessage (Ambiguous program file place)) q.messages) e.unit.protocol p has (any_at (InMessage (Ambiguous program file place)) p.messages k m there (inl h))))));
     returns = λ params is. params_sole program file params
-      (λ place h. unit_unknown program file e clean at place (inr (inr (held (λ q. Any (InMessage (Unknown program file place)) q.messages) e.unit.protocol p has
+        (λ place h. unit_unknown program file e clean at place (inr (inr (held (λ q. Any (InMessage (Unknown program file place)) q.messages) e.unit.protocol p has
         (any_at (InMessage (Unknown program file place)) p.messages k m there (inr (in_some (InParams (Unknown program file place)) m.returns params is h)))))))
-      (λ place h. unit_ambiguous program file e clean at place (inr (inr (held (λ q. Any (InMessage (Ambiguous program file place)) q.messages) e.unit.protocol p has
+        (λ place h. unit_ambiguous program file e clean at place (inr (inr (held (λ q. Any (InMessage (Ambiguous program file place)) q.messages) e.unit.protocol p has
         (any_at (InMessage (Ambiguous program file place)) p.messages k m there (inr (in_some (InParams (Ambiguous program file place)) m.returns params is h)))))));
     made = λ makes.
-      let n = Any-from_list_any (λ (x : NameAt). bytes_eq x.name m.name) p.manages (constructor_managed (bytes_eq m.name (codes "__delete__")) (list_any (λ (x : NameAt). bytes_eq x.name m.name) p.manages) makes) in
-      let there : FindsSoleProtocol program file n.1.name = subst (λ (x : NameAt). FindsSoleProtocol program file x.name) n.3 (manages_sole n.0 n.1 n.2) in
-      subst (FindsSoleProtocol program file) ((bytes_eq-Decides n.1.name m.name).0 n.4) there;
+        let n = Any-from_list_any (λ (x : NameAt). bytes_eq x.name m.name) p.manages (constructor_managed (bytes_eq m.name (codes "__delete__")) (list_any (λ (x : NameAt). bytes_eq x.name m.name) p.manages) makes) in
+        let there : FindsSoleProtocol program file n.1.name = subst (λ (x : NameAt). FindsSoleProtocol program file x.name) n.3 (manages_sole n.0 n.1 n.2) in
+        subst (FindsSoleProtocol program file) ((bytes_eq-Decides n.1.name m.name).0 n.4) there;
   }
 
   whole : ProtocolFindsSole program file p

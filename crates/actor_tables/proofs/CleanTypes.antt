@@ -1,9 +1,7 @@
 -- In a program that breaks no rule each name of a type finds neither nothing nor two.
-use Rattle.std.proofs.Common.{◌≡◌, ℕ, ◌<◌, Bool, List, length, get_or, Option, Some, None, IsSome, IsSomeAnd, slice_get, option_map, inl, inr, refl, subst, sym}
-use Rattle.std.specs.Prelude.{option_and_then}
-use Rattle.std.specs.List.{All, Any}
+use Rattle.std.proofs.Common.{◌≡◌, ℕ, Bool, List, get_or, Some, slice_get, inl, inr, refl}
+use Rattle.std.specs.List.{Any}
 use Rattle.std.proofs.lemmas.Option.{slice_get_within, slice_get-get_or, get_or_from_slice_get, option_and_then_some}
-use Rattle.ipdl_base.specs.declared.finding.Finding.{Finding}
 use Rattle.ipdl_base.specs.declared.finding.Place.{Place}
 use Rattle.ipdl_base.specs.declared.finding.TheConstants.Rule as rule
 use Rattle.ipdl_syntax.specs.declared.program.Entry.{Entry}
@@ -67,13 +65,13 @@ unit_ambiguous program file e clean at place h = never_ambiguous program clean p
 pub struct_sole : (program : List Entry) (file index : ℕ) (s : StructDecl) → IsClean program → struct_of program file index ≡ Some s → ParamsFindSole program file s.fields
 struct_sole program file index s clean is =
     option_and_then_some (λ (e : Entry). slice_get e.unit.structs index) (slice_get program file) s is (λ e at here.
-      params_sole program file s.fields
-      (λ place h. unit_unknown program file e clean at place (inl (any_at (λ (t : StructDecl). InParams (Unknown program file place) t.fields) e.unit.structs index s here h)))
-      (λ place h. unit_ambiguous program file e clean at place (inl (any_at (λ (t : StructDecl). InParams (Ambiguous program file place) t.fields) e.unit.structs index s here h))))
+    params_sole program file s.fields
+    (λ place h. unit_unknown program file e clean at place (inl (any_at (λ (t : StructDecl). InParams (Unknown program file place) t.fields) e.unit.structs index s here h)))
+    (λ place h. unit_ambiguous program file e clean at place (inl (any_at (λ (t : StructDecl). InParams (Ambiguous program file place) t.fields) e.unit.structs index s here h))))
 
 pub union_sole : (program : List Entry) (file index : ℕ) (u : UnionDecl) → IsClean program → union_of program file index ≡ Some u → TypesFindSole program file u.components
 union_sole program file index u clean is =
     option_and_then_some (λ (e : Entry). slice_get e.unit.unions index) (slice_get program file) u is (λ e at here.
-      types_sole program file u.components
-      (λ place h. unit_unknown program file e clean at place (inr (inl (any_at (λ (t : UnionDecl). Any (InType (Unknown program file place)) t.components) e.unit.unions index u here h))))
-      (λ place h. unit_ambiguous program file e clean at place (inr (inl (any_at (λ (t : UnionDecl). Any (InType (Ambiguous program file place)) t.components) e.unit.unions index u here h)))))
+    types_sole program file u.components
+    (λ place h. unit_unknown program file e clean at place (inr (inl (any_at (λ (t : UnionDecl). Any (InType (Unknown program file place)) t.components) e.unit.unions index u here h))))
+    (λ place h. unit_ambiguous program file e clean at place (inr (inl (any_at (λ (t : UnionDecl). Any (InType (Ambiguous program file place)) t.components) e.unit.unions index u here h)))))

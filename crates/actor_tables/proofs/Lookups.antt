@@ -3,7 +3,7 @@ use Rattle.std.proofs.Common.{◌≡◌, ℕ, ◌<◌, ◌≤◌, Bool, true, fa
 use Rattle.std.specs.List.{Contains}
 use Rattle.std.specs.HashMap.{get}
 use Rattle.std.proofs.lemmas.List.{length-map, get_or-map}
-use Rattle.std.proofs.lemmas.Option.{slice_get_within, slice_get_read, slice_get-map, none-some}
+use Rattle.std.proofs.lemmas.Option.{slice_get_within, slice_get_read, slice_get-map}
 use Rattle.ipdl_syntax.specs.declared.program.Entry.{Entry}
 use Rattle.name_table.specs.declared.decl.DeclId.{DeclId}
 use Rattle.name_table.specs.declared.decl.DeclId.TheVariants.{Struct, Union}

@@ -1,5 +1,5 @@
 -- The files of protocols, in the order of full names, and their numbers.
-use Rattle.std.proofs.Common.{◌≡◌, ◌≢◌, ℕ, ◌+◌, ◌<◌, ◌≤◌, ◌⊎◌, inl, inr, Bool, true, false, List, [], ◌∷◌, ◌++◌, length, get_or, set, map, Option, Some, None, IsSome, IsSomeAnd, slice_get, option_map, refl, sym, ap, subst, ◌∙◌, arith, Bor, Vec, Global, true≢false, Ordering, Less, Equal, Greater, nat_eq, get_or-set_same, get_or-set_other, length-set, length-append}
+use Rattle.std.proofs.Common.{◌≡◌, ◌≢◌, ℕ, ◌+◌, ◌<◌, ◌≤◌, inl, inr, false, List, [], ◌∷◌, ◌++◌, length, get_or, set, map, Option, Some, None, IsSome, IsSomeAnd, slice_get, refl, sym, ap, subst, ◌∙◌, arith, Bor, Vec, Global, true≢false, Ordering, Less, Equal, Greater, nat_eq, get_or-set_same, get_or-set_other, length-append}
 use Rattle.std.specs.Prelude.{option_and_then}
 use Rattle.std.specs.Cmp.{IsTotalOrder}
 use Rattle.std.specs.Cmp.Lexicographic.{slice_cmp}
@@ -48,11 +48,11 @@ none_named program = record {
 pub named_push : (program : List Entry) (i : ℕ) (named new : List Named) (full : Bor (List ℕ)) (p : ProtocolDecl) → AreNamedFiles program i named → protocol_of program i ≡ Some p → full.now ≡ p.full → new ≡ named ++ (full, i) ∷ [] → AreNamedFiles program (i + 1) new
 named_push program i named new full p are has same is = subst (AreNamedFiles program (i + 1)) (sym is) (record {
   full = All-push (λ (n : Named). IsSomeAnd (protocol_of program n.1) (λ q. q.full ≡ n.0.now)) named (full, i) are.full
-    (let P : Option ProtocolDecl → Type 0 = λ o. IsSomeAnd o (λ q. q.full ≡ full.now) in subst P (sym has) (sym same));
+      (let P : Option ProtocolDecl → Type 0 = λ o. IsSomeAnd o (λ q. q.full ≡ full.now) in subst P (sym has) (sym same));
   complete = λ file below there. elim (cases_lt file i) [
     | inl earlier ↦ subst (λ (xs : List ℕ). Contains xs file) (sym (map-append (λ (n : Named). n.1) named ((full, i) ∷ []))) (Contains-append_left (Files named) (i ∷ []) file (are.complete file earlier there))
     | inr later ↦ subst (λ (xs : List ℕ). Contains xs file) (sym (map-append (λ (n : Named). n.1) named ((full, i) ∷ [])))
-      (subst (λ (f : ℕ). Contains (Files named ++ i ∷ []) f) (let same_file : i ≡ file = omega arith in same_file) (Contains-push (Files named) i))
+        (subst (λ (f : ℕ). Contains (Files named ++ i ∷ []) f) (let same_file : i ≡ file = omega arith in same_file) (Contains-push (Files named) i))
   ];
   rising = all_pairs_push (λ (a b : Named). a.1 < b.1) named (full, i) are.rising (λ k d below. are.below k d below);
   below = All-push (λ (n : Named). n.1 < i + 1) named (full, i) (All-weaker (λ (n : Named). n.1 < i) (λ (n : Named). n.1 < i + 1) (λ n less. omega arith) named are.below) (omega arith);
@@ -122,12 +122,12 @@ element xs i below = elim (slice_get_cases xs i).1 [ inl one ↦ one.0 | inr pas
 
 apart : (named : List Named) → AllPairs (λ a b. a.1 < b.1) named → IsDistinct nat_eq (Files named)
 apart named rising = IsDistinct-from_apart nat_eq (Files named) (λ i j d before below.
-  let long : j < length named = rw (length-map named (λ (n : Named). n.1)) at below in
-  let a = element named j long in
-  let less : (get_or named i a).1 < (get_or named j a).1 = rising i j a before long in
-  let one : get_or (Files named) i d ≡ (get_or named i a).1 = get_or-map (λ (n : Named). n.1) named i a d (omega arith) in
-  let other : get_or (Files named) j d ≡ (get_or named j a).1 = get_or-map (λ (n : Named). n.1) named j a d long in
-  elim (eqb_tells (get_or (Files named) i d) (get_or (Files named) j d)) [ inl same ↦ absurd (let e = same.1 in omega arith) | inr differ ↦ differ.0 ])
+    let long : j < length named = rw (length-map named (λ (n : Named). n.1)) at below in
+    let a = element named j long in
+    let less : (get_or named i a).1 < (get_or named j a).1 = rising i j a before long in
+    let one : get_or (Files named) i d ≡ (get_or named i a).1 = get_or-map (λ (n : Named). n.1) named i a d (omega arith) in
+    let other : get_or (Files named) j d ≡ (get_or named j a).1 = get_or-map (λ (n : Named). n.1) named j a d long in
+    elim (eqb_tells (get_or (Files named) i d) (get_or (Files named) j d)) [ inl same ↦ absurd (let e = same.1 in omega arith) | inr differ ↦ differ.0 ])
 
 eq_flips : (x y : ℕ) → nat_eq x y ≡ nat_eq y x
 eq_flips = nat_eq_equiv.symm
@@ -163,26 +163,26 @@ pub files_ordered : (program : List Entry) (named sorted : List Named) (files : 
     → files ≡ Files sorted → AreProtocolFiles program files
 files_ordered program named sorted files is bear are moved order same = subst (AreProtocolFiles program) (sym same) (record {
   ordered = λ i j d before below p q has other.
-    let long : j < length sorted = rw (length-map sorted (λ (n : Named). n.1)) at below in
-    let first : i < length sorted = omega arith in
-    let e = element sorted j long in
-    let a = get_or sorted i e in
-    let b = get_or sorted j e in
-    let full = All-permutation (λ (n : Named). IsSomeAnd (protocol_of program n.1) (λ r. r.full ≡ n.0.now)) named sorted moved are.full in
-    let at_i : get_or (Files sorted) i d ≡ a.1 = get_or-map (λ (n : Named). n.1) sorted i e d first in
-    let at_j : get_or (Files sorted) j d ≡ b.1 = get_or-map (λ (n : Named). n.1) sorted j e d long in
-    let differ : nat_eq (get_or (Files sorted) i d) (get_or (Files sorted) j d) ≡ false = apart_from_distinct nat_eq (Files sorted) i j d
+      let long : j < length sorted = rw (length-map sorted (λ (n : Named). n.1)) at below in
+      let first : i < length sorted = omega arith in
+      let e = element sorted j long in
+      let a = get_or sorted i e in
+      let b = get_or sorted j e in
+      let full = All-permutation (λ (n : Named). IsSomeAnd (protocol_of program n.1) (λ r. r.full ≡ n.0.now)) named sorted moved are.full in
+      let at_i : get_or (Files sorted) i d ≡ a.1 = get_or-map (λ (n : Named). n.1) sorted i e d first in
+      let at_j : get_or (Files sorted) j d ≡ b.1 = get_or-map (λ (n : Named). n.1) sorted j e d long in
+      let differ : nat_eq (get_or (Files sorted) i d) (get_or (Files sorted) j d) ≡ false = apart_from_distinct nat_eq (Files sorted) i j d
       (IsDistinct-IsPermutation nat_eq eq_flips (Files named) (Files sorted) (IsPermutation-map (λ (n : Named). n.1) named sorted moved) (apart named are.rising)) before below in
-    let here : protocol_of program a.1 ≡ Some p = ap (protocol_of program) (sym at_i) ∙ has in
-    let there : protocol_of program b.1 ≡ Some q = ap (protocol_of program) (sym at_j) ∙ other in
-    in_order program a b p q is bear (sorted_far (λ (x y : Named). is_lt (named_cmp x y)) (ranks_by named_total (λ (n : Named). n)) sorted order i j e (omega arith) long)
+      let here : protocol_of program a.1 ≡ Some p = ap (protocol_of program) (sym at_i) ∙ has in
+      let there : protocol_of program b.1 ≡ Some q = ap (protocol_of program) (sym at_j) ∙ other in
+      in_order program a b p q is bear (sorted_far (λ (x y : Named). is_lt (named_cmp x y)) (ranks_by named_total (λ (n : Named). n)) sorted order i j e (omega arith) long)
       (λ same_number. not_from_Decides _ (Decides-eqb (get_or (Files sorted) i d) (get_or (Files sorted) j d)) differ (at_i ∙ same_number ∙ sym at_j))
       here there (full_of program a p (full i e first) here) (full_of program b q (full j e long) there);
   exact = λ file. (
     (λ h. All-contains (λ (f : ℕ). IsSome (protocol_of program f)) (Files sorted) file
-      (All-map (λ (f : ℕ). IsSome (protocol_of program f)) (λ (n : Named). n.1) sorted
+        (All-map (λ (f : ℕ). IsSome (protocol_of program f)) (λ (n : Named). n.1) sorted
         (All-permutation (λ (n : Named). IsSome (protocol_of program n.1)) named sorted moved
-          (All-weaker (λ (n : Named). IsSomeAnd (protocol_of program n.1) (λ q. q.full ≡ n.0.now)) (λ (n : Named). IsSome (protocol_of program n.1)) (λ n k. some_at_all (protocol_of program n.1) (λ q. q.full ≡ n.0.now) k) named are.full))) h),
+        (All-weaker (λ (n : Named). IsSomeAnd (protocol_of program n.1) (λ q. q.full ≡ n.0.now)) (λ (n : Named). IsSome (protocol_of program n.1)) (λ n k. some_at_all (protocol_of program n.1) (λ q. q.full ≡ n.0.now) k) named are.full))) h),
     (λ there. Contains-permutation (Files named) (Files sorted) file (IsPermutation-map (λ (n : Named). n.1) named sorted moved) (are.complete file (within program file there) there)),
   );
 })

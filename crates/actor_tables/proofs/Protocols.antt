@@ -1,7 +1,7 @@
 -- The protocols of a program that bear the names of their files.
-use Rattle.std.proofs.Common.{◌≡◌, ℕ, ◌<◌, ◌⊎◌, inl, inr, Bool, true, false, List, [], ◌∷◌, ◌++◌, length, get_or, Option, Some, None, IsSome, IsSomeAnd, slice_get, option_map, refl, sym, ap, subst, ◌∙◌}
+use Rattle.std.proofs.Common.{◌≡◌, ℕ, ◌<◌, inl, inr, true, false, List, [], ◌∷◌, ◌++◌, get_or, Option, Some, None, slice_get, option_map, refl, sym, ap, subst, ◌∙◌}
 use Rattle.std.specs.Prelude.{option_and_then, IfSome, ◌||◌, ◌&&◌, nat_le}
-use Rattle.std.specs.List.{All, AllByRecursion, AllPairs, list_any, list_all}
+use Rattle.std.specs.List.{list_any, list_all}
 use Rattle.std.proofs.lemmas.Bool.{and_from, and_parts, cases_order}
 use Rattle.std.proofs.lemmas.Bool.Decides.{eqb_tells}
 use Rattle.std.proofs.lemmas.List.Elements.{All-from_recursion}
@@ -14,9 +14,8 @@ use Rattle.ipdl_syntax.specs.Programs.{IsProgram, BearTheirNames, ending}
 use Rattle.name_table.specs.declared.decl.DeclId.{DeclId}
 use Rattle.name_table.specs.declared.decl.DeclId.TheVariants.{Builtin, Using, Struct, Union, Protocol, Endpoint}
 use Rattle.name_table.specs.declared.decl.Found.TheVariants as found
-use Rattle.name_table.specs.Declares.{full_name_of}
 use Rattle.name_table.specs.Decls.{protocol_of}
-use Rattle.name_table.specs.Finds.{FindsAsProtocol, FindsProtocol, IsNameOf, Counts}
+use Rattle.name_table.specs.Finds.{FindsAsProtocol, FindsProtocol, Counts}
 use Rattle.name_table.proofs.FullNames.{colon, short_name-whole}
 use Rattle.name_table.proofs.Seeing.{sees_shown}
 
@@ -46,9 +45,9 @@ one_file program a b d e is at there same = elim (cases_order a b) [
 pub same_file : (program : List Entry) (a b : ℕ) (p q : ProtocolDecl) → IsProgram program → BearTheirNames program → protocol_of program a ≡ Some p → protocol_of program b ≡ Some q → short_name p.full ≡ short_name q.full → a ≡ b
 same_file program a b p q is named has other same =
     option_and_then_some (λ (e : Entry). e.unit.protocol) (slice_get program a) p has (λ d at here.
-      option_and_then_some (λ (e : Entry). e.unit.protocol) (slice_get program b) q other (λ e there has_it.
-        one_file program a b d e is at there
-        (key_of program a d p named at here ∙ ap (λ (name : List ℕ). name ++ ending kinds.Protocol) same ∙ sym (key_of program b e q named there has_it))))
+    option_and_then_some (λ (e : Entry). e.unit.protocol) (slice_get program b) q other (λ e there has_it.
+    one_file program a b d e is at there
+    (key_of program a d p named at here ∙ ap (λ (name : List ℕ). name ++ ending kinds.Protocol) same ∙ sym (key_of program b e q named there has_it))))
 
 -- Names that are words
 

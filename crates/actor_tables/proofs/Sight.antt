@@ -1,9 +1,9 @@
 -- What a name finds stands in the program.
-use Rattle.std.proofs.Common.{◌≡◌, ℕ, List, Option, Some, None, IsSome, IsSomeAnd, slice_get, option_map, subst, sym, refl}
+use Rattle.std.proofs.Common.{◌≡◌, ℕ, List, Option, Some, None, IsSome, slice_get, option_map, subst, refl}
 use Rattle.std.specs.Prelude.{option_and_then}
 use Rattle.std.proofs.lemmas.Option.{none-some}
 use Rattle.ipdl_syntax.specs.declared.program.Entry.{Entry}
-use Rattle.ipdl_syntax.specs.declared.tree.Base.{Base, Named, Unique'}
+use Rattle.ipdl_syntax.specs.declared.tree.Base.{Named}
 use Rattle.ipdl_syntax.specs.declared.tree.ProtocolDecl.{ProtocolDecl}
 use Rattle.ipdl_syntax.specs.declared.tree.StructDecl.{StructDecl}
 use Rattle.ipdl_syntax.specs.declared.tree.UnionDecl.{UnionDecl}
@@ -15,7 +15,6 @@ use Rattle.name_table.specs.Declares.{full_name_of}
 use Rattle.name_table.specs.Decls.{FindsOne, FindsOneProtocol, protocol_of}
 use Rattle.name_table.specs.Finds.{Finds, FindsAsProtocol, FindsProtocol, Counts}
 use Rattle.name_table.proofs.Seeing.{sees_shown}
-use Rattle.schema_laws.specs.Numbers.{place_of}
 use Rattle.actor_tables.specs.Source.{IsThere, FindsSole, FindsSoleProtocol}
 
 struct_there : (o : Option Entry) (index : ℕ) (full : List ℕ) → option_and_then (λ e. option_map (λ s. s.full) (slice_get e.unit.structs index)) o ≡ Some full

@@ -1,6 +1,6 @@
 -- The keys of structs and unions.
 use Rattle.std.proofs.Common.{◌≡◌, ℕ, ◌+◌, ◌<◌, ◌≤◌, ◌⊎◌, inl, inr, Bool, true, false, List, [], ◌∷◌, ◌++◌, length, get_or, Option, Some, None, slice_get, option_map, refl, sym, ap, subst, ◌∙◌, arith}
-use Rattle.std.specs.Prelude.{◌↔◌, option_and_then}
+use Rattle.std.specs.Prelude.{option_and_then}
 use Rattle.std.specs.List.{Contains}
 use Rattle.std.proofs.lemmas.Bool.{cases_lt}
 use Rattle.std.proofs.lemmas.List.Elements.{Contains-append_left, Contains-push, Contains-push_cases}
@@ -77,9 +77,9 @@ to_place : (program : List Entry) (i : ℕ) (e : Entry) (key : TypeKey) → slic
     → place_of program (decl_of (record { file = i; is_union = key.is_union; index = key.index })) ≡ Some key.place
 to_place program i e key at h = elim h [
   | inl s ↦ subst (λ (u : Bool). place_of program (decl_of (record { file = i; is_union = u; index = key.index })) ≡ Some key.place) (sym s.0)
-    (ap (λ (o : Option Entry). option_map (λ (x : StructDecl). x.place) (option_and_then (λ (y : Entry). slice_get y.unit.structs key.index) o)) at ∙ s.1)
+      (ap (λ (o : Option Entry). option_map (λ (x : StructDecl). x.place) (option_and_then (λ (y : Entry). slice_get y.unit.structs key.index) o)) at ∙ s.1)
   | inr u ↦ subst (λ (b : Bool). place_of program (decl_of (record { file = i; is_union = b; index = key.index })) ≡ Some key.place) (sym u.0)
-    (ap (λ (o : Option Entry). option_map (λ (x : UnionDecl). x.place) (option_and_then (λ (y : Entry). slice_get y.unit.unions key.index) o)) at ∙ u.1)
+      (ap (λ (o : Option Entry). option_map (λ (x : UnionDecl). x.place) (option_and_then (λ (y : Entry). slice_get y.unit.unions key.index) o)) at ∙ u.1)
 ]
 
 from_place : (program : List Entry) (i : ℕ) (e : Entry) (key : TypeKey) → slice_get program i ≡ Some e → place_of program (decl_of (record { file = i; is_union = key.is_union; index = key.index })) ≡ Some key.place
@@ -87,10 +87,16 @@ from_place : (program : List Entry) (i : ℕ) (e : Entry) (key : TypeKey) → sl
 from_place program i e key at h = go key.is_union refl
   where
     go : (u : Bool) → key.is_union ≡ u → IsStructKey e.unit.structs key ⊎ IsUnionKey e.unit.unions key
-    go false is = inl (is, sym (ap (λ (o : Option Entry). option_map (λ (x : StructDecl). x.place) (option_and_then (λ (y : Entry). slice_get y.unit.structs key.index) o)) at)
-      ∙ subst (λ (u : Bool). place_of program (decl_of (record { file = i; is_union = u; index = key.index })) ≡ Some key.place) is h)
-    go true is = inr (is, sym (ap (λ (o : Option Entry). option_map (λ (x : UnionDecl). x.place) (option_and_then (λ (y : Entry). slice_get y.unit.unions key.index) o)) at)
-      ∙ subst (λ (u : Bool). place_of program (decl_of (record { file = i; is_union = u; index = key.index })) ≡ Some key.place) is h)
+    go false is = inl (
+      is,
+      sym (ap (λ (o : Option Entry). option_map (λ (x : StructDecl). x.place) (option_and_then (λ (y : Entry). slice_get y.unit.structs key.index) o)) at)
+          ∙ subst (λ (u : Bool). place_of program (decl_of (record { file = i; is_union = u; index = key.index })) ≡ Some key.place) is h,
+    )
+    go true is = inr (
+      is,
+      sym (ap (λ (o : Option Entry). option_map (λ (x : UnionDecl). x.place) (option_and_then (λ (y : Entry). slice_get y.unit.unions key.index) o)) at)
+          ∙ subst (λ (u : Bool). place_of program (decl_of (record { file = i; is_union = u; index = key.index })) ≡ Some key.place) is h,
+    )
 
 pub below_none : (program : List Entry) (keys : List TypeKey) → keys ≡ [] → AddsKeys (IsKeyBelow program 0) [] keys
 below_none program keys is = subst (AddsKeys (IsKeyBelow program 0) []) (sym is) (record { exact = λ key. (λ h. inl h, λ h. elim h [ inl a ↦ a | inr b ↦ absurd (let below : b.0 < 0 = b.1 in omega arith) ]) })

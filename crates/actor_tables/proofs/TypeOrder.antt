@@ -1,5 +1,5 @@
 -- The order of structs and unions.
-use Rattle.std.proofs.Common.{◌≡◌, ℕ, ◌+◌, ◌<◌, ◌≤◌, ◌⊎◌, inl, inr, Bool, true, false, List, [], length, get_or, map, Option, Some, None, IsSome, slice_get, option_map, refl, sym, ap, subst, ◌∙◌, arith, true≢false, Ordering, Less, Equal, Greater}
+use Rattle.std.proofs.Common.{◌≡◌, ℕ, ◌<◌, inl, inr, Bool, true, false, List, [], length, get_or, map, Option, Some, None, IsSome, slice_get, option_map, refl, sym, ap, subst, ◌∙◌, arith, true≢false, Ordering, Less, Equal, Greater}
 use Rattle.std.specs.Prelude.{◌↔◌, option_and_then}
 use Rattle.std.specs.Cmp.{IsTotalOrder, Equal-is, bool_cmp_total}
 use Rattle.std.specs.FinMap.{nat_cmp-IsAntisymmetric}
@@ -71,7 +71,7 @@ D key = decl_of (id_of_key key)
 
 order_is : (x y : Bool) (f g i j : ℕ) → ordering_then (bool_cmp x y) (nat_cmp i j)
     ≡ ordering_then (nat_cmp (list_number (decl_of (record { file = f; is_union = x; index = i }))) (list_number (decl_of (record { file = g; is_union = y; index = j }))))
-      (nat_cmp (index_of (decl_of (record { file = f; is_union = x; index = i }))) (index_of (decl_of (record { file = g; is_union = y; index = j }))))
+    (nat_cmp (index_of (decl_of (record { file = f; is_union = x; index = i }))) (index_of (decl_of (record { file = g; is_union = y; index = j }))))
 order_is false false f g i j = refl
 order_is false true f g i j = refl
 order_is true false f g i j = refl
@@ -139,7 +139,7 @@ module _ (program : List Entry) (keys : List TypeKey) (is : IsProgram program) (
   types_there =
       All-map (λ (d : DeclId). IsSome (place_of program d)) decl_of (map id_of_key keys)
       (All-map (λ (id : TypeId). IsSome (place_of program (decl_of id))) id_of_key keys
-        (λ k d below. some_there (place_of program (D (get_or keys k d))) (get_or keys k d).place (key_place (get_or keys k d) (Contains-get_or keys k d below))))
+      (λ k d below. some_there (place_of program (D (get_or keys k d))) (get_or keys k d).place (key_place (get_or keys k d) (Contains-get_or keys k d below))))
 
   type_at : (i : ℕ) (key : TypeKey) (d : DeclId) → i < length keys → get_or types i d ≡ D (get_or keys i key)
   type_at i key d below =
@@ -148,20 +148,20 @@ module _ (program : List Entry) (keys : List TypeKey) (is : IsProgram program) (
   pub types_ordered : AllPairs IsBefore keys → AreTypes program types
   types_ordered order = record {
     ordered = λ i j d before below p q has other.
-      let long : j < length keys = rw (length-map (map id_of_key keys) decl_of, length-map keys id_of_key) at below in
-      let first : i < length keys = omega arith in
-      let e = element keys j long in
-      let a = get_or keys i e in
-      let b = get_or keys j e in
-      let p_is : p ≡ a.place = same_Some p a.place (sym has ∙ ap (place_of program) (type_at i e d first) ∙ key_place a (Contains-get_or keys i e first)) in
-      let q_is : q ≡ b.place = same_Some q b.place (sym other ∙ ap (place_of program) (type_at j e d long) ∙ key_place b (Contains-get_or keys j e long)) in
-      let less : key_cmp a b ≡ Less = order i j e before long in
-      let Goal : Place → Place → DeclId → DeclId → Type 0 = λ x y s t. ordering_then (place_cmp x y) (ordering_then (nat_cmp (list_number s) (list_number t)) (nat_cmp (index_of s) (index_of t))) ≡ Less in
-      let plain : Goal a.place b.place (D a) (D b) = ap (ordering_then (place_cmp a.place b.place)) (sym (order_is a.is_union b.is_union a.place.file b.place.file a.index b.index)) ∙ less in
-      subst (λ (x : Place). Goal x q (get_or types i d) (get_or types j d)) (sym p_is)
-      (subst (λ (y : Place). Goal a.place y (get_or types i d) (get_or types j d)) (sym q_is)
-      (subst (λ (s : DeclId). Goal a.place b.place s (get_or types j d)) (sym (type_at i e d first))
-      (subst (λ (t : DeclId). Goal a.place b.place (D a) t) (sym (type_at j e d long)) plain)));
+        let long : j < length keys = rw (length-map (map id_of_key keys) decl_of, length-map keys id_of_key) at below in
+        let first : i < length keys = omega arith in
+        let e = element keys j long in
+        let a = get_or keys i e in
+        let b = get_or keys j e in
+        let p_is : p ≡ a.place = same_Some p a.place (sym has ∙ ap (place_of program) (type_at i e d first) ∙ key_place a (Contains-get_or keys i e first)) in
+        let q_is : q ≡ b.place = same_Some q b.place (sym other ∙ ap (place_of program) (type_at j e d long) ∙ key_place b (Contains-get_or keys j e long)) in
+        let less : key_cmp a b ≡ Less = order i j e before long in
+        let Goal : Place → Place → DeclId → DeclId → Type 0 = λ x y s t. ordering_then (place_cmp x y) (ordering_then (nat_cmp (list_number s) (list_number t)) (nat_cmp (index_of s) (index_of t))) ≡ Less in
+        let plain : Goal a.place b.place (D a) (D b) = ap (ordering_then (place_cmp a.place b.place)) (sym (order_is a.is_union b.is_union a.place.file b.place.file a.index b.index)) ∙ less in
+        subst (λ (x : Place). Goal x q (get_or types i d) (get_or types j d)) (sym p_is)
+        (subst (λ (y : Place). Goal a.place y (get_or types i d) (get_or types j d)) (sym q_is)
+        (subst (λ (s : DeclId). Goal a.place b.place s (get_or types j d)) (sym (type_at i e d first))
+        (subst (λ (t : DeclId). Goal a.place b.place (D a) t) (sym (type_at j e d long)) plain)));
     exact = λ d. (λ h. All-contains (λ (x : DeclId). IsSome (place_of program x)) types d types_there h, λ h. in_types d h);
   }
 
@@ -171,5 +171,6 @@ pub types_of : (program : List Entry) (made keys : List TypeKey) (read : List Ty
 types_of program made keys read ids is are order same at made_of =
     let exact : (key : TypeKey) → Contains keys key ↔ IsKeyBelow program (length program) key = λ key. (
       (λ h. elim ((are.exact key).0 ((same key).0 h)) [ inl none ↦ absurd (let below : none.0 < 0 = none.1 in omega arith) | inr k ↦ k ]),
-      (λ h. (same key).1 ((are.exact key).1 (inr h)))) in
+      (λ h. (same key).1 ((are.exact key).1 (inr h))),
+    ) in
     subst (λ (xs : List TypeId). AreTypes program (map decl_of xs)) (sym (made_of ∙ ap (map id_of_key) at)) (types_ordered program keys is exact order)

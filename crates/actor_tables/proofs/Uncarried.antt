@@ -1,10 +1,10 @@
 -- Which marks tell of types that are not carried.
 use Rattle.std.proofs.Common.{◌≡◌, ℕ, ◌+◌, ◌<◌, ◌≤◌, zero, suc, Bool, true, false, List, [], ◌∷◌, ◌++◌, length, get_or, take, Option, Some, None, IsSomeAnd, slice_get, ◌⊎◌, inl, inr, refl, sym, ap, subst, ◌∙◌, arith, cond}
 use Rattle.std.specs.Prelude.{◌↔◌, IsTrue, MatchOption}
-use Rattle.std.specs.List.{AllZip, Contains, filter_map, cons_option}
+use Rattle.std.specs.List.{Contains, filter_map, cons_option}
 use Rattle.std.proofs.Math.Numerals.{add-one}
 use Rattle.std.proofs.lemmas.List.{take_more}
-use Rattle.std.proofs.lemmas.List.Elements.{Contains-append_right, Contains-append_cases, Contains-push, Contains-push_cases}
+use Rattle.std.proofs.lemmas.List.Elements.{Contains-append_right, Contains-append_cases, Contains-push_cases}
 use Rattle.std.proofs.lemmas.Option.{none-some, same_Some, slice_get-get_or, slice_get_past}
 use Rattle.std.proofs.lemmas.Slice.Zip.{all_zipped_more, AllZip-left, AllZip-right}
 use Rattle.ipdl_base.specs.Builtins.{is_carried}
@@ -18,7 +18,6 @@ use Rattle.least_sets.specs.declared.nodes.Need.TheVariants.{All, One}
 use Rattle.least_sets.specs.declared.nodes.Node.{Node}
 use Rattle.actor_tables.specs.Marked.{part_of, parts_of, IsNodeOf, AreNodesOf, AreMarked}
 use Rattle.actor_tables.specs.declared.carried.MarkedTypes.{MarkedTypes}
-use Rattle.actor_tables.proofs.Lookups.{at_some}
 
 -- Lists of what a function gives
 
@@ -93,8 +92,8 @@ set_mark types s are h =
 
 pub mark_tells : (types : MarkedTypes) (s : Shape) (p : ℕ) (mark : Bool) → AreMarked types → Some p ≡ part_of s → slice_get types.marks.items p ≡ Some mark → IsTrue mark ↔ MentionsUncarried types.rows.items s
 mark_tells types s p mark are part at = (
-    (λ is. part_mentions types.rows.items s p (sym part) (λ t e. (are.each t).0 (subst (λ (k : ℕ). slice_get types.marks.items k ≡ Some true) e (at ∙ ap Some is)))),
-    (λ h.
+  (λ is. part_mentions types.rows.items s p (sym part) (λ t e. (are.each t).0 (subst (λ (k : ℕ). slice_get types.marks.items k ≡ Some true) e (at ∙ ap Some is)))),
+  (λ h.
       let m = set_mark types s are h in
       let same : m.0 ≡ p = same_Some m.0 p (sym m.1 ∙ sym part) in
       same_Some mark true (sym at ∙ subst (λ (k : ℕ). slice_get types.marks.items k ≡ Some true) same m.2)),
@@ -188,8 +187,8 @@ marked types nodes are marks = record {
   each = λ number. (
     (λ is. derived_mentions types.rows.items nodes are ((marks.exact (number + 1)).0 is) number refl),
     (λ h.
-      let m = derived_mark types.rows.items nodes are h in
-      (marks.exact (number + 1)).1 (subst (IsDerived nodes) (sym (same_Some (number + 1) m.0 m.1)) m.2)),
+        let m = derived_mark types.rows.items nodes are h in
+        (marks.exact (number + 1)).1 (subst (IsDerived nodes) (sym (same_Some (number + 1) m.0 m.1)) m.2)),
   );
 }
 

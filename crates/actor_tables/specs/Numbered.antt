@@ -1,5 +1,5 @@
 -- The numbers of protocols and types as they are made and looked up.
-use Rattle.std.specs.Prelude.{◌≡◌, ◌↔◌, ◌⊎◌, ℕ, ◌<◌, ◌≤◌, Bool, true, false, ◌&&◌, ◌==◌, if◌then◌else◌, List, map, length, Option, Some, IsSome, IsSomeAnd, slice_get, option_map}
+use Rattle.std.specs.Prelude.{◌≡◌, ◌↔◌, ◌⊎◌, ℕ, ◌<◌, ◌≤◌, Bool, true, false, ◌&&◌, ◌==◌, if◌then◌else◌, List, map, length, Some, IsSome, IsSomeAnd, slice_get, option_map}
 use Rattle.std.specs.Borrow.{Bor}
 use Rattle.std.specs.HashMap.{get, HashMap}
 use Rattle.std.specs.List.{All, AllPairs, Contains}

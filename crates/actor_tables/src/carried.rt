@@ -21,13 +21,7 @@ fn part(shape: &Shape) -> Option<usize>
     ensures { result ≡ part_of shape.now }
 {
     match shape {
-        Shape::Builtin(builtin) => {
-            if builtin.is_carried() {
-                None
-            } else {
-                Some(0)
-            }
-        }
+        Shape::Builtin(builtin) => { if builtin.is_carried() { None } else { Some(0) } }
         Shape::Using(_) => None,
         Shape::Actor(_, _) => None,
         Shape::Named(number) => Some(*number as usize + 1),

@@ -62,7 +62,12 @@ impl Source<'_, '_> {
 }
 
 /// The whole text of a `using`, where it is there.
-pub fn using_name(alloc: Global, program: &[Entry], file: u32, index: usize) -> Result<Name, AllocError>
+pub fn using_name(
+    alloc: Global,
+    program: &[Entry],
+    file: u32,
+    index: usize,
+) -> Result<Name, AllocError>
     requires { IsSome (full_name_of program.now (DeclId.Using file index)) }
     ensures { IfOk result (λ name. full_name_of program.now (DeclId.Using file index) ≡ Some name) }
 {

@@ -102,10 +102,7 @@ fn struct_row(
     ensures { IfOk result (IsStructRow source.now.program.now (numbering_of source.now.numbers) file item.now) }
 {
     let fields = param_rows(alloc, source, file, item.fields.as_slice())?;
-    Ok(TypeRow::Struct(
-        item.full.copy(alloc)?,
-        Items::from_vec(fields),
-    ))
+    Ok(TypeRow::Struct(item.full.copy(alloc)?, Items::from_vec(fields)))
 }
 
 /// The row of a union.
@@ -120,10 +117,7 @@ fn union_row(
     ensures { IfOk result (IsUnionRow source.now.program.now (numbering_of source.now.numbers) file item.now) }
 {
     let components = component_shapes(alloc, source, file, item.components.as_slice())?;
-    Ok(TypeRow::Union(
-        item.full.copy(alloc)?,
-        Items::from_vec(components),
-    ))
+    Ok(TypeRow::Union(item.full.copy(alloc)?, Items::from_vec(components)))
 }
 
 /// The row of a struct or a union.

@@ -19,9 +19,9 @@ returns c =
       compress = c.compress_of.ensures;
       kind_is = c.row_kind.ensures;
       params = subst (λ (rows : List ParamRow). AreParamRows program n c.args.of.now.file c.args.message.now.params rows) (sym c.from_vec.ensures)
-        (subst (λ (params : List Param). AreParamRows program n c.args.of.now.file params c.in_ok-params.params.items) c.as_slice.ensures c.in_ok-params.ensures);
+          (subst (λ (params : List Param). AreParamRows program n c.args.of.now.file params c.in_ok-params.params.items) c.as_slice.ensures c.in_ok-params.ensures);
       returns = subst (λ (o : Option (List Param)). AreReturnRows program n c.args.of.now.file o c.in_ok-returns.returns) c.as_ref.ensures.value c.in_ok-returns.ensures;
       carried = carried_like c.args.types.now.rows.items c.as_slice-2.result.now c.from_vec.result _ c.in_ok-returns.returns c.are_carried-carried.result
-        (c.as_slice-2.ensures.value ∙ sym c.from_vec.ensures) c.as_ref-2.ensures.value c.are_carried-carried.ensures;
+          (c.as_slice-2.ensures.value ∙ sym c.from_vec.ensures) c.as_ref-2.ensures.value c.are_carried-carried.ensures;
       lazy = c.is_lazy.ensures;
     }

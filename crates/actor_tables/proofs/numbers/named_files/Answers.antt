@@ -1,4 +1,4 @@
-use Rattle.std.proofs.Common.{◌≡◌, ℕ, ◌≤◌, ◌+◌, length, subst, sym, ap, ◌∙◌, arith}
+use Rattle.std.proofs.Common.{◌≡◌, ℕ, ◌+◌, length, subst, sym, ap, ◌∙◌, arith}
 use Rattle.actor_tables.specs.Numbered.{AreNamedFiles}
 use Rattle.actor_tables.proofs.NamedFiles.{NamedVec, none_named, named_push, named_skip, protocol_at}
 use Rattle.actor_tables.proofs.numbers.named_files.Goals as goal
@@ -12,7 +12,7 @@ loop-file-preserved c =
     let at = protocol_at c.args.program.now c.loop-file.file c.index-program-file.result c.loop-file-test.true c.index-program-file.is in
     elim c.match-entry.branch [
       | in-Some+in_ok-push w ↦ named_push c.args.program.now c.loop-file.file c.loop-file.named.items c.match-entry.named.items w.as_slice.result w.in-Some.protocol c.loop-file.invariant (at ∙ w.in-Some.is) w.as_slice.ensures
-        (ap (λ (v : NamedVec). v.items) w.named-is ∙ w.in_ok-push.ensures.items)
+          (ap (λ (v : NamedVec). v.items) w.named-is ∙ w.in_ok-push.ensures.items)
       | in_default w ↦ subst (λ (v : NamedVec). AreNamedFiles c.args.program.now (c.loop-file.file + 1) v.items) (sym w.named-is) (named_skip c.args.program.now c.loop-file.file c.loop-file.named.items c.loop-file.invariant (at ∙ w.in_default.is))
     ]
 

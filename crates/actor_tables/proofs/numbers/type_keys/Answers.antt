@@ -1,4 +1,4 @@
-use Rattle.std.proofs.Common.{◌≡◌, ◌≤◌, ℕ, [], length, subst, arith}
+use Rattle.std.proofs.Common.{◌≡◌, ℕ, [], length, subst, arith}
 use Rattle.actor_tables.specs.Numbered.{AddsKeys, IsKeyBelow}
 use Rattle.actor_tables.proofs.TypeKeys.{below_none, below_more}
 use Rattle.actor_tables.proofs.numbers.type_keys.Goals as goal

@@ -1,4 +1,4 @@
-use Rattle.std.proofs.Common.{sym, refl, get_or, false}
+use Rattle.std.proofs.Common.{false}
 use Rattle.schema_laws.specs.SchemaOf.{IsTypeRow}
 use Rattle.actor_tables.specs.Numbered.{decl_of, numbering_of}
 use Rattle.actor_tables.proofs.Rowed.{zip_at}

@@ -13,8 +13,8 @@ returns-in-Some-get c =
 
 pub returns-in-None-get : goal.returns-in-None-get
 returns-in-None-get c = (
-    λ is. absurd (never is),
-    λ h. absurd (past_marks c.args.self.now c.args.shape.now c.in-Some.part c.requires c.in-Some.ensures (subst (λ (xs : List Bool). length xs ≤ c.in-Some.part) c.deref.ensures.value c.in-None-get.ensures.lookup.3) h),
+  λ is. absurd (never is),
+  λ h. absurd (past_marks c.args.self.now c.args.shape.now c.in-Some.part c.requires c.in-Some.ensures (subst (λ (xs : List Bool). length xs ≤ c.in-Some.part) c.deref.ensures.value c.in-None-get.ensures.lookup.3) h),
 )
 
 pub returns-in-None : goal.returns-in-None

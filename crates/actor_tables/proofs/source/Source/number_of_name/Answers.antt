@@ -1,7 +1,4 @@
-use Rattle.std.proofs.Common.{subst}
-use Rattle.name_table.specs.declared.decl.DeclId.{DeclId}
 use Rattle.name_table.specs.declared.decl.Found.TheVariants.{One}
-use Rattle.name_table.specs.Finds.{FindsAsProtocol}
 use Rattle.actor_tables.proofs.Sight.{found_protocol_in, one_protocol, protocol_found, never_no_protocol, never_other_decl}
 use Rattle.actor_tables.proofs.source.Source.number_of_name.Goals as goal
 
@@ -24,7 +21,7 @@ protocol_number-requires-clause-there c =
 
 pub returns : goal.returns
 returns c = (
-    c.in-Protocol.other,
-    one_protocol c.args.self.now.program.now c.args.self.now.names.now c.args.file c.args.name.now c.in-One.id c.in-Protocol.other c.requires.source.names c.in-Protocol.is c.in-One.ensures,
-    c.protocol_number.ensures,
+  c.in-Protocol.other,
+  one_protocol c.args.self.now.program.now c.args.self.now.names.now c.args.file c.args.name.now c.in-One.id c.in-Protocol.other c.requires.source.names c.in-Protocol.is c.in-One.ensures,
+  c.protocol_number.ensures,
 )
