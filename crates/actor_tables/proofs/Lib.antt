@@ -1,4 +1,17 @@
+pub mod CleanProtocols
+pub mod CleanTypes
 pub mod Listed
+pub mod Lookups
+pub mod Made
+pub mod NamedFiles
 pub mod One
 pub mod Pieces
+pub mod Protocols
+pub mod Rowed
+pub mod Sight
+pub mod Suffixes
+pub mod TypeKeys
+pub mod TypeNumbers
+pub mod TypeOrder
+pub mod Uncarried
 pub mod Whole

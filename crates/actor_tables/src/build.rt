@@ -1,0 +1,35 @@
+ghost use Rattle.std.specs.Prelude.{◌≡◌, IfOk};
+ghost use Rattle.schema_laws.specs.Clean.{IsClean};
+ghost use Rattle.schema_laws.specs.SchemaOf.{IsSchemaOf};
+
+use crate::carried::MarkedTypes;
+use crate::messages::protocol_rows;
+use crate::numbers::Numbers;
+use crate::source::Source;
+use crate::types::type_rows;
+use ipdl_base::{Items, Schema};
+use ipdl_syntax::Program;
+use name_table::Names;
+use std::alloc::{AllocError, Global};
+
+/// The schema of a program in which no rule is broken, with what its names find: a row for each protocol, in the order of full
+/// names, and for each struct and union, in the order of the text. The only error is want of memory.
+pub fn schema(alloc: Global, program: &Program, names: &Names<'_>) -> Result<Schema, AllocError>
+    requires clean { IsClean program.now }
+    requires of_program { names.now ≡ program.now }
+    ensures { IfOk result (IsSchemaOf program.now) }
+{
+    let program = program.as_slice();
+    let numbers = Numbers::of(alloc, program)?;
+    let source = Source {
+        program,
+        names,
+        numbers,
+    };
+    let types = MarkedTypes::of(alloc, type_rows(alloc, &source)?)?;
+    let protocols = protocol_rows(alloc, &source, &types)?;
+    Ok(Schema {
+        protocols: Items::from_vec(protocols),
+        types: Items::from_vec(types.rows),
+    })
+}

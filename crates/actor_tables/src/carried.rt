@@ -1,0 +1,133 @@
+ghost use Rattle.std.specs.Prelude.{◌≡◌, ◌↔◌, ◌++◌, IfOk, OnOk, IsTrue};
+ghost use Rattle.std.specs.List.{Any, filter_map};
+ghost use Rattle.std.specs.Option.{option_to_list};
+ghost use Rattle.ipdl_base.specs.Sound.{MentionsUncarried};
+ghost use Rattle.actor_tables.specs.Marked.{part_of, IsNodeOf, AreNodesOf, AreMarked};
+
+use ipdl_base::{ParamRow, Shape, TypeRow};
+use least_sets::{Need, Node, derived};
+use std::alloc::{AllocError, Global};
+
+/// The rows of types, and for each whether it mentions a type that is not carried.
+#[derive(Drop)]
+pub struct MarkedTypes {
+    pub rows: Vec<TypeRow>,
+    /// A mark for what is not carried, which is set, and behind it one for each row.
+    pub marks: Vec<bool>,
+}
+
+/// The mark that tells whether a shape mentions a type that is not carried; none where it can't.
+fn part(shape: &Shape) -> Option<usize>
+    ensures { result ≡ part_of shape.now }
+{
+    match shape {
+        Shape::Builtin(builtin) => { if builtin.is_carried() { None } else { Some(0) } }
+        Shape::Using(_) => None,
+        Shape::Actor(_, _) => None,
+        Shape::Named(number) => Some(*number as usize + 1),
+        Shape::Array(element) => part(element),
+        Shape::Maybe(held) => part(held),
+        Shape::Unique(held) => part(held),
+        Shape::Endpoint(_, _) => Some(0),
+    }
+}
+
+/// Adds the mark of a shape.
+fn add_part(shape: &Shape, parts: &mut Vec<usize>) -> Result<(), AllocError>
+    ensures { OnOk result (parts.new.items ≡ parts.old.items ++ option_to_list (part_of shape.now)) }
+{
+    if let Some(part) = part(shape) {
+        parts.push(part)?;
+    }
+    Ok(())
+}
+
+/// The marks of the fields of a struct.
+fn field_parts(alloc: Global, fields: &[ParamRow]) -> Result<Vec<usize>, AllocError>
+    ensures { IfOk result (λ parts. parts.items ≡ filter_map (λ field. part_of field.shape) fields.now) }
+{
+    let mut parts = Vec::new(alloc);
+    for field in fields {
+        add_part(&field.shape, &mut parts)?;
+    }
+    Ok(parts)
+}
+
+/// The marks of the components of a union.
+fn component_parts(alloc: Global, components: &[Shape]) -> Result<Vec<usize>, AllocError>
+    ensures { IfOk result (λ parts. parts.items ≡ filter_map part_of components.now) }
+{
+    let mut parts = Vec::new(alloc);
+    for component in components {
+        add_part(component, &mut parts)?;
+    }
+    Ok(parts)
+}
+
+/// The node of a struct or a union: it mentions what one of its parts does.
+fn node(alloc: Global, row: &TypeRow) -> Result<Node, AllocError>
+    ensures { IfOk result (IsNodeOf row.now) }
+{
+    let parts = match row {
+        TypeRow::Struct(_, fields) => field_parts(alloc, fields.as_slice())?,
+        TypeRow::Union(_, components) => component_parts(alloc, components.as_slice())?,
+    };
+    Ok(Node {
+        need: Need::One,
+        parts,
+    })
+}
+
+/// The nodes of rows: one that is always derived, for what is not carried, and behind it one for each row.
+fn nodes(alloc: Global, rows: &[TypeRow]) -> Result<Vec<Node>, AllocError>
+    ensures { IfOk result (λ nodes. AreNodesOf rows.now nodes.items) }
+{
+    let mut nodes = Vec::new(alloc);
+    nodes.push(Node {
+        need: Need::All,
+        parts: Vec::new(alloc),
+    })?;
+    for row in rows {
+        nodes.push(node(alloc, row)?)?;
+    }
+    Ok(nodes)
+}
+
+impl MarkedTypes {
+    /// These rows with their marks. The only error is want of memory.
+    pub fn of(alloc: Global, rows: Vec<TypeRow>) -> Result<MarkedTypes, AllocError>
+        ensures rows { IfOk result (λ types. types.rows.items ≡ rows.items) }
+        ensures marks { IfOk result AreMarked }
+    {
+        let nodes = nodes(alloc, rows.as_slice())?;
+        let marks = derived(alloc, nodes.as_slice())?;
+        Ok(MarkedTypes { rows, marks })
+    }
+
+    /// Whether a shape mentions a type that is not carried.
+    fn mentions(&self, shape: &Shape) -> bool
+        requires { AreMarked self.now }
+        ensures { IsTrue result ↔ MentionsUncarried self.now.rows.items shape.now }
+    {
+        match part(shape) {
+            Some(part) => match self.marks.get(part) {
+                Some(mark) => *mark,
+                None => false,
+            },
+            None => false,
+        }
+    }
+
+    /// Whether one of these parameters or returns mentions a type that is not carried.
+    pub fn mentions_any(&self, params: &[ParamRow]) -> bool
+        requires { AreMarked self.now }
+        ensures { IsTrue result ↔ Any (λ p. MentionsUncarried self.now.rows.items p.shape) params.now }
+    {
+        for param in params {
+            if self.mentions(&param.shape) {
+                return true;
+            }
+        }
+        false
+    }
+}
