@@ -1,8 +1,7 @@
 -- A struct or union is defined exactly where its node is derived.
-use Rattle.std.proofs.Common.{◌≡◌, ℕ, ◌<◌, List, [], length, map, get_or, Option, Some, None, ◌⊎◌, inl, inr, refl, sym, ap, subst, ◌∙◌, arith, option_map}
+use Rattle.std.proofs.Common.{◌≡◌, ℕ, List, [], Option, Some, None, inl, inr, refl, sym, ap, subst, ◌∙◌, arith, option_map}
 use Rattle.std.specs.Prelude.{slice_get, option_and_then}
-use Rattle.std.specs.List.{Any, Contains}
-use Rattle.std.proofs.lemmas.List.{length-map, get_or-map}
+use Rattle.std.specs.List.{Contains}
 use Rattle.std.proofs.lemmas.Option.{none-some, same_Some}
 use Rattle.ipdl_syntax.specs.declared.program.Entry.{Entry}
 use Rattle.ipdl_syntax.specs.declared.tree.Base.{Base, Named, Unique'}
@@ -11,7 +10,6 @@ use Rattle.ipdl_syntax.specs.declared.tree.StructDecl.{StructDecl}
 use Rattle.ipdl_syntax.specs.declared.tree.TypeSpec.{TypeSpec}
 use Rattle.ipdl_syntax.specs.declared.tree.UnionDecl.{UnionDecl}
 use Rattle.least_sets.specs.Derived.{IsDerived, all as derived_all, one as derived_one}
-use Rattle.least_sets.specs.declared.nodes.Need.{Need}
 use Rattle.least_sets.specs.declared.nodes.Need.TheVariants.{All, One}
 use Rattle.least_sets.specs.declared.nodes.Node.{Node}
 use Rattle.name_table.specs.declared.decl.DeclId.{DeclId}
@@ -19,14 +17,13 @@ use Rattle.name_table.specs.declared.decl.DeclId.TheVariants.{Builtin, Using, St
 use Rattle.name_table.specs.declared.decl.Found.{Found}
 use Rattle.name_table.specs.declared.decl.Found.TheVariants as found
 use Rattle.name_table.specs.Decls.{FindsOne, struct_of, union_of}
-use Rattle.name_table.specs.Finds.{Finds, Counts, SeesNamed}
+use Rattle.name_table.specs.Finds.{Finds, Counts}
 use Rattle.name_table.proofs.Seeing.{sees_shown}
 use Rattle.type_rules.specs.Compounds.{Numbered, struct as the_struct, union as the_union, IsDefinedCompound, number_of, number_found, AllNumbered}
 use Rattle.type_rules.specs.Defined.{IsCompound, IsDefined, loose, atom, struct, union, inside}
-use Rattle.type_rules.specs.Parts.{IsPart, IsFree, AreParts, IsStructNode, IsUnionNode, IsNodeOf, AreNodes}
+use Rattle.type_rules.specs.Parts.{IsPart, IsFree, IsNodeOf, AreNodes}
 use Rattle.type_rules.specs.declared.compounds.FileNumbers.{FileNumbers}
-use Rattle.type_rules.specs.declared.parts.Parts.{Parts}
-use Rattle.type_rules.proofs.Firsts.{any_of_map, any_to_map}
+use Rattle.type_rules.proofs.Lists.{any_of_map, any_to_map, contains_map}
 
 -- What is found stands in the program
 
@@ -95,11 +92,6 @@ part_defined program all files numbered file (Unique' at nullable inner after pl
     (t.0, t.1, λ h. inside (t.2 h))
 
 -- Lists
-
-contains_map : {X Y : Type 0} (f : X → Y) (xs : List X) (x : X) → Contains xs x → Contains (map f xs) (f x)
-contains_map f xs x (k, lt, at) =
-    let less : k < length (map f xs) = omega (arith, length-map xs f, lt) in
-    (k, less, get_or-map f xs k x (f x) lt ∙ ap f at)
 
 none_in_nothing : (l : List ℕ) (n : ℕ) → l ≡ [] → ¬ Contains l n
 none_in_nothing l n empty h = let P : List ℕ → Type 0 = λ l. Contains l n in let k = subst P empty h in let x : ⊥ = omega (arith, k.1) in x

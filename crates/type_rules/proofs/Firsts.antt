@@ -5,29 +5,15 @@ use Rattle.std.specs.HashMap.{HashMap}
 use Rattle.std.specs.List.{Any}
 use Rattle.std.specs.Str.{bytes_eq}
 use Rattle.std.proofs.lemmas.Bool.{true≢false}
-use Rattle.std.proofs.lemmas.List.{take_more, map-append, length-map, get_or-map}
+use Rattle.std.proofs.lemmas.List.{take_more, map-append}
 use Rattle.std.proofs.lemmas.List.Quantifiers.{Any-push}
-use Rattle.std.proofs.lemmas.Option.{none-some, same_Some, slice_get_cases}
+use Rattle.std.proofs.lemmas.Option.{none-some, same_Some}
 use Rattle.std.proofs.lemmas.Slice.Eq.{bytes_eq-Decides}
 use Rattle.ipdl_base.specs.declared.finding.Place.{Place}
 use Rattle.findings.proofs.Elements.{any_cases, any_left}
 use Rattle.type_rules.specs.Declarations.{Declaration, Repeats}
 use Rattle.type_rules.specs.Firsts.{told, IsBefore, first_of, StandsBefore, IsEarlier, FirstsAre}
 use Rattle.type_rules.specs.declared.declarations.Declaration.{Declaration as Listed}
-
--- of a list that is made element by element
-pub any_of_map : {X Y : Type 0} (f : X → Y) (P : Y → Type 0) (xs : List X) → Any P (map f xs) → Any (λ x. P (f x)) xs
-any_of_map f P xs (k, z, lt, at, p) =
-    let less : k < length xs = omega (arith, length-map xs f, lt) in
-    elim (slice_get_cases xs k).1 [
-      | inl h ↦ (let same : z ≡ f h.0 = sym at ∙ get_or-map f xs k h.0 z less ∙ ap f h.3 in (k, h.0, less, h.3, subst P same p))
-      | inr h ↦ absurd (omega (arith, h.0, less))
-    ]
-
-pub any_to_map : {X Y : Type 0} (f : X → Y) (P : Y → Type 0) (xs : List X) → Any (λ x. P (f x)) xs → Any P (map f xs)
-any_to_map f P xs (k, x, lt, at, p) =
-    let less : k < length (map f xs) = omega (arith, length-map xs f, lt) in
-    (k, f x, less, get_or-map f xs k x (f x) lt ∙ ap f at, p)
 
 some_there : (o : Option Place) (P : Place → Type 0) → IsSomeAnd o P → (p : Place) × (o ≡ Some p) × P p
 some_there None P h = absurd h
@@ -46,27 +32,29 @@ noted {S} old new full at first updates told name place = by (bytes_eq full name
     by : (b : Bool) → bytes_eq full name ≡ b → StandsBefore new name place ↔ (StandsBefore old name place ⊎ ((full ≡ name) × IsBefore at place))
     by true e =
         let same : full ≡ name = (bytes_eq-Decides full name).0 e in
-        let now : first_of new name ≡ Some first = updates name ∙ ap (λ b. cond b (Some first) (first_of old name)) e in
-        (
+        let now : first_of new name ≡ Some first = updates name ∙ ap (λ b. cond b (Some first) (first_of old name)) e in (
           λ h. let is : h.0 ≡ first = same_Some h.0 first (sym h.1 ∙ now) in
-          elim ((told place).0 (subst (λ (p : Place). IsBefore p place) is h.2)) [
-            | inl x ↦ inr (same, x)
-            | inr x ↦ (let t = some_there (first_of old full) _ x in inl (t.0, sym (ap (first_of old) same) ∙ t.1, t.2))
-          ],
+              elim ((told place).0 (subst (λ (p : Place). IsBefore p place) is h.2)) [
+                | inl x ↦ inr (same, x)
+                | inr x ↦ (let t = some_there (first_of old full) _ x in inl (t.0, sym (ap (first_of old) same) ∙ t.1, t.2))
+              ],
           λ h. elim h [
             | inl x ↦ (first, now, (told place).1 (inr (there_some (first_of old full) _ x.0 (ap (first_of old) same ∙ x.1) x.2)))
             | inr x ↦ (first, now, (told place).1 (inl x.1))
           ],
         )
     by false e =
-        let now : first_of new name ≡ first_of old name = updates name ∙ ap (λ b. cond b (Some first) (first_of old name)) e in
-        (
+        let now : first_of new name ≡ first_of old name = updates name ∙ ap (λ b. cond b (Some first) (first_of old name)) e in (
           λ h. inl (h.0, sym now ∙ h.1, h.2),
           λ h. elim h [
             | inl x ↦ (x.0, now ∙ x.1, x.2)
             | inr x ↦ absurd (true≢false (sym ((bytes_eq-Decides full name).1 x.0) ∙ e))
           ],
         )
+
+-- what a read past the end would give
+abbrev pub blank : Listed
+blank = record { full = record { ref_ptr = (0, 0); now = [] }; place = record { file = 0; line = 0; column = 0 }; is_using = false }
 
 -- no place without declarations
 pub firsts_none : {S : Type 0} (own : Bool) (firsts : HashMap (Bor (List ℕ)) Place S) → ((name : List ℕ) → first_of firsts name ≡ None) → FirstsAre own [] firsts
@@ -116,6 +104,6 @@ firsts_left_out {S} own xs i d old new lt before not_counted same =
 pub repeats_by_first : {S : Type 0} (own : Bool) (all : List Declaration) (firsts : HashMap (Bor (List ℕ)) Place S) (d : Declaration) → d.is_using ≡ own → FirstsAre own all firsts → StandsBefore firsts d.full d.place ↔ Any (λ earlier. Repeats earlier d) all
 repeats_by_first own all firsts d is are = (
   λ h. let e = (are.exact d.full d.place).0 h in
-  (e.0, e.1, e.2, e.3, record { name = e.4.named; before = e.4.before; not_both = λ both. e.4.counts (sym is ∙ both.1) both.0 }),
+      (e.0, e.1, e.2, e.3, record { name = e.4.named; before = e.4.before; not_both = λ both. e.4.counts (sym is ∙ both.1) both.0 }),
   λ h. (are.exact d.full d.place).1 (h.0, h.1, h.2, h.3, record { named = h.4.name; before = h.4.before; counts = λ t u. h.4.not_both (u, is ∙ t) }),
 )

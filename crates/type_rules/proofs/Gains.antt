@@ -6,8 +6,6 @@ use Rattle.std.proofs.lemmas.List.{take_more}
 use Rattle.std.proofs.lemmas.List.Elements.{Contains-push, Contains-push_cases, Contains-append_left}
 use Rattle.std.proofs.lemmas.List.Quantifiers.{Any-push}
 use Rattle.ipdl_base.specs.declared.finding.Finding.{Finding}
-use Rattle.ipdl_base.specs.declared.finding.Place.{Place}
-use Rattle.ipdl_base.specs.declared.finding.Rule.{Rule}
 use Rattle.findings.specs.Gains.{Gains, AtSome}
 use Rattle.findings.proofs.Elements.{any_cases, any_left}
 use Rattle.type_rules.proofs.Lists.{at_more_cases, at_more_before, at_more_next}

@@ -1,5 +1,5 @@
 -- The findings of all rules.
-use Rattle.std.proofs.Common.{◌≡◌, List, [], ◌⊎◌, inl, inr, subst, arith}
+use Rattle.std.proofs.Common.{◌≡◌, List, [], inl, inr, subst, arith}
 use Rattle.std.specs.Prelude.{◌↔◌}
 use Rattle.std.specs.List.{Contains}
 use Rattle.ipdl_base.specs.declared.finding.Finding.{Finding}

@@ -1,43 +1,29 @@
 -- The structs and unions without a mark are those that are not defined.
-use Rattle.std.proofs.Common.{◌≡◌, ℕ, ◌<◌, Bool, true, List, length, map, Option, Some, None, ◌⊎◌, inl, inr, refl, sym, ap, subst, ◌∙◌, option_map}
+use Rattle.std.proofs.Common.{◌≡◌, ℕ, Bool, true, List, length, map, Some, inl, inr, refl, sym, ap, ◌∙◌, option_map}
 use Rattle.std.specs.Prelude.{slice_get, option_and_then}
-use Rattle.std.specs.List.{Any, Contains}
-use Rattle.std.proofs.lemmas.Option.{none-some, same_Some, slice_get-map, slice_get_within, slice_get_read, get_or_from_slice_get, option_and_then_some}
+use Rattle.std.proofs.lemmas.Option.{slice_get-map, slice_get_within, slice_get_read, get_or_from_slice_get, option_and_then_some}
 use Rattle.ipdl_base.specs.declared.finding.Finding.{Finding}
 use Rattle.ipdl_base.specs.declared.finding.Place.{Place}
 use Rattle.ipdl_base.specs.declared.finding.Rule.{Rule}
 use Rattle.ipdl_syntax.specs.declared.program.Entry.{Entry}
-use Rattle.ipdl_syntax.specs.declared.tree.StructDecl.{StructDecl}
-use Rattle.ipdl_syntax.specs.declared.tree.UnionDecl.{UnionDecl}
 use Rattle.findings.specs.Gains.{Gains, AtSome}
 use Rattle.least_sets.specs.Derived.{AreMarks}
 use Rattle.least_sets.specs.declared.nodes.Node.{Node}
-use Rattle.name_table.specs.Decls.{struct_of, union_of}
 use Rattle.type_rules.specs.Compounds.{Numbered, struct, union, told, place_of, IsDefinedCompound, IsIn, AllNumbered}
-use Rattle.type_rules.specs.Defined.{IsDefinedStruct, IsDefinedUnion, IsUndefinedType}
+use Rattle.type_rules.specs.Defined.{IsUndefinedType}
 use Rattle.type_rules.specs.Parts.{AreNodes}
 use Rattle.type_rules.specs.declared.compounds.Compound.{Compound}
 use Rattle.type_rules.specs.declared.compounds.FileNumbers.{FileNumbers}
 use Rattle.type_rules.proofs.Definedness.{derived_defined, defined_derived}
 use Rattle.type_rules.proofs.Gains.{Gains-like}
-
--- what an index has in a list that is made of another
-read_map : {X Y : Type 0} (f : X → Y) (xs : List X) (n : ℕ) (y : Y) → slice_get (map f xs) n ≡ Some y → (x : X) × (slice_get xs n ≡ Some x) × (f x ≡ y)
-read_map {X} {Y} f xs n y h = go (slice_get xs n) (sym (slice_get-map f xs n) ∙ h)
-  where
-    go : (o : Option X) → option_map f o ≡ Some y → (x : X) × (o ≡ Some x) × (f x ≡ y)
-    go None e = absurd (none-some y e)
-    go (Some x) e = (x, refl, same_Some (f x) y e)
-
-contains_read : {X : Type 0} (xs : List X) (n : ℕ) (x : X) → slice_get xs n ≡ Some x → Contains xs x
-contains_read xs n x h = (n, slice_get_within xs n x h, get_or_from_slice_get xs n x x h)
+use Rattle.type_rules.proofs.Lists.{read_map, contains_read}
 
 -- one that stands in the program and is not defined is reported there
 reported : (program : List Entry) (place : Place) (c : Numbered) → IsIn program c → ¬ IsDefinedCompound program c → place_of c ≡ place → IsUndefinedType program place
 reported program place (struct file s) (k, at) not here = option_and_then_some (λ (e : Entry). slice_get e.unit.structs k) (slice_get program file) s at (λ e there is.
-  (file, e, there, inl (k, s, slice_get_within e.unit.structs k s is, get_or_from_slice_get e.unit.structs k s s is, (not, here))))
+    (file, e, there, inl (k, s, slice_get_within e.unit.structs k s is, get_or_from_slice_get e.unit.structs k s s is, (not, here))))
 reported program place (union file u) (k, at) not here = option_and_then_some (λ (e : Entry). slice_get e.unit.unions k) (slice_get program file) u at (λ e there is.
-  (file, e, there, inr (k, u, slice_get_within e.unit.unions k u is, get_or_from_slice_get e.unit.unions k u u is, (not, here))))
+    (file, e, there, inr (k, u, slice_get_within e.unit.unions k u is, get_or_from_slice_get e.unit.unions k u u is, (not, here))))
 
 -- what is reported has a number
 has_number : (program : List Entry) (all : List Numbered) (files : List FileNumbers) (place : Place) → AllNumbered program all files → IsUndefinedType program place
@@ -57,9 +43,11 @@ undefined_types r program listed files nodes marks old new numbered are set g =
     let all = map told listed in
     Gains-like _ (λ f. (f.rule ≡ r) × IsUndefinedType program f.place) old new g
     (λ f h.
-    let at : slice_get all h.0 ≡ Some (told h.1) = slice_get-map told listed h.0 ∙ ap (option_map told) h.2 in
-    (h.3.0, reported program f.place (told h.1) (numbered.only (told h.1) (contains_read all h.0 (told h.1) at))
-    (λ defined. h.3.1 ((set.exact h.0).1 (defined_derived program all files nodes numbered are h.0 (told h.1) at defined))) h.3.2))
+    let at : slice_get all h.0 ≡ Some (told h.1) = slice_get-map told listed h.0 ∙ ap (option_map told) h.2 in (
+      h.3.0,
+      reported program f.place (told h.1) (numbered.only (told h.1) (contains_read all h.0 (told h.1) at))
+          (λ defined. h.3.1 ((set.exact h.0).1 (defined_derived program all files nodes numbered are h.0 (told h.1) at defined))) h.3.2,
+    ))
     (λ f h.
     let m = has_number program all files f.place numbered h.1 in
     let x = read_map told listed m.0 m.1 m.2 in

@@ -68,13 +68,13 @@ BrokenTypes program f =
 pub types_break : (program : List Entry) (f : Finding) → SomeType (BreaksAt program f) program ↔ BrokenTypes program f
 types_break program f = (
   λ h. some_pick (BreaksAt program f) (BrokenTypes program f) program h (λ file n b here x back.
-    elim x.0 [
-      | inl p ↦ inl (p.0, back (UnknownAt program f.place) (p.1, x.1))
-      | inr more ↦ elim more [
-        | inl p ↦ inr (inl (p.0, back (AmbiguousAt program f.place) (p.1, x.1)))
-        | inr p ↦ inr (inr (p.0, back (NonActorAt program f.place) (p.1, p.2, x.1)))
-      ]
-    ]),
+      elim x.0 [
+        | inl p ↦ inl (p.0, back (UnknownAt program f.place) (p.1, x.1))
+        | inr more ↦ elim more [
+          | inl p ↦ inr (inl (p.0, back (AmbiguousAt program f.place) (p.1, x.1)))
+          | inr p ↦ inr (inr (p.0, back (NonActorAt program f.place) (p.1, p.2, x.1)))
+        ]
+      ]),
   λ h. elim h [
     | inl p ↦ some_pick (UnknownAt program f.place) _ program p.1 (λ file n b here x back. back (BreaksAt program f) (inl (p.0, x.0), x.1))
     | inr more ↦ elim more [

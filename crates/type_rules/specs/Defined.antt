@@ -26,9 +26,9 @@ pub data IsDefined (program : List Entry) : ℕ → Base → Type 0 where
   loose : {file : ℕ} {name : List ℕ} {argument : Option (List ℕ)} → ((d : DeclId) → ¬ FindsOne program file name argument d) → IsDefined program file (Named name argument)
   atom : {file : ℕ} {name : List ℕ} {argument : Option (List ℕ)} (d : DeclId) → FindsOne program file name argument d → ¬ IsCompound d → IsDefined program file (Named name argument)
   struct : {file : ℕ} {name : List ℕ} {argument : Option (List ℕ)} (other place : ℕ) (s : StructDecl) → FindsOne program file name argument (Struct other place) → struct_of program other place ≡ Some s
-    → ((field : Param) → Contains s.fields field → IsDefined program other field.spec.base) → IsDefined program file (Named name argument)
+      → ((field : Param) → Contains s.fields field → IsDefined program other field.spec.base) → IsDefined program file (Named name argument)
   union : {file : ℕ} {name : List ℕ} {argument : Option (List ℕ)} (other place : ℕ) (u : UnionDecl) (component : TypeSpec) → FindsOne program file name argument (Union other place) → union_of program other place ≡ Some u
-    → Contains u.components component → IsDefined program other component.base → IsDefined program file (Named name argument)
+      → Contains u.components component → IsDefined program other component.base → IsDefined program file (Named name argument)
   inside : {file : ℕ} {at : _} {nullable : Bool} {inner : Base} {after : _} {place : Place} → IsDefined program file inner → IsDefined program file (Unique' at nullable inner after place)
 
 -- a struct of a file is defined where all its fields are
@@ -43,5 +43,5 @@ IsDefinedUnion program file u = (component : TypeSpec) × Contains u.components 
 abbrev pub IsUndefinedType : List Entry → Place → Type 0
 IsUndefinedType program place =
     AtSome (λ file e.
-      Any (λ s. (¬ IsDefinedStruct program file s) × (s.place ≡ place)) e.unit.structs
-      ⊎ Any (λ u. (¬ IsDefinedUnion program file u) × (u.place ≡ place)) e.unit.unions) program
+    Any (λ s. (¬ IsDefinedStruct program file s) × (s.place ≡ place)) e.unit.structs
+    ⊎ Any (λ u. (¬ IsDefinedUnion program file u) × (u.place ≡ place)) e.unit.unions) program

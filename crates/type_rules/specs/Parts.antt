@@ -1,5 +1,5 @@
 -- What a struct or a union needs to be defined, as numbers of structs and unions.
-use Rattle.std.specs.Prelude.{◌≡◌, ◌↔◌, ◌++◌, ◌∷◌, [], ℕ, ◌⊎◌, Bool, true, List, map, length, Some, None, slice_get, IsTrue}
+use Rattle.std.specs.Prelude.{◌≡◌, ◌↔◌, ◌++◌, ◌∷◌, [], ℕ, ◌⊎◌, true, List, map, length, Some, None, slice_get, IsTrue}
 use Rattle.std.specs.List.{Any, Contains}
 use Rattle.ipdl_syntax.specs.declared.program.Entry.{Entry}
 use Rattle.ipdl_syntax.specs.declared.tree.Base.{Base, Named, Unique'}

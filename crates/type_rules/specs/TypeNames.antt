@@ -1,5 +1,5 @@
 -- The rules on the names of types and on `nullable` (B1, B2, B5).
-use Rattle.std.specs.Prelude.{◌≡◌, ℕ, Bool, true, List}
+use Rattle.std.specs.Prelude.{◌≡◌, ℕ, true, List}
 use Rattle.ipdl_base.specs.declared.finding.Place.{Place}
 use Rattle.ipdl_syntax.specs.declared.program.Entry.{Entry}
 use Rattle.ipdl_syntax.specs.declared.tree.Base.{Base, Named, Unique'}

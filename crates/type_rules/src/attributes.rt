@@ -44,11 +44,7 @@ fn add_repeated_of(
 }
 
 /// The same for the lists of these parameters.
-fn add_params(
-    alloc: Global,
-    params: &[Param],
-    found: &mut Vec<Finding>,
-) -> Result<(), AllocError>
+fn add_params(alloc: Global, params: &[Param], found: &mut Vec<Finding>) -> Result<(), AllocError>
     ensures { OnOk result (Adds Rule.BAD_ATTRIBUTE (λ place. OfParams (HasRepeat place) params.now) found.old.items found.new.items) }
 {
     for param in params {

@@ -24,10 +24,7 @@ pub struct Declaration<'p> {
 type Firsts<'p> = HashMap<&'p [u8], Place>;
 
 /// Lists the usings of a file.
-fn list_usings<'p>(
-    usings: &'p [Using],
-    all: &mut Vec<Declaration<'p>>,
-) -> Result<(), AllocError>
+fn list_usings<'p>(usings: &'p [Using], all: &mut Vec<Declaration<'p>>) -> Result<(), AllocError>
     ensures { OnOk result (map told all.new.items ≡ map told all.old.items ++ map (λ u. record { full = u.full; place = u.place; is_using = true }) usings.now) }
 {
     for item in usings {
@@ -218,11 +215,7 @@ fn add_repeated_among(
 }
 
 /// The same for a file.
-fn add_repeated_in(
-    alloc: Global,
-    unit: &Unit,
-    found: &mut Vec<Finding>,
-) -> Result<(), AllocError>
+fn add_repeated_in(alloc: Global, unit: &Unit, found: &mut Vec<Finding>) -> Result<(), AllocError>
     ensures { OnOk result (Adds Rule.REPEATED_DECLARATION (λ place. Any (λ d. IsRepeatedAmong (declarations unit.now) d × (d.place ≡ place)) (declarations unit.now)) found.old.items found.new.items) }
 {
     let all = declarations_of(alloc, unit)?;

@@ -15,11 +15,7 @@ use name_table::Names;
 use std::alloc::{AllocError, Global};
 
 /// All findings that hold of the program, in some order.
-fn gathered(
-    alloc: Global,
-    program: &[Entry],
-    names: &Names<'_>,
-) -> Result<Vec<Finding>, AllocError>
+fn gathered(alloc: Global, program: &[Entry], names: &Names<'_>) -> Result<Vec<Finding>, AllocError>
     requires few { length program.now ≤ 4096 }
     requires of_program { names.now ≡ program.now }
     ensures { IfOk result (λ found. (f : Finding) → Contains found.items f ↔ BrokenAt program.now f) }

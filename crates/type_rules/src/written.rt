@@ -8,9 +8,7 @@ ghost use Rattle.type_rules.specs.Breaks.{Breaks, BreaksAt};
 ghost use Rattle.type_rules.specs.Written.{InType, InParams, InMessage, InUnit, SomeType};
 
 use ipdl_base::{Finding, Rule};
-use ipdl_syntax::{
-    Base, Entry, MessageDecl, Param, StructDecl, TypeSpec, UnionDecl, Unit,
-};
+use ipdl_syntax::{Base, Entry, MessageDecl, Param, StructDecl, TypeSpec, UnionDecl, Unit};
 use name_table::{DeclId, Found, Names};
 use std::alloc::AllocError;
 

@@ -1,4 +1,4 @@
-use Rattle.std.proofs.Common.{◌≡◌, ℕ, ◌∷◌, [], ◌++◌, List, map, length, ap, sym, ◌∙◌}
+use Rattle.std.proofs.Common.{◌≡◌, ◌∷◌, [], ◌++◌, map, length, ap, sym, ◌∙◌}
 use Rattle.std.proofs.lemmas.List.{take_all, map-append, length-map}
 use Rattle.type_rules.specs.Compounds.{told, struct}
 use Rattle.type_rules.proofs.Numbering.{numbers_none, numbers_turn}

@@ -1,4 +1,4 @@
-use Rattle.std.proofs.Common.{◌≡◌, get_or, false, [], refl, sym, ◌∙◌}
+use Rattle.std.proofs.Common.{◌≡◌, get_or, refl, sym, ◌∙◌}
 use Rattle.std.proofs.lemmas.Bool.{true≢false}
 use Rattle.std.proofs.lemmas.List.{take_all}
 use Rattle.ipdl_base.specs.declared.finding.Place.{Place}
@@ -6,13 +6,10 @@ use Rattle.ipdl_base.specs.declared.finding.TheConstants.Rule as rule
 use Rattle.findings.proofs.Gains.{Adds-more}
 use Rattle.type_rules.specs.declared.declarations.Declaration.{Declaration}
 use Rattle.type_rules.specs.Firsts.{told, IsRepeatedAmong}
+use Rattle.type_rules.proofs.Firsts.{blank}
 use Rattle.type_rules.proofs.Placed.{Adds-found, Adds-quiet}
 use Rattle.type_rules.proofs.declarations.add_repeated_among.Goals as goal
 use Rattle.type_rules.proofs.declarations.add_repeated_among.Goals.{then-is_repeated+in_ok-push, else-is_repeated}
-
--- what a read past the end would give
-abbrev blank : Declaration
-blank = record { full = record { ref_ptr = (0, 0); now = [] }; place = record { file = 0; line = 0; column = 0 }; is_using = false }
 
 pub loop-declaration-preserved : goal.loop-declaration-preserved
 loop-declaration-preserved c all any own =

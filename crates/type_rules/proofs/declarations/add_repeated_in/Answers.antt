@@ -5,9 +5,9 @@ use Rattle.ipdl_base.specs.declared.finding.Place.{Place}
 use Rattle.ipdl_base.specs.declared.finding.TheConstants.Rule as rule
 use Rattle.findings.specs.Adds.{Adds}
 use Rattle.findings.proofs.Gains.{Adds-like}
-use Rattle.type_rules.specs.Declarations.{Declaration, declarations}
+use Rattle.type_rules.specs.Declarations.{Declaration}
 use Rattle.type_rules.specs.Firsts.{told, IsRepeatedAmong}
-use Rattle.type_rules.proofs.Firsts.{any_of_map, any_to_map}
+use Rattle.type_rules.proofs.Lists.{any_of_map, any_to_map}
 use Rattle.type_rules.proofs.declarations.add_repeated_in.Goals as goal
 
 pub returns : goal.returns

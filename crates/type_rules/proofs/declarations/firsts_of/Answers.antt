@@ -1,16 +1,11 @@
-use Rattle.std.proofs.Common.{◌≡◌, false, [], ap, sym, ◌∙◌}
+use Rattle.std.proofs.Common.{ap, sym, ◌∙◌}
 use Rattle.std.specs.Map.{lookup}
 use Rattle.std.specs.Str.{bytes_eq}
 use Rattle.std.proofs.lemmas.Bool.{true≢false}
 use Rattle.std.proofs.lemmas.List.{take_all}
-use Rattle.type_rules.specs.declared.declarations.Declaration.{Declaration}
-use Rattle.type_rules.proofs.Firsts.{firsts_none, firsts_counted, firsts_left_out}
+use Rattle.type_rules.proofs.Firsts.{blank, firsts_none, firsts_counted, firsts_left_out}
 use Rattle.type_rules.proofs.declarations.firsts_of.Goals as goal
 use Rattle.type_rules.proofs.declarations.firsts_of.Goals.{then-counts+in_ok-note, else-counts}
-
--- what a read past the end would give
-abbrev blank : Declaration
-blank = record { full = record { ref_ptr = (0, 0); now = [] }; place = record { file = 0; line = 0; column = 0 }; is_using = false }
 
 pub loop-declaration-init : goal.loop-declaration-init
 loop-declaration-init c = firsts_none c.args.own _ (λ name. ap (lookup (λ k. bytes_eq name k.now)) c.new-firsts.ensures.empty)

@@ -1,4 +1,4 @@
-use Rattle.std.proofs.Common.{◌≡◌, false, ◌++◌, ap, append-nil, sym, List, map, ℕ}
+use Rattle.std.proofs.Common.{false, ap, append-nil, sym, List, map, ℕ}
 use Rattle.std.proofs.lemmas.List.{take_all}
 use Rattle.ipdl_syntax.specs.declared.tree.UnionDecl.{UnionDecl}
 use Rattle.type_rules.specs.Declarations.{Declaration}

@@ -1,7 +1,5 @@
-use Rattle.std.proofs.Common.{◌≡◌, ◌<◌, ℕ, ◌+◌, length, get_or, List, map, take, ap, subst, sym, arith}
+use Rattle.std.proofs.Common.{◌≡◌, ◌<◌, length, get_or, List, ap, subst, arith}
 use Rattle.std.proofs.lemmas.List.{take_all}
-use Rattle.type_rules.specs.Compounds.{told}
-use Rattle.type_rules.specs.Parts.{IsNodeOf, AreNodes}
 use Rattle.type_rules.specs.declared.compounds.Compound.{Compound}
 use Rattle.type_rules.proofs.Needs.{nodes_none, nodes_turn}
 use Rattle.type_rules.proofs.parts.nodes_of.Goals as goal

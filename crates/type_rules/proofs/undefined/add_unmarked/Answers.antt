@@ -20,7 +20,7 @@ loop-number-preserved c =
     let P : Finding → ℕ → Compound → Type 0 = λ f k c. (f.rule ≡ rule.UNDEFINED_TYPE) × (¬ (slice_get marks k ≡ Some true)) × (place_of (told c) ≡ f.place) in
     Gains-at_turn P c.args.all.now c.loop-number.number c.index-all-number.result _ _ _ c.loop-number-test.true c.index-all-number.is c.loop-number.invariant
     (elim c.if-not-is_marked.branch [
-      | then-not-is_marked+in_ok-push w ↦ 
+      | then-not-is_marked+in_ok-push w ↦
           Gains-unmarked rule.UNDEFINED_TYPE (place_of (told x)) (¬ (slice_get marks k ≡ Some true)) _ _ (λ h. true≢false (sym (c.is_marked.ensures.1 h) ∙ w.if-not-is_marked.true))
           (rw w.found-is (w.in_ok-push.ensures.items ∙ ap (λ (place : Place). c.loop-number.found.items ++ record { place = place; rule = rule.UNDEFINED_TYPE } ∷ []) w.place.ensures))
       | else-not-is_marked w ↦ Gains-marked rule.UNDEFINED_TYPE (place_of (told x)) (¬ (slice_get marks k ≡ Some true)) _ _ (λ h. h (c.is_marked.ensures.0 w.if-not-is_marked.false)) (rw w.found-is refl)
