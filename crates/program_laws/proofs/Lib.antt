@@ -1,2 +1,6 @@
 pub mod Lists
 pub mod Names
+pub mod Protocols
+pub mod Messages
+pub mod Managers
+pub mod SyncList
