@@ -4,3 +4,5 @@ pub mod Protocols
 pub mod Messages
 pub mod Managers
 pub mod SyncList
+pub mod Written
+pub mod Declarations

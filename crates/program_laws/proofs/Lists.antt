@@ -1,6 +1,6 @@
 -- Lists and options whose elements look alike: what holds of one holds of the other, where the looks decide it.
 use Rattle.std.proofs.Common.{◌≡◌, ◌∙◌, ℕ, zero, suc, ◌+◌, List, [], ◌∷◌, Option, Some, None, IsSomeAnd, slice_get, map, refl, sym, ap}
-use Rattle.std.specs.Prelude.{option_map}
+use Rattle.std.specs.Prelude.{option_map, IsSome}
 use Rattle.std.specs.List.{AllZip, Any, Contains}
 use Rattle.std.proofs.lemmas.Option.{same_Some}
 use Rattle.findings.specs.Gains.{AtSome}
@@ -31,6 +31,11 @@ module _ {X Z : Type 0} (look : X → Z) where
   option_alike P Q step None b same some = elim some [ ]
   option_alike P Q step (Some x) None same some = absurd (let no : ⊥ = cc in no)
   option_alike P Q step (Some x) (Some y) same some = step x y (same_Some (look x) (look y) same) some
+
+  pub has_alike : (a b : Option X) → option_map look a ≡ option_map look b → IsSome a → IsSome b
+  has_alike None b same some = absurd (let no : ⊥ = cc in no)
+  has_alike (Some x) None same some = absurd (let no : ⊥ = cc in no)
+  has_alike (Some x) (Some y) same some = refl
 
   pub some_alike : (a b : Option X) → option_map look a ≡ option_map look b → (x : X) → a ≡ Some x → (y : X) × (b ≡ Some y) × (look x ≡ look y)
   some_alike None b same x is = cc
@@ -83,3 +88,10 @@ kept_map look g keeps (x ∷ xs) =
 
 pub map_alike : {X W : Type 0} (look : X → X) (g : X → W) → ((x : X) → g (look x) ≡ g x) → (xs ys : List X) → map look xs ≡ map look ys → map g xs ≡ map g ys
 map_alike look g keeps xs ys same = sym (kept_map look g keeps xs) ∙ ap (map g) same ∙ kept_map look g keeps ys
+
+kept_option : {X W : Type 0} (look : X → X) (g : X → W) → ((x : X) → g (look x) ≡ g x) → (a : Option X) → option_map g (option_map look a) ≡ option_map g a
+kept_option look g keeps None = refl
+kept_option look g keeps (Some x) = ap Some (keeps x)
+
+pub option_map_alike : {X W : Type 0} (look : X → X) (g : X → W) → ((x : X) → g (look x) ≡ g x) → (a b : Option X) → option_map look a ≡ option_map look b → option_map g a ≡ option_map g b
+option_map_alike look g keeps a b same = sym (kept_option look g keeps a) ∙ ap (option_map g) same ∙ kept_option look g keeps b

@@ -9,7 +9,7 @@ use Rattle.ipdl_syntax.specs.declared.tree.ProtocolDecl.{ProtocolDecl}
 use Rattle.grammar_laws.specs.Boxes.{unboxed_param, unboxed_returns, unboxed_message, unboxed_protocol, unboxed_held}
 use Rattle.findings.specs.Gains.{AtSome}
 use Rattle.program_laws.specs.Laws.{unboxed_entry, AreAlike}
-use Rattle.program_laws.proofs.Lists.{any_alike, at_alike, option_alike}
+use Rattle.program_laws.proofs.Lists.{any_alike, at_alike, has_alike, option_alike}
 use Rattle.program_laws.proofs.Names.{held_is}
 
 -- protocols that are the same up to boxes
@@ -48,10 +48,5 @@ returns_is (Some params) = refl
 pub returns_alike : (m n : MessageDecl) → SameMessage m n → option_map (map unboxed_param) m.returns ≡ option_map (map unboxed_param) n.returns
 returns_alike m n same = sym (returns_is m.returns) ∙ (λ i. (same i).returns) ∙ returns_is n.returns
 
-has_returns : (a b : Option (List Param)) → unboxed_returns a ≡ unboxed_returns b → IsSome a → IsSome b
-has_returns None b same some = absurd (let no : ⊥ = cc in no)
-has_returns (Some params) None same some = absurd (let no : ⊥ = cc in no)
-has_returns (Some params) (Some others) same some = refl
-
 pub has_returns_alike : (m n : MessageDecl) → SameMessage m n → IsSome m.returns → IsSome n.returns
-has_returns_alike m n same some = has_returns m.returns n.returns (λ i. (same i).returns) some
+has_returns_alike m n same some = has_alike (map unboxed_param) m.returns n.returns (returns_alike m n same) some
