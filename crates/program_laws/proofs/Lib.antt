@@ -6,3 +6,7 @@ pub mod Managers
 pub mod SyncList
 pub mod Written
 pub mod Declarations
+pub mod Defined
+pub mod Types
+pub mod Shapes
+pub mod Schemas
