@@ -49,8 +49,8 @@ module _ (program other : List Entry) (alike : AreAlike program other) (place : 
   repeated_field broken =
       any_alike unboxed_entry (λ e. Any (λ s. IsRepeatedAt (map (λ f. (f.name, f.place)) s.fields) place) e.unit.structs) (λ e. Any (λ s. IsRepeatedAt (map (λ f. (f.name, f.place)) s.fields) place) e.unit.structs)
       (λ x y same is. any_alike unboxed_struct (λ s. IsRepeatedAt (map (λ f. (f.name, f.place)) s.fields) place) (λ s. IsRepeatedAt (map (λ f. (f.name, f.place)) s.fields) place)
-        (λ s t looks repeated. subst (λ names. IsRepeatedAt names place) (map_alike unboxed_param (λ (f : Param). (f.name, f.place)) (λ f. refl) s.fields t.fields (λ i. (looks i).fields)) repeated)
-        x.unit.structs y.unit.structs (λ i. (same i).unit.structs) is) program other alike broken
+      (λ s t looks repeated. subst (λ names. IsRepeatedAt names place) (map_alike unboxed_param (λ (f : Param). (f.name, f.place)) (λ f. refl) s.fields t.fields (λ i. (looks i).fields)) repeated)
+      x.unit.structs y.unit.structs (λ i. (same i).unit.structs) is) program other alike broken
 
 -- Attributes
 

@@ -1,5 +1,5 @@
 -- Programs that are alike break the same rules on managers and on what protocols manage.
-use Rattle.std.proofs.Common.{◌≡◌, ◌⊎◌, inl, inr, ℕ, List, [], map, codes, refl, sym, subst}
+use Rattle.std.proofs.Common.{◌≡◌, ◌⊎◌, inl, inr, ℕ, List, [], codes, refl, sym, subst}
 use Rattle.std.specs.List.{Any}
 use Rattle.ipdl_base.specs.declared.finding.Finding.{Finding}
 use Rattle.ipdl_base.specs.declared.finding.Place.{Place}
@@ -16,7 +16,7 @@ use Rattle.manager_rules.specs.Broken.{AtName, HasMessage, FindsWith, names_at, 
 use Rattle.program_laws.specs.Laws.{AreAlike}
 use Rattle.program_laws.proofs.Lists.{some_alike, map_alike}
 use Rattle.program_laws.proofs.Names.{no_protocol_alike, one_protocol_alike, protocol_alike}
-use Rattle.program_laws.proofs.Protocols.{SameProtocol, SameMessage, protocol_at_alike, any_message_alike}
+use Rattle.program_laws.proofs.Protocols.{SameProtocol, protocol_at_alike, any_message_alike}
 
 -- Names in lists that are the same
 
@@ -83,11 +83,11 @@ module _ (program other : List Entry) (alike : AreAlike program other) (place : 
       (λ file p. AtName (λ n. FindsWith (λ k q. ¬ NamesManager other k q file) other file n.name) place p.manages ⊎ AtName (λ n. FindsWith (λ k m. ¬ Manages other k m file) other file n.name) place p.managers)
       (λ file p q same. elim [
         | inl at ↦ inl (at_name (λ n. FindsWith (λ k q. ¬ NamesManager program k q file) program file n.name) (λ n. FindsWith (λ k q. ¬ NamesManager other k q file) other file n.name)
-          (λ n found. finds_with program other alike (λ k q. ¬ NamesManager program k q file) (λ k q. ¬ NamesManager other k q file) (λ k a b is not names. not (names_manager other program (sym alike) k b a file (sym is) names)) file n.name found)
-          place p.manages q.manages (λ i. (same i).manages) at)
+            (λ n found. finds_with program other alike (λ k q. ¬ NamesManager program k q file) (λ k q. ¬ NamesManager other k q file) (λ k a b is not names. not (names_manager other program (sym alike) k b a file (sym is) names)) file n.name found)
+            place p.manages q.manages (λ i. (same i).manages) at)
         | inr at ↦ inr (at_name (λ n. FindsWith (λ k m. ¬ Manages program k m file) program file n.name) (λ n. FindsWith (λ k m. ¬ Manages other k m file) other file n.name)
-          (λ n found. finds_with program other alike (λ k m. ¬ Manages program k m file) (λ k m. ¬ Manages other k m file) (λ k a b is not names. not (manages other program (sym alike) k b a file (sym is) names)) file n.name found)
-          place p.managers q.managers (λ i. (same i).managers) at)
+            (λ n found. finds_with program other alike (λ k m. ¬ Manages program k m file) (λ k m. ¬ Manages other k m file) (λ k a b is not names. not (manages other program (sym alike) k b a file (sym is) names)) file n.name found)
+            place p.managers q.managers (λ i. (same i).managers) at)
       ]) broken
 
   stronger_than_manager : IsStrongerThanManager program place → IsStrongerThanManager other place
@@ -96,9 +96,9 @@ module _ (program other : List Entry) (alike : AreAlike program other) (place : 
       (λ file p. AtName (λ n. FindsWith (λ k m. ¬ Converts (strength_of_protocol p) (strength_of_protocol m)) program file n.name) place p.managers)
       (λ file p. AtName (λ n. FindsWith (λ k m. ¬ Converts (strength_of_protocol p) (strength_of_protocol m)) other file n.name) place p.managers)
       (λ file p q same at. at_name (λ n. FindsWith (λ k m. ¬ Converts (strength_of_protocol p) (strength_of_protocol m)) program file n.name) (λ n. FindsWith (λ k m. ¬ Converts (strength_of_protocol q) (strength_of_protocol m)) other file n.name)
-        (λ n found. finds_with program other alike (λ k m. ¬ Converts (strength_of_protocol p) (strength_of_protocol m)) (λ k m. ¬ Converts (strength_of_protocol q) (strength_of_protocol m))
-          (λ k a b is not. subst (λ (x : ProtocolDecl). ¬ Converts (strength_of_protocol x) (strength_of_protocol b)) same (subst (λ (x : ProtocolDecl). ¬ Converts (strength_of_protocol p) (strength_of_protocol x)) is not)) file n.name found)
-        place p.managers q.managers (λ i. (same i).managers) at)
+      (λ n found. finds_with program other alike (λ k m. ¬ Converts (strength_of_protocol p) (strength_of_protocol m)) (λ k m. ¬ Converts (strength_of_protocol q) (strength_of_protocol m))
+      (λ k a b is not. subst (λ (x : ProtocolDecl). ¬ Converts (strength_of_protocol x) (strength_of_protocol b)) same (subst (λ (x : ProtocolDecl). ¬ Converts (strength_of_protocol p) (strength_of_protocol x)) is not)) file n.name found)
+      place p.managers q.managers (λ i. (same i).managers) at)
       broken
 
   manager_cycle : IsManagerCycle program place → IsManagerCycle other place
@@ -111,8 +111,8 @@ module _ (program other : List Entry) (alike : AreAlike program other) (place : 
       protocol_at_alike program other alike
       (λ file p. AtName (λ n. FindsWith (λ k q. ¬ HasMessage p n.name) program file n.name) place p.manages) (λ file p. AtName (λ n. FindsWith (λ k q. ¬ HasMessage p n.name) other file n.name) place p.manages)
       (λ file p q same at. at_name (λ n. FindsWith (λ k r. ¬ HasMessage p n.name) program file n.name) (λ n. FindsWith (λ k r. ¬ HasMessage q n.name) other file n.name)
-        (λ n found. finds_with program other alike (λ k r. ¬ HasMessage p n.name) (λ k r. ¬ HasMessage q n.name) (λ k a b is not has. not (has_message q p n.name (sym same) has)) file n.name found)
-        place p.manages q.manages (λ i. (same i).manages) at)
+      (λ n found. finds_with program other alike (λ k r. ¬ HasMessage p n.name) (λ k r. ¬ HasMessage q n.name) (λ k a b is not has. not (has_message q p n.name (sym same) has)) file n.name found)
+      place p.manages q.manages (λ i. (same i).manages) at)
       broken
 
   missing_destructor : IsMissingDestructor program place → IsMissingDestructor other place
@@ -126,10 +126,12 @@ module _ (program other : List Entry) (alike : AreAlike program other) (place : 
       protocol_at_alike program other alike
       (λ file p. Any (λ m. FindsWith (λ k q. ¬ Manages program file p k) program file m.name × (m.place ≡ place)) p.messages) (λ file p. Any (λ m. FindsWith (λ k q. ¬ Manages other file p k) other file m.name × (m.place ≡ place)) p.messages)
       (λ file p q same some. any_message_alike (λ m. FindsWith (λ k r. ¬ Manages program file p k) program file m.name × (m.place ≡ place)) (λ m. FindsWith (λ k r. ¬ Manages other file q k) other file m.name × (m.place ≡ place))
-        (λ m n looks holds. (subst (λ (x : MessageDecl). FindsWith (λ k r. ¬ Manages other file q k) other file x.name) looks
-          (finds_with program other alike (λ k r. ¬ Manages program file p k) (λ k r. ¬ Manages other file q k) (λ k a b is not has. not (manages other program (sym alike) file q p k (sym same) has)) file m.name holds.0),
-          subst (λ (x : MessageDecl). x.place ≡ place) looks holds.1))
-        p q same some)
+      (λ m n looks holds. (
+        subst (λ (x : MessageDecl). FindsWith (λ k r. ¬ Manages other file q k) other file x.name) looks
+            (finds_with program other alike (λ k r. ¬ Manages program file p k) (λ k r. ¬ Manages other file q k) (λ k a b is not has. not (manages other program (sym alike) file q p k (sym same) has)) file m.name holds.0),
+        subst (λ (x : MessageDecl). x.place ≡ place) looks holds.1,
+      ))
+      p q same some)
       broken
 
   repeated_name : IsRepeatedName program place → IsRepeatedName other place

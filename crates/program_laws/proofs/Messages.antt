@@ -1,5 +1,5 @@
 -- Programs that are alike break the same rules on messages.
-use Rattle.std.proofs.Common.{◌≡◌, ◌⊎◌, inl, inr, ◌∙◌, ℕ, List, ◌++◌, Option, Some, None, map, refl, sym, ap, subst}
+use Rattle.std.proofs.Common.{◌≡◌, inl, inr, ◌∙◌, ℕ, List, ◌++◌, Option, Some, None, map, refl, sym, ap, subst}
 use Rattle.std.specs.Prelude.{IsTrue}
 use Rattle.std.specs.List.{Any}
 use Rattle.std.proofs.lemmas.List.{map-append}
@@ -17,7 +17,7 @@ use Rattle.findings.specs.Gains.{AtSome}
 use Rattle.findings.specs.Repeats.{IsRepeatedAt}
 use Rattle.name_table.specs.declared.kinds.MessageKind.{MessageKind}
 use Rattle.name_table.specs.declared.kinds.MessageKind.TheVariants as kind
-use Rattle.name_table.specs.Kinds.{IsKindOf, kind_of_message, compress_of_message, is_lazy_message, level_of_message, strength_of_message, strength_of_protocol, Converts}
+use Rattle.name_table.specs.Kinds.{IsKindOf, kind_of_message, compress_of_message, is_lazy_message, level_of_message}
 use Rattle.message_rules.specs.Messages.{IsTooMany, IsToChild, IsPlainSyncToChild, IsAsyncInsideSync, IsInsideCpowToChild, IsStronger, IsPlainAsync, IsBadCompress, IsBadLazy, IsBadMaker}
 use Rattle.message_rules.specs.Broken.{SomeMessage, returns_of, IsRepeatedParameter, BrokenAt}
 use Rattle.program_laws.specs.Laws.{AreAlike}
@@ -101,7 +101,7 @@ module _ (program other : List Entry) (alike : AreAlike program other) where
   some_message_alike Holds carries place some =
       any_protocol_alike program other alike (λ p. AtSome (λ index m. Holds p index m × (m.place ≡ place)) p.messages) (λ p. AtSome (λ index m. Holds p index m × (m.place ≡ place)) p.messages)
       (λ p q at found. at_alike unboxed_message (λ index m. Holds p index m × (m.place ≡ place)) (λ index m. Holds q index m × (m.place ≡ place))
-        (λ index m n same holds. (carries p q index m n at same holds.0, subst (λ (x : MessageDecl). x.place ≡ place) same holds.1)) p.messages q.messages (λ i. (at i).messages) found)
+      (λ index m n same holds. (carries p q index m n at same holds.0, subst (λ (x : MessageDecl). x.place ≡ place) same holds.1)) p.messages q.messages (λ i. (at i).messages) found)
       some
 
   repeated_parameter_alike : (place : Place) → IsRepeatedParameter program place → IsRepeatedParameter other place

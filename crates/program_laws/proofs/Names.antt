@@ -1,11 +1,9 @@
 -- What names find in programs that are alike.
-use Rattle.std.proofs.Common.{◌≡◌, ◌⊎◌, inl, inr, ◌∙◌, ℕ, List, Option, Some, None, IsSomeAnd, slice_get, map, refl, sym, ap, subst}
+use Rattle.std.proofs.Common.{◌≡◌, inl, inr, ◌∙◌, ℕ, List, Option, Some, None, IsSomeAnd, slice_get, refl, sym, ap, subst}
 use Rattle.std.specs.Prelude.{option_map, option_and_then}
 use Rattle.std.specs.List.{Contains}
 use Rattle.ipdl_syntax.specs.declared.program.Entry.{Entry}
 use Rattle.ipdl_syntax.specs.declared.tree.ProtocolDecl.{ProtocolDecl}
-use Rattle.ipdl_syntax.specs.declared.tree.StructDecl.{StructDecl}
-use Rattle.ipdl_syntax.specs.declared.tree.UnionDecl.{UnionDecl}
 use Rattle.grammar_laws.specs.Boxes.{unboxed_protocol, unboxed_struct, unboxed_union, unboxed_held}
 use Rattle.name_table.specs.declared.decl.DeclId.{DeclId}
 use Rattle.name_table.specs.declared.decl.DeclId.TheVariants.{Builtin, Using, Struct, Union, Protocol, Endpoint}
@@ -13,10 +11,10 @@ use Rattle.name_table.specs.declared.decl.Found.{Found}
 use Rattle.name_table.specs.declared.decl.Found.TheVariants as found
 use Rattle.name_table.specs.Declares.{file_of, full_name_in, full_name_of, Declares, Includes, IsHeader}
 use Rattle.name_table.specs.Visible.{Sees, own, protocol, header}
-use Rattle.name_table.specs.Finds.{IsNameOf, SeesNamed, FindsProtocol, NamesBuiltin, IsFirst, FindsUsing, Finds, FindsAsProtocol, Counts}
+use Rattle.name_table.specs.Finds.{SeesNamed, FindsProtocol, NamesBuiltin, Finds, FindsAsProtocol, Counts}
 use Rattle.name_table.specs.Decls.{protocol_of, struct_of, union_of, FindsNone, FindsOne, FindsTwo, FindsNoProtocol, FindsOneProtocol}
 use Rattle.program_laws.specs.Laws.{unboxed_entry, unboxed_program, AreAlike}
-use Rattle.program_laws.proofs.Lists.{at_place_alike, some_alike, at_look}
+use Rattle.program_laws.proofs.Lists.{at_place_alike, at_look}
 
 -- Full names
 
@@ -35,7 +33,7 @@ full_in e (Endpoint file managed) = refl
 full_of : (program : List Entry) (d : DeclId) → full_name_of (unboxed_program program) d ≡ full_name_of program d
 full_of program d =
     let in_file : (file : ℕ) → option_and_then (λ entry. full_name_in entry d) (slice_get (unboxed_program program) file) ≡ option_and_then (λ entry. full_name_in entry d) (slice_get program file)
-      = λ file. at_look unboxed_entry (option_and_then (λ entry. full_name_in entry d)) (option_and_then (λ entry. full_name_in entry d)) refl (λ e. full_in e d) program file in
+    = λ file. at_look unboxed_entry (option_and_then (λ entry. full_name_in entry d)) (option_and_then (λ entry. full_name_in entry d)) refl (λ e. full_in e d) program file in
     λ i. option_and_then (λ file. in_file file i) (file_of d)
 
 -- What a name finds, one way

@@ -1,5 +1,5 @@
 -- Protocols and messages of programs that are alike: what holds of one holds of the other, where trees without boxes decide it.
-use Rattle.std.proofs.Common.{◌≡◌, ◌∙◌, ℕ, List, [], ◌∷◌, ◌++◌, Option, Some, None, IsSomeAnd, map, refl, sym, ap, subst}
+use Rattle.std.proofs.Common.{◌≡◌, ◌∙◌, ℕ, List, Option, Some, None, IsSomeAnd, map, refl, sym}
 use Rattle.std.specs.Prelude.{option_map, IsSome}
 use Rattle.std.specs.List.{Any}
 use Rattle.ipdl_syntax.specs.declared.program.Entry.{Entry}

@@ -1,7 +1,7 @@
 -- Programs that are alike have the same schemas.
 use Rattle.std.proofs.Common.{◌≡◌, ◌∙◌, ℕ, List, Option, Some, None, IsSomeAnd, map, refl, sym, ap, subst}
 use Rattle.std.specs.Prelude.{option_map, IsSome}
-use Rattle.std.specs.List.{AllPairs, AllZip}
+use Rattle.std.specs.List.{AllZip}
 use Rattle.std.specs.Cmp.Lexicographic.{slice_cmp}
 use Rattle.std.specs.Ordering.{nat_cmp}
 use Rattle.std.specs.declared.cmp.Ordering.TheVariants.{Less}
@@ -18,15 +18,13 @@ use Rattle.ipdl_syntax.specs.declared.tree.MessageDecl.{MessageDecl}
 use Rattle.ipdl_syntax.specs.declared.tree.NameAt.{NameAt}
 use Rattle.ipdl_syntax.specs.declared.tree.Param.{Param}
 use Rattle.ipdl_syntax.specs.declared.tree.ProtocolDecl.{ProtocolDecl}
-use Rattle.ipdl_syntax.specs.declared.tree.StructDecl.{StructDecl}
-use Rattle.ipdl_syntax.specs.declared.tree.UnionDecl.{UnionDecl}
 use Rattle.grammar_laws.specs.Boxes.{unboxed_type, unboxed_param, unboxed_message, unboxed_protocol, unboxed_struct, unboxed_union}
 use Rattle.name_table.specs.declared.decl.DeclId.{DeclId}
 use Rattle.name_table.specs.declared.decl.DeclId.TheVariants.{Builtin, Using, Struct, Union, Protocol, Endpoint}
 use Rattle.name_table.specs.declared.kinds.MessageKind.TheVariants as kind
 use Rattle.name_table.specs.Decls.{protocol_of, struct_of, union_of}
 use Rattle.name_table.specs.Kinds.{compress_of_message, is_lazy_message, level_of_message, level_of_protocol}
-use Rattle.schema_laws.specs.Numbers.{Numbering, IsNamedBefore, AreProtocolFiles, place_of, IsDeclaredBefore, AreTypes}
+use Rattle.schema_laws.specs.Numbers.{Numbering, IsNamedBefore, AreProtocolFiles, place_of, AreTypes}
 use Rattle.schema_laws.specs.Shapes.{IsShapeOf}
 use Rattle.schema_laws.specs.SchemaOf.{IsParamRow, AreParamRows, AreReturnRows, IsNumberOfName, IsRowKind, IsMessageRow, IsProtocolRow, IsTypeRow, IsSchemaOf}
 use Rattle.program_laws.specs.Laws.{AreAlike}
@@ -48,9 +46,10 @@ module _ (program other : List Entry) (alike : AreAlike program other) where
   protocol_files : (files : List ℕ) → AreProtocolFiles program files → AreProtocolFiles other files
   protocol_files files are = record {
     ordered = λ i j d before within. named_before _ _ (are.ordered i j d before within);
-    exact = λ file.
-      (λ among. has_alike unboxed_protocol (protocol_of program file) (protocol_of other file) (protocol_alike program other alike file) ((are.exact file).0 among),
-        λ some. (are.exact file).1 (has_alike unboxed_protocol (protocol_of other file) (protocol_of program file) (protocol_alike other program (sym alike) file) some));
+    exact = λ file. (
+      λ among. has_alike unboxed_protocol (protocol_of program file) (protocol_of other file) (protocol_alike program other alike file) ((are.exact file).0 among),
+      λ some. (are.exact file).1 (has_alike unboxed_protocol (protocol_of other file) (protocol_of program file) (protocol_alike other program (sym alike) file) some),
+    );
   }
 
   place_alike : (d : DeclId) → place_of program d ≡ place_of other d
@@ -64,9 +63,10 @@ module _ (program other : List Entry) (alike : AreAlike program other) where
   types_numbered : (types : List DeclId) → AreTypes program types → AreTypes other types
   types_numbered types are = record {
     ordered = λ i j d before within p q at found. are.ordered i j d before within p q (place_alike _ ∙ at) (place_alike _ ∙ found);
-    exact = λ d.
-      (λ among. subst IsSome (place_alike d) ((are.exact d).0 among),
-        λ some. (are.exact d).1 (subst IsSome (sym (place_alike d)) some));
+    exact = λ d. (
+      λ among. subst IsSome (place_alike d) ((are.exact d).0 among),
+      λ some. (are.exact d).1 (subst IsSome (sym (place_alike d)) some),
+    );
   }
 
 -- Rows
@@ -135,8 +135,10 @@ module _ (program other : List Entry) (alike : AreAlike program other) (n : Numb
       (λ s t same rows. (rows.0 ∙ (λ i. (same i).full), param_rows program other alike n file s.fields t.fields fields (λ i. (same i).fields) rows.1)) (struct_of program file index) (struct_of other file index) (struct_alike program other alike file index) is
   type_row (Union file index) (row.Union name components) is =
       option_alike unboxed_union (λ u. (name ≡ u.full) × AllZip (IsShapeOf program n file) u.components components) (λ u. (name ≡ u.full) × AllZip (IsShapeOf other n file) u.components components)
-      (λ u v same rows. (rows.0 ∙ (λ i. (same i).full),
-        zip_alike unboxed_type (IsShapeOf program n file) (IsShapeOf other n file) (λ s t w looks is. shape_alike program other alike n file s t looks w is) u.components v.components components (λ i. (same i).components) rows.1))
+      (λ u v same rows. (
+        rows.0 ∙ (λ i. (same i).full),
+        zip_alike unboxed_type (IsShapeOf program n file) (IsShapeOf other n file) (λ s t w looks is. shape_alike program other alike n file s t looks w is) u.components v.components components (λ i. (same i).components) rows.1,
+      ))
       (union_of program file index) (union_of other file index) (union_alike program other alike file index) is
   type_row _ _ is = absurd is
 
@@ -150,7 +152,7 @@ schemas_alike program other schema alike is = record {
   files = protocol_files program other alike is.numbering.files is.files;
   ids = types_numbered program other alike is.numbering.types is.ids;
   protocols = rows_alike (λ (file : ℕ). file) (λ number file r. IsSomeAnd (protocol_of program file) (λ p. IsProtocolRow program is.numbering schema.types number file p r)) (λ number file r. IsSomeAnd (protocol_of other file) (λ p. IsProtocolRow other is.numbering schema.types number file p r))
-    (λ number file there r same has. subst (λ (k : ℕ). IsSomeAnd (protocol_of other k) (λ p. IsProtocolRow other is.numbering schema.types number k p r)) same (protocol_rows program other alike is.numbering schema.types number file r has))
-    0 is.numbering.files is.numbering.files schema.protocols refl is.protocols;
+      (λ number file there r same has. subst (λ (k : ℕ). IsSomeAnd (protocol_of other k) (λ p. IsProtocolRow other is.numbering schema.types number k p r)) same (protocol_rows program other alike is.numbering schema.types number file r has))
+      0 is.numbering.files is.numbering.files schema.protocols refl is.protocols;
   types = zip_alike (λ (d : DeclId). d) (IsTypeRow program is.numbering) (IsTypeRow other is.numbering) (λ d e r same has. subst (λ (k : DeclId). IsTypeRow other is.numbering k r) same (type_row program other alike is.numbering d r has)) is.numbering.types is.numbering.types schema.types refl is.types;
 }

@@ -1,5 +1,5 @@
 -- Types of programs that are alike stand for the same types of a schema.
-use Rattle.std.proofs.Common.{◌≡◌, ◌∙◌, ℕ, Bool, List, [], ◌∷◌, Option, Some, sym, subst}
+use Rattle.std.proofs.Common.{◌≡◌, ◌∙◌, ℕ, Bool, List, [], ◌∷◌, sym, subst}
 use Rattle.ipdl_base.specs.declared.schema.Shape.{Shape}
 use Rattle.ipdl_base.specs.declared.schema.Shape as shape
 use Rattle.ipdl_syntax.specs.declared.program.Entry.{Entry}
@@ -67,8 +67,8 @@ module _ (program other : List Entry) (alike : AreAlike program other) (n : Numb
       let suffixes : after ≡ after' = cc in
       subst (λ f. IsUnique (IsSuffixed (IsShapeOfBase other n file f c) after') s) flags
       (subst (λ a. IsUnique (IsSuffixed (IsShapeOfBase other n file flag c) a) s) suffixes
-        (unique (IsSuffixed (IsShapeOfBase program n file flag b) after) (IsSuffixed (IsShapeOfBase other n file flag c) after)
-          (suffixed after (IsShapeOfBase program n file flag b) (IsShapeOfBase other n file flag c) (of_base file flag b c inside)) s is))
+      (unique (IsSuffixed (IsShapeOfBase program n file flag b) after) (IsSuffixed (IsShapeOfBase other n file flag c) after)
+      (suffixed after (IsShapeOfBase program n file flag b) (IsShapeOfBase other n file flag c) (of_base file flag b c inside)) s is))
 
   pub shape_alike : (file : ℕ) (s t : TypeSpec) → unboxed_type s ≡ unboxed_type t → Implies (IsShapeOf program n file s) (IsShapeOf other n file t)
   shape_alike file s t same whole is =

@@ -1,5 +1,5 @@
 -- Programs that are alike break the same rules of a sync list.
-use Rattle.std.proofs.Common.{◌≡◌, ◌⊎◌, inl, inr, ◌∙◌, ℕ, List, length, map, sym, ap, subst}
+use Rattle.std.proofs.Common.{◌≡◌, inl, inr, ◌∙◌, ℕ, List, length, sym, ap, subst}
 use Rattle.std.specs.List.{Any}
 use Rattle.std.proofs.lemmas.List.{length-map}
 use Rattle.ipdl_base.specs.Words.{short_name}
@@ -11,9 +11,9 @@ use Rattle.ipdl_syntax.specs.declared.program.Entry.{Entry}
 use Rattle.ipdl_syntax.specs.declared.tree.MessageDecl.{MessageDecl}
 use Rattle.ipdl_syntax.specs.declared.tree.ProtocolDecl.{ProtocolDecl}
 use Rattle.sync_list.specs.declared.list.Section.{Section}
-use Rattle.sync_list.specs.Broken.{Lists, IsRead, HasMessage, IsUnlistedAt, section_place, AtSection, IsUnlistedSync, NamesAsync, NamesAbsent, HasNoDescription, BrokenAt}
+use Rattle.sync_list.specs.Broken.{Lists, IsRead, HasMessage, IsUnlistedAt, AtSection, IsUnlistedSync, NamesAsync, NamesAbsent, HasNoDescription, BrokenAt}
 use Rattle.program_laws.specs.Laws.{unboxed_entry, AreAlike}
-use Rattle.program_laws.proofs.Protocols.{SameProtocol, SameMessage, any_protocol_alike, any_message_alike}
+use Rattle.program_laws.proofs.Protocols.{SameMessage, any_protocol_alike, any_message_alike}
 
 -- Messages
 
@@ -38,15 +38,17 @@ module _ (program other : List Entry) (alike : AreAlike program other) where
   has_message semantics protocol message has =
       any_protocol_alike program other alike
       (λ p. (short_name p.full ≡ protocol) × Any (λ m. (m.semantics ≡ semantics) × (m.name ≡ message)) p.messages) (λ p. (short_name p.full ≡ protocol) × Any (λ m. (m.semantics ≡ semantics) × (m.name ≡ message)) p.messages)
-      (λ p q same is. (subst (λ (x : ProtocolDecl). short_name x.full ≡ protocol) same is.0,
-        any_message_alike (λ m. (m.semantics ≡ semantics) × (m.name ≡ message)) (λ m. (m.semantics ≡ semantics) × (m.name ≡ message)) (named_so semantics message) p q same is.1))
+      (λ p q same is. (
+        subst (λ (x : ProtocolDecl). short_name x.full ≡ protocol) same is.0,
+        any_message_alike (λ m. (m.semantics ≡ semantics) × (m.name ≡ message)) (λ m. (m.semantics ≡ semantics) × (m.name ≡ message)) (named_so semantics message) p q same is.1,
+      ))
       has
 
   unlisted_sync : (list : List Section) (place : Place) → IsUnlistedSync program list place → IsUnlistedSync other list place
   unlisted_sync list place broken =
       any_protocol_alike program other alike (λ p. Any (IsUnlistedAt list (short_name p.full) place) p.messages) (λ p. Any (IsUnlistedAt list (short_name p.full) place) p.messages)
       (λ p q same some. subst (λ (x : ProtocolDecl). Any (IsUnlistedAt list (short_name x.full) place) q.messages) same
-        (any_message_alike (IsUnlistedAt list (short_name p.full) place) (IsUnlistedAt list (short_name p.full) place) (unlisted_at list (short_name p.full) place) p q same some))
+      (any_message_alike (IsUnlistedAt list (short_name p.full) place) (IsUnlistedAt list (short_name p.full) place) (unlisted_at list (short_name p.full) place) p q same some))
       broken
 
   -- Sections

@@ -1,5 +1,5 @@
 -- Programs that are alike break the same rules on types, names of declarations and attributes.
-use Rattle.std.proofs.Common.{◌⊎◌, inl, inr, List}
+use Rattle.std.proofs.Common.{inl, inr, List}
 use Rattle.ipdl_base.specs.declared.finding.Finding.{Finding}
 use Rattle.ipdl_syntax.specs.declared.program.Entry.{Entry}
 use Rattle.type_rules.specs.Broken.{BrokenAt}

@@ -1,18 +1,14 @@
 -- Types that are written in programs that are alike, and the rules on them.
-use Rattle.std.proofs.Common.{◌≡◌, ◌⊎◌, inl, inr, ℕ, Bool, true, List, Option, Some, None, IsSomeAnd, map, sym, subst}
+use Rattle.std.proofs.Common.{◌≡◌, inl, inr, ℕ, Bool, true, List, Option, map, sym, subst}
 use Rattle.std.specs.List.{Any}
 use Rattle.ipdl_base.specs.declared.finding.Place.{Place}
 use Rattle.ipdl_syntax.specs.declared.program.Entry.{Entry}
 use Rattle.ipdl_syntax.specs.declared.tree.Base.{Base, Named, Unique'}
 use Rattle.ipdl_syntax.specs.declared.tree.MessageDecl.{MessageDecl}
 use Rattle.ipdl_syntax.specs.declared.tree.Param.{Param}
-use Rattle.ipdl_syntax.specs.declared.tree.ProtocolDecl.{ProtocolDecl}
-use Rattle.ipdl_syntax.specs.declared.tree.StructDecl.{StructDecl}
 use Rattle.ipdl_syntax.specs.declared.tree.TypeSpec.{TypeSpec}
-use Rattle.ipdl_syntax.specs.declared.tree.UnionDecl.{UnionDecl}
 use Rattle.ipdl_syntax.specs.declared.tree.Unit.{Unit as FileUnit}
 use Rattle.grammar_laws.specs.Boxes.{unboxed_base, unboxed_type, unboxed_param, unboxed_struct, unboxed_union, unboxed}
-use Rattle.name_table.specs.declared.decl.DeclId.{DeclId}
 use Rattle.type_rules.specs.Written.{OfType, HoldsWithin, InType, InParams, InMessage, InUnit, SomeType}
 use Rattle.type_rules.specs.TypeNames.{IsUnknown, IsAmbiguous, IsNoActor, IsUnknownType, IsAmbiguousType, IsNullableNonActor}
 use Rattle.program_laws.specs.Laws.{unboxed_entry, AreAlike}
@@ -62,7 +58,7 @@ module _ (P Q : OfType) (passes : Passes P Q) where
       inl (any_alike unboxed_struct (λ s. InParams P s.fields) (λ s. InParams Q s.fields) (λ s t as' is. in_params s.fields t.fields (λ i. (as' i).fields) is) u.structs v.structs (λ i. (same i).structs) holds)
   in_unit u v same (inr (inl holds)) =
       inr (inl (any_alike unboxed_union (λ s. Any (InType P) s.components) (λ s. Any (InType Q) s.components)
-        (λ s t as' is. any_alike unboxed_type (InType P) (InType Q) in_type s.components t.components (λ i. (as' i).components) is) u.unions v.unions (λ i. (same i).unions) holds))
+      (λ s t as' is. any_alike unboxed_type (InType P) (InType Q) in_type s.components t.components (λ i. (as' i).components) is) u.unions v.unions (λ i. (same i).unions) holds))
   in_unit u v same (inr (inr holds)) =
       inr (inr (held_alike (λ p. Any (InMessage P) p.messages) (λ p. Any (InMessage Q) p.messages) (λ p q as' is. any_message_alike (InMessage P) (InMessage Q) in_message p q as' is) u.protocol v.protocol (λ i. (same i).protocol) holds))
 
