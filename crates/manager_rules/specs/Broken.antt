@@ -43,8 +43,8 @@ IsUnknownProtocol program place =
 abbrev pub IsDisagreement : List Entry → Place → Type 0
 IsDisagreement program place =
     SomeProtocol (λ file p.
-      AtName (λ n. FindsWith (λ other q. ¬ NamesManager program other q file) program file n.name) place p.manages
-      ⊎ AtName (λ n. FindsWith (λ other m. ¬ Manages program other m file) program file n.name) place p.managers) program
+    AtName (λ n. FindsWith (λ other q. ¬ NamesManager program other q file) program file n.name) place p.manages
+    ⊎ AtName (λ n. FindsWith (λ other m. ¬ Manages program other m file) program file n.name) place p.managers) program
 
 -- B15: a protocol does not convert to a manager
 abbrev pub IsStrongerThanManager : List Entry → Place → Type 0

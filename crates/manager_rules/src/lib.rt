@@ -1,6 +1,12 @@
 //! The rules on managers: who manages whom, constructors and destructors, cycles, repeated names (docs/protocols.md).
 #![tactic(auto)]
 
+mod breach;
+mod cycle;
+mod known;
 mod report;
+mod rows;
+mod side;
+mod subject;
 
 pub use report::add_of_managers;

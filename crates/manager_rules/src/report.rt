@@ -1,11 +1,213 @@
-ghost use Rattle.std.specs.Prelude.{◌≡◌, ◌≤◌, length, OnOk};
+ghost use Rattle.std.specs.Prelude.{◌≡◌, ◌≤◌, length, map, slice_get, Some, IfOk, OnOk, IsSomeAnd};
+ghost use Rattle.findings.specs.Adds.{Adds};
 ghost use Rattle.findings.specs.Gains.{Gains};
-ghost use Rattle.manager_rules.specs.Broken.{BrokenAt};
+ghost use Rattle.name_table.specs.Decls.{protocol_of};
+ghost use Rattle.manager_rules.specs.Breaches.{rule_of};
+ghost use Rattle.manager_rules.specs.Broken.{BrokenAt, names_at, messages_at};
+ghost use Rattle.manager_rules.specs.InProtocol.{BreaksAt, CycleIn, UndestroyedIn, UnmanagedIn, RepeatedIn, NamesBroken, RestBroken, BrokenIn};
+ghost use Rattle.manager_rules.specs.Knowing.{IsKnown};
+ghost use Rattle.manager_rules.specs.Subjects.{HasNames, IsSubject};
 
-use ipdl_base::Finding;
-use ipdl_syntax::Program;
+use crate::breach::{Breach, breaks, is_unmanaged};
+use crate::cycle::is_in_cycle;
+use crate::known::Known;
+use crate::side::Side;
+use crate::subject::Subject;
+use findings::{NamePlace, add_repeated};
+use ipdl_base::{Finding, Rule};
+use ipdl_syntax::{Entry, MessageDecl, NameAt, Program, ProtocolDecl};
 use name_table::Names;
 use std::alloc::{AllocError, Global};
+
+/// Adds a finding at each name of the subject that does this against a rule.
+fn add_breaches(
+    known: &Known<'_, '_>,
+    subject: &Subject<'_>,
+    breach: Breach,
+    found: &mut Vec<Finding>,
+) -> Result<(), AllocError>
+    requires known { IsKnown known.now }
+    requires subject { IsSubject known.now.program.now subject.now }
+    ensures { OnOk result (Adds (rule_of breach) (BreaksAt breach known.now.program.now subject.now.file subject.now.protocol.now) found.old.items found.new.items) }
+{
+    let names = breach.side().names_of(subject.protocol);
+    for name in names {
+        if breaks(known, subject, name, breach) {
+            found.push(Finding {
+                place: name.place,
+                rule: breach.rule(),
+            })?;
+        }
+    }
+    Ok(())
+}
+
+/// Adds a finding at each of the subject's messages that has the name of a protocol which the subject does not manage.
+fn add_unmanaged(
+    known: &Known<'_, '_>,
+    subject: &Subject<'_>,
+    messages: &[MessageDecl],
+    found: &mut Vec<Finding>,
+) -> Result<(), AllocError>
+    requires known { IsKnown known.now }
+    requires subject { IsSubject known.now.program.now subject.now }
+    ensures { OnOk result (Adds Rule.UNMANAGED_CONSTRUCTOR (UnmanagedIn known.now.program.now subject.now.file subject.now.protocol.now messages.now) found.old.items found.new.items) }
+{
+    for message in messages {
+        if is_unmanaged(known, subject, &message.name) {
+            found.push(Finding {
+                place: message.place,
+                rule: Rule::UNMANAGED_CONSTRUCTOR,
+            })?;
+        }
+    }
+    Ok(())
+}
+
+/// Adds a finding at the subject's name where it has managers and no destructor.
+fn add_undestroyed(subject: &Subject<'_>, found: &mut Vec<Finding>) -> Result<(), AllocError>
+    requires { HasNames subject.now.protocol.now.messages subject.now.messages }
+    ensures { OnOk result (Adds Rule.MISSING_DESTRUCTOR (UndestroyedIn subject.now.protocol.now) found.old.items found.new.items) }
+{
+    if subject.lacks_destructor() {
+        found.push(Finding {
+            place: subject.protocol.place,
+            rule: Rule::MISSING_DESTRUCTOR,
+        })?;
+    }
+    Ok(())
+}
+
+/// Adds a finding at the subject's name where managers lead from it to another protocol and back.
+fn add_cycle(
+    alloc: Global,
+    known: &Known<'_, '_>,
+    subject: &Subject<'_>,
+    found: &mut Vec<Finding>,
+) -> Result<(), AllocError>
+    requires known { IsKnown known.now }
+    requires subject { IsSubject known.now.program.now subject.now }
+    ensures { OnOk result (Adds Rule.MANAGER_CYCLE (CycleIn known.now.program.now subject.now.file subject.now.protocol.now) found.old.items found.new.items) }
+{
+    if is_in_cycle(alloc, known, subject.file)? {
+        found.push(Finding {
+            place: subject.protocol.place,
+            rule: Rule::MANAGER_CYCLE,
+        })?;
+    }
+    Ok(())
+}
+
+/// These names with their places.
+fn places_of_names(alloc: Global, names: &[NameAt]) -> Result<Vec<NamePlace<'_>>, AllocError>
+    ensures { IfOk result (λ places. map (λ n. (n.0.now, n.1)) places.items ≡ names_at names.now) }
+{
+    let mut places = Vec::new(alloc);
+    for name in names {
+        places.push((name.name.as_slice(), name.place))?;
+    }
+    Ok(places)
+}
+
+/// The names of these messages with their places.
+fn places_of_messages(
+    alloc: Global,
+    messages: &[MessageDecl],
+) -> Result<Vec<NamePlace<'_>>, AllocError>
+    ensures { IfOk result (λ places. map (λ n. (n.0.now, n.1)) places.items ≡ messages_at messages.now) }
+{
+    let mut places = Vec::new(alloc);
+    for message in messages {
+        places.push((message.name.as_slice(), message.place))?;
+    }
+    Ok(places)
+}
+
+/// Adds a finding at each manager, managed protocol and message of a protocol that has the name of an earlier one.
+fn add_repeats(
+    alloc: Global,
+    protocol: &ProtocolDecl,
+    found: &mut Vec<Finding>,
+) -> Result<(), AllocError>
+    ensures { OnOk result (Adds Rule.REPEATED_NAME (RepeatedIn protocol.now) found.old.items found.new.items) }
+{
+    let managers = places_of_names(alloc, protocol.managers.as_slice())?;
+    let managed = places_of_names(alloc, protocol.manages.as_slice())?;
+    let messages = places_of_messages(alloc, protocol.messages.as_slice())?;
+    add_repeated(alloc, Rule::REPEATED_NAME, managers.as_slice(), found)?;
+    add_repeated(alloc, Rule::REPEATED_NAME, managed.as_slice(), found)?;
+    add_repeated(alloc, Rule::REPEATED_NAME, messages.as_slice(), found)
+}
+
+/// Adds the findings at the subject's names of other protocols.
+fn add_of_names(
+    known: &Known<'_, '_>,
+    subject: &Subject<'_>,
+    found: &mut Vec<Finding>,
+) -> Result<(), AllocError>
+    requires known { IsKnown known.now }
+    requires subject { IsSubject known.now.program.now subject.now }
+    ensures { OnOk result (Gains (NamesBroken known.now.program.now subject.now.file subject.now.protocol.now) found.old.items found.new.items) }
+{
+    add_breaches(known, subject, Breach::Unknown(Side::Managers), found)?;
+    add_breaches(known, subject, Breach::Unknown(Side::Managed), found)?;
+    add_breaches(known, subject, Breach::Unanswered(Side::Managed), found)?;
+    add_breaches(known, subject, Breach::Unanswered(Side::Managers), found)?;
+    add_breaches(known, subject, Breach::Stronger, found)?;
+    add_breaches(known, subject, Breach::Unconstructed, found)
+}
+
+/// Adds the subject's other findings.
+fn add_of_rest(
+    alloc: Global,
+    known: &Known<'_, '_>,
+    subject: &Subject<'_>,
+    found: &mut Vec<Finding>,
+) -> Result<(), AllocError>
+    requires known { IsKnown known.now }
+    requires subject { IsSubject known.now.program.now subject.now }
+    ensures { OnOk result (Gains (RestBroken known.now.program.now subject.now.file subject.now.protocol.now) found.old.items found.new.items) }
+{
+    add_cycle(alloc, known, subject, found)?;
+    add_undestroyed(subject, found)?;
+    add_unmanaged(known, subject, subject.protocol.messages.as_slice(), found)?;
+    add_repeats(alloc, subject.protocol, found)
+}
+
+/// Adds the findings of a protocol, which is that of a file.
+fn add_of_protocol(
+    alloc: Global,
+    known: &Known<'_, '_>,
+    file: u32,
+    protocol: &ProtocolDecl,
+    found: &mut Vec<Finding>,
+) -> Result<(), AllocError>
+    requires known { IsKnown known.now }
+    requires there { protocol_of known.now.program.now file ≡ Some protocol.now }
+    ensures { OnOk result (Gains (BrokenIn known.now.program.now file protocol.now) found.old.items found.new.items) }
+{
+    let subject = Subject::of(alloc, file, protocol)?;
+    add_of_names(known, &subject, found)?;
+    add_of_rest(alloc, known, &subject, found)
+}
+
+/// Adds the findings of the protocol of a file, where it has one.
+fn add_of_file(
+    alloc: Global,
+    known: &Known<'_, '_>,
+    file: u32,
+    entry: &Entry,
+    found: &mut Vec<Finding>,
+) -> Result<(), AllocError>
+    requires known { IsKnown known.now }
+    requires there { slice_get known.now.program.now file ≡ Some entry.now }
+    ensures { OnOk result (Gains (λ f. IsSomeAnd entry.now.unit.protocol (λ p. BrokenIn known.now.program.now file p f)) found.old.items found.new.items) }
+{
+    match &entry.unit.protocol {
+        Some(protocol) => add_of_protocol(alloc, known, file, protocol, found),
+        None => Ok(()),
+    }
+}
 
 /// Adds the findings of the rules B8, B9, B15 and B17 to B21 that a program breaks
 /// (docs/protocols.md), in some order. The names are those of the program. The only error is want of
@@ -20,5 +222,10 @@ pub fn add_of_managers(
     requires of_program { names.now ≡ program.now }
     ensures { OnOk result (Gains (BrokenAt program.now) found.old.items found.new.items) }
 {
-    Err(AllocError)
+    let entries = program.as_slice();
+    let known = Known::of(alloc, entries, names)?;
+    for (file, entry) in entries.iter().enumerate() {
+        add_of_file(alloc, &known, file as u32, entry, found)?;
+    }
+    Ok(())
 }

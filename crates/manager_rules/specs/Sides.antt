@@ -1,0 +1,34 @@
+-- The names that a protocol has for other protocols, of its managers and of those that it manages. These serve the code alone.
+use Rattle.std.specs.Prelude.{◌≡◌, ℕ, List, [], Some}
+use Rattle.std.specs.List.{Any}
+use Rattle.std.specs.Option.{option_map_or}
+use Rattle.ipdl_syntax.specs.declared.program.Entry.{Entry}
+use Rattle.ipdl_syntax.specs.declared.tree.NameAt.{NameAt}
+use Rattle.ipdl_syntax.specs.declared.tree.ProtocolDecl.{ProtocolDecl}
+use Rattle.name_table.specs.Decls.{FindsOneProtocol, protocol_of}
+use Rattle.manager_rules.specs.declared.side.Side.{Side}
+use Rattle.manager_rules.specs.declared.side.Side.TheVariants.{Managers, Managed}
+
+-- the names of a protocol on a side
+abbrev pub names_on : Side → ProtocolDecl → List NameAt
+names_on Managers p = p.managers
+names_on Managed p = p.manages
+
+-- the names of a file's protocol on a side
+abbrev pub names_in : Side → Entry → List NameAt
+names_in side e = option_map_or (names_on side) e.unit.protocol []
+
+-- the other side
+abbrev pub other_side : Side → Side
+other_side Managers = Managed
+other_side Managed = Managers
+
+-- the protocol of a file names that of another file on this side
+abbrev pub NamesOn : Side → List Entry → ℕ → ProtocolDecl → ℕ → Type 0
+NamesOn side program file p other = Any (λ n. FindsOneProtocol program file n.name other) (names_on side p)
+
+-- one file's protocol names another's on this side
+pub record HasBond (side : Side) (program : List Entry) (file other : ℕ) : Type 0 where
+  pub protocol : ProtocolDecl
+  pub there : protocol_of program file ≡ Some protocol
+  pub names : NamesOn side program file protocol other

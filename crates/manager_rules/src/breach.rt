@@ -1,0 +1,120 @@
+ghost use Rattle.std.specs.Prelude.{◌≡◌, ◌↔◌, IsTrue};
+ghost use Rattle.name_table.specs.Kinds.{strength_of_protocol, Converts};
+ghost use Rattle.manager_rules.specs.Breaches.{Breaks};
+ghost use Rattle.manager_rules.specs.Broken.{FindsWith, HasMessage};
+ghost use Rattle.manager_rules.specs.Knowing.{IsKnown};
+ghost use Rattle.manager_rules.specs.Managers.{Manages};
+ghost use Rattle.manager_rules.specs.Sides.{NamesOn, other_side};
+ghost use Rattle.manager_rules.specs.Subjects.{IsSubject};
+
+use crate::known::Known;
+use crate::rows::finds_none;
+use crate::side::Side;
+use crate::subject::Subject;
+use ipdl_base::{Name, Rule};
+use ipdl_syntax::NameAt;
+use name_table::Strength;
+
+/// What a protocol's name of another can do against the rules.
+#[derive(Clone, Copy)]
+pub enum Breach {
+    /// It finds no protocol.
+    Unknown(Side),
+    /// The protocol that it finds does not name this one on the other side.
+    Unanswered(Side),
+    /// It finds a manager to which the protocol does not convert.
+    Stronger,
+    /// It finds a protocol to be managed, and no message has the name.
+    Unconstructed,
+}
+
+impl Breach {
+    ghost use Rattle.manager_rules.specs.Breaches.{rule_of, side_of};
+
+    /// The rule that is broken.
+    pub fn rule(self) -> Rule
+        ensures { result ≡ rule_of self }
+    {
+        match self {
+            Breach::Unknown(_) => Rule::UNKNOWN_PROTOCOL,
+            Breach::Unanswered(_) => Rule::MANAGER_DISAGREEMENT,
+            Breach::Stronger => Rule::STRONGER_PROTOCOL,
+            Breach::Unconstructed => Rule::MISSING_CONSTRUCTOR,
+        }
+    }
+
+    /// The names that can break it.
+    pub fn side(self) -> Side
+        ensures { result ≡ side_of self }
+    {
+        match self {
+            Breach::Unknown(side) => side,
+            Breach::Unanswered(side) => side,
+            Breach::Stronger => Side::Managers,
+            Breach::Unconstructed => Side::Managed,
+        }
+    }
+}
+
+/// Whether the protocol that a name finds does not name the subject on the other side.
+fn is_unanswered(known: &Known<'_, '_>, subject: &Subject<'_>, name: &Name, side: Side) -> bool
+    requires known { IsKnown known.now }
+    ensures { IsTrue result ↔ FindsWith (λ other q. ¬ NamesOn (other_side side) known.now.program.now other q subject.now.file) known.now.program.now subject.now.file name.now }
+{
+    match known.find(subject.file, name) {
+        Some((other, _)) => !known.has_bond(side.other(), other, subject.file),
+        None => false,
+    }
+}
+
+/// Whether a name finds a manager to which the subject does not convert.
+fn is_stronger(known: &Known<'_, '_>, subject: &Subject<'_>, name: &Name) -> bool
+    requires known { IsKnown known.now }
+    ensures { IsTrue result ↔ FindsWith (λ other m. ¬ Converts (strength_of_protocol subject.now.protocol.now) (strength_of_protocol m)) known.now.program.now subject.now.file name.now }
+{
+    match known.find(subject.file, name) {
+        Some((_, manager)) => {
+            let strength = Strength::of_protocol(subject.protocol);
+            !strength.converts_to(Strength::of_protocol(manager))
+        }
+        None => false,
+    }
+}
+
+/// Whether a name finds a protocol, and the subject has no message of the name.
+fn is_unconstructed(known: &Known<'_, '_>, subject: &Subject<'_>, name: &Name) -> bool
+    requires known { IsKnown known.now }
+    requires subject { IsSubject known.now.program.now subject.now }
+    ensures { IsTrue result ↔ FindsWith (λ other q. ¬ HasMessage subject.now.protocol.now name.now) known.now.program.now subject.now.file name.now }
+{
+    match known.find(subject.file, name) {
+        Some(_) => !subject.has_message(name.as_slice()),
+        None => false,
+    }
+}
+
+/// Whether a name finds a protocol that the subject does not manage.
+pub fn is_unmanaged(known: &Known<'_, '_>, subject: &Subject<'_>, name: &Name) -> bool
+    requires known { IsKnown known.now }
+    requires subject { IsSubject known.now.program.now subject.now }
+    ensures { IsTrue result ↔ FindsWith (λ other q. ¬ Manages known.now.program.now subject.now.file subject.now.protocol.now other) known.now.program.now subject.now.file name.now }
+{
+    match known.find(subject.file, name) {
+        Some((other, _)) => !known.has_bond(Side::Managed, subject.file, other),
+        None => false,
+    }
+}
+
+/// Whether a name does this against a rule.
+pub fn breaks(known: &Known<'_, '_>, subject: &Subject<'_>, name: &NameAt, breach: Breach) -> bool
+    requires known { IsKnown known.now }
+    requires subject { IsSubject known.now.program.now subject.now }
+    ensures { IsTrue result ↔ Breaks breach known.now.program.now subject.now.file subject.now.protocol.now name.now }
+{
+    match breach {
+        Breach::Unknown(_) => finds_none(known.names, subject.file, &name.name),
+        Breach::Unanswered(side) => is_unanswered(known, subject, &name.name, side),
+        Breach::Stronger => is_stronger(known, subject, &name.name),
+        Breach::Unconstructed => is_unconstructed(known, subject, &name.name),
+    }
+}
