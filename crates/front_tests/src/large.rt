@@ -46,6 +46,16 @@ fn chain(alloc: Global, open: &str, close: &str, end: &str) -> Result<String, Al
     Ok(text)
 }
 
+/// A protocol with this many messages, each on a line of its own from the third on.
+fn protocol_of(alloc: Global, messages: u32) -> Result<String, AllocError> {
+    let mut text = String::from_str(alloc, "protocol PA {\nparent:\n")?;
+    for number in 0..messages {
+        text.push_str(format!(in alloc; "  async M{number}();\n")?.as_str())?;
+    }
+    text.push_str("};\n")?;
+    Ok(text)
+}
+
 /// How many findings there are of this rule; nothing where there is one of another.
 fn count_of(findings: &Findings, rule: Rule) -> Option<usize> {
     if findings.as_slice().iter().all(|f| f.rule == rule) {
@@ -63,6 +73,31 @@ fn types_of(alloc: Global, text: &str) -> Result<Findings, Fail> {
     }
     let names = Names::build(alloc, &program)?;
     Ok(type_findings(alloc, &program, &names)?)
+}
+
+/// The findings on the protocols of a program of one file.
+fn protocols_of(alloc: Global, text: &str) -> Result<Findings, Fail> {
+    let program: Program = program(alloc, files(alloc, &[("PA.ipdl", text)], 0)?, &["PA.ipdl"])?;
+    if program.len() > 4096 {
+        return Err("too many files".into());
+    }
+    let names = Names::build(alloc, &program)?;
+    Ok(proto_findings(alloc, &program, &names)?)
+}
+
+#[test]
+fn messages(rt: HostRuntime) -> Result<(), Fail> {
+    let alloc = rt.alloc();
+    let most = protocols_of(alloc, protocol_of(alloc, 32_768)?.as_str())?;
+    assert!(rt; most.is_empty());
+    let more = protocols_of(alloc, protocol_of(alloc, 32_770)?.as_str())?;
+    assert_eq!(rt; count_of(&more, Rule::TOO_MANY_MESSAGES), Some(2));
+    assert!(rt;
+        more.as_slice()
+            .iter()
+            .all(|f| f.place.line > 32_770 && f.place.column == 9)
+    );
+    Ok(())
 }
 
 #[test]
