@@ -2,6 +2,7 @@
 use Rattle.std.proofs.Common.{◌≡◌, ℕ, ◌+◌, ◌<◌, ◌≤◌, inl, inr, Bool, true, false, List, length, get_or, Option, Some, IsSomeAnd, slice_get, refl, sym, ap, subst, ◌∙◌, arith, cond, true≢false}
 use Rattle.std.specs.Prelude.{◌&&◌, ◌==◌}
 use Rattle.std.specs.Bool.{beq}
+use Rattle.std.specs.Cmp.{booleans_Decides}
 use Rattle.std.specs.HashMap.{get, HashMap}
 use Rattle.std.proofs.lemmas.Bool.{and_from, and_parts, cases_lt}
 use Rattle.std.proofs.lemmas.Bool.Decides.{Decides-eqb}
@@ -12,25 +13,15 @@ use Rattle.actor_tables.specs.declared.numbers.TypeId.{TypeId}
 abbrev id_at : ℕ → Bool → ℕ → TypeId
 id_at file is_union index = record { file = file; is_union = is_union; index = index }
 
-same_bool : (a b : Bool) → beq a b ≡ true → a ≡ b
-same_bool true true h = refl
-same_bool false false h = refl
-same_bool true false h = absurd (true≢false (sym h))
-same_bool false true h = absurd (true≢false (sym h))
-
-itself : (a : Bool) → beq a a ≡ true
-itself true = refl
-itself false = refl
-
 same_when : (a b : TypeId) → same_id a b ≡ true → a ≡ b
 same_when a b h =
     let one = and_parts (a.file == b.file) (beq a.is_union b.is_union && (a.index == b.index)) h in
     let two = and_parts (beq a.is_union b.is_union) (a.index == b.index) one.1 in
-    ap (λ n. id_at n a.is_union a.index) ((Decides-eqb a.file b.file).0 one.0) ∙ ap (λ u. id_at b.file u a.index) (same_bool a.is_union b.is_union two.0) ∙ ap (id_at b.file b.is_union) ((Decides-eqb a.index b.index).0 two.1)
+    ap (λ n. id_at n a.is_union a.index) ((Decides-eqb a.file b.file).0 one.0) ∙ ap (λ u. id_at b.file u a.index) ((booleans_Decides a.is_union b.is_union).0 two.0) ∙ ap (id_at b.file b.is_union) ((Decides-eqb a.index b.index).0 two.1)
 
 same_itself : (a : TypeId) → same_id a a ≡ true
 same_itself a =
-    and_from (a.file == a.file) (beq a.is_union a.is_union && (a.index == a.index)) ((Decides-eqb a.file a.file).1 refl) (and_from (beq a.is_union a.is_union) (a.index == a.index) (itself a.is_union) ((Decides-eqb a.index a.index).1 refl))
+    and_from (a.file == a.file) (beq a.is_union a.is_union && (a.index == a.index)) ((Decides-eqb a.file a.file).1 refl) (and_from (beq a.is_union a.is_union) (a.index == a.index) ((booleans_Decides a.is_union a.is_union).1 refl) ((Decides-eqb a.index a.index).1 refl))
 
 get_or_default : (ids : List TypeId) (i : ℕ) (d e : TypeId) → i < length ids → get_or ids i d ≡ get_or ids i e
 get_or_default ids i d e below = get_or_from_slice_get ids i (get_or ids i e) d (slice_get-get_or ids i e below)

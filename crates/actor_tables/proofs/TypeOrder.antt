@@ -1,5 +1,5 @@
 -- The order of structs and unions.
-use Rattle.std.proofs.Common.{◌≡◌, ℕ, ◌<◌, inl, inr, Bool, true, false, List, [], length, get_or, map, Option, Some, None, IsSome, slice_get, option_map, refl, sym, ap, subst, ◌∙◌, arith, true≢false, Ordering, Less, Equal, Greater}
+use Rattle.std.proofs.Common.{◌≡◌, ℕ, ◌<◌, inl, inr, Bool, true, false, List, [], length, get_or, map, Option, Some, None, IsSome, slice_get, option_map, refl, sym, ap, subst, ◌∙◌, arith, true≢false, Less, Equal}
 use Rattle.std.specs.Prelude.{◌↔◌, option_and_then}
 use Rattle.std.specs.Cmp.{IsTotalOrder, Equal-is, bool_cmp_total}
 use Rattle.std.specs.FinMap.{nat_cmp-IsAntisymmetric}
@@ -16,6 +16,7 @@ use Rattle.ipdl_syntax.specs.declared.program.Entry.{Entry}
 use Rattle.ipdl_syntax.specs.declared.tree.StructDecl.{StructDecl}
 use Rattle.ipdl_syntax.specs.declared.tree.UnionDecl.{UnionDecl}
 use Rattle.findings.specs.Order.{place_cmp}
+use Rattle.findings.proofs.Order.{place_total, both_equal, same_place}
 use Rattle.name_table.specs.declared.decl.DeclId.{DeclId}
 use Rattle.name_table.specs.declared.decl.DeclId.TheVariants.{Builtin, Using, Struct, Union, Protocol, Endpoint}
 use Rattle.schema_laws.specs.Numbers.{AreTypes, place_of, list_number, index_of}
@@ -26,31 +27,14 @@ use Rattle.actor_tables.proofs.NamedFiles.{element}
 
 -- Keys
 
-place_total : IsTotalOrder place_cmp
-place_total = then_total (on_total (λ (p : Place). p.file) nat_cmp_total) (then_total (on_total (λ (p : Place). p.line) nat_cmp_total) (on_total (λ (p : Place). p.column) nat_cmp_total))
-
 pub key_total : IsTotalOrder key_cmp
 key_total = then_total (on_total (λ (k : TypeKey). k.place) place_total) (then_total (on_total (λ (k : TypeKey). k.is_union) bool_cmp_total) (on_total (λ (k : TypeKey). k.index) nat_cmp_total))
-
-both_equal : (a b : Ordering) → ordering_then a b ≡ Equal → (a ≡ Equal) × (b ≡ Equal)
-both_equal Equal b h = (refl, h)
-both_equal Less b h = let wrong : ⊥ = cc in absurd wrong
-both_equal Greater b h = let wrong : ⊥ = cc in absurd wrong
 
 same_bool : (a b : Bool) → bool_cmp a b ≡ Equal → a ≡ b
 same_bool false false h = refl
 same_bool true true h = refl
 same_bool false true h = let wrong : ⊥ = cc in absurd wrong
 same_bool true false h = let wrong : ⊥ = cc in absurd wrong
-
-abbrev place_at : ℕ → ℕ → ℕ → Place
-place_at file line column = record { file = file; line = line; column = column }
-
-same_place : (a b : Place) → place_cmp a b ≡ Equal → a ≡ b
-same_place a b h =
-    let one = both_equal (nat_cmp a.file b.file) _ h in
-    let two = both_equal (nat_cmp a.line b.line) (nat_cmp a.column b.column) one.1 in
-    ap (λ n. place_at n a.line a.column) (nat_cmp-IsAntisymmetric a.file b.file one.0) ∙ ap (λ n. place_at b.file n a.column) (nat_cmp-IsAntisymmetric a.line b.line two.0) ∙ ap (place_at b.file b.line) (nat_cmp-IsAntisymmetric a.column b.column two.1)
 
 abbrev key_at : Place → Bool → ℕ → TypeKey
 key_at place is_union index = record { place = place; is_union = is_union; index = index }
@@ -76,6 +60,10 @@ order_is false false f g i j = refl
 order_is false true f g i j = refl
 order_is true false f g i j = refl
 order_is true true f g i j = refl
+
+-- a key before another is the key of a declaration before another
+declared_before : (a b : TypeKey) → IsBefore a b → ordering_then (place_cmp a.place b.place) (ordering_then (nat_cmp (list_number (D a)) (list_number (D b))) (nat_cmp (index_of (D a)) (index_of (D b)))) ≡ Less
+declared_before a b less = ap (ordering_then (place_cmp a.place b.place)) (sym (order_is a.is_union b.is_union a.place.file b.place.file a.index b.index)) ∙ less
 
 mapped : {X Y : Type 0} (f : X → Y) (o : Option X) (y : Y) → option_map f o ≡ Some y → (x : X) × (o ≡ Some x) × (f x ≡ y)
 mapped f None y h = absurd (none-some y h)
@@ -157,7 +145,7 @@ module _ (program : List Entry) (keys : List TypeKey) (is : IsProgram program) (
         let q_is : q ≡ b.place = same_Some q b.place (sym other ∙ ap (place_of program) (type_at j e d long) ∙ key_place b (Contains-get_or keys j e long)) in
         let less : key_cmp a b ≡ Less = order i j e before long in
         let Goal : Place → Place → DeclId → DeclId → Type 0 = λ x y s t. ordering_then (place_cmp x y) (ordering_then (nat_cmp (list_number s) (list_number t)) (nat_cmp (index_of s) (index_of t))) ≡ Less in
-        let plain : Goal a.place b.place (D a) (D b) = ap (ordering_then (place_cmp a.place b.place)) (sym (order_is a.is_union b.is_union a.place.file b.place.file a.index b.index)) ∙ less in
+        let plain : Goal a.place b.place (D a) (D b) = declared_before a b less in
         subst (λ (x : Place). Goal x q (get_or types i d) (get_or types j d)) (sym p_is)
         (subst (λ (y : Place). Goal a.place y (get_or types i d) (get_or types j d)) (sym q_is)
         (subst (λ (s : DeclId). Goal a.place b.place s (get_or types j d)) (sym (type_at i e d first))

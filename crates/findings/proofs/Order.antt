@@ -19,7 +19,7 @@ rule_total = then_total (on_total (λ (r : Rule). r.letter) nat_cmp_total) (on_t
 pub finding_total : IsTotalOrder finding_cmp
 finding_total = then_total (on_total (λ (f : Finding). f.place) place_total) (on_total (λ (f : Finding). f.rule) rule_total)
 
-both_equal : (a b : Ordering) → ordering_then a b ≡ Equal → (a ≡ Equal) × (b ≡ Equal)
+pub both_equal : (a b : Ordering) → ordering_then a b ≡ Equal → (a ≡ Equal) × (b ≡ Equal)
 both_equal Equal b h = (refl, h)
 both_equal Less b h = absurd (let no : ⊥ = cc in no)
 both_equal Greater b h = absurd (let no : ⊥ = cc in no)
@@ -30,7 +30,7 @@ place_at file line column = record { file = file; line = line; column = column }
 rule_at : ℕ → ℕ → Rule
 rule_at letter number = record { letter = letter; number = number }
 
-same_place : (a b : Place) → place_cmp a b ≡ Equal → a ≡ b
+pub same_place : (a b : Place) → place_cmp a b ≡ Equal → a ≡ b
 unfolding place_at
 same_place a b h =
     let one = both_equal (nat_cmp a.file b.file) _ h in
