@@ -1,4 +1,5 @@
 ghost use Rattle.std.specs.Prelude.{◌≡◌, IfOk};
+ghost use Rattle.ipdl_base.specs.Sound.{IsSound};
 ghost use Rattle.schema_laws.specs.Clean.{IsClean};
 ghost use Rattle.schema_laws.specs.SchemaOf.{IsSchemaOf};
 
@@ -10,15 +11,18 @@ use crate::types::type_rows;
 use ipdl_base::{Items, Schema};
 use ipdl_syntax::Program;
 use name_table::Names;
+use schema_laws::clean_is_sound;
 use std::alloc::{AllocError, Global};
 
 /// The schema of a program in which no rule is broken, with what its names find: a row for each protocol, in the order of full
-/// names, and for each struct and union, in the order of the text. The only error is want of memory.
+/// names, and for each struct and union, in the order of the text. It is sound. The only error is want of memory.
 pub fn schema(alloc: Global, program: &Program, names: &Names<'_>) -> Result<Schema, AllocError>
     requires clean { IsClean program.now }
     requires of_program { names.now ≡ program.now }
-    ensures { IfOk result (IsSchemaOf program.now) }
+    ensures of_program { IfOk result (IsSchemaOf program.now) }
+    ensures sound { IfOk result IsSound }
 {
+    clean_is_sound();
     let program = program.as_slice();
     let numbers = Numbers::of(alloc, program)?;
     let source = Source {
