@@ -1,3 +1,6 @@
+ghost use Rattle.std.specs.Prelude.{IfOk};
+ghost use Rattle.ipdl_syntax.specs.Programs.{IsProgram, BearTheirNames};
+
 use include_graph::{are_file_words, load};
 use ipdl_base::{Files, MemoryFiles, Name, ReadAnswer};
 use ipdl_syntax::Program;
@@ -37,7 +40,10 @@ pub fn text(name: &Name) -> Result<&str, Fail> {
 }
 
 /// The program of these files, which breaks no rule of files.
-pub fn program(alloc: Global, mut files: MemoryFiles, words: &[&str]) -> Result<Program, Fail> {
+pub fn program(alloc: Global, mut files: MemoryFiles, words: &[&str]) -> Result<Program, Fail>
+    ensures program { IfOk result IsProgram }
+    ensures names { IfOk result BearTheirNames }
+{
     let words = strings(alloc, words)?;
     let path = strings(alloc, &["."])?;
     if !are_file_words(words.as_slice()) || words.len() > 4096 {

@@ -1,5 +1,5 @@
-//! Tests of the front end over texts: what a list of files loads as, what names find
-//! in it, and what a sync list says of it.
+//! Tests of the front end over texts: what a list of files loads as, what names find in it, which
+//! rules it breaks, what its tables are, and what a sync list says of it.
 #![tactic(auto)]
 
 #[cfg(test)]
@@ -14,3 +14,5 @@ mod loads;
 mod names;
 #[cfg(test)]
 mod rules;
+#[cfg(test)]
+mod tables;
