@@ -1,0 +1,12 @@
+pub mod Lists
+pub mod Names
+pub mod Protocols
+pub mod Messages
+pub mod Managers
+pub mod SyncList
+pub mod Written
+pub mod Declarations
+pub mod Defined
+pub mod Types
+pub mod Shapes
+pub mod Schemas

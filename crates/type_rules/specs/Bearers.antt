@@ -1,4 +1,4 @@
--- Attributes that have effect and no listed value, by what bears them.
+-- Attributes that have effect and no listed value, by what bears them, as the code tests them. This serves the code alone.
 use Rattle.ipdl_syntax.specs.declared.tree.Attribute.{Attribute}
 use Rattle.type_rules.specs.declared.attributes.Bearer.{Bearer}
 use Rattle.type_rules.specs.declared.attributes.Bearer.TheVariants.{Message, Protocol}

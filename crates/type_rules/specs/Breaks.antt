@@ -1,4 +1,4 @@
--- The rules on the names of types and on `nullable`, as one relation.
+-- The rules on the names of types and on `nullable`, as one relation. It serves the code alone.
 use Rattle.std.specs.Prelude.{◌≡◌, ℕ, ◌⊎◌, Bool, true, List}
 use Rattle.ipdl_base.specs.declared.finding.Finding.{Finding}
 use Rattle.ipdl_base.specs.declared.finding.Place.{Place}

@@ -1,4 +1,4 @@
--- The structs and unions of a program, numbered.
+-- The structs and unions of a program, numbered. The numbers serve the code alone.
 use Rattle.std.specs.Prelude.{◌≡◌, ℕ, ◌++◌, List, map, length, Option, Some, None, slice_get, option_and_then}
 use Rattle.std.specs.List.{Contains}
 use Rattle.ipdl_base.specs.declared.finding.Place.{Place}

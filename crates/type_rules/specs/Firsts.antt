@@ -1,4 +1,4 @@
--- The first places of names among the declarations of a file.
+-- The first places of names among the declarations of a file. They serve the code alone.
 use Rattle.std.specs.Prelude.{◌≡◌, ◌↔◌, ℕ, ◌⊎◌, Bool, List, Option, Some, IsTrue}
 use Rattle.std.specs.Borrow.{Bor}
 use Rattle.std.specs.HashMap.{HashMap, get_by}

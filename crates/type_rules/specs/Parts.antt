@@ -1,4 +1,4 @@
--- What a struct or a union needs to be defined, as numbers of structs and unions.
+-- What a struct or a union needs to be defined, as numbers of structs and unions. It serves the code alone.
 use Rattle.std.specs.Prelude.{◌≡◌, ◌↔◌, ◌++◌, ◌∷◌, [], ℕ, ◌⊎◌, true, List, map, length, Some, None, slice_get, IsTrue}
 use Rattle.std.specs.List.{Any, Contains}
 use Rattle.ipdl_syntax.specs.declared.program.Entry.{Entry}

@@ -1,4 +1,4 @@
--- Parts of the rules on fields and attributes, as the code goes through them.
+-- Parts of the rules on fields and attributes, as the code goes through them. They serve the code alone.
 use Rattle.std.specs.Prelude.{ℕ, ◌⊎◌, List, map, IsSomeAnd}
 use Rattle.ipdl_base.specs.declared.finding.Place.{Place}
 use Rattle.ipdl_syntax.specs.declared.tree.Attribute.{Attribute}
