@@ -4,6 +4,7 @@ use Rattle.ipdl_base.specs.Outside.{FileMap}
 use Rattle.ipdl_base.specs.declared.finding.Finding.{Finding}
 use Rattle.ipdl_base.specs.declared.schema.Schema.{Schema}
 use Rattle.ipdl_syntax.specs.declared.program.Entry.{Entry}
+use Rattle.ipdl_syntax.specs.Programs.{IsProgram}
 use Rattle.command_words.specs.Compile.{IsCompile, IsNoCommand}
 use Rattle.findings.specs.Report.{IsReport}
 use Rattle.include_graph.specs.Load.{IsProgramOf}
@@ -21,6 +22,7 @@ use Rattle.ipdl_top.specs.declared.status.Status.TheVariants.{Done, Broken, Usag
 use Rattle.ipdl_top.specs.Command.{usage_text}
 use Rattle.ipdl_top.specs.Lists.{IsFaultOfList, AreSections, list_names}
 use Rattle.ipdl_top.specs.Report.{report_text}
+use Rattle.ipdl_top.specs.Seen.{Seen}
 
 -- the answer that is a table
 abbrev pub table_answer : List ℕ → Answer
@@ -37,24 +39,25 @@ usage_answer = record { status = Usage; out = []; err = usage_text }
 -- Rules on files
 
 -- What the files of the reach break by how they are read and named, and what the list breaks as the file behind them.
-abbrev pub IsBrokenFile : Given → Option (List ℕ) → List (List ℕ) → Finding → Type 0
-IsBrokenFile given list keys f = IsBroken given keys f ⊎ IsFaultOfList given.files list (length keys) f
+abbrev pub IsBrokenFile : Given → FileMap → Option (List ℕ) → List (List ℕ) → Finding → Type 0
+IsBrokenFile given lists list keys f = IsBroken given keys f ⊎ IsFaultOfList lists list (length keys) f
 
 -- The answer is the report on the files and the list, which is not empty.
-pub record IsFileReport (given : Given) (list : Option (List ℕ)) (answer : Answer) : Type 0 where
+pub record IsFileReport (given : Given) (lists : FileMap) (list : Option (List ℕ)) (answer : Answer) : Type 0 where
   pub keys : List (List ℕ)
   pub reach : IsReach given keys
   pub report : List Finding
-  pub is_report : IsReport (IsBrokenFile given list keys) report
+  pub is_report : IsReport (IsBrokenFile given lists list keys) report
   pub some : report ≢ []
   pub says : answer ≡ report_answer (map (text_of given) keys ++ list_names list) report
 
 -- Rules of the language
 
 -- No rule on files is broken: this is the program, and these are the sections of the list where one is named.
-pub record IsReading (given : Given) (list : Option (List ℕ)) (program : List Entry) (sections : Option (List Section)) : Type 0 where
+pub record IsReading (given : Given) (lists : FileMap) (list : Option (List ℕ)) (program : List Entry) (sections : Option (List Section)) : Type 0 where
   pub is_program : IsProgramOf given program
-  pub are_sections : AreSections given.files list sections
+  pub whole : IsProgram program
+  pub are_sections : AreSections lists list sections
 
 -- What a program breaks: rules on types and on protocols, and where there is a list those of the list.
 abbrev pub BreaksRules : List Entry → Option (List Section) → Finding → Type 0
@@ -62,41 +65,41 @@ BreaksRules program sections f =
     types.BrokenAt program f ⊎ (protocols.BrokenAt program f ⊎ IsSomeAnd sections (λ list. sync.BrokenAt program list f))
 
 -- The answer is the report on the program and the list, which is not empty.
-pub record IsRuleReport (given : Given) (list : Option (List ℕ)) (answer : Answer) : Type 0 where
+pub record IsRuleReport (given : Given) (lists : FileMap) (list : Option (List ℕ)) (answer : Answer) : Type 0 where
   pub program : List Entry
   pub sections : Option (List Section)
-  pub reading : IsReading given list program sections
+  pub reading : IsReading given lists list program sections
   pub report : List Finding
   pub is_report : IsReport (BreaksRules program sections) report
   pub some : report ≢ []
   pub says : answer ≡ report_answer (map (λ e. e.name) program ++ list_names list) report
 
 -- The answer is the table of the program, which breaks no rule.
-pub record IsTable (given : Given) (list : Option (List ℕ)) (answer : Answer) : Type 0 where
+pub record IsTable (given : Given) (lists : FileMap) (list : Option (List ℕ)) (answer : Answer) : Type 0 where
   pub program : List Entry
   pub sections : Option (List Section)
-  pub reading : IsReading given list program sections
+  pub reading : IsReading given lists list program sections
   pub clean : (f : Finding) → ¬ BreaksRules program sections f
   pub schema : Schema
   pub schema_of : IsSchemaOf program schema
   pub says : answer ≡ table_answer (table_text schema)
 
 -- The answer of the command that compiles files: the report on them, or else the report on their program, or else its table.
-abbrev pub IsCompilation : Given → Option (List ℕ) → Answer → Type 0
-IsCompilation given list answer = IsFileReport given list answer ⊎ (IsRuleReport given list answer ⊎ IsTable given list answer)
+abbrev pub IsCompilation : Given → FileMap → Option (List ℕ) → Answer → Type 0
+IsCompilation given lists list answer = IsFileReport given lists list answer ⊎ (IsRuleReport given lists list answer ⊎ IsTable given lists list answer)
 
 -- what words of files and a path give, with these files
 abbrev pub given_by : FileMap → List (List ℕ) → List (List ℕ) → Given
 given_by files path names = record { files = files; words = names; path = path }
 
 -- the answer of the command that the words are
-pub record IsCommandAnswer (files : FileMap) (words : List (List ℕ)) (answer : Answer) : Type 0 where
+pub record IsCommandAnswer (seen : Seen) (words : List (List ℕ)) (answer : Answer) : Type 0 where
   pub list : Option (List ℕ)
   pub path : List (List ℕ)
   pub names : List (List ℕ)
   pub command : IsCompile words list path names
-  pub compilation : IsCompilation (given_by files path names) list answer
+  pub compilation : IsCompilation (given_by seen.files path names) seen.list list answer
 
 -- The answer to words, with these files: that of the command that they are, or how the program is called where they are none.
-abbrev pub IsAnswer : FileMap → List (List ℕ) → Answer → Type 0
-IsAnswer files words answer = IsCommandAnswer files words answer ⊎ (IsNoCommand words × (answer ≡ usage_answer))
+abbrev pub IsAnswer : Seen → List (List ℕ) → Answer → Type 0
+IsAnswer seen words answer = IsCommandAnswer seen words answer ⊎ (IsNoCommand words × (answer ≡ usage_answer))

@@ -5,4 +5,6 @@ pub mod Laws
 pub mod Lists
 pub mod Outcome
 pub mod Report
+pub mod Seen
+pub mod Steps
 pub mod Written
