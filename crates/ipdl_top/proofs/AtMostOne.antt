@@ -57,7 +57,7 @@ one_sections laws lists (Some word) (Some a) (Some b) x y =
 -- a report of what nothing breaks is empty
 empty : {Broken : Finding → Type 0} (report : List Finding) → ((f : Finding) → ¬ Broken f) → IsReport Broken report → report ≡ []
 empty [] none h = refl
-empty (f ∷ report) none h = absurd (none f ((h.exact f).0 (zero, (omega arith, refl))))
+empty (f ∷ report) none h = absurd (none f ((h.exact f).0 (zero, omega arith, refl)))
 
 -- files that break rules are not read as a program
 not_read : TheLaws → (given : Given) (lists : FileMap) (list : Option (List ℕ)) (answer : Answer) (program : List Entry) (sections : Option (List Section)) → IsFileReport given lists list answer → IsReading given lists list program sections → ⊥

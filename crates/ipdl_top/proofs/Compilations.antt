@@ -24,7 +24,7 @@ use Rattle.ipdl_top.specs.declared.list.Listed.{Listed}
 use Rattle.ipdl_top.specs.declared.list.Listed.TheVariants.{Sections, Broken}
 use Rattle.ipdl_top.specs.Answer.{IsBrokenFile, IsCompilation, report_answer}
 use Rattle.ipdl_top.specs.Lists.{IsListFault, IsFaultOfList, AreSections, list_names}
-use Rattle.ipdl_top.specs.Steps.{IsListed, IsProgramAnswer, IsFilesAnswer, names_of}
+use Rattle.ipdl_top.specs.Steps.{IsListed, IsRuleAnswer, IsListedAnswer, IsProgramAnswer, IsFilesAnswer, names_of}
 
 -- Lists
 
@@ -99,51 +99,60 @@ names_called given (entry ∷ program) h =
 
 -- Answers
 
--- the answer for the program of the reach is that of the compilation
-pub of_program : (given : Given) (lists : FileMap) (list : Option (List ℕ)) (program : List Entry) (answer : Answer) → IsProgramOf given program → IsProgram program → IsProgramAnswer lists list program answer → IsCompilation given lists list answer
-of_program given lists list program answer p whole (inl h) =
+-- the answer for the program of the reach, where the list breaks a rule
+of_broken : (given : Given) (lists : FileMap) (list : Option (List ℕ)) (program : List Entry) (finding : Finding) (answer : Answer) → IsProgramOf given program → IsFaultOfList lists list (length program) finding → answer ≡ report_answer (names_of program list) (finding ∷ []) → IsCompilation given lists list answer
+of_broken given lists list program finding answer p broken says =
     let keys = keys_of program in
     let long : length keys ≡ length program = length-map program (λ (e : Entry). e.key) in
-    let fault : IsFaultOfList lists list (length keys) h.finding = subst (λ n. IsFaultOfList lists list n h.finding) (sym long) h.fault in
-    let one = one_finding h.finding in
+    let fault : IsFaultOfList lists list (length keys) finding = subst (λ n. IsFaultOfList lists list n finding) (sym long) broken in
+    let one = one_finding finding in
     let names = names_called given program (λ number entry at. (p.entries number entry at).name) in
     inl (record {
       keys = keys;
       reach = p.reach;
-      report = h.finding ∷ [];
+      report = finding ∷ [];
       is_report = record {
         ordered = one.ordered;
         exact = λ f. (
           λ c. inr (subst (λ (g : Finding). IsFaultOfList lists list (length keys) g) (sym ((one.exact f).0 c)) fault),
           λ b. elim b [
             | inl broken ↦ absurd (p.clean f broken)
-            | inr other ↦ (one.exact f).1 (one_list_fault lists list (length keys) f h.finding other fault)
+            | inr other ↦ (one.exact f).1 (one_list_fault lists list (length keys) f finding other fault)
           ],
         );
       };
-      some = some_element (h.finding ∷ []) h.finding (Contains-push [] h.finding);
-      says = h.says ∙ ap (λ (ns : List (List ℕ)). report_answer (ns ++ list_names list) (h.finding ∷ [])) (sym names);
+      some = some_element (finding ∷ []) finding (Contains-push [] finding);
+      says = says ∙ ap (λ (ns : List (List ℕ)). report_answer (ns ++ list_names list) (finding ∷ [])) (sym names);
     })
-of_program given lists list program answer p whole (inr h) = elim h.answered [
-  | inl r ↦ inr (inl (record {
-      program = program;
-      sections = h.sections;
-      reading = record { is_program = p; whole = whole; are_sections = h.are_sections };
-      report = r.report;
-      is_report = r.is_report;
-      some = r.some;
-      says = r.says;
-    }))
-  | inr t ↦ inr (inr (record {
-      program = program;
-      sections = h.sections;
-      reading = record { is_program = p; whole = whole; are_sections = h.are_sections };
-      clean = t.clean;
-      schema = t.schema;
-      schema_of = t.schema_of;
-      says = t.says;
-    }))
-]
+
+-- and where it has sections
+of_sections : (given : Given) (lists : FileMap) (list : Option (List ℕ)) (program : List Entry) (sections : Option (List Section)) (answer : Answer) → IsProgramOf given program → IsProgram program → AreSections lists list sections → IsRuleAnswer program sections (names_of program list) answer → IsCompilation given lists list answer
+of_sections given lists list program sections answer p whole are (inl r) = inr (inl (record {
+  program = program;
+  sections = sections;
+  reading = record { is_program = p; whole = whole; are_sections = are };
+  report = r.report;
+  is_report = r.is_report;
+  some = r.some;
+  says = r.says;
+}))
+of_sections given lists list program sections answer p whole are (inr t) = inr (inr (record {
+  program = program;
+  sections = sections;
+  reading = record { is_program = p; whole = whole; are_sections = are };
+  clean = t.clean;
+  schema = t.schema;
+  schema_of = t.schema_of;
+  says = t.says;
+}))
+
+of_listed : (given : Given) (lists : FileMap) (list : Option (List ℕ)) (program : List Entry) (listed : Listed) (answer : Answer) → IsProgramOf given program → IsProgram program → IsListed lists list (length program) listed → IsListedAnswer program listed (names_of program list) answer → IsCompilation given lists list answer
+of_listed given lists list program (Sections sections) answer p whole h answered = of_sections given lists list program sections answer p whole h answered
+of_listed given lists list program (Broken finding) answer p whole h answered = of_broken given lists list program finding answer p h answered
+
+-- so the answer for the program of the reach is that of the compilation
+pub of_program : (given : Given) (lists : FileMap) (list : Option (List ℕ)) (program : List Entry) (answer : Answer) → IsProgramOf given program → IsProgram program → IsProgramAnswer lists list program answer → IsCompilation given lists list answer
+of_program given lists list program answer p whole h = of_listed given lists list program h.listed answer p whole h.is_listed h.answered
 
 -- what was found of the list is what the list breaks
 listed_fault : (lists : FileMap) (list : Option (List ℕ)) (number : ℕ) (listed : Listed) (f : Finding) → IsListed lists list number listed → IsFaultOfList lists list number f ↔ (listed ≡ Broken f)
@@ -156,7 +165,7 @@ listed_fault lists list number (Broken finding) f h = (
 -- some finding of a report that is not empty
 some_of : (findings report : List Finding) → findings ≢ [] → ((f : Finding) → Contains findings f → Contains report f) → report ≢ []
 some_of [] report some to = absurd (some refl)
-some_of (f ∷ findings) report some to = some_element report f (to f (zero, (omega arith, refl)))
+some_of (f ∷ findings) report some to = some_element report f (to f (zero, omega arith, refl))
 
 -- the answer for the files of the reach, where they break rules, is that of the compilation
 pub of_files : (given : Given) (lists : FileMap) (list : Option (List ℕ)) (findings : List Finding) (texts : List (List ℕ)) (answer : Answer) → IsReportOf given findings texts → IsFilesAnswer lists list findings texts answer → IsCompilation given lists list answer

@@ -7,3 +7,5 @@ pub mod Words
 pub mod TableTexts
 pub mod Alike
 pub mod AtMostOne
+pub mod Gathered
+pub mod Found

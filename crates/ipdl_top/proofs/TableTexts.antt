@@ -85,7 +85,9 @@ protocol_row_same s number row =
 
 protocols_same : (s : Schema) (rows : List ProtocolRow) (number : ℕ) → protocols_text (plain_schema s) number (map plain_protocol_row rows) ≡ protocols_text s number rows
 protocols_same s [] number = refl
-protocols_same s (row ∷ rows) number = rw (protocol_row_same s number row, protocols_same s rows (suc number)) refl
+protocols_same s (row ∷ rows) number =
+    ap (λ (text : List ℕ). text ++ protocols_text (plain_schema s) (suc number) (map plain_protocol_row rows)) (protocol_row_same s number row)
+    ∙ ap (λ (text : List ℕ). protocol_text s number row ++ text) (protocols_same s rows (suc number))
 
 type_row_same : (s : Schema) (number : ℕ) (row : TypeRow) → type_text (plain_schema s) number (plain_type_row row) ≡ type_text s number row
 type_row_same s number (Struct name fields) = rw (params_same s fields) refl
@@ -93,10 +95,14 @@ type_row_same s number (Union name components) = rw (mapped plain_shape (shape_t
 
 types_same : (s : Schema) (rows : List TypeRow) (number : ℕ) → types_text (plain_schema s) number (map plain_type_row rows) ≡ types_text s number rows
 types_same s [] number = refl
-types_same s (row ∷ rows) number = rw (type_row_same s number row, types_same s rows (suc number)) refl
+types_same s (row ∷ rows) number =
+    ap (λ (text : List ℕ). text ++ types_text (plain_schema s) (suc number) (map plain_type_row rows)) (type_row_same s number row)
+    ∙ ap (λ (text : List ℕ). type_text s number row ++ text) (types_same s rows (suc number))
 
 table_same : (s : Schema) → table_text (plain_schema s) ≡ table_text s
-table_same s = rw (protocols_same s s.protocols 0, types_same s s.types 0) refl
+table_same s =
+    ap (λ (text : List ℕ). text ++ types_text (plain_schema s) 0 (map plain_type_row s.types)) (protocols_same s s.protocols 0)
+    ∙ ap (λ (text : List ℕ). protocols_text s 0 s.protocols ++ text) (types_same s s.types 0)
 
 -- schemas that are the same up to boxes have one text
 pub one_text : (a b : Schema) → plain_schema a ≡ plain_schema b → table_text a ≡ table_text b

@@ -48,21 +48,16 @@ pub record IsTableOf (program : List Entry) (sections : Option (List Section)) (
 abbrev pub IsRuleAnswer : List Entry → Option (List Section) → List (List ℕ) → Answer → Type 0
 IsRuleAnswer program sections names answer = AreRulesReported program sections names answer ⊎ IsTableOf program sections answer
 
--- the sections of a list are read, and the answer is that for them
-pub record IsReadAnswer (lists : FileMap) (list : Option (List ℕ)) (program : List Entry) (answer : Answer) : Type 0 where
-  pub sections : Option (List Section)
-  pub are_sections : AreSections lists list sections
-  pub answered : IsRuleAnswer program sections (names_of program list) answer
-
--- the list is broken as the file behind those of a program, and the answer is the report of that
-pub record IsListAnswer (lists : FileMap) (list : Option (List ℕ)) (program : List Entry) (answer : Answer) : Type 0 where
-  pub finding : Finding
-  pub fault : IsFaultOfList lists list (length program) finding
-  pub says : answer ≡ report_answer (names_of program list) (finding ∷ [])
+-- the answer for a program by what was found of its list
+abbrev pub IsListedAnswer : List Entry → Listed → List (List ℕ) → Answer → Type 0
+IsListedAnswer program (Sections sections) names answer = IsRuleAnswer program sections names answer
+IsListedAnswer program (Broken finding) names answer = answer ≡ report_answer names (finding ∷ [])
 
 -- the answer for a program and a list
-abbrev pub IsProgramAnswer : FileMap → Option (List ℕ) → List Entry → Answer → Type 0
-IsProgramAnswer lists list program answer = IsListAnswer lists list program answer ⊎ IsReadAnswer lists list program answer
+pub record IsProgramAnswer (lists : FileMap) (list : Option (List ℕ)) (program : List Entry) (answer : Answer) : Type 0 where
+  pub listed : Listed
+  pub is_listed : IsListed lists list (length program) listed
+  pub answered : IsListedAnswer program listed (names_of program list) answer
 
 -- The answer for files of which these findings hold and that are called so, and a list behind them: the report of those and
 -- of what the list breaks.

@@ -1,12 +1,14 @@
-ghost use Rattle.std.specs.Prelude.{◌≡◌, ◌≤◌, ◌++◌, IfOk, OnOk, length, map, option_map, string_bytes};
+ghost use Rattle.std.specs.Prelude.{◌≡◌, ◌≤◌, ◌⊎◌, ◌++◌, IfOk, IsOkUnless, OnOk, length, map, option_map, string_bytes};
+ghost use Rattle.std.specs.List.{Contains};
 ghost use Rattle.ipdl_base.specs.Outside.{Rose};
+ghost use Rattle.findings.specs.Report.{IsReport};
 ghost use Rattle.ipdl_syntax.specs.Programs.{IsProgram, BearTheirNames};
 ghost use Rattle.include_graph.specs.Keys.{AreFileWords};
 ghost use Rattle.include_graph.specs.Load as load;
 ghost use Rattle.ipdl_top.specs.Answer.{IsCompilation, given_by};
 ghost use Rattle.ipdl_top.specs.Lists.{list_names};
 ghost use Rattle.ipdl_top.specs.Seen.{ForMap};
-ghost use Rattle.ipdl_top.specs.Steps.{IsProgramAnswer, IsFilesAnswer, names_of};
+ghost use Rattle.ipdl_top.specs.Steps.{IsProgramAnswer, IsFilesAnswer, IsListedAnswer, names_of};
 
 use crate::answer::{Answer, Failure};
 use crate::list::{Listed, read_listed};
@@ -59,6 +61,20 @@ fn text_names<'n>(
     Ok(names)
 }
 
+/// The report of these findings and of what the list breaks.
+fn files_report(findings: Findings, listed: Listed) -> Result<Findings, AllocError>
+    ensures { IfOk result (IsReport (λ f. Contains findings f ⊎ (listed ≡ Listed.Broken f))) }
+{
+    let mut found = findings.into_vec();
+    match listed {
+        Listed::Broken(finding) => {
+            found.push(finding)?;
+            Ok(sorted(found))
+        }
+        Listed::Sections(_) => Ok(sorted(found)),
+    }
+}
+
 /// The answer for files that break these rules and are called so, and for the list behind them.
 fn files_answer<F: Files>(
     alloc: Global,
@@ -72,11 +88,27 @@ fn files_answer<F: Files>(
     ensures read_fault { result ≡ Err Failure.ReadFault → Rose (F.faults files.old) (F.faults files.new) }
 {
     let names = text_names(alloc, texts, list)?;
-    let mut found = findings.into_vec();
-    if let Listed::Broken(finding) = read_listed(alloc, files, list, texts.len() as u32)? {
-        found.push(finding)?;
+    let listed = read_listed(alloc, files, list, texts.len() as u32)?;
+    let report = files_report(findings, listed)?;
+    Answer::of_report(alloc, names.as_slice(), report.as_slice())
+}
+
+/// The answer for a program, by what was found of its list.
+fn listed_answer(
+    alloc: Global,
+    program: &Program,
+    listed: Listed,
+    names: &[&[u8]],
+) -> Result<Answer, Failure>
+    requires program { IsProgram program.now }
+    requires named { BearTheirNames program.now }
+    ensures answer { IfOk result (IsListedAnswer program.now listed (map (λ n. n.now) names.now)) }
+    ensures memory { IsOkUnless result Failure.NoMemory }
+{
+    match listed {
+        Listed::Sections(sections) => rule_answer(alloc, program, &sections, names),
+        Listed::Broken(finding) => Answer::of_report(alloc, names, &[finding]),
     }
-    Answer::of_report(alloc, names.as_slice(), sorted(found).as_slice())
 }
 
 /// The answer for a program, and for the list behind its files.
@@ -92,10 +124,8 @@ fn program_answer<F: Files>(
     ensures read_fault { result ≡ Err Failure.ReadFault → Rose (F.faults files.old) (F.faults files.new) }
 {
     let names = entry_names(alloc, program.as_slice(), list)?;
-    match read_listed(alloc, files, list, program.len() as u32)? {
-        Listed::Sections(sections) => rule_answer(alloc, program, &sections, names.as_slice()),
-        Listed::Broken(finding) => Answer::of_report(alloc, names.as_slice(), &[finding]),
-    }
+    let listed = read_listed(alloc, files, list, program.len() as u32)?;
+    listed_answer(alloc, program, listed, names.as_slice())
 }
 
 /// The command that compiles the files of these names, which include what is on the path, with this

@@ -30,10 +30,13 @@ fn gathered(
 {
     let mut found = type_findings(alloc, program, names)?.into_vec();
     found.extend_from_slice(proto_findings(alloc, program, names)?.as_slice())?;
-    if let Some(list) = list {
-        found.extend_from_slice(sync_findings(alloc, program, list)?.as_slice())?;
+    match list {
+        Some(list) => {
+            found.extend_from_slice(sync_findings(alloc, program, list)?.as_slice())?;
+            Ok(found)
+        }
+        None => Ok(found),
     }
-    Ok(found)
 }
 
 /// The report on a program, and on its sync list where it has one.
