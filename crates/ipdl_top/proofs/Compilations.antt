@@ -175,20 +175,20 @@ of_files given lists list findings texts answer r h =
     inl (record {
       keys = r.keys;
       reach = r.reach;
-      report = h.report;
+      report = h.reported.report;
       is_report = record {
-        ordered = h.is_report.ordered;
+        ordered = h.reported.is_report.ordered;
         exact = λ f. (
-          λ c. elim ((h.is_report.exact f).0 c) [
+          λ c. elim ((h.reported.is_report.exact f).0 c) [
             | inl a ↦ inl ((r.report.exact f).0 a)
             | inr e ↦ inr ((listed_fault lists list (length r.keys) h.listed f listed).1 e)
           ],
-          λ b. (h.is_report.exact f).1 (elim b [
+          λ b. (h.reported.is_report.exact f).1 (elim b [
             | inl broken ↦ inl ((r.report.exact f).1 broken)
             | inr fault ↦ inr ((listed_fault lists list (length r.keys) h.listed f listed).0 fault)
           ]),
         );
       };
-      some = some_of findings h.report r.some (λ f c. (h.is_report.exact f).1 (inl c));
-      says = h.says ∙ ap (λ (ns : List (List ℕ)). report_answer (ns ++ list_names list) h.report) r.called;
+      some = some_of findings h.reported.report r.some (λ f c. (h.reported.is_report.exact f).1 (inl c));
+      says = h.reported.says ∙ ap (λ (ns : List (List ℕ)). report_answer (ns ++ list_names list) h.reported.report) r.called;
     })

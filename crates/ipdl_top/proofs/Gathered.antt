@@ -71,5 +71,5 @@ with_broken findings finding f = (
 )
 
 -- a list with sections adds none
-pub without : (findings : List Finding) (sections : Option (List Section)) → Has findings (λ f. Contains findings f ⊎ (Sections sections ≡ Broken f))
-without findings sections f = (λ h. inl h, λ h. elim h [ inl x ↦ x | inr e ↦ absurd (let no : ⊥ = cc in no) ])
+pub without : (findings : List Finding) (listed : Listed) (sections : Option (List Section)) → listed ≡ Sections sections → Has findings (λ f. Contains findings f ⊎ (listed ≡ Broken f))
+without findings listed sections is f = (λ h. inl h, λ h. elim h [ inl x ↦ x | inr e ↦ absurd (let no : ⊥ = cc in no) ])

@@ -59,11 +59,15 @@ pub record IsProgramAnswer (lists : FileMap) (list : Option (List ℕ)) (program
   pub is_listed : IsListed lists list (length program) listed
   pub answered : IsListedAnswer program listed (names_of program list) answer
 
+-- the answer is the report of these findings and of what the list breaks
+pub record AreFilesReported (findings : List Finding) (listed : Listed) (names : List (List ℕ)) (answer : Answer) : Type 0 where
+  pub report : List Finding
+  pub is_report : IsReport (λ f. Contains findings f ⊎ (listed ≡ Broken f)) report
+  pub says : answer ≡ report_answer names report
+
 -- The answer for files of which these findings hold and that are called so, and a list behind them: the report of those and
 -- of what the list breaks.
 pub record IsFilesAnswer (lists : FileMap) (list : Option (List ℕ)) (findings : List Finding) (texts : List (List ℕ)) (answer : Answer) : Type 0 where
   pub listed : Listed
   pub is_listed : IsListed lists list (length texts) listed
-  pub report : List Finding
-  pub is_report : IsReport (λ f. Contains findings f ⊎ (listed ≡ Broken f)) report
-  pub says : answer ≡ report_answer (texts ++ list_names list) report
+  pub reported : AreFilesReported findings listed (texts ++ list_names list) answer

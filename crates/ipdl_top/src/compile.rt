@@ -8,7 +8,7 @@ ghost use Rattle.include_graph.specs.Load as load;
 ghost use Rattle.ipdl_top.specs.Answer.{IsCompilation, given_by};
 ghost use Rattle.ipdl_top.specs.Lists.{list_names};
 ghost use Rattle.ipdl_top.specs.Seen.{ForMap};
-ghost use Rattle.ipdl_top.specs.Steps.{IsProgramAnswer, IsFilesAnswer, IsListedAnswer, names_of};
+ghost use Rattle.ipdl_top.specs.Steps.{AreFilesReported, IsProgramAnswer, IsFilesAnswer, IsListedAnswer, names_of};
 
 use crate::answer::{Answer, Failure};
 use crate::list::{Listed, read_listed};
@@ -62,17 +62,33 @@ fn text_names<'n>(
 }
 
 /// The report of these findings and of what the list breaks.
-fn files_report(findings: Findings, listed: Listed) -> Result<Findings, AllocError>
-    ensures { IfOk result (IsReport (λ f. Contains findings f ⊎ (listed ≡ Listed.Broken f))) }
+fn files_report(findings: Findings, listed: &Listed) -> Result<Findings, AllocError>
+    ensures { IfOk result (IsReport (λ f. Contains findings f ⊎ (listed.now ≡ Listed.Broken f))) }
 {
     let mut found = findings.into_vec();
     match listed {
         Listed::Broken(finding) => {
-            found.push(finding)?;
+            found.push(*finding)?;
             Ok(sorted(found))
         }
         Listed::Sections(_) => Ok(sorted(found)),
     }
+}
+
+/// The answer for files that break these rules and are called so, by what was found of the list.
+fn texts_answer(
+    alloc: Global,
+    findings: Findings,
+    texts: &[Name],
+    list: &Option<String>,
+    listed: Listed,
+) -> Result<Answer, Failure>
+    ensures answer { IfOk result (AreFilesReported findings listed (texts.now ++ list_names (option_map string_bytes list.now))) }
+    ensures memory { IsOkUnless result Failure.NoMemory }
+{
+    let names = text_names(alloc, texts, list)?;
+    let report = files_report(findings, &listed)?;
+    Answer::of_report(alloc, names.as_slice(), report.as_slice())
 }
 
 /// The answer for files that break these rules and are called so, and for the list behind them.
@@ -87,14 +103,12 @@ fn files_answer<F: Files>(
     ensures answer { load.ForMap (F.told files.old) (λ lists. IfOk result (IsFilesAnswer lists (option_map string_bytes list.now) findings texts.now)) }
     ensures read_fault { result ≡ Err Failure.ReadFault → Rose (F.faults files.old) (F.faults files.new) }
 {
-    let names = text_names(alloc, texts, list)?;
     let listed = read_listed(alloc, files, list, texts.len() as u32)?;
-    let report = files_report(findings, listed)?;
-    Answer::of_report(alloc, names.as_slice(), report.as_slice())
+    texts_answer(alloc, findings, texts, list, listed)
 }
 
-/// The answer for a program, by what was found of its list.
-fn listed_answer(
+/// The answer for a program whose files have these names, by what was found of its list.
+fn named_answer(
     alloc: Global,
     program: &Program,
     listed: Listed,
@@ -111,6 +125,22 @@ fn listed_answer(
     }
 }
 
+/// The answer for a program, by what was found of its list.
+fn listed_answer(
+    alloc: Global,
+    program: &Program,
+    list: &Option<String>,
+    listed: Listed,
+) -> Result<Answer, Failure>
+    requires program { IsProgram program.now }
+    requires named { BearTheirNames program.now }
+    ensures answer { IfOk result (IsListedAnswer program.now listed (names_of program.now (option_map string_bytes list.now))) }
+    ensures memory { IsOkUnless result Failure.NoMemory }
+{
+    let names = entry_names(alloc, program.as_slice(), list)?;
+    named_answer(alloc, program, listed, names.as_slice())
+}
+
 /// The answer for a program, and for the list behind its files.
 fn program_answer<F: Files>(
     alloc: Global,
@@ -123,9 +153,8 @@ fn program_answer<F: Files>(
     ensures answer { load.ForMap (F.told files.old) (λ lists. IfOk result (IsProgramAnswer lists (option_map string_bytes list.now) program.now)) }
     ensures read_fault { result ≡ Err Failure.ReadFault → Rose (F.faults files.old) (F.faults files.new) }
 {
-    let names = entry_names(alloc, program.as_slice(), list)?;
     let listed = read_listed(alloc, files, list, program.len() as u32)?;
-    listed_answer(alloc, program, listed, names.as_slice())
+    listed_answer(alloc, program, list, listed)
 }
 
 /// The command that compiles the files of these names, which include what is on the path, with this

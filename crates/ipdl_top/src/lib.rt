@@ -3,6 +3,7 @@
 
 mod answer;
 mod compile;
+mod laws;
 mod list;
 mod program;
 mod report;
@@ -12,5 +13,6 @@ mod status;
 mod tests;
 mod write;
 
+pub use laws::determined;
 pub use program::ipdl;
 pub use status::Status;

@@ -1,0 +1,13 @@
+use Rattle.ipdl_top.proofs.AtMostOne as law
+use Rattle.ipdl_top.proofs.laws.determined.Goals as goal
+
+pub returns : goal.returns
+returns c = law.determined (record {
+  texts = record { tokens = c.one_answer.ensures.tokens; tree = c.one_tree.ensures };
+  command = c.one_command.ensures;
+  list = c.one_list.ensures.list;
+  rules = c.break_alike.ensures;
+  listed = c.listed_alike.ensures;
+  schemas = c.schemas_alike.ensures;
+  schema = c.one_schema.ensures;
+})
