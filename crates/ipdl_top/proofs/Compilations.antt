@@ -83,7 +83,7 @@ one_finding finding = record {
   ordered = one_ordered finding;
   exact = λ f. (
     λ h. elim (Contains-push_cases [] finding f h) [ inl none ↦ absurd (omega (arith, none.1)) | inr e ↦ sym e ],
-    λ e. subst (λ (g : Finding). Contains (finding ∷ []) g) (sym e) (Contains-push [] finding)
+    λ e. subst (λ (g : Finding). Contains (finding ∷ []) g) (sym e) (Contains-push [] finding),
   );
 }
 
@@ -159,7 +159,7 @@ listed_fault : (lists : FileMap) (list : Option (List ℕ)) (number : ℕ) (list
 listed_fault lists list number (Sections sections) f h = (λ fault. absurd (no_fault lists list sections number f h fault), λ e. absurd (let no : ⊥ = cc in no))
 listed_fault lists list number (Broken finding) f h = (
   λ fault. ap Broken (one_list_fault lists list number finding f h fault),
-  λ e. let same : finding ≡ f = cc in subst (λ (g : Finding). IsFaultOfList lists list number g) same h
+  λ e. let same : finding ≡ f = cc in subst (λ (g : Finding). IsFaultOfList lists list number g) same h,
 )
 
 -- some finding of a report that is not empty

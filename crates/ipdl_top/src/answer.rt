@@ -63,11 +63,7 @@ impl Answer {
     }
 
     /// The answer that files break rules: the text of the report on them, which calls each by its name in this list.
-    pub fn of_report(
-        alloc: Global,
-        names: &[&[u8]],
-        report: &[Finding],
-    ) -> Result<Answer, Failure>
+    pub fn of_report(alloc: Global, names: &[&[u8]], report: &[Finding]) -> Result<Answer, Failure>
         ensures answer { IfOk result (λ answer. answer ≡ report_answer (map (λ n. n.now) names.now) report.now) }
         ensures memory { IsOkUnless result Failure.NoMemory }
     {

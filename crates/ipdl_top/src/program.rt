@@ -21,11 +21,13 @@ fn answer_to<F: Files>(alloc: Global, words: &[String], files: &mut F) -> Result
     ensures read_fault { result ≡ Err Failure.ReadFault → Rose (F.faults files.old) (F.faults files.new) }
 {
     match read_words(alloc, words) {
-        Ok(Command::Compile {
-            list,
-            path,
-            files: names,
-        }) => compile(alloc, files, &list, path.as_slice(), names.as_slice()),
+        Ok(
+            Command::Compile {
+                list,
+                path,
+                files: names,
+            },
+        ) => compile(alloc, files, &list, path.as_slice(), names.as_slice()),
         Err(WordsFault::Usage) => Answer::of_no_command(alloc),
         Err(WordsFault::NoMemory) => Err(Failure::NoMemory),
     }

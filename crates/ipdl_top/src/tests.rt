@@ -7,6 +7,7 @@ use ipdl_base::{
     ProtocolRow, Schema, Semantics,
 };
 use std::alloc::{AllocError, Global};
+use std::process::Abort;
 use std::test::Fail;
 
 const HELLO: &[u8] = b"protocol PHello {
@@ -120,7 +121,10 @@ fn words(rt: HostRuntime) -> Result<(), Fail> {
 
 /// A program of two files and a list that they break no rule with.
 const TWO: Sources = &[
-    ("PA.ipdl", b"include protocol PB;\nsync protocol PA {\nparent:\n  sync Ask();\n};\n"),
+    (
+        "PA.ipdl",
+        b"include protocol PB;\nsync protocol PA {\nparent:\n  sync Ask();\n};\n",
+    ),
     ("PB.ipdl", b"protocol PB {\nchild:\n  async Tell();\n};\n"),
     ("list.ini", b"[PA::Ask]\ndescription = why\n"),
 ];
@@ -154,7 +158,10 @@ fn outsides(rt: HostRuntime) -> Result<(), Fail> {
             ..outside
         };
         let left = call(rt.alloc(), &["-s", "list.ini", "PA.ipdl"], &outside)?;
-        assert!(rt; leaves(&left, status, out, b""), "{failing_read} {status:?}");
+        assert!(rt;
+            leaves(&left, status, out, b""),
+            "{failing_read} {status:?}"
+        );
     }
     Ok(())
 }
@@ -169,10 +176,14 @@ struct Row {
     err: &'static [u8],
 }
 
-fn check_rows(rt: &HostRuntime, rows: &[Row]) -> Result<(), Fail> {
+fn check_rows(alloc: Global, rt: &impl Abort, rows: &[Row]) -> Result<(), Fail> {
     for row in rows {
-        let left = call(rt.alloc(), row.words, &whole(row.files))?;
-        assert!(rt; leaves(&left, row.status, row.out, row.err), "{:?}", row.words);
+        let left = call(alloc, row.words, &whole(row.files))?;
+        assert!(rt;
+            leaves(&left, row.status, row.out, row.err),
+            "{:?}",
+            row.words
+        );
     }
     Ok(())
 }
@@ -180,142 +191,200 @@ fn check_rows(rt: &HostRuntime, rows: &[Row]) -> Result<(), Fail> {
 /// Sync lists, with their programs.
 #[test]
 fn lists(rt: HostRuntime) -> Result<(), Fail> {
-    check_rows(&rt, &[
-        // sync-list
-        Row {
-            words: &["-s", "sync.ini", "PL.ipdl"],
-            files: &[("PL.ipdl", b"sync protocol PL {\nparent:\n  sync A();\n  sync B();\n  async C();\n};\n"), ("sync.ini", b"[PL::B]\ndescription =\n[PL::C]\ndescription = why\n[PL::D]\ndescription = gone\n")],
-            status: Status::Broken,
-            out: b"",
-            err: b"PL.ipdl:3:8: S1 sync message is not listed\nsync.ini:1:1: S4 section has no description\nsync.ini:3:1: S2 listed message is async\nsync.ini:5:1: S3 listed message does not exist\n",
-        },
-        // sync-list-absent
-        Row {
-            words: &["-s", "sync.ini", "PL.ipdl"],
-            files: &[("PL.ipdl", b"sync protocol PL {\nparent:\n  sync A();\n  sync B();\n  async C();\n};\n")],
-            status: Status::Broken,
-            out: b"",
-            err: b"sync.ini:0:0: A3 file not found\n",
-        },
-        // sync-list-bad-line
-        Row {
-            words: &["-s", "sync.ini", "PL.ipdl"],
-            files: &[("PL.ipdl", b"sync protocol PL {\nparent:\n  sync A();\n  sync B();\n  async C();\n};\n"), ("sync.ini", b"x\n")],
-            status: Status::Broken,
-            out: b"",
-            err: b"sync.ini:1:1: A2 syntax fault\n",
-        },
-    ])
+    check_rows(
+        rt.alloc(),
+        &rt,
+        &[
+            // sync-list
+            Row {
+                words: &["-s", "sync.ini", "PL.ipdl"],
+                files: &[
+                    (
+                        "PL.ipdl",
+                        b"sync protocol PL {\nparent:\n  sync A();\n  sync B();\n  async C();\n};\n",
+                    ),
+                    (
+                        "sync.ini",
+                        b"[PL::B]\ndescription =\n[PL::C]\ndescription = why\n[PL::D]\ndescription = gone\n",
+                    ),
+                ],
+                status: Status::Broken,
+                out: b"",
+                err: b"PL.ipdl:3:8: S1 sync message is not listed\nsync.ini:1:1: S4 section has no description\nsync.ini:3:1: S2 listed message is async\nsync.ini:5:1: S3 listed message does not exist\n",
+            },
+            // sync-list-absent
+            Row {
+                words: &["-s", "sync.ini", "PL.ipdl"],
+                files: &[(
+                    "PL.ipdl",
+                    b"sync protocol PL {\nparent:\n  sync A();\n  sync B();\n  async C();\n};\n",
+                )],
+                status: Status::Broken,
+                out: b"",
+                err: b"sync.ini:0:0: A3 file not found\n",
+            },
+            // sync-list-bad-line
+            Row {
+                words: &["-s", "sync.ini", "PL.ipdl"],
+                files: &[
+                    (
+                        "PL.ipdl",
+                        b"sync protocol PL {\nparent:\n  sync A();\n  sync B();\n  async C();\n};\n",
+                    ),
+                    ("sync.ini", b"x\n"),
+                ],
+                status: Status::Broken,
+                out: b"",
+                err: b"sync.ini:1:1: A2 syntax fault\n",
+            },
+        ],
+    )
 }
 
 /// Files that are reached or absent.
 #[test]
 fn reaches(rt: HostRuntime) -> Result<(), Fail> {
-    check_rows(&rt, &[
-        // manager-and-managed
-        Row {
-            words: &["PMyManager.ipdl"],
-            files: &[("MyTypes.ipdlh", b"include protocol PMyManaged;\nusing mozilla::MyData from \"MyData.h\";\nnamespace mozilla {\nstruct MyPair { int32_t first; PMyManaged owner; };\nunion MyUnion { float; nsString[]; MyPair; };\n}\n"), ("PMyManaged.ipdl", b"include protocol PMyManager;\nnamespace mozilla {\n[ManualDealloc] async protocol PMyManaged {\n  manager PMyManager;\nboth:\n  async Hello(int32_t? aCount) returns (bool aOk);\nparent:\n  async __delete__();\n};\n}\n"), ("PMyManager.ipdl", b"include protocol PMyManaged;\ninclude MyTypes;\nusing mozilla::MyData from \"MyData.h\";\nnamespace mozilla {\nsync protocol PMyManager {\n  manages PMyManaged;\nparent:\n  async PMyManaged();\n  sync Lookup(nsString aKey) returns (MyUnion aFound);\nchild:\n  async Note(MyPair aPair, nullable PMyManaged aActor, MyData aData);\n};\n} // namespace mozilla\n")],
-            status: Status::Done,
-            out: b"protocol 0 mozilla::PMyManaged async not\nmanager mozilla::PMyManager\nmessage 0 both async not plain normal Hello(int32_t? aCount) returns (bool aOk)\nmessage 2 parent async not plain delete __delete__()\nprotocol 1 mozilla::PMyManager sync not\nmanages mozilla::PMyManaged\nmessage 65536 parent async not plain constructor PMyManaged()\nmessage 65538 parent sync not plain normal Lookup(nsString aKey) returns (mozilla::MyUnion aFound)\nmessage 65540 child async not plain normal Note(mozilla::MyPair aPair, nullable mozilla::PMyManaged aActor, mozilla::MyData aData)\nstruct 0 mozilla::MyPair (int32_t first, mozilla::PMyManaged owner)\nunion 1 mozilla::MyUnion (float, nsString[], mozilla::MyPair)\n",
-            err: b"",
-        },
-        // missing-file
-        Row {
-            words: &["PNo.ipdl"],
-            files: &[],
-            status: Status::Broken,
-            out: b"",
-            err: b"PNo.ipdl:0:0: A3 file not found\n",
-        },
-        // missing-include
-        Row {
-            words: &["PH.ipdl"],
-            files: &[("PH.ipdl", b"include protocol PNone;\nprotocol PH {\n};\n")],
-            status: Status::Broken,
-            out: b"",
-            err: b"PH.ipdl:1:18: A3 file not found\n",
-        },
-        // include-cycle-and-path
-        Row {
-            words: &["--path", "one:two", "one/PX.ipdl"],
-            files: &[("one/PX.ipdl", b"include protocol PY;\nprotocol PX {\nparent:\n  async M();\n};\n"), ("two/PY.ipdl", b"include protocol PX;\nprotocol PY {\nchild:\n  async N(PX p);\n};\n")],
-            status: Status::Done,
-            out: b"protocol 0 PX async not\nmessage 0 parent async not plain normal M()\nprotocol 1 PY async not\nmessage 65536 child async not plain normal N(PX p)\n",
-            err: b"",
-        },
-    ])
+    check_rows(
+        rt.alloc(),
+        &rt,
+        &[
+            // manager-and-managed
+            Row {
+                words: &["PMyManager.ipdl"],
+                files: &[
+                    (
+                        "MyTypes.ipdlh",
+                        b"include protocol PMyManaged;\nusing mozilla::MyData from \"MyData.h\";\nnamespace mozilla {\nstruct MyPair { int32_t first; PMyManaged owner; };\nunion MyUnion { float; nsString[]; MyPair; };\n}\n",
+                    ),
+                    (
+                        "PMyManaged.ipdl",
+                        b"include protocol PMyManager;\nnamespace mozilla {\n[ManualDealloc] async protocol PMyManaged {\n  manager PMyManager;\nboth:\n  async Hello(int32_t? aCount) returns (bool aOk);\nparent:\n  async __delete__();\n};\n}\n",
+                    ),
+                    (
+                        "PMyManager.ipdl",
+                        b"include protocol PMyManaged;\ninclude MyTypes;\nusing mozilla::MyData from \"MyData.h\";\nnamespace mozilla {\nsync protocol PMyManager {\n  manages PMyManaged;\nparent:\n  async PMyManaged();\n  sync Lookup(nsString aKey) returns (MyUnion aFound);\nchild:\n  async Note(MyPair aPair, nullable PMyManaged aActor, MyData aData);\n};\n} // namespace mozilla\n",
+                    ),
+                ],
+                status: Status::Done,
+                out: b"protocol 0 mozilla::PMyManaged async not\nmanager mozilla::PMyManager\nmessage 0 both async not plain normal Hello(int32_t? aCount) returns (bool aOk)\nmessage 2 parent async not plain delete __delete__()\nprotocol 1 mozilla::PMyManager sync not\nmanages mozilla::PMyManaged\nmessage 65536 parent async not plain constructor PMyManaged()\nmessage 65538 parent sync not plain normal Lookup(nsString aKey) returns (mozilla::MyUnion aFound)\nmessage 65540 child async not plain normal Note(mozilla::MyPair aPair, nullable mozilla::PMyManaged aActor, mozilla::MyData aData)\nstruct 0 mozilla::MyPair (int32_t first, mozilla::PMyManaged owner)\nunion 1 mozilla::MyUnion (float, nsString[], mozilla::MyPair)\n",
+                err: b"",
+            },
+            // missing-file
+            Row {
+                words: &["PNo.ipdl"],
+                files: &[],
+                status: Status::Broken,
+                out: b"",
+                err: b"PNo.ipdl:0:0: A3 file not found\n",
+            },
+            // missing-include
+            Row {
+                words: &["PH.ipdl"],
+                files: &[("PH.ipdl", b"include protocol PNone;\nprotocol PH {\n};\n")],
+                status: Status::Broken,
+                out: b"",
+                err: b"PH.ipdl:1:18: A3 file not found\n",
+            },
+            // include-cycle-and-path
+            Row {
+                words: &["--path", "one:two", "one/PX.ipdl"],
+                files: &[
+                    (
+                        "one/PX.ipdl",
+                        b"include protocol PY;\nprotocol PX {\nparent:\n  async M();\n};\n",
+                    ),
+                    (
+                        "two/PY.ipdl",
+                        b"include protocol PX;\nprotocol PY {\nchild:\n  async N(PX p);\n};\n",
+                    ),
+                ],
+                status: Status::Done,
+                out: b"protocol 0 PX async not\nmessage 0 parent async not plain normal M()\nprotocol 1 PY async not\nmessage 65536 child async not plain normal N(PX p)\n",
+                err: b"",
+            },
+        ],
+    )
 }
 
 /// Reports on one file.
 #[test]
 fn reports(rt: HostRuntime) -> Result<(), Fail> {
-    check_rows(&rt, &[
-        // empty-file
-        Row {
-            words: &["PE.ipdl"],
-            files: &[("PE.ipdl", b"")],
-            status: Status::Broken,
-            out: b"",
-            err: b"PE.ipdl:1:1: A2 syntax fault\n",
-        },
-        // only-a-comment
-        Row {
-            words: &["PE.ipdl"],
-            files: &[("PE.ipdl", b"// only\n")],
-            status: Status::Broken,
-            out: b"",
-            err: b"PE.ipdl:2:1: A2 syntax fault\n",
-        },
-        // open-comment
-        Row {
-            words: &["PG.ipdl"],
-            files: &[("PG.ipdl", b"/* open\n")],
-            status: Status::Broken,
-            out: b"",
-            err: b"PG.ipdl:1:1: A1 bad token\n",
-        },
-        // preprocessor-line
-        Row {
-            words: &["PG.ipdl"],
-            files: &[("PG.ipdl", b"protocol PG {\n#if X\n};\n")],
-            status: Status::Broken,
-            out: b"",
-            err: b"PG.ipdl:2:1: A1 bad token\n",
-        },
-        // fifth-suffix
-        Row {
-            words: &["PS.ipdl"],
-            files: &[("PS.ipdl", b"protocol PS {\nparent:\n  async M(bool[][][][][] a);\n};\n")],
-            status: Status::Broken,
-            out: b"",
-            err: b"PS.ipdl:3:23: A2 syntax fault\n",
-        },
-        // repeated-and-unknown
-        Row {
-            words: &["PHello.ipdl"],
-            files: &[("PHello.ipdl", b"protocol PHello {\nparent:\n  async Hello(int32_t n);\n  async Hello(foo x);\n};\n")],
-            status: Status::Broken,
-            out: b"",
-            err: b"PHello.ipdl:4:9: B21 repeated name\nPHello.ipdl:4:15: B1 unknown type\n",
-        },
-        // two-rules-on-one-message
-        Row {
-            words: &["PT.ipdl"],
-            files: &[("PT.ipdl", b"async protocol PT {\nchild:\n  sync M();\n};\n")],
-            status: Status::Broken,
-            out: b"",
-            err: b"PT.ipdl:3:8: B11 sync message of level not sent by the parent\nPT.ipdl:3:8: B14 message is stronger than its protocol\n",
-        },
-        // name-of-its-file
-        Row {
-            words: &["PH.ipdl"],
-            files: &[("PH.ipdl", b"protocol PI {\n};\n")],
-            status: Status::Broken,
-            out: b"",
-            err: b"PH.ipdl:1:10: A4 protocol does not bear the name of its file\n",
-        },
-    ])
+    check_rows(
+        rt.alloc(),
+        &rt,
+        &[
+            // empty-file
+            Row {
+                words: &["PE.ipdl"],
+                files: &[("PE.ipdl", b"")],
+                status: Status::Broken,
+                out: b"",
+                err: b"PE.ipdl:1:1: A2 syntax fault\n",
+            },
+            // only-a-comment
+            Row {
+                words: &["PE.ipdl"],
+                files: &[("PE.ipdl", b"// only\n")],
+                status: Status::Broken,
+                out: b"",
+                err: b"PE.ipdl:2:1: A2 syntax fault\n",
+            },
+            // open-comment
+            Row {
+                words: &["PG.ipdl"],
+                files: &[("PG.ipdl", b"/* open\n")],
+                status: Status::Broken,
+                out: b"",
+                err: b"PG.ipdl:1:1: A1 bad token\n",
+            },
+            // preprocessor-line
+            Row {
+                words: &["PG.ipdl"],
+                files: &[("PG.ipdl", b"protocol PG {\n#if X\n};\n")],
+                status: Status::Broken,
+                out: b"",
+                err: b"PG.ipdl:2:1: A1 bad token\n",
+            },
+            // fifth-suffix
+            Row {
+                words: &["PS.ipdl"],
+                files: &[(
+                    "PS.ipdl",
+                    b"protocol PS {\nparent:\n  async M(bool[][][][][] a);\n};\n",
+                )],
+                status: Status::Broken,
+                out: b"",
+                err: b"PS.ipdl:3:23: A2 syntax fault\n",
+            },
+            // repeated-and-unknown
+            Row {
+                words: &["PHello.ipdl"],
+                files: &[(
+                    "PHello.ipdl",
+                    b"protocol PHello {\nparent:\n  async Hello(int32_t n);\n  async Hello(foo x);\n};\n",
+                )],
+                status: Status::Broken,
+                out: b"",
+                err: b"PHello.ipdl:4:9: B21 repeated name\nPHello.ipdl:4:15: B1 unknown type\n",
+            },
+            // two-rules-on-one-message
+            Row {
+                words: &["PT.ipdl"],
+                files: &[("PT.ipdl", b"async protocol PT {\nchild:\n  sync M();\n};\n")],
+                status: Status::Broken,
+                out: b"",
+                err: b"PT.ipdl:3:8: B11 sync message of level not sent by the parent\nPT.ipdl:3:8: B14 message is stronger than its protocol\n",
+            },
+            // name-of-its-file
+            Row {
+                words: &["PH.ipdl"],
+                files: &[("PH.ipdl", b"protocol PI {\n};\n")],
+                status: Status::Broken,
+                out: b"",
+                err: b"PH.ipdl:1:10: A4 protocol does not bear the name of its file\n",
+            },
+        ],
+    )
 }
 
 #[test]
