@@ -1,142 +1,152 @@
 -- Words have at most one answer with some files.
-use Rattle.std.proofs.Common.{◌≡◌, ◌≤◌, ◌<◌, ℕ, List, [], ◌∷◌, length, sym, ◌∙◌, ap, subst, inl, inr, arith}
-use Rattle.std.specs.Prelude.{Option, Some, None}
+use Rattle.std.proofs.Common.{◌≡◌, ◌≢◌, ◌↔◌, ◌⊎◌, ℕ, zero, suc, List, [], ◌∷◌, ◌++◌, map, length, refl, sym, ◌∙◌, ap, subst, inl, inr, arith}
+use Rattle.std.specs.Prelude.{Option, Some, None, IsSomeAnd}
+use Rattle.std.specs.List.{Contains}
 use Rattle.std.proofs.lemmas.Option.{same_Some}
+use Rattle.ipdl_base.specs.Outside.{FileMap}
 use Rattle.ipdl_base.specs.declared.finding.Finding.{Finding}
-use Rattle.ipdl_base.specs.declared.finding.TheConstants.Rule as rule
-use Rattle.ipdl_base.specs.declared.token.Token.{Token}
-use Rattle.ipdl_lex.specs.declared.token.Lexed.{Lexed}
-use Rattle.ipdl_lex.specs.declared.token.LexFault.{LexFault}
-use Rattle.ipdl_lex.specs.Tokens.{IsTokens, IsFault}
-use Rattle.ipdl_syntax.specs.declared.tree.FileKind.TheVariants as file
-use Rattle.ipdl_syntax.specs.declared.tree.Unit.{Unit as FileUnit}
-use Rattle.ipdl_syntax.specs.Program.{Tree}
-use Rattle.grammar_laws.specs.Laws.{HasOneTree}
-use Rattle.narrow_rules.specs.Broken.{IsReport}
-use Rattle.narrow_rules.specs.Narrow.{IsNarrow}
-use Rattle.actor_tables.specs.Laws.{OneSchema}
-use Rattle.actor_tables.specs.SchemaOf.{IsSchemaOf}
-use Rattle.actor_tables.specs.TableText.{table_text}
+use Rattle.ipdl_base.specs.declared.schema.Schema.{Schema}
+use Rattle.ipdl_syntax.specs.declared.program.Entry.{Entry}
+use Rattle.command_words.specs.Compile.{OneCommand, IsCompile}
+use Rattle.findings.specs.Report.{IsReport}
 use Rattle.findings.proofs.Reports.{same_report}
+use Rattle.include_graph.specs.Load.{keys_of}
+use Rattle.include_graph.specs.Sources.{Given, text_of}
+use Rattle.include_graph.proofs.OneReach.{one_reach}
+use Rattle.include_graph.proofs.OneUnit.{AtMostOne}
+use Rattle.program_laws.specs.Laws.{BreakAlike, AreListedAlike, HaveSchemasAlike, AreAlike}
+use Rattle.schema_laws.specs.Laws.{OneSchema, plain_schema}
+use Rattle.sync_list.specs.declared.list.Section.{Section}
+use Rattle.sync_list.specs.Lists.{IsListOf}
+use Rattle.sync_list.specs.Laws.{OneList}
+use Rattle.actor_tables.specs.TableText.{table_text}
 use Rattle.ipdl_top.specs.declared.answer.Answer.{Answer}
-use Rattle.ipdl_top.specs.Answer.{IsTableOfTokens, IsTable, IsTableOf, IsReportedOf, IsCompilation, table_answer, report_answer}
-use Rattle.command_words.specs.Keys.{IsKeyOf}
-use Rattle.ipdl_top.specs.Command.{IsCommand}
+use Rattle.ipdl_top.specs.Answer.{IsBrokenFile, BreaksRules, IsFileReport, IsReading, IsRuleReport, IsTable, IsCompilation, IsCommandAnswer, given_by, report_answer, table_answer}
 use Rattle.ipdl_top.specs.Laws.{OneAnswer}
-use Rattle.ipdl_top.specs.Report.{finding_at, place_of, IsReportOfLexed, IsReportOfBytes, IsReportOf}
-use Rattle.command_words.proofs.OneKey.{one_key}
-use Rattle.ipdl_top.proofs.Unboxing.{same_unit}
-use Rattle.ipdl_top.proofs.OneFault.{one_syntax_fault}
+use Rattle.ipdl_top.specs.Lists.{AreSections, IsFaultOfList, list_names}
+use Rattle.ipdl_top.specs.Seen.{Seen}
+use Rattle.ipdl_top.proofs.Alike.{alike, same_keys}
+use Rattle.ipdl_top.proofs.Compilations.{names_called, no_fault}
+use Rattle.ipdl_top.proofs.TableTexts.{one_text}
 
 -- the laws of what the program is made of
 pub record TheLaws : Type 0 where
-  pub one_tree : HasOneTree
-  pub one_schema : OneSchema
-  pub one_tokens : (file : ℕ) (text : List ℕ) (a b : Lexed) → IsTokens file text a → IsTokens file text b → a ≡ b
-  pub one_fault : (file : ℕ) (text : List ℕ) (a b : LexFault) → IsFault file text a → IsFault file text b → a ≡ b
-  pub never_both : (file : ℕ) (text : List ℕ) (lexed : Lexed) (fault : LexFault) → IsTokens file text lexed → ¬ IsFault file text fault
+  pub texts : AtMostOne
+  pub command : OneCommand
+  pub list : OneList
+  pub rules : BreakAlike
+  pub listed : AreListedAlike
+  pub schemas : HaveSchemasAlike
+  pub schema : OneSchema
 
--- tokens that have the tree of a narrow file have no other
-one_unit : TheLaws → (key : List ℕ) (tokens : List Token) (one other : FileUnit) → IsNarrow key one → Tree file.Protocol tokens one → Tree file.Protocol tokens other → other ≡ one
-one_unit laws key tokens one other narrow t u = same_unit key one other narrow (laws.one_tree file.Protocol tokens other one u t)
+-- Lists
 
--- tokens have one report
-lexed_report : TheLaws → (key : List ℕ) (lexed : Lexed) (a b : List Finding) → IsReportOfLexed key lexed a → IsReportOfLexed key lexed b → a ≡ b
-lexed_report laws key lexed a b (inl x) (inl y) = one_syntax_fault lexed a b x y
-lexed_report laws key lexed a b (inl x) (inr (inl y)) = absurd (x.none (y.unit, y.tree))
-lexed_report laws key lexed a b (inl x) (inr (inr y)) = absurd (x.none (y.unit, y.tree))
-lexed_report laws key lexed a b (inr (inl x)) (inl y) = absurd (y.none (x.unit, x.tree))
-lexed_report laws key lexed a b (inr (inr x)) (inl y) = absurd (y.none (x.unit, x.tree))
-lexed_report laws key lexed a b (inr (inl x)) (inr (inl y)) =
-    let same : y.unit ≡ x.unit = one_unit laws key lexed.tokens x.unit y.unit x.narrow x.tree y.tree in
-    same_report a b x.reported (subst (λ (u : FileUnit). IsReport u b) same y.reported)
-lexed_report laws key lexed a b (inr (inl x)) (inr (inr y)) =
-    absurd (y.other (subst (IsNarrow key) (sym (one_unit laws key lexed.tokens x.unit y.unit x.narrow x.tree y.tree)) x.narrow))
-lexed_report laws key lexed a b (inr (inr x)) (inr (inl y)) =
-    absurd (x.other (subst (IsNarrow key) (sym (one_unit laws key lexed.tokens y.unit x.unit y.narrow y.tree x.tree)) y.narrow))
-lexed_report laws key lexed a b (inr (inr x)) (inr (inr y)) = x.reported ∙ sym y.reported
+-- a list has one list of sections
+one_sections : TheLaws → (lists : FileMap) (list : Option (List ℕ)) (a b : Option (List Section)) → AreSections lists list a → AreSections lists list b → a ≡ b
+one_sections laws lists None None None x y = refl
+one_sections laws lists None None (Some b) x y = absurd y
+one_sections laws lists None (Some a) b x y = absurd x
+one_sections laws lists (Some word) None b x y = absurd x
+one_sections laws lists (Some word) (Some a) None x y = absurd y
+one_sections laws lists (Some word) (Some a) (Some b) x y =
+    let same : y.bytes ≡ x.bytes = same_Some _ _ (sym y.has ∙ x.has) in
+    ap Some (laws.list x.bytes a b x.spells (subst (λ (bytes : List ℕ). IsListOf bytes b) same y.spells))
 
--- bytes have one report
-bytes_report : TheLaws → (key bytes : List ℕ) (a b : List Finding) → IsReportOfBytes key bytes a → IsReportOfBytes key bytes b → a ≡ b
-bytes_report laws key bytes a b (inl x) (inl y) =
-    let fault : x.fault ≡ y.fault = laws.one_fault 0 bytes x.fault y.fault x.is_fault y.is_fault in
-    x.reported ∙ ap (λ p. finding_at rule.BAD_TOKEN p ∷ []) (same_Some _ _ (sym x.here ∙ ap place_of fault ∙ y.here)) ∙ sym y.reported
-bytes_report laws key bytes a b (inl x) (inr y) = absurd (laws.never_both 0 bytes y.lexed x.fault y.tokens x.is_fault)
-bytes_report laws key bytes a b (inr x) (inl y) = absurd (laws.never_both 0 bytes x.lexed y.fault x.tokens y.is_fault)
-bytes_report laws key bytes a b (inr x) (inr y) =
-    let same : y.lexed ≡ x.lexed = laws.one_tokens 0 bytes y.lexed x.lexed y.tokens x.tokens in
-    lexed_report laws key x.lexed a b x.reported (subst (λ (l : Lexed). IsReportOfLexed key l b) same y.reported)
+-- Reports
 
--- what a file has has one report
-found_report : TheLaws → (key : List ℕ) (found : Option (List ℕ)) (a b : List Finding) → IsReportOf key found a → IsReportOf key found b → a ≡ b
-found_report laws key None a b x y = x ∙ sym y
-found_report laws key (Some bytes) a b (inl x) (inl y) = x.1 ∙ sym y.1
-found_report laws key (Some bytes) a b (inl x) (inr y) = absurd (let large : 1048576 < length bytes = x.0 in let small : length bytes ≤ 1048576 = y.0 in omega arith)
-found_report laws key (Some bytes) a b (inr x) (inl y) = absurd (let small : length bytes ≤ 1048576 = x.0 in let large : 1048576 < length bytes = y.0 in omega arith)
-found_report laws key (Some bytes) a b (inr x) (inr y) = bytes_report laws key bytes a b x.1 y.1
+-- a report of what nothing breaks is empty
+empty : {Broken : Finding → Type 0} (report : List Finding) → ((f : Finding) → ¬ Broken f) → IsReport Broken report → report ≡ []
+empty [] none h = refl
+empty (f ∷ report) none h = absurd (none f ((h.exact f).0 (zero, omega arith, refl)))
 
--- so has a file of a name
-named_report : TheLaws → (name : List ℕ) (found : Option (List ℕ)) (key key' : List ℕ) (a b : List Finding) → IsKeyOf name key → IsKeyOf name key' → IsReportOf key found a → IsReportOf key' found b → a ≡ b
-named_report laws name found key key' a b p q x y =
-    found_report laws key found a b x (subst (λ (k : List ℕ). IsReportOf k found b) (one_key name key' key q p) y)
+-- files that break rules are not read as a program
+not_read : TheLaws → (given : Given) (lists : FileMap) (list : Option (List ℕ)) (answer : Answer) (program : List Entry) (sections : Option (List Section)) → IsFileReport given lists list answer → IsReading given lists list program sections → ⊥
+not_read laws given lists list answer program sections x y =
+    let keys : x.keys ≡ keys_of program = one_reach laws.texts given x.keys (keys_of program) x.reach y.is_program.reach in
+    let none : (f : Finding) → ¬ IsBrokenFile given lists list (keys_of program) f =
+    λ f h. elim h [ inl broken ↦ y.is_program.clean f broken | inr fault ↦ no_fault lists list sections (length (keys_of program)) f y.are_sections fault ] in
+    x.some (empty x.report none (subst (λ (ks : List (List ℕ)). IsReport (IsBrokenFile given lists list ks) x.report) keys x.is_report))
 
--- and one answer that is a report
-report_answers : TheLaws → (name : List ℕ) (found : Option (List ℕ)) (one other : Answer) → IsReportedOf name found one → IsReportedOf name found other → one ≡ other
-report_answers laws name found one other x y =
-    x.says ∙ ap (report_answer name) (named_report laws name found x.key y.key x.report y.report x.is_key y.is_key x.is_report y.is_report) ∙ sym y.says
+-- files have one report
+file_reports : TheLaws → (given : Given) (lists : FileMap) (list : Option (List ℕ)) (one other : Answer) → IsFileReport given lists list one → IsFileReport given lists list other → one ≡ other
+file_reports laws given lists list one other x y =
+    let keys : y.keys ≡ x.keys = one_reach laws.texts given y.keys x.keys y.reach x.reach in
+    let report : x.report ≡ y.report = same_report x.report y.report x.is_report (subst (λ (ks : List (List ℕ)). IsReport (IsBrokenFile given lists list ks) y.report) keys y.is_report) in
+    x.says ∙ ap (λ (r : List Finding). report_answer (map (text_of given) x.keys ++ list_names list) r) report
+    ∙ ap (λ (ks : List (List ℕ)). report_answer (map (text_of given) ks ++ list_names list) y.report) (sym keys) ∙ sym y.says
 
--- where there is a table, the report is empty
-empty_report : (name : List ℕ) (found : Option (List ℕ)) (answer : Answer) → (x : IsTableOf name found answer) → IsReportOf x.key found []
-empty_report name found answer x =
-    let t : IsTableOfTokens x.key x.table.lexed x.text = x.table.table in
-    let reported : IsReportOfLexed x.key x.table.lexed [] = inr (inl (record { unit = t.unit; tree = t.tree; narrow = t.narrow; reported = t.clean })) in
-    let of_bytes : IsReportOfBytes x.key x.bytes [] = inr (record { lexed = x.table.lexed; tokens = x.table.tokens; reported = reported }) in
-    subst (λ (f : Option (List ℕ)). IsReportOf x.key f []) (sym x.read) (inr (x.small, of_bytes))
+-- Programs
 
--- so no file has both a table and a report that is not empty
-not_both : TheLaws → (name : List ℕ) (found : Option (List ℕ)) (one other : Answer) → IsTableOf name found one → ¬ IsReportedOf name found other
-not_both laws name found one other x y =
-    y.some (named_report laws name found y.key x.key y.report [] y.is_key x.is_key y.is_report (empty_report name found one x))
+-- what one of two alike breaks, the other does
+breaks_alike : TheLaws → (p q : List Entry) (sections : Option (List Section)) (f : Finding) → AreAlike p q → BreaksRules p sections f → BreaksRules q sections f
+breaks_alike laws p q sections f same (inl h) = inl ((laws.rules p q f same).0 h)
+breaks_alike laws p q sections f same (inr (inl (inl h))) = inr (inl (inl ((laws.rules p q f same).1 h)))
+breaks_alike laws p q sections f same (inr (inl (inr h))) = inr (inl (inr ((laws.rules p q f same).2 h)))
+breaks_alike laws p q None f same (inr (inr h)) = absurd h
+breaks_alike laws p q (Some list) f same (inr (inr h)) = inr (inr (laws.listed p q list f same h))
 
--- tokens have one table
-lexed_tables : TheLaws → (key : List ℕ) (lexed : Lexed) (out out' : List ℕ) → IsTableOfTokens key lexed out → IsTableOfTokens key lexed out' → out ≡ out'
-lexed_tables laws key lexed out out' x y =
-    let same : y.unit ≡ x.unit = one_unit laws key lexed.tokens x.unit y.unit x.narrow x.tree y.tree in
-    let schema : x.schema ≡ y.schema = laws.one_schema x.unit x.schema y.schema x.schema_of (subst (λ (u : FileUnit). IsSchemaOf u y.schema) same y.schema_of) in
-    x.text ∙ ap table_text schema ∙ sym y.text
+-- two readings are of programs that are alike and break the same rules
+read_alike : TheLaws → (given : Given) (lists : FileMap) (list : Option (List ℕ)) (p q : List Entry) (s t : Option (List Section)) → IsReading given lists list p s → IsReading given lists list q t → (f : Finding) → BreaksRules p s f → BreaksRules q t f
+read_alike laws given lists list p q s t x y f h =
+    let same = one_sections laws lists list s t x.are_sections y.are_sections in
+    subst (λ (o : Option (List Section)). BreaksRules q o f) same (breaks_alike laws p q s f (alike laws.texts given p q x.is_program y.is_program x.whole y.whole) h)
 
--- so have bytes
-bytes_tables : TheLaws → (key bytes out out' : List ℕ) → IsTable key bytes out → IsTable key bytes out' → out ≡ out'
-bytes_tables laws key bytes out out' x y =
-    let same : y.lexed ≡ x.lexed = laws.one_tokens 0 bytes y.lexed x.lexed y.tokens x.tokens in
-    lexed_tables laws key x.lexed out out' x.table (subst (λ (l : Lexed). IsTableOfTokens key l out') same y.table)
+-- a program has one report
+rule_reports : TheLaws → (given : Given) (lists : FileMap) (list : Option (List ℕ)) (one other : Answer) → IsRuleReport given lists list one → IsRuleReport given lists list other → one ≡ other
+rule_reports laws given lists list one other x y =
+    let to = read_alike laws given lists list x.program y.program x.sections y.sections x.reading y.reading in
+    let back = read_alike laws given lists list y.program x.program y.sections x.sections y.reading x.reading in
+    let moved : IsReport (BreaksRules x.program x.sections) y.report = record {
+      ordered = y.is_report.ordered;
+      exact = λ f. (λ c. back f ((y.is_report.exact f).0 c), λ b. (y.is_report.exact f).1 (to f b));
+    } in
+    let report : x.report ≡ y.report = same_report x.report y.report x.is_report moved in
+    let keys : keys_of x.program ≡ keys_of y.program = same_keys laws.texts given x.program y.program x.reading.is_program y.reading.is_program in
+    let names : map (λ (e : Entry). e.name) x.program ≡ map (λ (e : Entry). e.name) y.program =
+    sym (names_called given x.program (λ number entry at. (x.reading.is_program.entries number entry at).name)) ∙ ap (map (text_of given)) keys
+    ∙ names_called given y.program (λ number entry at. (y.reading.is_program.entries number entry at).name) in
+    x.says ∙ ap (λ (r : List Finding). report_answer (map (λ (e : Entry). e.name) x.program ++ list_names list) r) report
+    ∙ ap (λ (ns : List (List ℕ)). report_answer (ns ++ list_names list) y.report) names ∙ sym y.says
 
--- and files of a name
-table_answers : TheLaws → (name : List ℕ) (found : Option (List ℕ)) (one other : Answer) → IsTableOf name found one → IsTableOf name found other → one ≡ other
-table_answers laws name found one other x y =
-    let key : y.key ≡ x.key = one_key name y.key x.key y.is_key x.is_key in
-    let bytes : y.bytes ≡ x.bytes = same_Some _ _ (sym y.read ∙ x.read) in
-    let of_key : IsTable x.key y.bytes y.text = subst (λ (k : List ℕ). IsTable k y.bytes y.text) key y.table in
-    let text : x.text ≡ y.text = bytes_tables laws x.key x.bytes x.text y.text x.table (subst (λ (b : List ℕ). IsTable x.key b y.text) bytes of_key) in
-    x.says ∙ ap table_answer text ∙ sym y.says
+-- a program that has a table breaks no rule
+not_table : TheLaws → (given : Given) (lists : FileMap) (list : Option (List ℕ)) (one other : Answer) → IsRuleReport given lists list one → IsTable given lists list other → ⊥
+not_table laws given lists list one other x y =
+    let to = read_alike laws given lists list x.program y.program x.sections y.sections x.reading y.reading in
+    x.some (empty x.report (λ f h. y.clean f (to f h)) x.is_report)
+
+-- and has one
+tables : TheLaws → (given : Given) (lists : FileMap) (list : Option (List ℕ)) (one other : Answer) → IsTable given lists list one → IsTable given lists list other → one ≡ other
+tables laws given lists list one other x y =
+    let same = alike laws.texts given y.program x.program y.reading.is_program x.reading.is_program y.reading.whole x.reading.whole in
+    let schema : plain_schema x.schema ≡ plain_schema y.schema = laws.schema x.program x.schema y.schema x.schema_of (laws.schemas y.program x.program y.schema same y.schema_of) in
+    x.says ∙ ap table_answer (one_text x.schema y.schema schema) ∙ sym y.says
+
+-- Answers
 
 -- a compilation has one answer
-compilations : TheLaws → (name : List ℕ) (found : Option (List ℕ)) (one other : Answer) → IsCompilation name found one → IsCompilation name found other → one ≡ other
-compilations laws name found one other (inl x) (inl y) = table_answers laws name found one other x y
-compilations laws name found one other (inl x) (inr y) = absurd (not_both laws name found one other x y)
-compilations laws name found one other (inr x) (inl y) = absurd (not_both laws name found other one y x)
-compilations laws name found one other (inr x) (inr y) = report_answers laws name found one other x y
+compilations : TheLaws → (given : Given) (lists : FileMap) (list : Option (List ℕ)) (one other : Answer) → IsCompilation given lists list one → IsCompilation given lists list other → one ≡ other
+compilations laws given lists list one other (inl x) (inl y) = file_reports laws given lists list one other x y
+compilations laws given lists list one other (inl x) (inr (inl y)) = absurd (not_read laws given lists list one y.program y.sections x y.reading)
+compilations laws given lists list one other (inl x) (inr (inr y)) = absurd (not_read laws given lists list one y.program y.sections x y.reading)
+compilations laws given lists list one other (inr (inl x)) (inl y) = absurd (not_read laws given lists list other x.program x.sections y x.reading)
+compilations laws given lists list one other (inr (inr x)) (inl y) = absurd (not_read laws given lists list other x.program x.sections y x.reading)
+compilations laws given lists list one other (inr (inl x)) (inr (inl y)) = rule_reports laws given lists list one other x y
+compilations laws given lists list one other (inr (inl x)) (inr (inr y)) = absurd (not_table laws given lists list one other x y)
+compilations laws given lists list one other (inr (inr x)) (inr (inl y)) = absurd (not_table laws given lists list other one y x)
+compilations laws given lists list one other (inr (inr x)) (inr (inr y)) = tables laws given lists list one other x y
 
--- words are the command of one file
-one_name : (words : List (List ℕ)) (name name' : List ℕ) → IsCommand words name → IsCommand words name' → name' ≡ name
-one_name words name name' x y =
-    let same : name' ∷ [] ≡ name ∷ [] = sym y.one ∙ x.one in
-    cc
+-- so has a command
+commands : TheLaws → (seen : Seen) (words : List (List ℕ)) (one other : Answer) → IsCommandAnswer seen words one → IsCommandAnswer seen words other → one ≡ other
+commands laws seen words one other x y =
+    let same = laws.command words y.list x.list y.path x.path y.names x.names y.command x.command in
+    let listed : IsCompilation (given_by seen.files y.path y.names) seen.list x.list other = subst (λ (l : Option (List ℕ)). IsCompilation (given_by seen.files y.path y.names) seen.list l other) same.0 y.compilation in
+    let found : IsCompilation (given_by seen.files x.path y.names) seen.list x.list other = subst (λ (p : List (List ℕ)). IsCompilation (given_by seen.files p y.names) seen.list x.list other) same.1 listed in
+    let named : IsCompilation (given_by seen.files x.path x.names) seen.list x.list other = subst (λ (n : List (List ℕ)). IsCompilation (given_by seen.files x.path n) seen.list x.list other) same.2 found in
+    compilations laws (given_by seen.files x.path x.names) seen.list x.list one other x.compilation named
 
 -- words are a command or none
 pub determined : TheLaws → OneAnswer
-determined laws files words one other (inl (name, command, x)) (inl (name', command', y)) =
-    compilations laws name (files name) one other x (subst (λ (n : List ℕ). IsCompilation n (files n) other) (one_name words name name' command command') y)
-determined laws files words one other (inl (name, command, x)) (inr y) = absurd (y.0 name command)
-determined laws files words one other (inr x) (inl (name, command, y)) = absurd (x.0 name command)
-determined laws files words one other (inr x) (inr y) = x.1 ∙ sym y.1
+determined laws seen words one other (inl x) (inl y) = commands laws seen words one other x y
+determined laws seen words one other (inl x) (inr y) = absurd (y.0 x.list x.path x.names x.command)
+determined laws seen words one other (inr x) (inl y) = absurd (x.0 y.list y.path y.names y.command)
+determined laws seen words one other (inr x) (inr y) = x.1 ∙ sym y.1

@@ -1,8 +1,11 @@
 pub mod Pieces
-pub mod Reports
-pub mod Compilations
 pub mod Answered
 pub mod SmallSchema
-pub mod Unboxing
-pub mod OneFault
+pub mod Maps
+pub mod Compilations
+pub mod Words
+pub mod TableTexts
+pub mod Alike
 pub mod AtMostOne
+pub mod Gathered
+pub mod Found

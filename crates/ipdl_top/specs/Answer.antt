@@ -1,76 +1,105 @@
 -- What the program answers.
-use Rattle.std.specs.Prelude.{◌≡◌, ◌≢◌, ◌⊎◌, ℕ, ◌≤◌, List, [], length, Option, Some}
+use Rattle.std.specs.Prelude.{◌≡◌, ◌≢◌, ◌⊎◌, ℕ, List, [], ◌++◌, map, length, Option, IsSomeAnd}
 use Rattle.ipdl_base.specs.Outside.{FileMap}
 use Rattle.ipdl_base.specs.declared.finding.Finding.{Finding}
 use Rattle.ipdl_base.specs.declared.schema.Schema.{Schema}
-use Rattle.ipdl_lex.specs.declared.token.Lexed.{Lexed}
-use Rattle.ipdl_lex.specs.Tokens.{IsTokens}
-use Rattle.ipdl_syntax.specs.declared.tree.FileKind.TheVariants as file
-use Rattle.ipdl_syntax.specs.declared.tree.Unit.{Unit as FileUnit}
-use Rattle.ipdl_syntax.specs.Program.{Tree}
-use Rattle.command_words.specs.Keys.{IsKeyOf}
-use Rattle.narrow_rules.specs.Broken.{IsReport}
-use Rattle.narrow_rules.specs.Narrow.{IsNarrow}
-use Rattle.actor_tables.specs.SchemaOf.{IsSchemaOf}
+use Rattle.ipdl_syntax.specs.declared.program.Entry.{Entry}
+use Rattle.ipdl_syntax.specs.Programs.{IsProgram}
+use Rattle.command_words.specs.Compile.{IsCompile, IsNoCommand}
+use Rattle.findings.specs.Report.{IsReport}
+use Rattle.include_graph.specs.Load.{IsProgramOf}
+use Rattle.include_graph.specs.Reach.{IsReach}
+use Rattle.include_graph.specs.Rules.{IsBroken}
+use Rattle.include_graph.specs.Sources.{Given, text_of}
+use Rattle.sync_list.specs.declared.list.Section.{Section}
+use Rattle.sync_list.specs.Broken as sync
+use Rattle.type_rules.specs.Broken as types
+use Rattle.proto_rules.specs.Broken as protocols
+use Rattle.schema_laws.specs.SchemaOf.{IsSchemaOf}
 use Rattle.actor_tables.specs.TableText.{table_text}
 use Rattle.ipdl_top.specs.declared.answer.Answer.{Answer}
 use Rattle.ipdl_top.specs.declared.status.Status.TheVariants.{Done, Broken, Usage}
-use Rattle.ipdl_top.specs.Command.{IsCommand, IsNoCommand, usage_text}
-use Rattle.ipdl_top.specs.Report.{IsReportOf, report_text}
-
--- The text is the table text of the schema of the program whose tree is the grammar's for these tokens, which are a narrow file of this key that breaks no rule.
-pub record IsTableOfTokens (key : List ℕ) (lexed : Lexed) (out : List ℕ) : Type 0 where
-  pub unit : FileUnit
-  pub tree : Tree file.Protocol lexed.tokens unit
-  pub narrow : IsNarrow key unit
-  pub clean : IsReport unit []
-  pub schema : Schema
-  pub schema_of : IsSchemaOf unit schema
-  pub text : out ≡ table_text schema
-
--- the text is the table of the tokens of these bytes
-pub record IsTable (key bytes out : List ℕ) : Type 0 where
-  pub lexed : Lexed
-  pub tokens : IsTokens 0 bytes lexed
-  pub table : IsTableOfTokens key lexed out
+use Rattle.ipdl_top.specs.Command.{usage_text}
+use Rattle.ipdl_top.specs.Lists.{IsFaultOfList, AreSections, list_names}
+use Rattle.ipdl_top.specs.Report.{report_text}
+use Rattle.ipdl_top.specs.Seen.{Seen}
 
 -- the answer that is a table
 abbrev pub table_answer : List ℕ → Answer
 table_answer text = record { status = Done; out = text; err = [] }
 
--- the answer that is a report on a file of this name
-abbrev pub report_answer : List ℕ → List Finding → Answer
-report_answer name report = record { status = Broken; out = []; err = report_text name report }
+-- the answer that is a report on files that are called so
+abbrev pub report_answer : List (List ℕ) → List Finding → Answer
+report_answer names report = record { status = Broken; out = []; err = report_text names report }
 
 -- the answer to words that are no command
 abbrev pub usage_answer : Answer
 usage_answer = record { status = Usage; out = []; err = usage_text }
 
--- the answer is the table of what a file of this name has
-pub record IsTableOf (name : List ℕ) (found : Option (List ℕ)) (answer : Answer) : Type 0 where
-  pub bytes : List ℕ
-  pub read : found ≡ Some bytes
-  pub small : length bytes ≤ 1048576
-  pub key : List ℕ
-  pub is_key : IsKeyOf name key
-  pub text : List ℕ
-  pub table : IsTable key bytes text
-  pub says : answer ≡ table_answer text
+-- Rules on files
 
--- the answer is the report, which is not empty, on what a file of this name has
-pub record IsReportedOf (name : List ℕ) (found : Option (List ℕ)) (answer : Answer) : Type 0 where
-  pub key : List ℕ
-  pub is_key : IsKeyOf name key
+-- What the files of the reach break by how they are read and named, and what the list breaks as the file behind them.
+abbrev pub IsBrokenFile : Given → FileMap → Option (List ℕ) → List (List ℕ) → Finding → Type 0
+IsBrokenFile given lists list keys f = IsBroken given keys f ⊎ IsFaultOfList lists list (length keys) f
+
+-- The answer is the report on the files and the list, which is not empty.
+pub record IsFileReport (given : Given) (lists : FileMap) (list : Option (List ℕ)) (answer : Answer) : Type 0 where
+  pub keys : List (List ℕ)
+  pub reach : IsReach given keys
   pub report : List Finding
-  pub is_report : IsReportOf key found report
+  pub is_report : IsReport (IsBrokenFile given lists list keys) report
   pub some : report ≢ []
-  pub says : answer ≡ report_answer name report
+  pub says : answer ≡ report_answer (map (text_of given) keys ++ list_names list) report
 
--- the answer of the command that compiles a file of this name, by what the file has: its table, or the report on it
-abbrev pub IsCompilation : List ℕ → Option (List ℕ) → Answer → Type 0
-IsCompilation name found answer = IsTableOf name found answer ⊎ IsReportedOf name found answer
+-- Rules of the language
+
+-- No rule on files is broken: this is the program, and these are the sections of the list where one is named.
+pub record IsReading (given : Given) (lists : FileMap) (list : Option (List ℕ)) (program : List Entry) (sections : Option (List Section)) : Type 0 where
+  pub is_program : IsProgramOf given program
+  pub whole : IsProgram program
+  pub are_sections : AreSections lists list sections
+
+-- What a program breaks: rules on types and on protocols, and where there is a list those of the list.
+abbrev pub BreaksRules : List Entry → Option (List Section) → Finding → Type 0
+BreaksRules program sections f =
+    types.BrokenAt program f ⊎ (protocols.BrokenAt program f ⊎ IsSomeAnd sections (λ list. sync.BrokenAt program list f))
+
+-- The answer is the report on the program and the list, which is not empty.
+pub record IsRuleReport (given : Given) (lists : FileMap) (list : Option (List ℕ)) (answer : Answer) : Type 0 where
+  pub program : List Entry
+  pub sections : Option (List Section)
+  pub reading : IsReading given lists list program sections
+  pub report : List Finding
+  pub is_report : IsReport (BreaksRules program sections) report
+  pub some : report ≢ []
+  pub says : answer ≡ report_answer (map (λ e. e.name) program ++ list_names list) report
+
+-- The answer is the table of the program, which breaks no rule.
+pub record IsTable (given : Given) (lists : FileMap) (list : Option (List ℕ)) (answer : Answer) : Type 0 where
+  pub program : List Entry
+  pub sections : Option (List Section)
+  pub reading : IsReading given lists list program sections
+  pub clean : (f : Finding) → ¬ BreaksRules program sections f
+  pub schema : Schema
+  pub schema_of : IsSchemaOf program schema
+  pub says : answer ≡ table_answer (table_text schema)
+
+-- The answer of the command that compiles files: the report on them, or else the report on their program, or else its table.
+abbrev pub IsCompilation : Given → FileMap → Option (List ℕ) → Answer → Type 0
+IsCompilation given lists list answer = IsFileReport given lists list answer ⊎ (IsRuleReport given lists list answer ⊎ IsTable given lists list answer)
+
+-- what words of files and a path give, with these files
+abbrev pub given_by : FileMap → List (List ℕ) → List (List ℕ) → Given
+given_by files path names = record { files = files; words = names; path = path }
+
+-- the answer of the command that the words are
+pub record IsCommandAnswer (seen : Seen) (words : List (List ℕ)) (answer : Answer) : Type 0 where
+  pub list : Option (List ℕ)
+  pub path : List (List ℕ)
+  pub names : List (List ℕ)
+  pub command : IsCompile words list path names
+  pub compilation : IsCompilation (given_by seen.files path names) seen.list list answer
 
 -- The answer to words, with these files: that of the command that they are, or how the program is called where they are none.
-abbrev pub IsAnswer : FileMap → List (List ℕ) → Answer → Type 0
-IsAnswer files words answer =
-    ((name : List ℕ) × IsCommand words name × IsCompilation name (files name) answer) ⊎ (IsNoCommand words × (answer ≡ usage_answer))
+abbrev pub IsAnswer : Seen → List (List ℕ) → Answer → Type 0
+IsAnswer seen words answer = IsCommandAnswer seen words answer ⊎ (IsNoCommand words × (answer ≡ usage_answer))

@@ -1,8 +1,10 @@
 pub mod Answer
-pub mod Checked
 pub mod Codes
 pub mod Command
 pub mod Laws
+pub mod Lists
 pub mod Outcome
 pub mod Report
+pub mod Seen
+pub mod Steps
 pub mod Written

@@ -1,15 +1,9 @@
 -- What a call of the program leaves.
-use Rattle.std.specs.Prelude.{◌≡◌, ◌⊎◌, Option, Some, None}
-use Rattle.ipdl_base.specs.Outside.{FileMap}
+use Rattle.std.specs.Prelude.{◌≡◌, ◌⊎◌}
 use Rattle.ipdl_top.specs.declared.answer.Answer.{Answer}
 use Rattle.ipdl_top.specs.declared.status.Status.{Status}
 use Rattle.ipdl_top.specs.declared.status.Status.TheVariants.{ReadFault, WriteFault, NoMemory}
 use Rattle.ipdl_top.specs.Written.{Writing, WritesAll, WritesFront}
-
--- for the map of the files where it is told, and else for some map
-abbrev pub ForMap : Option FileMap → (FileMap → Type 0) → Type 0
-ForMap None P = (map : FileMap) × P map
-ForMap (Some map) P = P map
 
 -- the status is that of an answer, and all of it was written
 pub record IsSaid (IsIt : Answer → Type 0) (status : Status) (out err : Writing) : Type 0 where

@@ -1,9 +1,9 @@
-ghost use Rattle.std.specs.Prelude.{◌≡◌, IfOk, IsOkUnless};
+ghost use Rattle.std.specs.Prelude.{◌≡◌, IfOk, IsOkUnless, map};
 
 use crate::report::text_of_report;
 use crate::status::Status;
 use ipdl_base::{Finding, Items};
-use std::alloc::{AllocError, Global};
+use std::alloc::{AllocError, AllocFailed, Global};
 
 /// The text that says how the program is called.
 const USAGE: &[u8] =
@@ -38,6 +38,16 @@ impl From<AllocError> for Failure {
     }
 }
 
+impl<T: Drop> From<AllocFailed<T>> for Failure {
+    ghost use Rattle.ipdl_top.specs.declared.answer.Failure.TheVariants.{NoMemory};
+
+    ghost from_gives = { λ _ failure. failure ≡ NoMemory };
+
+    fn from(_failed: AllocFailed<T>) -> Failure {
+        Failure::NoMemory
+    }
+}
+
 impl Answer {
     ghost use Rattle.ipdl_top.specs.Answer.{table_answer, report_answer, usage_answer};
 
@@ -52,12 +62,12 @@ impl Answer {
         }
     }
 
-    /// The answer that a file breaks rules: the text of the report on it.
-    pub fn of_report(alloc: Global, name: &str, report: &[Finding]) -> Result<Answer, Failure>
-        ensures answer { IfOk result (λ answer. answer ≡ report_answer name.now report.now) }
+    /// The answer that files break rules: the text of the report on them, which calls each by its name in this list.
+    pub fn of_report(alloc: Global, names: &[&[u8]], report: &[Finding]) -> Result<Answer, Failure>
+        ensures answer { IfOk result (λ answer. answer ≡ report_answer (map (λ n. n.now) names.now) report.now) }
         ensures memory { IsOkUnless result Failure.NoMemory }
     {
-        let text = text_of_report(alloc, name, report)?;
+        let text = text_of_report(alloc, names, report)?;
         Ok(Answer {
             status: Status::Broken,
             out: Items::from_vec(Vec::new(alloc)),

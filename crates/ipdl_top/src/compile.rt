@@ -1,54 +1,182 @@
-ghost use Rattle.std.specs.Prelude.{◌≡◌, IfOk, IsOkUnless, Some};
+ghost use Rattle.std.specs.Prelude.{◌≡◌, ◌≤◌, ◌⊎◌, ◌++◌, IfOk, IsOkUnless, OnOk, length, map, option_map, string_bytes};
+ghost use Rattle.std.specs.List.{Contains};
 ghost use Rattle.ipdl_base.specs.Outside.{Rose};
-ghost use Rattle.command_words.specs.Keys.{IsKeyOf};
-ghost use Rattle.ipdl_top.specs.Answer.{IsCompilation, report_answer};
-ghost use Rattle.ipdl_top.specs.Outcome.{ForMap};
-ghost use Rattle.ipdl_top.specs.Report.{not_built};
+ghost use Rattle.findings.specs.Report.{IsReport};
+ghost use Rattle.ipdl_syntax.specs.Programs.{IsProgram, BearTheirNames};
+ghost use Rattle.include_graph.specs.Keys.{AreFileWords};
+ghost use Rattle.include_graph.specs.Load as load;
+ghost use Rattle.ipdl_top.specs.Answer.{IsCompilation, given_by};
+ghost use Rattle.ipdl_top.specs.Lists.{list_names};
+ghost use Rattle.ipdl_top.specs.Seen.{ForMap};
+ghost use Rattle.ipdl_top.specs.Steps.{AreFilesReported, IsProgramAnswer, IsFilesAnswer, IsListedAnswer, names_of};
 
 use crate::answer::{Answer, Failure};
-use crate::check::{Checked, check_bytes, not_built_report};
-use command_words::key_of;
-use ipdl_base::{Files, ReadAnswer};
-use std::alloc::Global;
+use crate::list::{Listed, read_listed};
+use crate::rules::rule_answer;
+use findings::sorted;
+use include_graph::{LoadFault, load};
+use ipdl_base::{Files, Findings, Name};
+use ipdl_syntax::{Entry, Program};
+use std::alloc::{AllocError, Global};
 
-/// The most bytes of a file that is read.
-const MOST_BYTES: usize = 1_048_576;
-
-/// The answer that a file of this name is not read yet.
-fn not_built(alloc: Global, name: &str) -> Result<Answer, Failure>
-    ensures answer { IfOk result (λ answer. answer ≡ report_answer name.now not_built) }
-    ensures memory { IsOkUnless result Failure.NoMemory }
+/// Adds the name of the sync list, where one is named.
+fn add_list<'n>(names: &mut Vec<&'n [u8]>, list: &'n Option<String>) -> Result<(), AllocError>
+    ensures { OnOk result (map (λ n. n.now) names.new.items ≡ map (λ n. n.now) names.old.items ++ list_names (option_map string_bytes list.entry.now)) }
 {
-    let report = not_built_report(alloc)?;
-    Answer::of_report(alloc, name, report.as_slice())
-}
-
-/// The answer of the compilation of a file of this name, and so of this key, that has these bytes.
-fn compile_bytes(alloc: Global, name: &str, key: &[u8], bytes: &[u8]) -> Result<Answer, Failure>
-    requires { IsKeyOf name.now key.now }
-    ensures answer { IfOk result (IsCompilation name.now (Some bytes.now)) }
-    ensures memory { IsOkUnless result Failure.NoMemory }
-{
-    if bytes.len() > MOST_BYTES {
-        return not_built(alloc, name);
-    }
-    match check_bytes(alloc, bytes, key)? {
-        Checked::Table(text) => Ok(Answer::of_table(alloc, text)),
-        Checked::Report(report) => Answer::of_report(alloc, name, report.as_slice()),
+    match list {
+        Some(name) => Ok(names.push(name.as_bytes())?),
+        None => Ok(()),
     }
 }
 
-/// The command that compiles the file of this name: its table, or the report on it.
-pub fn compile<F: Files>(alloc: Global, name: &str, files: &mut F) -> Result<Answer, Failure>
-    ensures answer { ForMap (F.told files.old) (λ map. IfOk result (IsCompilation name.now (map name.now))) }
+/// The names of the files of a program and of the list.
+fn entry_names<'n>(
+    alloc: Global,
+    program: &'n [Entry],
+    list: &'n Option<String>,
+) -> Result<Vec<&'n [u8]>, AllocError>
+    ensures { IfOk result (λ names. map (λ n. n.now) names.items ≡ names_of program.entry.now (option_map string_bytes list.entry.now)) }
+{
+    let mut names = Vec::new(alloc);
+    for entry in program {
+        names.push(entry.name.as_slice())?;
+    }
+    add_list(&mut names, list)?;
+    Ok(names)
+}
+
+/// The names of files that are called so, and of the list.
+fn text_names<'n>(
+    alloc: Global,
+    texts: &'n [Name],
+    list: &'n Option<String>,
+) -> Result<Vec<&'n [u8]>, AllocError>
+    ensures { IfOk result (λ names. map (λ n. n.now) names.items ≡ texts.entry.now ++ list_names (option_map string_bytes list.entry.now)) }
+{
+    let mut names = Vec::new(alloc);
+    for text in texts {
+        names.push(text.as_slice())?;
+    }
+    add_list(&mut names, list)?;
+    Ok(names)
+}
+
+/// The report of these findings and of what the list breaks.
+fn files_report(findings: Findings, listed: &Listed) -> Result<Findings, AllocError>
+    ensures { IfOk result (IsReport (λ f. Contains findings f ⊎ (listed.now ≡ Listed.Broken f))) }
+{
+    let mut found = findings.into_vec();
+    match listed {
+        Listed::Broken(finding) => {
+            found.push(*finding)?;
+            Ok(sorted(found))
+        }
+        Listed::Sections(_) => Ok(sorted(found)),
+    }
+}
+
+/// The answer for files that break these rules and are called so, by what was found of the list.
+fn texts_answer(
+    alloc: Global,
+    findings: Findings,
+    texts: &[Name],
+    list: &Option<String>,
+    listed: Listed,
+) -> Result<Answer, Failure>
+    ensures answer { IfOk result (AreFilesReported findings listed (texts.now ++ list_names (option_map string_bytes list.now))) }
+    ensures memory { IsOkUnless result Failure.NoMemory }
+{
+    let names = text_names(alloc, texts, list)?;
+    let report = files_report(findings, &listed)?;
+    Answer::of_report(alloc, names.as_slice(), report.as_slice())
+}
+
+/// The answer for files that break these rules and are called so, and for the list behind them.
+fn files_answer<F: Files>(
+    alloc: Global,
+    files: &mut F,
+    list: &Option<String>,
+    findings: Findings,
+    texts: &[Name],
+) -> Result<Answer, Failure>
+    requires { length texts.now ≤ 4096 }
+    ensures answer { load.ForMap (F.told files.old) (λ lists. IfOk result (IsFilesAnswer lists (option_map string_bytes list.now) findings texts.now)) }
     ensures read_fault { result ≡ Err Failure.ReadFault → Rose (F.faults files.old) (F.faults files.new) }
 {
-    let key = key_of(name.as_bytes());
-    match files.read(alloc, name, MOST_BYTES) {
-        ReadAnswer::Bytes(bytes) => compile_bytes(alloc, name, key, bytes.as_slice()),
-        ReadAnswer::Absent => not_built(alloc, name),
-        ReadAnswer::Larger => not_built(alloc, name),
-        ReadAnswer::Failed => Err(Failure::ReadFault),
-        ReadAnswer::NoMemory => Err(Failure::NoMemory),
+    let listed = read_listed(alloc, files, list, texts.len() as u32)?;
+    texts_answer(alloc, findings, texts, list, listed)
+}
+
+/// The answer for a program whose files have these names, by what was found of its list.
+fn named_answer(
+    alloc: Global,
+    program: &Program,
+    listed: Listed,
+    names: &[&[u8]],
+) -> Result<Answer, Failure>
+    requires program { IsProgram program.now }
+    requires named { BearTheirNames program.now }
+    ensures answer { IfOk result (IsListedAnswer program.now listed (map (λ n. n.now) names.now)) }
+    ensures memory { IsOkUnless result Failure.NoMemory }
+{
+    match listed {
+        Listed::Sections(sections) => rule_answer(alloc, program, &sections, names),
+        Listed::Broken(finding) => Answer::of_report(alloc, names, &[finding]),
+    }
+}
+
+/// The answer for a program, by what was found of its list.
+fn listed_answer(
+    alloc: Global,
+    program: &Program,
+    list: &Option<String>,
+    listed: Listed,
+) -> Result<Answer, Failure>
+    requires program { IsProgram program.now }
+    requires named { BearTheirNames program.now }
+    ensures answer { IfOk result (IsListedAnswer program.now listed (names_of program.now (option_map string_bytes list.now))) }
+    ensures memory { IsOkUnless result Failure.NoMemory }
+{
+    let names = entry_names(alloc, program.as_slice(), list)?;
+    named_answer(alloc, program, listed, names.as_slice())
+}
+
+/// The answer for a program, and for the list behind its files.
+fn program_answer<F: Files>(
+    alloc: Global,
+    files: &mut F,
+    list: &Option<String>,
+    program: &Program,
+) -> Result<Answer, Failure>
+    requires program { IsProgram program.now }
+    requires named { BearTheirNames program.now }
+    ensures answer { load.ForMap (F.told files.old) (λ lists. IfOk result (IsProgramAnswer lists (option_map string_bytes list.now) program.now)) }
+    ensures read_fault { result ≡ Err Failure.ReadFault → Rose (F.faults files.old) (F.faults files.new) }
+{
+    let listed = read_listed(alloc, files, list, program.len() as u32)?;
+    listed_answer(alloc, program, list, listed)
+}
+
+/// The command that compiles the files of these names, which include what is on the path, with this
+/// sync list: the report on them, or their table.
+pub fn compile<F: Files>(
+    alloc: Global,
+    files: &mut F,
+    list: &Option<String>,
+    path: &[String],
+    names: &[String],
+) -> Result<Answer, Failure>
+    requires { AreFileWords (map string_bytes names.now) }
+    ensures answer { ForMap (F.told files.old) (λ seen. IfOk result
+        (IsCompilation (given_by seen.files (map string_bytes path.now) (map string_bytes names.now)) seen.list (option_map string_bytes list.now))) }
+    ensures read_fault { result ≡ Err Failure.ReadFault → Rose (F.faults files.old) (F.faults files.new) }
+{
+    match load(alloc, files, names, path) {
+        Ok(program) => program_answer(alloc, files, list, &program),
+        Err(LoadFault::Broken(findings, texts)) => {
+            files_answer(alloc, files, list, findings, texts.as_slice())
+        }
+        Err(LoadFault::ReadFault) => Err(Failure::ReadFault),
+        Err(LoadFault::NoMemory) => Err(Failure::NoMemory),
     }
 }

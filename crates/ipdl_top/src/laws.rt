@@ -1,15 +1,23 @@
 ghost use Rattle.ipdl_top.specs.Laws.{OneAnswer};
 
-use actor_tables::one_schema;
+use command_words::one_command;
 use grammar_laws::one_tree;
 use ipdl_lex::one_answer;
+use program_laws::{break_alike, listed_alike, schemas_alike};
+use schema_laws::one_schema;
+use sync_list::one_list;
 
 /// The law of the answer: for the same files, words have at most one. So the files and the words
 /// determine an answer's status, its text for `out` and its text for `err`.
 pub fn determined()
     ensures { OneAnswer }
 {
-    one_tree();
-    one_schema();
     one_answer();
+    one_tree();
+    one_command();
+    one_list();
+    break_alike();
+    listed_alike();
+    schemas_alike();
+    one_schema();
 }

@@ -2,15 +2,15 @@
 #![tactic(auto)]
 
 mod answer;
-mod check;
 mod compile;
 mod laws;
+mod list;
 mod program;
 mod report;
+mod rules;
 mod status;
 #[cfg(test)]
 mod tests;
-mod words;
 mod write;
 
 pub use laws::determined;

@@ -1,15 +1,16 @@
 ghost use Rattle.std.specs.Prelude.{◌≡◌, ◌≢◌, ◌⊎◌, IfOk, map, string_bytes};
 ghost use Rattle.ipdl_base.specs.Outside.{Rose};
 ghost use Rattle.ipdl_top.specs.Answer.{IsAnswer, usage_answer};
-ghost use Rattle.ipdl_top.specs.Command.{IsNoCommand};
-ghost use Rattle.ipdl_top.specs.Outcome.{ForMap, IsOutcome};
+ghost use Rattle.command_words.specs.Compile.{IsNoCommand};
+ghost use Rattle.ipdl_top.specs.Outcome.{IsOutcome};
+ghost use Rattle.ipdl_top.specs.Seen.{ForMap};
 ghost use Rattle.ipdl_top.specs.Written.{WritesAll};
 
 use crate::answer::{Answer, Failure};
 use crate::compile::compile;
 use crate::status::Status;
-use crate::words::read_words;
 use crate::write::write_answer;
+use command_words::{Command, WordsFault, read_words};
 use ipdl_base::{Files, Sink};
 use std::alloc::Global;
 
@@ -19,9 +20,16 @@ fn answer_to<F: Files>(alloc: Global, words: &[String], files: &mut F) -> Result
     ensures no_command { IsNoCommand (map string_bytes words.now) → result ≢ Err Failure.ReadFault }
     ensures read_fault { result ≡ Err Failure.ReadFault → Rose (F.faults files.old) (F.faults files.new) }
 {
-    match read_words(words) {
-        Some(name) => compile(alloc, name, files),
-        None => Answer::of_no_command(alloc),
+    match read_words(alloc, words) {
+        Ok(
+            Command::Compile {
+                list,
+                path,
+                files: names,
+            },
+        ) => compile(alloc, files, &list, path.as_slice(), names.as_slice()),
+        Err(WordsFault::Usage) => Answer::of_no_command(alloc),
+        Err(WordsFault::NoMemory) => Err(Failure::NoMemory),
     }
 }
 

@@ -1,43 +1,51 @@
-use Rattle.std.proofs.Common.{List, ℕ, subst, sym}
-use Rattle.std.specs.Prelude.{Option, None, Some, Err, IfOk}
+use Rattle.std.proofs.Common.{ℕ, List, map, string_bytes, subst}
+use Rattle.std.specs.Prelude.{Option, Err, IfOk, option_map}
 use Rattle.std.proofs.lemmas.Result.{IfOk-weaker}
+use Rattle.ipdl_base.specs.Outside.{FileMap}
+use Rattle.include_graph.specs.declared.loader.LoadFault.{LoadFault}
+use Rattle.include_graph.specs.Load as load
 use Rattle.ipdl_top.specs.declared.answer.Failure.TheVariants.{ReadFault, NoMemory}
-use Rattle.ipdl_top.specs.Answer.{IsCompilation}
-use Rattle.command_words.specs.Keys.{IsKeyOf}
-use Rattle.ipdl_top.proofs.Compilations.{absent, too_large, for_map, for_all}
+use Rattle.ipdl_top.specs.Answer.{IsCompilation, given_by}
+use Rattle.ipdl_top.specs.Seen.{Seen}
+use Rattle.ipdl_top.specs.Steps.{IsProgramAnswer, IsFilesAnswer}
+use Rattle.ipdl_top.proofs.Compilations.{of_program, of_files}
+use Rattle.ipdl_top.proofs.Maps.{for_both, for_all_seen}
 use Rattle.ipdl_top.proofs.compile.compile.Goals as goal
 
-pub returns-in-Bytes-clause-answer : goal.returns-in-Bytes-clause-answer
-returns-in-Bytes-clause-answer g c =
-    let name = c.args.name.now in
-    let P : List ℕ → Type 0 = λ bytes. IfOk c.compile_bytes.result (IsCompilation name (Some bytes)) in
-    let R : Option (List ℕ) → Type 0 = λ found. IfOk c.compile_bytes.result (IsCompilation name found) in
-    let compiled = subst P c.as_slice.ensures.value c.compile_bytes.ensures.answer in
-    for_map _ _ _ (λ map h. subst R (sym h.0) compiled) c.in-Bytes.ensures.answer (λ _. Some c.in-Bytes.bytes.items) compiled
+pub returns-in-Ok-clause-answer : goal.returns-in-Ok-clause-answer
+returns-in-Ok-clause-answer g c =
+    let path = map string_bytes c.args.path.now in
+    let names = map string_bytes c.args.names.now in
+    let list = option_map string_bytes c.args.list.now in
+    let told = g.F.Files.told c.args.files.now in
+    let program = c.in-Ok.program in
+    let R : Seen → Type 0 = λ seen. IfOk c.program_answer.result (IsCompilation (given_by seen.files path names) seen.list list) in
+    for_both told _ (λ files. load.IsProgramOf (given_by files path names) program) (λ lists. IfOk c.program_answer.result (IsProgramAnswer lists list program)) R c.in-Ok.ensures.told
+    (λ files lists p a. IfOk-weaker c.program_answer.result (IsProgramAnswer lists list program) (IsCompilation (given_by files path names) lists list) (λ answer h. of_program (given_by files path names) lists list program answer p c.in-Ok.ensures.program h) a)
+    c.in-Ok.ensures.answer c.program_answer.ensures.answer
 
-pub returns-in-Absent-clause-answer : goal.returns-in-Absent-clause-answer
-returns-in-Absent-clause-answer g c =
-    let name = c.args.name.now in
-    let Q : List ℕ → Type 0 = λ n. IsKeyOf n c.key_of-key.result.now in
-    let R : Option (List ℕ) → Type 0 = λ found. IfOk c.not_built.result (IsCompilation name found) in
-    let compiled = IfOk-weaker c.not_built.result _ (IsCompilation name None) (λ answer says. absent name c.key_of-key.result.now answer (subst Q c.as_bytes.ensures.value c.key_of-key.ensures) says) c.not_built.ensures.answer in
-    for_map _ _ _ (λ map none. subst R (sym none) compiled) c.in-Absent.ensures.answer (λ _. None) compiled
+pub returns-in-Err-Broken-clause-answer : goal.returns-in-Err-Broken-clause-answer
+returns-in-Err-Broken-clause-answer g c =
+    let path = map string_bytes c.args.path.now in
+    let names = map string_bytes c.args.names.now in
+    let list = option_map string_bytes c.args.list.now in
+    let told = g.F.Files.told c.args.files.now in
+    let findings = c.in-Err-Broken.findings in
+    let texts = c.in-Err-Broken.texts in
+    let P : LoadFault → Type 0 = λ fault. load.ForMap told (λ files. load.IsFaultOf (given_by files path names) fault) in
+    let Q : List (List ℕ) → FileMap → Type 0 = λ called lists. IfOk c.files_answer.result (IsFilesAnswer lists list findings called) in
+    let A : List (List ℕ) → Type 0 = λ called. load.ForMap (g.F.Files.told c.load.new.files) (Q called) in
+    let R : Seen → Type 0 = λ seen. IfOk c.files_answer.result (IsCompilation (given_by seen.files path names) seen.list list) in
+    for_both told _ (λ files. load.IsReportOf (given_by files path names) findings texts) (Q texts) R c.in-Err-Broken.ensures.told
+    (λ files lists r a. IfOk-weaker c.files_answer.result (IsFilesAnswer lists list findings texts) (IsCompilation (given_by files path names) lists list) (λ answer h. of_files (given_by files path names) lists list findings texts answer r h) a)
+    (subst P c.in-Err-Broken.field-0-is c.in-Err-Broken.ensures.answer) (subst A c.as_slice.ensures c.files_answer.ensures.answer)
 
-pub returns-in-Larger-clause-answer : goal.returns-in-Larger-clause-answer
-returns-in-Larger-clause-answer g c =
-    let name = c.args.name.now in
-    let key = c.key_of-key.result.now in
-    let result = c.not_built-in-Larger.result in
-    let Q : List ℕ → Type 0 = λ n. IsKeyOf n c.key_of-key.result.now in
-    let is_key = subst Q c.as_bytes.ensures.value c.key_of-key.ensures in
-    let R : Option (List ℕ) → Type 0 = λ found. IfOk c.not_built-in-Larger.result (IsCompilation name found) in
-    for_map _ _ _
-    (λ map h. subst R (sym h.1) (IfOk-weaker result _ (IsCompilation name (Some h.0)) (λ answer says. too_large name key h.0 answer is_key h.2 says) c.not_built-in-Larger.ensures.answer))
-    c.in-Larger.ensures.answer (λ _. None)
-    (IfOk-weaker result _ (IsCompilation name None) (λ answer says. absent name key answer is_key says) c.not_built-in-Larger.ensures.answer)
+pub returns-in-Err-ReadFault-clause-answer : goal.returns-in-Err-ReadFault-clause-answer
+returns-in-Err-ReadFault-clause-answer g c =
+    let R : Seen → Type 0 = λ seen. IfOk (Err ReadFault) (IsCompilation (given_by seen.files (map string_bytes c.args.path.now) (map string_bytes c.args.names.now)) seen.list (option_map string_bytes c.args.list.now)) in
+    for_all_seen (g.F.Files.told c.args.files.now) R (λ seen. tt)
 
-pub returns-in-Failed-clause-answer : goal.returns-in-Failed-clause-answer
-returns-in-Failed-clause-answer g c = for_all _ (λ map. IfOk (Err ReadFault) (IsCompilation c.args.name.now (map c.args.name.now))) (λ map. tt)
-
-pub returns-in-NoMemory-clause-answer : goal.returns-in-NoMemory-clause-answer
-returns-in-NoMemory-clause-answer g c = for_all _ (λ map. IfOk (Err NoMemory) (IsCompilation c.args.name.now (map c.args.name.now))) (λ map. tt)
+pub returns-in-Err-NoMemory-clause-answer : goal.returns-in-Err-NoMemory-clause-answer
+returns-in-Err-NoMemory-clause-answer g c =
+    let R : Seen → Type 0 = λ seen. IfOk (Err NoMemory) (IsCompilation (given_by seen.files (map string_bytes c.args.path.now) (map string_bytes c.args.names.now)) seen.list (option_map string_bytes c.args.list.now)) in
+    for_all_seen (g.F.Files.told c.args.files.now) R (λ seen. tt)

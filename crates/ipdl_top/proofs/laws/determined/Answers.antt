@@ -3,9 +3,11 @@ use Rattle.ipdl_top.proofs.laws.determined.Goals as goal
 
 pub returns : goal.returns
 returns c = law.determined (record {
-  one_tree = c.one_tree.ensures;
-  one_schema = c.one_schema.ensures;
-  one_tokens = c.one_answer.ensures.tokens;
-  one_fault = c.one_answer.ensures.fault;
-  never_both = c.one_answer.ensures.never_both;
+  texts = record { tokens = c.one_answer.ensures.tokens; tree = c.one_tree.ensures };
+  command = c.one_command.ensures;
+  list = c.one_list.ensures.list;
+  rules = c.break_alike.ensures;
+  listed = c.listed_alike.ensures;
+  schemas = c.schemas_alike.ensures;
+  schema = c.one_schema.ensures;
 })

@@ -1,0 +1,36 @@
+-- What is found of a list.
+use Rattle.std.proofs.Common.{◌≡◌, ◌≤◌, ◌<◌, ℕ, List, length, refl, sym, subst, inl, inr, arith}
+use Rattle.std.proofs.Math.ListN.{replicate}
+use Rattle.std.proofs.lemmas.List.{length-replicate}
+use Rattle.std.proofs.lemmas.Result.{IfOk-weaker}
+use Rattle.std.specs.Prelude.{Option, Some, None, Result, IfOk}
+use Rattle.ipdl_base.specs.Outside.{FileMap}
+use Rattle.ipdl_base.specs.declared.finding.TheConstants.Rule as rule
+use Rattle.include_graph.specs.Rules.{whole_file}
+use Rattle.sync_list.specs.declared.list.Section.{Section}
+use Rattle.sync_list.specs.Lists.{IsFirstBad, IsListOf}
+use Rattle.ipdl_top.specs.Lists.{IsListFault, SpellsList, finding_at}
+
+-- the list is absent
+pub absent : (number : ℕ) → IsListFault None number (finding_at rule.FILE_NOT_FOUND (whole_file number))
+absent number = inl (refl, refl)
+
+-- it is too large
+pub large : (held : Option (List ℕ)) (bytes : List ℕ) (number : ℕ) → held ≡ Some bytes → 1048576 < length bytes → IsListFault held number (finding_at rule.TOO_LARGE (whole_file number))
+large held bytes number has more = inr (inl (record { bytes = bytes; has = has; large = more }, refl))
+
+-- a line is not of the format
+pub bad_line : (bytes : List ℕ) (number line : ℕ) → length bytes ≤ 1048576 → IsFirstBad bytes line → IsListFault (Some bytes) number (finding_at rule.SYNTAX_FAULT (record { file = number; line = line; column = 1 }))
+bad_line bytes number line few bad = inr (inr (line, record { bytes = bytes; has = refl; small = few; bad = bad }, refl))
+
+-- it has sections
+pub spelled : (bytes : List ℕ) (sections : List Section) → length bytes ≤ 1048576 → IsListOf bytes sections → SpellsList (Some bytes) sections
+spelled bytes sections few spells = record { bytes = bytes; has = refl; small = few; spells = spells }
+
+-- some list of each length
+long : (n : ℕ) → (xs : List ℕ) × (length xs ≡ n)
+long n = (replicate n 0, length-replicate n 0)
+
+-- bytes that are not all read
+pub more_than_read : (xs : List ℕ) × (length xs ≡ 1048577)
+more_than_read = long 1048577

@@ -1,0 +1,47 @@
+-- What holds for the maps of the files that are seen.
+use Rattle.std.proofs.Common.{◌≡◌, subst}
+use Rattle.std.specs.Prelude.{Option, Some, None}
+use Rattle.std.specs.Option.{IfSome}
+use Rattle.std.proofs.lemmas.Option.{same_Some}
+use Rattle.ipdl_base.specs.Outside.{FileMap}
+use Rattle.include_graph.specs.Load as load
+use Rattle.ipdl_top.specs.Seen.{Seen, ForMap, steady}
+
+-- what follows for the map that is told, and holds for some map
+pub for_map : (told : Option FileMap) (P Q : FileMap → Type 0) → ((map : FileMap) → P map → Q map) → IfSome told P → (map : FileMap) → Q map → load.ForMap told Q
+for_map None P Q to h map some = (map, some)
+for_map (Some told) P Q to h map some = to told h
+
+-- what follows for each map
+pub for_each : (told : Option FileMap) (P Q : FileMap → Type 0) → ((map : FileMap) → P map → Q map) → load.ForMap told P → load.ForMap told Q
+for_each None P Q to (map, h) = (map, to map h)
+for_each (Some told) P Q to h = to told h
+
+-- what holds for every map
+pub for_all : (told : Option FileMap) (P : FileMap → Type 0) → ((map : FileMap) → P map) → load.ForMap told P
+for_all None P h = (λ name. None, h (λ name. None))
+for_all (Some told) P h = h told
+
+-- what does not speak of the map
+pub for_any_map : (told : Option FileMap) (P : FileMap → Type 0) (Q : Type 0) → ((map : FileMap) → P map → Q) → load.ForMap told P → Q
+for_any_map None P Q to (map, h) = to map h
+for_any_map (Some told) P Q to h = to told h
+
+-- what holds whatever is seen
+pub for_all_seen : (told : Option FileMap) (P : Seen → Type 0) → ((seen : Seen) → P seen) → ForMap told P
+for_all_seen None P h = (steady (λ name. None), h (steady (λ name. None)))
+for_all_seen (Some told) P h = h (steady told)
+
+-- what follows of all that is seen
+pub for_each_seen : (told : Option FileMap) (P Q : Seen → Type 0) → ((seen : Seen) → P seen → Q seen) → ForMap told P → ForMap told Q
+for_each_seen None P Q to (seen, h) = (seen, to seen h)
+for_each_seen (Some told) P Q to h = to (steady told) h
+
+-- what follows of the map of the program's files and of that of the list
+pub for_both : (told again : Option FileMap) (P Q : FileMap → Type 0) (R : Seen → Type 0) → again ≡ told
+    → ((files lists : FileMap) → P files → Q lists → R (record { files = files; list = lists }))
+    → load.ForMap told P → load.ForMap again Q → ForMap told R
+for_both None None P Q R e to (files, h) (lists, k) = (record { files = files; list = lists }, to files lists h k)
+for_both None (Some map) P Q R e to h k = absurd (let no : ⊥ = cc in no)
+for_both (Some map) None P Q R e to h k = absurd (let no : ⊥ = cc in no)
+for_both (Some told) (Some again) P Q R e to h k = to told told h (subst Q (same_Some again told e) k)

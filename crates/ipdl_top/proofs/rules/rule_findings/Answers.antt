@@ -1,0 +1,5 @@
+use Rattle.findings.proofs.Reports.{report_of}
+use Rattle.ipdl_top.proofs.rules.rule_findings.Goals as goal
+
+pub returns : goal.returns
+returns c = report_of c.in_ok-gathered.field-0.items c.sorted.result c.in_ok-gathered.ensures c.sorted.ensures
