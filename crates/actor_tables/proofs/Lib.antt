@@ -4,7 +4,6 @@ pub mod Listed
 pub mod Lookups
 pub mod Made
 pub mod NamedFiles
-pub mod One
 pub mod Pieces
 pub mod Protocols
 pub mod Rowed
@@ -14,4 +13,3 @@ pub mod TypeKeys
 pub mod TypeNumbers
 pub mod TypeOrder
 pub mod Uncarried
-pub mod Whole

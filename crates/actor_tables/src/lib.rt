@@ -1,12 +1,11 @@
-//! The schema of a narrow file, and the text of the tables of any schema (docs/tables.md).
+//! The schema of a program that breaks no rule, and the text of the tables of any schema
+//! (docs/tables.md).
 #![tactic(auto)]
 
 mod build;
 mod carried;
-mod laws;
 mod messages;
 mod numbers;
-mod rows;
 mod shapes;
 mod source;
 mod types;
@@ -14,8 +13,6 @@ mod words;
 mod writer;
 
 pub use build::schema;
-pub use laws::one_schema;
-pub use rows::narrow_schema;
 pub use writer::table_text;
 
 #[cfg(test)]

@@ -19,6 +19,6 @@ returns-then-is_empty-clause-answer c =
     inr (record {
       clean = nothing report none c.in_ok-report.ensures;
       schema = c.in_ok-schema.schema;
-      schema_of = c.in_ok-schema.ensures;
+      schema_of = c.in_ok-schema.ensures.of_program;
       says = c.of_table.ensures ∙ ap table_answer c.in_ok-table_text.ensures;
     })

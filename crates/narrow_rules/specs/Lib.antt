@@ -1,4 +1,0 @@
-pub mod Broken
-pub mod Heads
-pub mod Laws
-pub mod Narrow
