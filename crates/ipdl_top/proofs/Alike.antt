@@ -1,6 +1,6 @@
 -- Programs of one reading are alike.
 use Rattle.std.proofs.Common.{◌≡◌, ◌≢◌, ◌<◌, ℕ, zero, suc, List, [], ◌∷◌, map, length, get_or, refl, sym, ◌∙◌, ap, subst, arith}
-use Rattle.std.specs.Prelude.{Option, Some, None, slice_get}
+use Rattle.std.specs.Prelude.{Option, Some, slice_get}
 use Rattle.std.specs.List.{AllPairs}
 use Rattle.std.proofs.lemmas.Option.{same_Some}
 use Rattle.ipdl_lex.specs.declared.token.Lexed.{Lexed}
@@ -9,7 +9,7 @@ use Rattle.ipdl_syntax.specs.declared.program.Entry.{Entry}
 use Rattle.ipdl_syntax.specs.declared.tree.FileKind.{FileKind}
 use Rattle.ipdl_syntax.specs.declared.tree.Unit.{Unit as FileUnit}
 use Rattle.ipdl_syntax.specs.Program.{Tree}
-use Rattle.ipdl_syntax.specs.Programs.{IsEntry, IsProgram, named_keys}
+use Rattle.ipdl_syntax.specs.Programs.{IsProgram, named_keys}
 use Rattle.grammar_laws.specs.Boxes.{unboxed}
 use Rattle.include_graph.specs.Load.{IsEntryOf, IsProgramOf, keys_of}
 use Rattle.include_graph.specs.Reach.{IsUnitOf}

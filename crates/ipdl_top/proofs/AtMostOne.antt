@@ -1,13 +1,11 @@
 -- Words have at most one answer with some files.
-use Rattle.std.proofs.Common.{◌≡◌, ◌≢◌, ◌↔◌, ◌⊎◌, ℕ, zero, suc, List, [], ◌∷◌, ◌++◌, map, length, refl, sym, ◌∙◌, ap, subst, inl, inr, arith}
-use Rattle.std.specs.Prelude.{Option, Some, None, IsSomeAnd}
-use Rattle.std.specs.List.{Contains}
+use Rattle.std.proofs.Common.{◌≡◌, ℕ, zero, List, [], ◌∷◌, ◌++◌, map, length, refl, sym, ◌∙◌, ap, subst, inl, inr, arith}
+use Rattle.std.specs.Prelude.{Option, Some, None}
 use Rattle.std.proofs.lemmas.Option.{same_Some}
 use Rattle.ipdl_base.specs.Outside.{FileMap}
 use Rattle.ipdl_base.specs.declared.finding.Finding.{Finding}
-use Rattle.ipdl_base.specs.declared.schema.Schema.{Schema}
 use Rattle.ipdl_syntax.specs.declared.program.Entry.{Entry}
-use Rattle.command_words.specs.Compile.{OneCommand, IsCompile}
+use Rattle.command_words.specs.Compile.{OneCommand}
 use Rattle.findings.specs.Report.{IsReport}
 use Rattle.findings.proofs.Reports.{same_report}
 use Rattle.include_graph.specs.Load.{keys_of}
@@ -19,11 +17,10 @@ use Rattle.schema_laws.specs.Laws.{OneSchema, plain_schema}
 use Rattle.sync_list.specs.declared.list.Section.{Section}
 use Rattle.sync_list.specs.Lists.{IsListOf}
 use Rattle.sync_list.specs.Laws.{OneList}
-use Rattle.actor_tables.specs.TableText.{table_text}
 use Rattle.ipdl_top.specs.declared.answer.Answer.{Answer}
 use Rattle.ipdl_top.specs.Answer.{IsBrokenFile, BreaksRules, IsFileReport, IsReading, IsRuleReport, IsTable, IsCompilation, IsCommandAnswer, given_by, report_answer, table_answer}
 use Rattle.ipdl_top.specs.Laws.{OneAnswer}
-use Rattle.ipdl_top.specs.Lists.{AreSections, IsFaultOfList, list_names}
+use Rattle.ipdl_top.specs.Lists.{AreSections, list_names}
 use Rattle.ipdl_top.specs.Seen.{Seen}
 use Rattle.ipdl_top.proofs.Alike.{alike, same_keys}
 use Rattle.ipdl_top.proofs.Compilations.{names_called, no_fault}

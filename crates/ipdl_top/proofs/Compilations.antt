@@ -1,5 +1,5 @@
 -- The answers of a compilation, from what its parts find.
-use Rattle.std.proofs.Common.{◌≡◌, ◌≢◌, ◌≤◌, ◌<◌, ◌↔◌, ◌⊎◌, ℕ, zero, suc, List, [], ◌∷◌, ◌++◌, map, length, refl, sym, ◌∙◌, ap, subst, inl, inr, arith}
+use Rattle.std.proofs.Common.{◌≡◌, ◌≢◌, ◌↔◌, ℕ, zero, suc, List, [], ◌∷◌, ◌++◌, map, length, refl, sym, ◌∙◌, ap, subst, inl, inr, arith}
 use Rattle.std.specs.Prelude.{Option, Some, None, slice_get, unwrap_or}
 use Rattle.std.specs.List.{Contains}
 use Rattle.std.proofs.lemmas.List.{length-map}
@@ -12,17 +12,15 @@ use Rattle.ipdl_syntax.specs.Programs.{IsProgram}
 use Rattle.findings.specs.Order.{IsIncreasing}
 use Rattle.findings.specs.Report.{IsReport}
 use Rattle.include_graph.specs.Load.{IsProgramOf, IsReportOf, keys_of}
-use Rattle.include_graph.specs.Rules.{IsBroken}
 use Rattle.include_graph.specs.Sources.{Given, IsReadUnder, text_of}
 use Rattle.sync_list.specs.declared.list.Section.{Section}
-use Rattle.sync_list.specs.declared.list.ListFault.{ListFault}
 use Rattle.sync_list.specs.declared.list.ListFault.TheVariants.{Line}
-use Rattle.sync_list.specs.Lists.{IsFault, IsListOf}
+use Rattle.sync_list.specs.Lists.{IsFault}
 use Rattle.sync_list.proofs.Unique.{one_fault, never_both}
 use Rattle.ipdl_top.specs.declared.answer.Answer.{Answer}
 use Rattle.ipdl_top.specs.declared.list.Listed.{Listed}
 use Rattle.ipdl_top.specs.declared.list.Listed.TheVariants.{Sections, Broken}
-use Rattle.ipdl_top.specs.Answer.{IsBrokenFile, IsCompilation, report_answer}
+use Rattle.ipdl_top.specs.Answer.{IsCompilation, report_answer}
 use Rattle.ipdl_top.specs.Lists.{IsListFault, IsFaultOfList, AreSections, list_names}
 use Rattle.ipdl_top.specs.Steps.{IsListed, IsRuleAnswer, IsListedAnswer, IsProgramAnswer, IsFilesAnswer, names_of}
 

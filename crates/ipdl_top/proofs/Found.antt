@@ -1,10 +1,8 @@
 -- What is found of a list.
-use Rattle.std.proofs.Common.{◌≡◌, ◌≤◌, ◌<◌, ℕ, List, length, refl, sym, subst, inl, inr, arith}
+use Rattle.std.proofs.Common.{◌≡◌, ◌≤◌, ◌<◌, ℕ, List, length, refl, inl, inr}
 use Rattle.std.proofs.Math.ListN.{replicate}
 use Rattle.std.proofs.lemmas.List.{length-replicate}
-use Rattle.std.proofs.lemmas.Result.{IfOk-weaker}
-use Rattle.std.specs.Prelude.{Option, Some, None, Result, IfOk}
-use Rattle.ipdl_base.specs.Outside.{FileMap}
+use Rattle.std.specs.Prelude.{Option, Some, None}
 use Rattle.ipdl_base.specs.declared.finding.TheConstants.Rule as rule
 use Rattle.include_graph.specs.Rules.{whole_file}
 use Rattle.sync_list.specs.declared.list.Section.{Section}

@@ -1,5 +1,5 @@
 use Rattle.std.proofs.Common.{ℕ, List, map, string_bytes, subst}
-use Rattle.std.specs.Prelude.{Option, Err, IfOk, option_map}
+use Rattle.std.specs.Prelude.{Err, IfOk, option_map}
 use Rattle.std.proofs.lemmas.Result.{IfOk-weaker}
 use Rattle.ipdl_base.specs.Outside.{FileMap}
 use Rattle.include_graph.specs.declared.loader.LoadFault.{LoadFault}

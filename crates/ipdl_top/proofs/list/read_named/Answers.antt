@@ -1,6 +1,6 @@
 use Rattle.std.proofs.Common.{List, ℕ, refl, subst, sym, arith}
 use Rattle.std.specs.Prelude.{Option, None, Some, Err, IfOk}
-use Rattle.ipdl_base.specs.Outside.{FileMap, IsRead}
+use Rattle.ipdl_base.specs.Outside.{IsRead}
 use Rattle.ipdl_base.specs.declared.files.ReadAnswer.TheVariants.{Bytes, Absent, Larger}
 use Rattle.ipdl_top.specs.declared.answer.Failure.TheVariants.{ReadFault, NoMemory}
 use Rattle.ipdl_top.specs.Steps.{IsFound}
