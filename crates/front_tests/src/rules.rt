@@ -1404,22 +1404,21 @@ fn file(alloc: Global, name: &str, text: &str) -> Result<(String, Vec<u8>), Allo
 
 /// The row that a text spells: two lines, and then each file behind `@ `.
 fn read_row<'t>(alloc: Global, text: &'t str) -> Result<Row<'t>, Fail> {
-    let mut files = Vec::new(alloc);
-    let mut head = "";
-    let mut word = "";
-    for (number, piece) in text.split("@ ").enumerate() {
-        if number == 0 {
-            head = piece;
-        } else if let Some((name, text)) = piece.split_once("\n") {
-            if number == 1 {
-                word = name;
-            }
-            files.push(file(alloc, name, text)?)?;
-        }
-    }
+    let Some((head, pieces)) = text.split_once("@ ") else {
+        return Err("a row without a file".into());
+    };
     let Some((about, findings)) = head.split_once("\n") else {
         return Err("a row without its lines".into());
     };
+    let Some((word, _)) = pieces.split_once("\n") else {
+        return Err("a file without its name".into());
+    };
+    let mut files = Vec::new(alloc);
+    for piece in pieces.split("@ ") {
+        if let Some((name, text)) = piece.split_once("\n") {
+            files.push(file(alloc, name, text)?)?;
+        }
+    }
     Ok(Row {
         about,
         wanted: findings.trim_end_matches("\n"),
