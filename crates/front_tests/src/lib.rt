@@ -13,6 +13,10 @@ mod loads;
 #[cfg(test)]
 mod names;
 #[cfg(test)]
+mod protocol_rows;
+#[cfg(test)]
 mod rules;
 #[cfg(test)]
 mod tables;
+#[cfg(test)]
+mod type_rows;
