@@ -11,9 +11,11 @@ mod lists;
 #[cfg(test)]
 mod loads;
 #[cfg(test)]
-mod names;
+mod manager_rows;
 #[cfg(test)]
-mod protocol_rows;
+mod message_rows;
+#[cfg(test)]
+mod names;
 #[cfg(test)]
 mod rules;
 #[cfg(test)]

@@ -1,5 +1,6 @@
 use super::given::program;
-use super::protocol_rows::{PROTOCOLS, PROTOCOLS_COUNT};
+use super::manager_rows::{MANAGERS, MANAGERS_COUNT};
+use super::message_rows::{MESSAGES, MESSAGES_COUNT};
 use super::type_rows::{TYPES, TYPES_COUNT};
 use ipdl_base::{Findings, MemoryFiles};
 use ipdl_syntax::Program;
@@ -110,10 +111,10 @@ fn types(rt: HostRuntime) -> Result<(), Fail> {
 }
 
 #[test]
-fn protocols(rt: HostRuntime) -> Result<(), Fail> {
+fn managers(rt: HostRuntime) -> Result<(), Fail> {
     let alloc = rt.alloc();
     let mut count = 0u32;
-    for text in PROTOCOLS.split("====\n") {
+    for text in MANAGERS.split("====\n") {
         let row = read_row(alloc, text)?;
         let (about, wanted) = (row.about, row.wanted);
         let program = reached(alloc, row.word, row.files)?;
@@ -121,6 +122,22 @@ fn protocols(rt: HostRuntime) -> Result<(), Fail> {
         assert_eq!(rt; shown.as_str(), wanted, "{about}");
         count = count.wrapping_add(1);
     }
-    assert_eq!(rt; count, PROTOCOLS_COUNT);
+    assert_eq!(rt; count, MANAGERS_COUNT);
+    Ok(())
+}
+
+#[test]
+fn messages(rt: HostRuntime) -> Result<(), Fail> {
+    let alloc = rt.alloc();
+    let mut count = 0u32;
+    for text in MESSAGES.split("====\n") {
+        let row = read_row(alloc, text)?;
+        let (about, wanted) = (row.about, row.wanted);
+        let program = reached(alloc, row.word, row.files)?;
+        let shown = protocols_of(alloc, &program)?;
+        assert_eq!(rt; shown.as_str(), wanted, "{about}");
+        count = count.wrapping_add(1);
+    }
+    assert_eq!(rt; count, MESSAGES_COUNT);
     Ok(())
 }
