@@ -2,7 +2,7 @@ ghost use Rattle.std.specs.Prelude.{IfOk};
 ghost use Rattle.ipdl_syntax.specs.Programs.{IsProgram, BearTheirNames};
 
 use include_graph::{are_file_words, load};
-use ipdl_base::{Files, MemoryFiles, Name, ReadAnswer};
+use ipdl_base::{Files, Findings, MemoryFiles, Name, ReadAnswer};
 use ipdl_syntax::Program;
 use std::alloc::{AllocError, Global};
 use std::test::Fail;
@@ -50,6 +50,22 @@ pub fn program(alloc: Global, mut files: MemoryFiles, words: &[&str]) -> Result<
         return Err("no words of files".into());
     }
     Ok(load(alloc, &mut files, words.as_slice(), path.as_slice())?)
+}
+
+/// Findings, each as `FILE:LINE:COLUMN RULE` and a blank.
+pub fn show(alloc: Global, findings: &Findings) -> Result<String, Fail> {
+    let mut shown = String::new(alloc);
+    for finding in findings.as_slice() {
+        let place = finding.place;
+        let letter = char::from(finding.rule.letter);
+        let number = finding.rule.number;
+        write!(
+            shown,
+            "{}:{}:{} {letter}{number} ",
+            place.file, place.line, place.column
+        )?;
+    }
+    Ok(shown)
 }
 
 /// Files in memory that keep the names that they were asked for, each with a blank behind it.

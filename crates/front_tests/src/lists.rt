@@ -1,4 +1,4 @@
-use super::given::{Texts, files, program};
+use super::given::{Texts, files, program, show};
 use ipdl_syntax::Program;
 use std::alloc::Global;
 use std::test::Fail;
@@ -126,18 +126,7 @@ fn show_findings(alloc: Global, program: &Program, text: &str) -> Result<String,
         return Err("a list or a program that is too large".into());
     }
     let list = read_list(alloc, text.as_bytes()).map_err(|_| "no list")?;
-    let mut shown = String::new(alloc);
-    for finding in sync_findings(alloc, program, &list)?.as_slice() {
-        let place = finding.place;
-        let letter = char::from(finding.rule.letter);
-        let number = finding.rule.number;
-        write!(
-            shown,
-            "{}:{}:{} {letter}{number} ",
-            place.file, place.line, place.column
-        )?;
-    }
-    Ok(shown)
+    show(alloc, &sync_findings(alloc, program, &list)?)
 }
 
 #[test]

@@ -1,8 +1,8 @@
-use super::given::program;
+use super::given::{program, show};
 use super::manager_rows::{MANAGERS, MANAGERS_COUNT};
 use super::message_rows::{MESSAGES, MESSAGES_COUNT};
 use super::type_rows::{TYPES, TYPES_COUNT};
-use ipdl_base::{Findings, MemoryFiles};
+use ipdl_base::MemoryFiles;
 use ipdl_syntax::Program;
 use name_table::Names;
 use proto_rules::proto_findings;
@@ -58,22 +58,6 @@ fn reached(alloc: Global, word: &str, files: Vec<(String, Vec<u8>)>) -> Result<P
         return Err("too many files".into());
     }
     Ok(program)
-}
-
-/// Findings, each as `FILE:LINE:COLUMN RULE` and a blank.
-fn show(alloc: Global, findings: &Findings) -> Result<String, Fail> {
-    let mut shown = String::new(alloc);
-    for finding in findings.as_slice() {
-        let place = finding.place;
-        let letter = char::from(finding.rule.letter);
-        let number = finding.rule.number;
-        write!(
-            shown,
-            "{}:{}:{} {letter}{number} ",
-            place.file, place.line, place.column
-        )?;
-    }
-    Ok(shown)
 }
 
 /// What the rules on types find in a program.
