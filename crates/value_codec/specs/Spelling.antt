@@ -1,8 +1,8 @@
 -- The one spelling of each value and of each message, as bytes, in a frame of a layout.
 use Rattle.std.specs.Prelude.{◌≡◌, ℕ, ◌+◌, ◌*◌, ◌≤◌, ℤ, if◌then◌else◌, Bool, true, false, List, [], ◌∷◌, ◌++◌, length, replicate, Option, Some, None, unwrap_or}
-use Rattle.std.specs.Int.{w32, w64, cast_unsigned}
+use Rattle.std.specs.Int.{w32, w128, cast_unsigned}
 use Rattle.std.specs.Option.{option_map_or}
-use Rattle.byteorder.specs.Endian.{little_bytes, low_bytes}
+use Rattle.byteorder.specs.Endian.{little_bytes}
 use Rattle.ipdl_base.specs.declared.kinds.Compress.{Compress}
 use Rattle.ipdl_base.specs.declared.kinds.Compress.TheVariants as compress
 use Rattle.ipdl_base.specs.declared.kinds.Reason.{Reason}
@@ -63,7 +63,7 @@ count (First' _ v _ vs) = count vs + 1
 abbrev mutual
   pub value_bytes : Layout → Schema → Shape → Value → List ℕ
   value_bytes layout schema shape (value.Bool b) = part layout (truth_byte b ∷ [])
-  value_bytes layout schema shape (value.Int n) = part layout (little_bytes (width shape) (low_bytes w64 (width shape) n))
+  value_bytes layout schema shape (value.Int n) = part layout (little_bytes (width shape) (cast_unsigned w128 n))
   value_bytes layout schema shape (value.Text text) = counted layout text
   value_bytes layout schema shape (value.Bytes bytes) = counted layout bytes
   value_bytes layout schema shape (value.Bits bits) = part layout (little_bytes (width shape) bits)
@@ -147,8 +147,14 @@ abbrev pub mark_of : Layout → List ℕ
 mark_of layout = if layout.marked then MARK else []
 
 -- the six fields, each of four bytes
+abbrev pub address_bytes : ℕ → ℤ → ℕ → List ℕ
+address_bytes size route number = word size ++ signed_word route ++ word number
+
+abbrev pub order_bytes : ℕ → ℤ → ℤ → List ℕ
+order_bytes flags seq transaction = word flags ++ signed_word seq ++ signed_word transaction
+
 abbrev pub fields_bytes : ℕ → ℤ → ℕ → ℕ → ℤ → ℤ → List ℕ
-fields_bytes size route number flags seq transaction = word size ++ (signed_word route ++ (word number ++ (word flags ++ (signed_word seq ++ signed_word transaction))))
+fields_bytes size route number flags seq transaction = address_bytes size route number ++ order_bytes flags seq transaction
 
 abbrev pub header_bytes : Layout → ℕ → ℤ → ℕ → ℕ → ℤ → ℤ → List ℕ
 header_bytes layout size route number flags seq transaction = mark_of layout ++ fields_bytes size route number flags seq transaction

@@ -3,12 +3,14 @@ ghost use Rattle.ipdl_base.specs.Sound.{IsSound};
 ghost use Rattle.value_types.specs.declared.layout.TheConstants.{NEW};
 ghost use Rattle.value_types.specs.Fits.{Fits};
 ghost use Rattle.value_types.specs.Sizes as size;
+ghost use Rattle.value_codec.specs.declared.encoding.EncodeFault.TheVariants.{NoMemory};
 ghost use Rattle.value_codec.specs.Encoding.{IsRefused};
 ghost use Rattle.value_codec.specs.Frames.{header_size};
 ghost use Rattle.value_codec.specs.Spelling.{FrameOf, frame_bytes};
 
+use crate::writing::frame_of;
 use ipdl_base::{Message, Schema};
-use std::alloc::Global;
+use std::alloc::{AllocError, Global};
 use value_types::{NEW, payload_size};
 
 /// Why a message is not encoded.
@@ -17,6 +19,14 @@ pub enum EncodeFault {
     /// The payload has so many bytes, or at least so many where this is the greatest `usize`.
     TooLarge(usize),
     NoMemory,
+}
+
+impl From<AllocError> for EncodeFault {
+    ghost from_gives = { λ _ e. e ≡ NoMemory };
+
+    fn from(_error: AllocError) -> EncodeFault {
+        EncodeFault::NoMemory
+    }
 }
 
 /// How many bytes the frame of a message has in the new layout, or the greatest `usize` where it has
@@ -48,5 +58,7 @@ pub fn encode(
     if size > NEW.most_payload {
         return Err(EncodeFault::TooLarge(size));
     }
-    Err(EncodeFault::NoMemory)
+    let frame = frame_of(alloc, NEW, schema, message, size as u32)?;
+    out.extend_from_slice(&frame)?;
+    Ok(())
 }

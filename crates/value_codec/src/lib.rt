@@ -6,7 +6,10 @@ mod decoding;
 mod encoding;
 mod fault;
 mod header;
+mod parts;
 pub mod rules;
+mod shapes;
+mod writing;
 
 pub use decoding::{Decoded, decode, decode_old};
 pub use encoding::{EncodeFault, encode, frame_size};

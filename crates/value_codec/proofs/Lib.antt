@@ -1,0 +1,3 @@
+pub mod LittleEndian
+pub mod Lengths
+pub mod Appended
