@@ -1,3 +1,4 @@
 pub mod LittleEndian
 pub mod Lengths
 pub mod Appended
+pub mod Depths

@@ -76,12 +76,16 @@ unfoldable pub struct_at : Layout → List ℕ → Result (List ℕ) Fault
 struct_at layout [] = Err short
 struct_at layout (b ∷ bytes) = if b == struct_byte then zeros (padding layout 1) bytes else Err (at BAD_TAG (b ∷ bytes))
 
+-- bytes may stand where text may be wanted
+abbrev pub may_stand : Bool → List ℕ → Bool
+may_stand wants_text bytes = if wants_text then is_utf8 bytes else true
+
 -- a length in four bytes, and that many bytes, which may have to be text
 unfoldable pub counted_at : Layout → Bool → List ℕ → Result (List ℕ × List ℕ) Fault
-counted_at layout is_text bytes = do
+counted_at layout wants_text bytes = do
   n ← word_at bytes
   if nat_lt (length n.1) n.0 then Err short else
-      (if (if is_text then is_utf8 (take n.0 n.1) else true) then
+      (if may_stand wants_text (take n.0 n.1) then
       (zeros (padding layout (4 + n.0)) (drop n.0 n.1) >>= λ rest. Ok (take n.0 n.1, rest))
       else Err (at BAD_TEXT n.1))
 

@@ -7,8 +7,10 @@ mod encoding;
 mod fault;
 mod header;
 mod parts;
+mod reading;
 pub mod rules;
 mod shapes;
+mod values;
 mod writing;
 
 pub use decoding::{Decoded, decode, decode_old};

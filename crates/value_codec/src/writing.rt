@@ -7,13 +7,11 @@ ghost use Rattle.value_codec.specs.Spelling.{value_bytes, elements_bytes, values
 
 use crate::header::{Header, fault_flags, reply_flags, request_flags};
 use crate::parts::{put_counted, put_number, put_part, put_signed_word, put_word};
+use crate::reading::STRUCT_BYTE;
 use crate::shapes::{component_of, element_of, fields_of, held_by, width};
 use ipdl_base::{Body, Kind, Message, MessageRow, ParamRow, Reason, Schema, Shape, Value, Values};
 use std::alloc::{AllocError, Global};
 use value_types::{Layout, MARK};
-
-/// The byte in front of a struct.
-const STRUCT_BYTE: u8 = 0x53;
 
 /// The number of values, as far as four bytes hold it.
 fn count(values: &Values) -> u32
