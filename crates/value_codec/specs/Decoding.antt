@@ -24,11 +24,12 @@ abbrev pub contents_of_type : Layout → Schema → Header → Option FrameType 
 contents_of_type layout schema header None payload = Err (record { rule = 0; left = 0 })
 contents_of_type layout schema header (Some type) payload = contents_at layout schema type header.flags payload
 
--- what the payload of a whole frame says, where its header breaks no rule
+-- what the payload of a whole frame with this header says, where the header breaks no rule
+abbrev pub contents_behind : Layout → Schema → Header → List ℕ → Result (ℤ × Body) Fault
+contents_behind layout schema header bytes = contents_of_type layout schema header (type_of schema header.number) (payload_in layout header bytes)
+
 abbrev pub contents : Layout → Schema → List ℕ → Result (ℤ × Body) Fault
-contents layout schema bytes =
-    let header = header_of layout bytes in
-    contents_of_type layout schema header (type_of schema header.number) (payload_in layout header bytes)
+contents layout schema bytes = contents_behind layout schema (header_of layout bytes) bytes
 
 abbrev pub message_from : Header → ℤ → Body → Message
 message_from header made body = record { route = header.route; number = header.number; seq = header.seq; transaction = header.transaction; made = made; body = body }
@@ -37,11 +38,14 @@ abbrev pub with_contents : Layout → Header → Result (ℤ × Body) Fault → 
 with_contents layout header (Ok (made, body)) = Frame (message_from header made body) (whole_size layout header)
 with_contents layout header (Err fault) = Bad (whole_size layout header - fault.left) fault.rule
 
+abbrev pub behind_sound_header : Layout → Schema → Header → List ℕ → Decoded
+behind_sound_header layout schema header bytes =
+    if nat_lt (length bytes) (whole_size layout header) then Short (whole_size layout header - length bytes) else
+    with_contents layout header (contents_behind layout schema header bytes)
+
 abbrev pub behind_header : Layout → Schema → List ℕ → Option (ℕ × ℕ) → Decoded
 behind_header layout schema bytes (Some (offset, rule)) = Bad offset rule
-behind_header layout schema bytes None =
-    if nat_lt (length bytes) (whole_size layout (header_of layout bytes)) then Short (whole_size layout (header_of layout bytes) - length bytes) else
-    with_contents layout (header_of layout bytes) (contents layout schema bytes)
+behind_header layout schema bytes None = behind_sound_header layout schema (header_of layout bytes) bytes
 
 -- what the bytes begin
 unfoldable pub begins : Layout → Schema → List ℕ → Decoded

@@ -123,10 +123,10 @@ header_fault layout schema bytes = if has_mark layout bytes then behind_mark lay
 
 -- Payloads
 
--- nothing is left
-unfoldable pub ended : {X : Type 0} → X → List ℕ → Result X Fault
-ended x [] = Ok x
-ended x (b ∷ bytes) = Err (at PAYLOAD_TOO_LONG (b ∷ bytes))
+-- what a payload says, where nothing is left behind it: the id of a new actor, and the body
+unfoldable pub ended : ℤ → Body → List ℕ → Result (ℤ × Body) Fault
+ended made body [] = Ok (made, body)
+ended made body (b ∷ bytes) = Err (at PAYLOAD_TOO_LONG (b ∷ bytes))
 
 -- the id of the actor that a constructor makes; of another message 0, which takes no bytes
 unfoldable pub made_at : Kind → List ℕ → Result (ℤ × List ℕ) Fault
@@ -154,21 +154,21 @@ unfoldable pub request_at : Inside → MessageRow → List ℕ → Result (ℤ �
 request_at inside row bytes = do
   made ← made_at row.kind bytes
   found ← values_at inside row.params made.1
-  ended (made.0, body.Request found.0) found.1
+  ended made.0 (body.Request found.0) found.1
 
 unfoldable pub returns_at : Inside → MessageRow → List ℕ → Result (ℤ × Body) Fault
 returns_at inside row bytes = do
   found ← values_at inside (unwrap_or row.returns []) bytes
-  ended (pos 0, body.Reply found.0) found.1
+  ended (pos 0) (body.Reply found.0) found.1
 
 unfoldable pub fault_at : Layout → MessageRow → List ℕ → Result (ℤ × Body) Fault
 fault_at layout row bytes = do
   reason ← reason_at layout row.semantics bytes
-  ended (pos 0, body.Fault reason.0) reason.1
+  ended (pos 0) (body.Fault reason.0) reason.1
 
 -- what the payload of a frame with these flags says: the id of a new actor, and the body
 abbrev pub contents_by : Inside → Layout → FrameType → ℕ → List ℕ → Result (ℤ × Body) Fault
-contents_by inside layout goodbye flags bytes = ended (pos 0, body.Goodbye) bytes
+contents_by inside layout goodbye flags bytes = ended (pos 0) body.Goodbye bytes
 contents_by inside layout (request row) flags bytes = request_at inside row bytes
 contents_by inside layout (reply row) flags bytes = if flags == reply_flags row then returns_at inside row bytes else fault_at layout row bytes
 

@@ -7,6 +7,7 @@ mod encoding;
 mod fault;
 mod header;
 mod parts;
+mod payload;
 mod reading;
 pub mod rules;
 mod shapes;
