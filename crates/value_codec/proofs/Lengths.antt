@@ -1,5 +1,5 @@
 -- A payload has as many bytes as its size says.
-use Rattle.std.proofs.Common.{◌≡◌, ℕ, ℤ, ◌+◌, List, [], ◌∷◌, ◌++◌, length, replicate, Option, Some, None, refl, sym, ap, ◌∙◌, arith, length-append, unwrap_or}
+use Rattle.std.proofs.Common.{◌≡◌, ℕ, ℤ, ◌+◌, ◌^◌, true, false, cond, ltb, List, [], ◌∷◌, ◌++◌, length, replicate, Option, Some, None, refl, sym, ap, ◌∙◌, arith, length-append, unwrap_or}
 use Rattle.std.proofs.lemmas.List.{length-replicate}
 use Rattle.std.specs.Option.{option_map_or}
 use Rattle.std.specs.Int.{w32, w128, cast_unsigned}
@@ -22,7 +22,7 @@ use Rattle.ipdl_base.specs.Sound.{message_of}
 use Rattle.value_types.specs.declared.layout.Layout.{Layout}
 use Rattle.value_types.specs.Shapes.{element_of, held_by, fields_of, component_of}
 use Rattle.value_types.specs.Sizes.{padding, padded, value_size, held_size, elements_size, values_size, made_size, body_size, payload_size}
-use Rattle.value_codec.specs.Spelling.{part, word, signed_word, counted, count, width, struct_byte, truth_byte, reason_byte, made_bytes, value_bytes, held_bytes, elements_bytes, values_bytes, body_bytes, payload_bytes}
+use Rattle.value_codec.specs.Spelling.{part, word, signed_word, counted, index_bytes, count, width, struct_byte, truth_byte, reason_byte, made_bytes, value_bytes, held_bytes, elements_bytes, values_bytes, body_bytes, payload_bytes}
 
 pub part_length : (layout : Layout) (bytes : List ℕ) → length (part layout bytes) ≡ padded layout (length bytes)
 part_length layout bytes = length-append bytes (replicate (padding layout (length bytes)) 0) ∙ ap (λ n. length bytes + n) (length-replicate {A = ℕ} (padding layout (length bytes)) 0)
@@ -41,6 +41,9 @@ part_of f g (Some x) h = h x
 both : (xs ys : List ℕ) (m n : ℕ) → length xs ≡ m → length ys ≡ n → length (xs ++ ys) ≡ m + n
 both xs ys m n d e = omega (arith, length-append xs ys, d, e)
 
+index_length : (index : ℕ) → length (index_bytes index) ≡ 4
+index_length index = elim (ltb index (2 ^ 32)) as (λ b. length (cond b (word index) (replicate 4 index)) ≡ 4) [ true ↦ refl | false ↦ refl ]
+
 mutual
   pub value_length : (layout : Layout) (schema : Schema) (shape : Shape) (v : Value) → length (value_bytes layout schema shape v) ≡ value_size layout schema shape v
   value_length layout schema shape (value.Bool b) = part_length layout (truth_byte b ∷ [])
@@ -52,8 +55,8 @@ mutual
       both (part layout (struct_byte ∷ [])) (values_bytes layout schema (unwrap_or (fields_of schema shape) []) vs) (padded layout 1) (values_size layout schema (unwrap_or (fields_of schema shape) []) vs)
       (part_length layout (struct_byte ∷ [])) (values_length layout schema (unwrap_or (fields_of schema shape) []) vs)
   value_length layout schema shape (Union' index at v) =
-      both (word index) (option_map_or (λ component. value_bytes layout schema component v) (component_of schema shape index) []) 4 (option_map_or (λ component. value_size layout schema component v) (component_of schema shape index) 0)
-      refl (part_of (λ component. value_bytes layout schema component v) (λ component. value_size layout schema component v) (component_of schema shape index) (λ component. value_length layout schema component v))
+      both (index_bytes index) (option_map_or (λ component. value_bytes layout schema component v) (component_of schema shape index) []) 4 (option_map_or (λ component. value_size layout schema component v) (component_of schema shape index) 0)
+      (index_length index) (part_of (λ component. value_bytes layout schema component v) (λ component. value_size layout schema component v) (component_of schema shape index) (λ component. value_length layout schema component v))
   value_length layout schema shape (value.Array vs) =
       both (word (count vs)) (option_map_or (λ element. elements_bytes layout schema element vs) (element_of shape) []) 4 (option_map_or (λ element. elements_size layout schema element vs) (element_of shape) 0)
       refl (part_of (λ element. elements_bytes layout schema element vs) (λ element. elements_size layout schema element vs) (element_of shape) (λ element. elements_length layout schema element vs))

@@ -3,3 +3,7 @@ pub mod Lengths
 pub mod Appended
 pub mod Depths
 pub mod Headers
+pub mod Signed
+pub mod Taken
+pub mod BuiltinsRead
+pub mod ValuesRead

@@ -1,5 +1,5 @@
 -- The one spelling of each value and of each message, as bytes, in a frame of a layout.
-use Rattle.std.specs.Prelude.{◌≡◌, ℕ, ◌+◌, ◌*◌, ◌≤◌, ℤ, if◌then◌else◌, Bool, true, false, List, [], ◌∷◌, ◌++◌, length, replicate, Option, Some, None, unwrap_or}
+use Rattle.std.specs.Prelude.{◌≡◌, ℕ, suc, ◌+◌, ◌*◌, ◌^◌, ◌≤◌, nat_lt, ℤ, if◌then◌else◌, Bool, true, false, List, [], ◌∷◌, ◌++◌, length, replicate, Option, Some, None, unwrap_or}
 use Rattle.std.specs.Int.{w32, w128, cast_unsigned}
 use Rattle.std.specs.Option.{option_map_or}
 use Rattle.byteorder.specs.Endian.{little_bytes}
@@ -55,9 +55,13 @@ width shape = option_map_or number_bytes (builtin_of shape) 0
 abbrev pub counted : Layout → List ℕ → List ℕ
 counted layout bytes = part layout (word (length bytes) ++ bytes)
 
+-- The index of a component. One that four bytes do not hold is spelled by no bytes.
+abbrev pub index_bytes : ℕ → List ℕ
+index_bytes index = if nat_lt index (2 ^ 32) then word index else replicate 4 index
+
 abbrev pub count : Values → ℕ
 count values.Nothing = 0
-count (First' _ v _ vs) = count vs + 1
+count (First' _ v _ vs) = suc (count vs)
 
 -- A value of a type. What stands where the type has no part takes no bytes.
 abbrev mutual
@@ -68,7 +72,7 @@ abbrev mutual
   value_bytes layout schema shape (value.Bytes bytes) = counted layout bytes
   value_bytes layout schema shape (value.Bits bits) = part layout (little_bytes (width shape) bits)
   value_bytes layout schema shape (value.Struct vs) = part layout (struct_byte ∷ []) ++ values_bytes layout schema (unwrap_or (fields_of schema shape) []) vs
-  value_bytes layout schema shape (Union' index _ v) = word index ++ option_map_or (λ component. value_bytes layout schema component v) (component_of schema shape index) []
+  value_bytes layout schema shape (Union' index _ v) = index_bytes index ++ option_map_or (λ component. value_bytes layout schema component v) (component_of schema shape index) []
   value_bytes layout schema shape (value.Array vs) = word (count vs) ++ option_map_or (λ element. elements_bytes layout schema element vs) (element_of shape) []
   value_bytes layout schema shape (Maybe' held) = held_bytes layout schema (held_by shape) held
   value_bytes layout schema shape (value.Actor id) = signed_word id

@@ -4,7 +4,7 @@ ghost use Rattle.std.specs.Prelude.{◌≡◌, ◌≤◌, ◌++◌, ◌<◌, OnO
 ghost use Rattle.std.specs.Int.{w128, cast_unsigned};
 ghost use Rattle.byteorder.specs.Endian.{little_bytes};
 ghost use Rattle.value_types.specs.Sizes as sizes;
-ghost use Rattle.value_codec.specs.Spelling.{part, counted, word, signed_word};
+ghost use Rattle.value_codec.specs.Spelling.{part, counted, word, signed_word, index_bytes};
 
 use byteorder::{ByteOrder, LittleEndian};
 use std::alloc::AllocError;
@@ -61,6 +61,13 @@ pub(crate) fn put_word(out: &mut Vec<u8>, number: u32) -> Result<(), AllocError>
     let mut field = [0u8; 4];
     LittleEndian::write_u32(&mut field, number);
     out.extend_from_slice(&field)
+}
+
+/// Appends the index of a component.
+pub(crate) fn put_index(out: &mut Vec<u8>, index: u32) -> Result<(), AllocError>
+    ensures { OnOk result (out.new.items ≡ out.old.items ++ index_bytes index) }
+{
+    put_word(out, index)
 }
 
 /// Appends a signed number of four bytes.

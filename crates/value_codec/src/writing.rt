@@ -6,7 +6,7 @@ ghost use Rattle.value_codec.specs.Spelling as spelling;
 ghost use Rattle.value_codec.specs.Spelling.{value_bytes, elements_bytes, values_bytes, body_bytes, payload_bytes, address_bytes, order_bytes, fields_bytes, mark_of, frame_bytes};
 
 use crate::header::{Header, fault_flags, reply_flags, request_flags};
-use crate::parts::{put_counted, put_number, put_part, put_signed_word, put_word};
+use crate::parts::{put_counted, put_index, put_number, put_part, put_signed_word, put_word};
 use crate::reading::STRUCT_BYTE;
 use crate::shapes::{component_of, element_of, fields_of, held_by, width};
 use ipdl_base::{Body, Kind, Message, MessageRow, ParamRow, Reason, Schema, Shape, Value, Values};
@@ -45,7 +45,7 @@ fn put_value(
             put_values(values, out, layout, schema, fields)
         }
         Value::Union(index, held) => {
-            put_word(out, *index)?;
+            put_index(out, *index)?;
             match component_of(schema, shape, *index) {
                 Some(component) => put_value(held, out, layout, schema, component),
                 None => Ok(()),
