@@ -7,3 +7,5 @@ pub mod Signed
 pub mod Taken
 pub mod BuiltinsRead
 pub mod ValuesRead
+pub mod BuiltinsAgain
+pub mod ValuesAgain
