@@ -9,3 +9,4 @@ pub mod BuiltinsRead
 pub mod ValuesRead
 pub mod BuiltinsAgain
 pub mod ValuesAgain
+pub mod Payloads
