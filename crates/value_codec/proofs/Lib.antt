@@ -10,3 +10,4 @@ pub mod ValuesRead
 pub mod BuiltinsAgain
 pub mod ValuesAgain
 pub mod Payloads
+pub mod Types
