@@ -11,3 +11,4 @@ pub mod BuiltinsAgain
 pub mod ValuesAgain
 pub mod Payloads
 pub mod Types
+pub mod Fielded

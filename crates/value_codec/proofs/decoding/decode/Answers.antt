@@ -3,6 +3,7 @@ use Rattle.value_codec.proofs.Taken.{id_again, counted_again}
 use Rattle.value_codec.proofs.ValuesRead.{value_read, values_read}
 use Rattle.value_codec.proofs.Payloads.{fault_again}
 use Rattle.value_codec.proofs.Types.{transaction_fits}
+use Rattle.value_codec.proofs.Fielded.{mark_again}
 use Rattle.value_codec.proofs.LittleEndian.{bytes_back}
 use Rattle.value_codec.proofs.decoding.decode.Goals as goal
 
