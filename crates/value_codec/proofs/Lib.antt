@@ -12,3 +12,5 @@ pub mod ValuesAgain
 pub mod Payloads
 pub mod Types
 pub mod Fielded
+pub mod Said
+pub mod Framed

@@ -37,7 +37,7 @@ IsBytes-left [] ys h i = omega arith
 IsBytes-left (x ∷ xs) ys h zero = h 0
 IsBytes-left (x ∷ xs) ys h (suc i) = IsBytes-left xs ys (λ j. h (suc j)) i
 
-IsBytes-right : (xs ys : List ℕ) → IsBytes (xs ++ ys) → IsBytes ys
+pub IsBytes-right : (xs ys : List ℕ) → IsBytes (xs ++ ys) → IsBytes ys
 IsBytes-right [] ys h = h
 IsBytes-right (x ∷ xs) ys h = IsBytes-right xs ys (λ j. h (suc j))
 
@@ -298,6 +298,7 @@ module _ (layout : Layout) (schema : Schema) where
 
   mutual
     unfolding value_at elements_at values_at
+
     pub value_again : (v : Value) (shape : Shape) (depth : ℕ) (rest : List ℕ) → HasType schema shape v → AllByRecursion IsCarriedId (actor_ids v) → IsRoomy depth (value_bytes layout schema shape v) → IsAgain depth shape v rest
     value_again v shape zero rest h ids room = absurd (omega (arith, room.less))
     value_again (value.Bool b) shape (suc depth) rest h ids room = bool_again shape depth b rest h
