@@ -9,13 +9,14 @@ use Rattle.ipdl_base.specs.declared.schema.Schema.{Schema}
 use Rattle.ipdl_base.specs.Plain.{plain_body, plain_message}
 use Rattle.ipdl_base.specs.Sound.{IsSound, message_of}
 use Rattle.value_types.specs.declared.layout.Layout.{Layout}
+use Rattle.value_types.proofs.Boxes.{fits as fits-plain}
 use Rattle.value_types.specs.Sizes.{payload_size}
 use Rattle.value_codec.specs.declared.decoding.Decoded.{Decoded}
 use Rattle.value_codec.specs.declared.decoding.Decoded.TheVariants.{Frame, Short, Bad, NoMemory}
 use Rattle.value_codec.specs.declared.fault.Fault.{Fault}
 use Rattle.value_codec.specs.declared.header.Header.{Header}
 use Rattle.value_codec.specs.declared.rules.TheConstants.{BAD_MARK, PAYLOAD_TOO_LARGE, BAD_FLAGS, BAD_FIELD}
-use Rattle.value_codec.specs.Decoding.{whole_size, payload_in, contents_of_type, contents_behind, contents, message_from, with_contents, behind_sound_header, behind_header, begins, Yields, IsShort, PayloadFault, FrameFault, FrameBegins, IsTrueOf, IsFrame, IsShortBy, IsBadAt}
+use Rattle.value_codec.specs.Decoding.{whole_size, payload_in, contents_of_type, contents_behind, contents, message_from, with_contents, behind_sound_header, behind_header, begins, Yields, IsShort, PayloadFault, FrameFault, FrameBegins, IsTrueOf, HasFitting, IsFrame, IsShortBy, IsBadAt}
 use Rattle.value_codec.specs.Frames.{FrameType, header_size, header_in, header_of, has_mark, type_of, are_flags, is_route, is_seq, is_transaction, type_fault, fault_of_type, fields_fault, behind_mark, header_fault, contents_at}
 use Rattle.value_codec.specs.Spelling.{mark_of, fields_bytes, message_header, payload_bytes, body_bytes, body_flags, frame_bytes, FrameOf}
 use Rattle.value_codec.proofs.Fielded.{HasFieldsOf, fields_there, fields_fit, header_again, mark_there, mark_again}
@@ -241,3 +242,10 @@ frame_told layout schema bytes sound small fits d e m n h =
     let size : length (frame_bytes layout schema m) ≡ n = ap length (sym is) ∙ omega (arith, length-take n bytes, h.within) in
     let begun : begins layout schema bytes ≡ Frame (plain_message m) n = ap (begins layout schema) (sym back) ∙ again ∙ ap (Frame (plain_message m)) size in
     frame_decided layout schema bytes d e m n begun
+
+-- what is true of the bytes holds a message that fits, wherever its boxes lie
+pub has_fitting : (layout : Layout) (schema : Schema) (bytes : List ℕ) (d : Decoded) → IsTrueOf layout schema bytes d → HasFitting schema d
+has_fitting layout schema bytes NoMemory h = tt
+has_fitting layout schema bytes (Frame m n) h = (fits-plain schema m).0 h.frame.fits
+has_fitting layout schema bytes (Short n) h = tt
+has_fitting layout schema bytes (Bad offset rule) h = tt
