@@ -1,0 +1,17 @@
+pub mod Ends
+pub mod Events
+pub mod Numbers
+pub mod Typed
+pub mod ValueActors
+pub mod Outputs
+pub mod Names
+pub mod Falls
+pub mod Sends
+pub mod Answers
+pub mod Acts
+pub mod Deliveries
+pub mod Takes
+pub mod Returns
+pub mod Steps
+pub mod Runs
+pub mod Refusals
