@@ -8,7 +8,7 @@ use Rattle.ipdl_base.specs.declared.message.Body.TheVariants.{Goodbye}
 use Rattle.ipdl_base.specs.declared.message.Message.{Message}
 use Rattle.nesting_core.specs.Frames.{has_wait}
 use Rattle.world_laws.specs.declared.end.EndState.TheVariants.{Dead}
-use Rattle.world_laws.specs.Ends.{End, Holds, actor, message, mark}
+use Rattle.world_laws.specs.Ends.{End, actor, message, mark}
 use Rattle.world_laws.specs.Falls.{closed}
 use Rattle.world_laws.specs.Names.{renamed}
 use Rattle.world_laws.specs.Outputs.{Change, ◌▷◌, on_end, line, put, when_open, is_open, is_dead_end}

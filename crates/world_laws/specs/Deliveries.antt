@@ -1,7 +1,6 @@
 -- Deliveries of packets.
-use Rattle.std.specs.Prelude.{ℕ, ◌+◌, ℤ, Bool, true, false, List, [], ◌∷◌, ◌++◌, map, filter, Option, Some, None}
+use Rattle.std.specs.Prelude.{◌+◌, ℤ, true, false, List, [], ◌∷◌, ◌++◌, map, filter, Option, Some, None}
 use Rattle.std.specs.Option.{option_map_or}
-use Rattle.history.specs.declared.line.What.{What}
 use Rattle.history.specs.declared.line.What.TheVariants as what
 use Rattle.ipdl_base.specs.declared.kinds.Level.TheVariants.{Not}
 use Rattle.ipdl_base.specs.declared.kinds.Reason.TheVariants.{ChannelClosed, ResolverDestroyed}
@@ -53,7 +52,7 @@ with_failed_wait entry = record entry { frame = failed entry.frame }
 abbrev pub ended : Item → Change
 ended last output =
     (lines (map what.Fails (unanswered output.end))
-      ▷ on_end (λ e. record (arrives last e) { state = Draining; outbox = []; stack = map with_failed_wait e.stack })) output
+    ▷ on_end (λ e. record (arrives last e) { state = Draining; outbox = []; stack = map with_failed_wait e.stack })) output
 
 -- a request that makes way for a later one
 abbrev pub replacing : MessageRow → Option Item → Change
@@ -82,8 +81,9 @@ abbrev pub reply_delivered : Message → Answer → MessageRow → Change
 reply_delivered m a row =
     line (what.DeliverReply m.seq)
     ▷ on_end (λ e. elim (is_sync_row row) [
-        true ↦ record e { stack = with_frames (with_answer a (frames_of e)) e.stack }
-      | false ↦ arrives (item_of row m) e ])
+      | true ↦ record e { stack = with_frames (with_answer a (frames_of e)) e.stack }
+      | false ↦ arrives (item_of row m) e
+    ])
 
 -- a message by its row, if it has one
 abbrev pub by_row : Schema → Message → (MessageRow → Change) → Change

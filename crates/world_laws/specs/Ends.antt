@@ -1,5 +1,5 @@
 -- The two ends of a channel, each with all that it keeps, and the links between them.
-use Rattle.std.specs.Prelude.{ℕ, ℤ, pos, Bool, List, [], ◌∷◌}
+use Rattle.std.specs.Prelude.{ℕ, ℤ, Bool, List, [], ◌∷◌}
 use Rattle.actor_tree.specs.declared.actor.Actor.{Actor}
 use Rattle.actor_tree.specs.Tree.{top}
 use Rattle.ipdl_base.specs.declared.kinds.Side.{Side}

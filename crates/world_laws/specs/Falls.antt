@@ -17,7 +17,7 @@ use Rattle.promise_table.specs.declared.promise.Outcome.TheVariants.{Rejected}
 use Rattle.promise_table.specs.declared.promise.Promise.{Promise}
 use Rattle.promise_table.specs.Promises.{is_pending, is_pending_of}
 use Rattle.world_laws.specs.declared.end.EndState.TheVariants.{Closed}
-use Rattle.world_laws.specs.Ends.{End, PromiseEntry}
+use Rattle.world_laws.specs.Ends.{PromiseEntry}
 use Rattle.world_laws.specs.Names.{without_resolvers}
 use Rattle.world_laws.specs.Numbers.{top_id}
 use Rattle.world_laws.specs.Outputs.{Change, ◌▷◌, unchanged, on_end, lines}
@@ -46,7 +46,7 @@ abbrev pub fallen : ℤ → (ℤ → Destroy) → Change
 fallen id why output =
     let falling : List Actor = post_order id output.end.actors in
     (lines (flat_map (fall_lines why output.end.promises) falling)
-      ▷ on_end (λ e. record e { actors = others falling e.actors; promises = rejected (λ p. lives p.actor falling) ActorDestroyed e.promises })) output
+    ▷ on_end (λ e. record e { actors = others falling e.actors; promises = rejected (λ p. lives p.actor falling) ActorDestroyed e.promises })) output
 
 abbrev pub why_deleted : ℤ → ℤ → Destroy
 why_deleted deleted id = if int_eq id deleted then Deletion else AncestorDeletion
@@ -65,7 +65,7 @@ deletes route Delete = deleted route
 abbrev pub abandoned : Change
 abandoned output =
     (lines (rejections (λ p. true) ChannelClosed output.end.promises)
-      ▷ on_end (λ e. record e { promises = rejected (λ p. true) ChannelClosed e.promises })) output
+    ▷ on_end (λ e. record e { promises = rejected (λ p. true) ChannelClosed e.promises })) output
 
 -- an end closes: its promises are rejected, its actors fall, and what had arrived and its kept resolvers are dropped
 abbrev pub closed : Destroy → Change

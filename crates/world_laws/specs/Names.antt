@@ -1,7 +1,7 @@
 -- The names of an end, each of which holds an actor or a resolver.
-use Rattle.std.specs.Prelude.{ℕ, ℤ, Bool, true, false, not, List, [], ◌∷◌, ◌++◌, find, filter, Option, Some, None, option_map}
+use Rattle.std.specs.Prelude.{ℕ, Bool, true, false, not, List, [], ◌∷◌, ◌++◌, find, filter, Option, Some, None, option_map}
 use Rattle.std.specs.Str.{bytes_eq}
-use Rattle.world_laws.specs.Ends.{End, Holds, actor, resolver, Naming}
+use Rattle.world_laws.specs.Ends.{Holds, actor, resolver, Naming}
 use Rattle.world_laws.specs.Outputs.{Change, ◌▷◌, unchanged, on_end, destroyed}
 
 abbrev pub has_name : List ℕ → Naming → Bool
@@ -30,8 +30,8 @@ abbrev pub renamed : List ℕ → Option Holds → Change
 renamed name holds output =
     let before : Option Holds = held_by_name name output.end.names in
     (on_end (λ e. record e { names = without_name name e.names })
-      ▷ let_go before
-      ▷ on_end (λ e. record e { names = e.names ++ holding name holds })) output
+    ▷ let_go before
+    ▷ on_end (λ e. record e { names = e.names ++ holding name holds })) output
 
 abbrev pub is_actor : Naming → Bool
 is_actor naming = elim naming.holds [ actor id ↦ true | resolver r ↦ false ]

@@ -1,5 +1,5 @@
 -- Why an end refuses to have a message delivered that another end, whatever it is, has sent.
-use Rattle.std.specs.Prelude.{ℕ, ◌+◌, ◌==◌, ℤ, Bool, true, false, not, ◌&&◌, if◌then◌else◌, List, [], ◌∷◌, ◌++◌, find, Option, Some, None, is_some, option_map}
+use Rattle.std.specs.Prelude.{ℕ, ◌+◌, ◌==◌, ℤ, Bool, false, not, ◌&&◌, if◌then◌else◌, List, [], ◌∷◌, find, Option, Some, None, option_map}
 use Rattle.std.specs.List.{list_any}
 use Rattle.std.specs.Option.{option_map_or}
 use Rattle.std.specs.Ordering.{int_eq}
@@ -13,7 +13,7 @@ use Rattle.ipdl_base.specs.declared.schema.MessageRow.{MessageRow}
 use Rattle.ipdl_base.specs.declared.schema.Schema.{Schema}
 use Rattle.ipdl_base.specs.Sound.{message_of}
 use Rattle.nesting_core.specs.Frames.{head_of, is_unanswered}
-use Rattle.world_laws.specs.Ends.{End, StackEntry, PromiseEntry, Packet, message, mark}
+use Rattle.world_laws.specs.Ends.{End, Packet, message, mark}
 use Rattle.world_laws.specs.Numbers.{other, seq_of, id_of, protocol_of, sends, is_sync_row, is_constructor}
 use Rattle.world_laws.specs.ValueActors.{ActorValue, actors_in_parts}
 

@@ -1,5 +1,5 @@
 -- Handlers that return, calls that go on, and the outbox that is flushed.
-use Rattle.std.specs.Prelude.{ℕ, ℤ, Bool, true, false, not, ◌&&◌, ◌||◌, if◌then◌else◌, List, [], ◌∷◌, ◌++◌, drop, length, map, Option, Some, None, is_none, is_some, option_and_then}
+use Rattle.std.specs.Prelude.{ℕ, ℤ, Bool, true, false, not, ◌&&◌, ◌||◌, if◌then◌else◌, List, [], ◌∷◌, ◌++◌, drop, length, map, Option, Some, None, is_none, is_some}
 use Rattle.history.specs.declared.line.What.{What}
 use Rattle.history.specs.declared.line.What.TheVariants as what
 use Rattle.history.specs.Text.{returns_of_row}
@@ -14,13 +14,12 @@ use Rattle.nesting_core.specs.declared.frame.Answer.{Answer}
 use Rattle.nesting_core.specs.declared.frame.Answer.TheVariants as answer
 use Rattle.nesting_core.specs.declared.frame.Frame.{Frame}
 use Rattle.nesting_core.specs.declared.frame.Frame.TheVariants.{Dispatch, Wait}
-use Rattle.nesting_core.specs.declared.frame.Head.{Head}
 use Rattle.nesting_core.specs.Frames.{head_of}
 use Rattle.world_laws.specs.Answers.{resolver_in, have_return_types}
-use Rattle.world_laws.specs.Ends.{End, StackEntry, Packet, message}
+use Rattle.world_laws.specs.Ends.{End, StackEntry, message}
 use Rattle.world_laws.specs.Falls.{deletes}
-use Rattle.world_laws.specs.Numbers.{is_sync_row, request_row}
-use Rattle.world_laws.specs.Outputs.{Output, Change, ◌▷◌, when, on_end, line, Answered, answered, destroyed, reply_to, is_open}
+use Rattle.world_laws.specs.Numbers.{is_sync_row}
+use Rattle.world_laws.specs.Outputs.{Change, ◌▷◌, when, on_end, line, Answered, answered, destroyed, reply_to, is_open}
 use Rattle.world_laws.specs.Sends.{is_too_large}
 use Rattle.world_laws.specs.ValueActors.{has_dead, received}
 

@@ -29,8 +29,9 @@ after_event _ link = link
 -- the world behind a step: the end is the new one, and its packets stand last on the link away from it
 abbrev pub world_after : Move → Output → World → World
 world_after move output world = elim move.side [
-    sides.Parent ↦ record { parent = output.end; child = world.child; to_parent = after_event move.event world.to_parent; to_child = world.to_child ++ output.packets }
-  | sides.Child ↦ record { parent = world.parent; child = output.end; to_parent = world.to_parent ++ output.packets; to_child = after_event move.event world.to_child } ]
+  | sides.Parent ↦ record { parent = output.end; child = world.child; to_parent = after_event move.event world.to_parent; to_child = world.to_child ++ output.packets }
+  | sides.Child ↦ record { parent = world.parent; child = output.end; to_parent = world.to_parent ++ output.packets; to_child = after_event move.event world.to_child }
+]
 
 -- what a move makes in a world, or nothing where it is not possible
 abbrev pub output_of : Schema → World → Move → Option Output

@@ -1,6 +1,5 @@
 -- Sends.
 use Rattle.std.specs.Prelude.{ℕ, ◌+◌, nat_lt, ℤ, pos, Bool, true, false, not, ◌&&◌, ◌||◌, if◌then◌else◌, List, [], ◌∷◌, ◌++◌, map, Option, Some, None, is_none, is_some}
-use Rattle.actor_tree.specs.declared.actor.Actor.{Actor}
 use Rattle.history.specs.declared.line.What.{What}
 use Rattle.history.specs.declared.line.What.TheVariants as what
 use Rattle.ipdl_base.specs.declared.kinds.SendRefusal.{SendRefusal}

@@ -1,7 +1,6 @@
 -- What each event does at an end, where it is possible.
-use Rattle.std.specs.Prelude.{ℕ, Bool, true, false, List, [], ◌∷◌, Option, Some, None, option_map, option_and_then}
+use Rattle.std.specs.Prelude.{Bool, true, false, List, [], ◌∷◌, Option, Some, None, option_and_then}
 use Rattle.ipdl_base.specs.declared.schema.Schema.{Schema}
-use Rattle.world_laws.specs.declared.end.EndState.{EndState}
 use Rattle.world_laws.specs.Acts.{name_actor, close, may_die, die}
 use Rattle.world_laws.specs.Answers.{answered_row, may_answer, answer, may_keep, keep}
 use Rattle.world_laws.specs.Deliveries.{deliver}

@@ -1,5 +1,5 @@
 -- Takes of arrived items.
-use Rattle.std.specs.Prelude.{ℕ, ℤ, pos, Bool, true, false, not, ◌&&◌, ◌||◌, if◌then◌else◌, List, [], ◌∷◌, ◌++◌, find, map, Option, Some, None, is_some, option_and_then, unwrap_or}
+use Rattle.std.specs.Prelude.{ℤ, pos, Bool, true, false, ◌&&◌, ◌||◌, if◌then◌else◌, List, ◌∷◌, find, map, Option, Some, None, unwrap_or}
 use Rattle.std.specs.Option.{option_map_or}
 use Rattle.history.specs.declared.line.What.{What}
 use Rattle.history.specs.declared.line.What.TheVariants as what
@@ -31,7 +31,7 @@ use Rattle.world_laws.specs.Deliveries.{by_row}
 use Rattle.world_laws.specs.Ends.{End, StackEntry, PromiseEntry}
 use Rattle.world_laws.specs.Falls.{closed}
 use Rattle.world_laws.specs.Numbers.{protocol_of, is_sync_row, makes_promise}
-use Rattle.world_laws.specs.Outputs.{Change, ◌▷◌, unchanged, when, on_end, line, answered, request_answered}
+use Rattle.world_laws.specs.Outputs.{Change, ◌▷◌, when, on_end, line, answered, request_answered}
 use Rattle.world_laws.specs.Sends.{frames_of, constructs}
 use Rattle.world_laws.specs.ValueActors.{lives_as, missing, nulled, received}
 
@@ -85,7 +85,7 @@ settles seq outcome =
 abbrev pub reply_taken : Schema → Message → Answer → MessageRow → Change
 reply_taken schema m a row output =
     (line (what.TakeReply m.seq)
-      ▷ when (is_awaited m.seq output.end.promises) (settles m.seq (outcome_of (received schema output.end.actors row a)))) output
+    ▷ when (is_awaited m.seq output.end.promises) (settles m.seq (outcome_of (received schema output.end.actors row a)))) output
 
 -- the id for which a request is dropped: the actor that it went to, or the first missing one of its values
 abbrev pub dropped_for : Schema → End → MessageRow → Message → Values → Option ℤ

@@ -1,0 +1,3 @@
+mod WorkedSchemas
+mod WorkedMoves
+mod Worked
