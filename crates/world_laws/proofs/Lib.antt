@@ -1,3 +1,5 @@
+pub mod TypesDecided
+pub mod Histories
 mod WorkedSchemas
 mod WorkedMoves
 mod Worked

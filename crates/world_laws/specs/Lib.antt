@@ -15,3 +15,4 @@ pub mod Returns
 pub mod Steps
 pub mod Runs
 pub mod Refusals
+pub mod Laws
