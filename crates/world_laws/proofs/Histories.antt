@@ -1,12 +1,11 @@
 -- What follows of moves and histories, for all moves.
-use Rattle.std.proofs.Common.{◌≡◌, ℕ, List, [], ◌∷◌, ◌++◌, Option, Some, None, IsNone, refl, sym, ap, ◌∙◌, append_assoc}
-use Rattle.history.specs.declared.line.Line.{Line}
+use Rattle.std.proofs.Common.{◌≡◌, List, [], ◌∷◌, ◌++◌, Option, Some, None, IsNone, refl, sym, ap, ◌∙◌, append_assoc}
 use Rattle.ipdl_base.specs.declared.schema.Schema.{Schema}
 use Rattle.world_laws.specs.Ends.{World, opening}
 use Rattle.world_laws.specs.Events.{Move}
 use Rattle.world_laws.specs.Laws.{ImpossibleMovesChangeNothing, MovesFollow, MovesGoOneAfterAnother, EveryRunIsLegal}
 use Rattle.world_laws.specs.Outputs.{Output}
-use Rattle.world_laws.specs.Runs.{Passed, output_of, passed_by, happens, run, history_of}
+use Rattle.world_laws.specs.Runs.{Passed, output_of, passed_by, happens, run}
 
 passed_by_none : (output : Option Output) (move : Move) (world : World) → IsNone output → passed_by output move world ≡ (record { world = world; lines = [] })
 passed_by_none None move world none = refl

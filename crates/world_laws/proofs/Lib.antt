@@ -3,3 +3,5 @@ pub mod Histories
 mod WorkedSchemas
 mod WorkedMoves
 mod Worked
+mod WorkedRules
+mod WorkedDeliveries

@@ -1,5 +1,5 @@
 -- The test of types decides them.
-use Rattle.std.proofs.Common.{◌≡◌, ◌↔◌, ◌≢◌, ℕ, ◌<◌, ◌^◌, ℤ, pos, ◌≤ℤ◌, T, Bool, true, false, not, ◌&&◌, ◌||◌, int_le, nat_lt, IsTrue, Decides, List, [], ◌∷◌, Option, Some, None, refl, sym, subst, option_and_then}
+use Rattle.std.proofs.Common.{◌≡◌, ℕ, ◌<◌, ◌^◌, ℤ, pos, ◌≤ℤ◌, T, Bool, true, false, not, ◌&&◌, int_le, nat_lt, IsTrue, Decides, List, [], ◌∷◌, Option, Some, None, refl, sym, subst, option_and_then}
 use Rattle.std.specs.Int.Signed.{le_z_yes}
 use Rattle.std.specs.Option.{option_map_or, IsSomeAnd}
 use Rattle.std.specs.Ordering.{int_eq}
@@ -7,11 +7,10 @@ use Rattle.std.specs.Str.{IsUtf8, is_utf8}
 use Rattle.std.proofs.lemmas.Bool.{false≢true}
 use Rattle.std.proofs.lemmas.Bool.Decides.{Decides-and, Decides-not, Decides-int_eq, Decides-ltb}
 use Rattle.std.proofs.lemmas.Str.{IsUtf8-from_is_utf8, is_utf8-from_IsUtf8}
-use Rattle.ipdl_base.specs.declared.builtin.Builtin.{Builtin as BuiltinType}
 use Rattle.ipdl_base.specs.declared.builtin.Builtin.TheVariants as builtin
 use Rattle.ipdl_base.specs.declared.schema.ParamRow.{ParamRow}
 use Rattle.ipdl_base.specs.declared.schema.Schema.{Schema}
-use Rattle.ipdl_base.specs.declared.schema.Shape.{Shape, Builtin, Using, Actor, Named, Array', Maybe', Unique', Endpoint}
+use Rattle.ipdl_base.specs.declared.schema.Shape.{Shape, Builtin, Actor}
 use Rattle.ipdl_base.specs.declared.value.Value.{Value, Union', Held-Value-Maybe-0, None', Some'}
 use Rattle.ipdl_base.specs.declared.value.Value as boxed
 use Rattle.ipdl_base.specs.declared.value.Value.TheVariants as value

@@ -227,3 +227,38 @@ owning = schema_of (
     ∷ protocol (codes "PTmp") (pown ∷ []) [] (
     message ptmp_hi (codes "Hi") direction.Both
     ∷ record (message ptmp_delete (codes "__delete__") direction.Both) { kind = Delete } ∷ []) ∷ [])
+
+abbrev pub pitem : ℕ
+pitem = 0
+
+abbrev pub pshop : ℕ
+pshop = 1
+
+abbrev pub pitem_delete : ℕ
+pitem_delete = 0
+
+abbrev pub pshop_construct : ℕ
+pshop_construct = 65536
+
+abbrev pub pshop_find : ℕ
+pshop_find = 65538
+
+abbrev pub pshop_swap : ℕ
+pshop_swap = 65540
+
+abbrev pub pshop_store : ℕ
+pshop_store = 65542
+
+-- actors that either end makes, asks for and exchanges, and bytes
+abbrev pub trading : Schema
+trading = schema_of (
+    protocol (codes "PItem") (pshop ∷ []) [] (
+    record (message pitem_delete (codes "__delete__") direction.Both) { kind = Delete } ∷ [])
+    ∷ protocol (codes "PShop") [] (pitem ∷ []) (
+    record (message pshop_construct (codes "PItem") direction.Both) { kind = Constructor pitem }
+    ∷ record (message pshop_find (codes "Find") direction.Both) { returns = Some (typed (codes "r") (Actor pitem false)) }
+    ∷ record (message pshop_swap (codes "Swap") direction.Both) { semantics = Sync; level = level.InsideSync; params = typed (codes "given") (Actor pitem false); returns = Some (typed (codes "got") (Actor pitem true)) }
+    ∷ record (message pshop_store (codes "Store") direction.Both) { params = typed (codes "label") (Builtin word.NsCString) } ∷ []) ∷ [])
+
+abbrev pub bytes : List ℕ → Values
+bytes bs = one (value.Bytes bs)

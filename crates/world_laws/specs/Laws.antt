@@ -9,7 +9,7 @@ use Rattle.ipdl_base.specs.declared.value.Values.{Values}
 use Rattle.value_types.specs.HasType.{HasType, HaveTypes}
 use Rattle.world_laws.specs.Ends.{World}
 use Rattle.world_laws.specs.Events.{Move}
-use Rattle.world_laws.specs.Runs.{Passed, output_of, happens, run, history_of, IsLegalHistory}
+use Rattle.world_laws.specs.Runs.{output_of, happens, run, history_of, IsLegalHistory}
 use Rattle.world_laws.specs.Typed.{has_type, have_types}
 
 -- The test of types that steps make is true exactly where values have their types.
