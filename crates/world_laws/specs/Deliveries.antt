@@ -1,5 +1,5 @@
 -- Deliveries of packets.
-use Rattle.std.specs.Prelude.{◌+◌, ℤ, true, false, List, [], ◌∷◌, ◌++◌, map, filter, Option, Some, None}
+use Rattle.std.specs.Prelude.{◌+◌, ℤ, false, if◌then◌else◌, List, [], ◌∷◌, ◌++◌, map, filter, Option, Some, None}
 use Rattle.std.specs.Option.{option_map_or}
 use Rattle.history.specs.declared.line.What.TheVariants as what
 use Rattle.ipdl_base.specs.declared.kinds.Level.TheVariants.{Not}
@@ -60,39 +60,38 @@ replacing row None = unchanged
 replacing row (Some item.Broken) = unchanged
 replacing row (Some (item.Message old sync level)) = line (what.Replaced old.seq) ▷ when (makes_promise row) (answered (request_answered old) (answer.Fault ResolverDestroyed))
 
+abbrev pub item_of : MessageRow → Message → Item
+item_of row m = item.Message m (is_sync_row row) row.level
+
 -- a request, counted, and put behind those that stay
-abbrev pub request_arrives : MessageRow → Item → Message → End → End
-request_arrives row new m e = record e {
+abbrev pub counted : MessageRow → Item → End → End
+counted row new e = record e {
   arrived = staying row.compress new e.arrived ++ new ∷ [];
   delivered = e.delivered + 1;
   constructors_delivered = counting row.kind e.constructors_delivered;
 }
 
-abbrev pub item_of : MessageRow → Message → Item
-item_of row m = item.Message m (is_sync_row row) row.level
-
-abbrev pub request_delivered : Message → MessageRow → Change
-request_delivered m row output =
+abbrev pub request_arrives : Message → MessageRow → Change
+request_arrives m row output =
     let old : Option Item = replaced row.compress (item_of row m) output.end.arrived in
-    (line (what.DeliverRequest m.seq) ▷ on_end (request_arrives row (item_of row m) m) ▷ replacing row old) output
+    (on_end (counted row (item_of row m)) ▷ replacing row old) output
+
+-- the innermost wait without an answer gets one
+abbrev pub answers_wait : Answer → End → End
+answers_wait a e = record e { stack = with_frames (with_answer a (frames_of e)) e.stack }
 
 -- the reply to a sync request goes to the innermost wait, another one arrives
-abbrev pub reply_delivered : Message → Answer → MessageRow → Change
-reply_delivered m a row =
-    line (what.DeliverReply m.seq)
-    ▷ on_end (λ e. elim (is_sync_row row) [
-      | true ↦ record e { stack = with_frames (with_answer a (frames_of e)) e.stack }
-      | false ↦ arrives (item_of row m) e
-    ])
+abbrev pub reply_arrives : Message → Answer → MessageRow → Change
+reply_arrives m a row = on_end (λ e. if is_sync_row row then answers_wait a e else arrives (item_of row m) e)
 
--- a message by its row, if it has one
-abbrev pub by_row : Schema → Message → (MessageRow → Change) → Change
-by_row schema m change = option_map_or change (message_of schema m.number) unchanged
+-- what is done with a message by its row, and else
+abbrev pub by_row : Schema → Message → (MessageRow → Change) → Change → Change
+by_row schema m change otherwise = option_map_or change (message_of schema m.number) otherwise
 
 abbrev pub body_delivered : Schema → Message → Body → Change
-body_delivered schema m (Request vs) = by_row schema m (request_delivered m)
-body_delivered schema m (Reply vs) = by_row schema m (reply_delivered m (answer.Ok vs))
-body_delivered schema m (Fault reason) = by_row schema m (reply_delivered m (answer.Fault reason))
+body_delivered schema m (Request vs) = line (what.DeliverRequest m.seq) ▷ by_row schema m (request_arrives m) unchanged
+body_delivered schema m (Reply vs) = line (what.DeliverReply m.seq) ▷ by_row schema m (reply_arrives m (answer.Ok vs)) unchanged
+body_delivered schema m (Fault reason) = line (what.DeliverReply m.seq) ▷ by_row schema m (reply_arrives m (answer.Fault reason)) unchanged
 body_delivered schema m Goodbye = line what.DeliverGoodbye ▷ ended (item.Message m false Not)
 
 -- a packet is delivered

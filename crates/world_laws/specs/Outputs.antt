@@ -3,6 +3,7 @@ use Rattle.std.specs.Prelude.{ℕ, ◌+◌, ℤ, pos, Bool, true, false, List, [
 use Rattle.history.specs.declared.line.Line.{Line}
 use Rattle.history.specs.declared.line.What.{What}
 use Rattle.history.specs.declared.line.What.TheVariants as what
+use Rattle.ipdl_base.specs.declared.kinds.Side.{Side}
 use Rattle.ipdl_base.specs.declared.kinds.Reason.TheVariants.{ResolverDestroyed}
 use Rattle.ipdl_base.specs.declared.message.Body.{Body}
 use Rattle.ipdl_base.specs.declared.message.Body.TheVariants.{Reply, Fault}
@@ -43,13 +44,16 @@ when false change output = output
 abbrev pub on_end : (End → End) → Change
 on_end change output = record output { end = change output.end }
 
+abbrev pub line_at : Side → What → Line
+line_at side what = record { side = side; what = what }
+
 -- a line
 abbrev pub line : What → Change
-line what output = record output { lines = output.lines ++ record { side = output.end.side; what = what } ∷ [] }
+line what output = record output { lines = output.lines ++ line_at output.end.side what ∷ [] }
 
 -- lines, one after another
 abbrev pub lines : List What → Change
-lines whats output = record output { lines = output.lines ++ map (λ what. record { side = output.end.side; what = what }) whats }
+lines whats output = record output { lines = output.lines ++ map (line_at output.end.side) whats }
 
 -- a packet, behind all that waits in the outbox
 abbrev pub put : Packet → Change

@@ -31,7 +31,7 @@ use Rattle.world_laws.specs.Deliveries.{by_row}
 use Rattle.world_laws.specs.Ends.{End, StackEntry, PromiseEntry}
 use Rattle.world_laws.specs.Falls.{closed}
 use Rattle.world_laws.specs.Numbers.{protocol_of, is_sync_row, makes_promise}
-use Rattle.world_laws.specs.Outputs.{Change, ◌▷◌, when, on_end, line, answered, request_answered}
+use Rattle.world_laws.specs.Outputs.{Change, ◌▷◌, unchanged, when, on_end, line, answered, request_answered}
 use Rattle.world_laws.specs.Sends.{frames_of, constructs}
 use Rattle.world_laws.specs.ValueActors.{lives_as, missing, nulled, received}
 
@@ -84,8 +84,7 @@ settles seq outcome =
 -- a reply settles its promise, or comes too late
 abbrev pub reply_taken : Schema → Message → Answer → MessageRow → Change
 reply_taken schema m a row output =
-    (line (what.TakeReply m.seq)
-    ▷ when (is_awaited m.seq output.end.promises) (settles m.seq (outcome_of (received schema output.end.actors row a)))) output
+    when (is_awaited m.seq output.end.promises) (settles m.seq (outcome_of (received schema output.end.actors row a))) output
 
 -- the id for which a request is dropped: the actor that it went to, or the first missing one of its values
 abbrev pub dropped_for : Schema → End → MessageRow → Message → Values → Option ℤ
@@ -115,10 +114,11 @@ abbrev pub request_taken : Schema → Message → Values → MessageRow → Chan
 request_taken schema m vs row output =
     dropped_or_handled (dropped_for schema output.end row m vs) row m (nulled schema output.end.actors row.params vs) output
 
+-- a request of a message that is not there would be dropped for its actor
 abbrev pub body_taken : Schema → Message → Body → Change
-body_taken schema m (Request vs) = by_row schema m (request_taken schema m vs)
-body_taken schema m (Reply vs) = by_row schema m (reply_taken schema m (answer.Ok vs))
-body_taken schema m (Fault reason) = by_row schema m (reply_taken schema m (answer.Fault reason))
+body_taken schema m (Request vs) = by_row schema m (request_taken schema m vs) (line (what.Drop m.seq m.route m.number m.route))
+body_taken schema m (Reply vs) = line (what.TakeReply m.seq) ▷ by_row schema m (reply_taken schema m (answer.Ok vs)) unchanged
+body_taken schema m (Fault reason) = line (what.TakeReply m.seq) ▷ by_row schema m (reply_taken schema m (answer.Fault reason)) unchanged
 body_taken schema m Goodbye = line what.ShutNormal ▷ closed NormalShutdown
 
 abbrev pub item_taken : Schema → Item → Change
