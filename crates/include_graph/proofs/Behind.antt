@@ -1,5 +1,5 @@
 -- What stands behind the last byte of a kind, byte by byte.
-use Rattle.std.proofs.Common.{◌≡◌, ℕ, Bool, true, false, ◌||◌, cond, nat_eq, List, [], ◌∷◌, ◌++◌, refl, ◌∙◌, ap}
+use Rattle.std.proofs.Common.{◌≡◌, ℕ, Bool, true, false, ◌||◌, cond, nat_eq, List, [], ◌∷◌, ◌++◌, refl, ◌∙◌}
 use Rattle.std.specs.List.{list_any}
 use Rattle.include_graph.specs.Keys.{behind_last}
 use Rattle.include_graph.proofs.Ends.{by_test}
