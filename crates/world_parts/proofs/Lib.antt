@@ -1,0 +1,5 @@
+pub mod Adds
+pub mod Effects
+pub mod Begins
+pub mod Events
+pub mod Follow

@@ -1,0 +1,22 @@
+-- What follows from the steps of ends, for every schema and every list of moves.
+use Rattle.std.specs.Prelude.{◌≡◌, ℕ, List, Some, None}
+use Rattle.ipdl_base.specs.declared.schema.Schema.{Schema}
+use Rattle.world_laws.specs.Ends.{End, Packet}
+use Rattle.world_laws.specs.Events.{Event, Move}
+use Rattle.world_laws.specs.Outputs.{Output}
+use Rattle.world_laws.specs.Runs.{history_of}
+use Rattle.world_laws.specs.Steps.{step}
+use Rattle.world_parts.specs.EventLines.{IsEventWithEffects, EffectsFollow}
+
+-- Each event prints its line, and then a line for each of its effects; the end keeps its side.
+pub record HasItsLines (e : End) (output : Output) : Type 0 where
+  pub lines : IsEventWithEffects e.side output.lines
+  pub side : output.end.side ≡ e.side
+
+abbrev pub EventsHaveTheirLines : Type 0
+EventsHaveTheirLines =
+    (schema : Schema) (e : End) (link : List Packet) (event : Event) (output : Output) → step schema e link event ≡ Some output → HasItsLines e output
+
+-- In every history each effect stands behind an event of its side, or behind another effect of that event.
+abbrev pub EffectsFollowEvents : Type 0
+EffectsFollowEvents = (schema : Schema) (top : ℕ) (moves : List Move) → EffectsFollow None (history_of schema top moves)

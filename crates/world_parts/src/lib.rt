@@ -1,0 +1,6 @@
+//! What every step of an end keeps, part by part (docs/channel.md). No function that runs.
+#![tactic(auto)]
+
+mod laws;
+
+pub use laws::{effects_follow_events, events_have_their_lines};
