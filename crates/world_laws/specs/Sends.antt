@@ -86,8 +86,12 @@ abbrev pub send_line : MessageRow → Message → Values → What
 send_line row m vs = if is_sync_row row then what.Call m.seq m.transaction m.route m.number vs else what.Send m.seq m.route m.number vs
 
 -- a lazy request goes last into the outbox, and another onto the link
+abbrev pub posted_by : Bool → Message → Change
+posted_by true m = on_end (λ e. record e { outbox = e.outbox ++ m ∷ [] })
+posted_by false m = put (message m)
+
 abbrev pub posted : MessageRow → Message → Change
-posted row m = if row.lazy then on_end (λ e. record e { outbox = e.outbox ++ m ∷ [] }) else put (message m)
+posted row m = posted_by row.lazy m
 
 -- the wait for the reply to a sync request, without an answer
 abbrev pub wait_for : MessageRow → Message → StackEntry

@@ -105,10 +105,12 @@ adds-closed why =
 
 -- Sends
 
+adds-posted_by : (lazy : Bool) (m : Message) → AddsEffects (sends.posted_by lazy m)
+adds-posted_by true m = adds-on_end (λ e. record e { outbox = e.outbox ++ m ∷ [] }) (λ e. refl)
+adds-posted_by false m = adds-put (message m)
+
 pub adds-posted : (row : MessageRow) (m : Message) → AddsEffects (sends.posted row m)
-adds-posted row m o = elim row.lazy as (λ b. Adds (if b then on_end (λ e. record e { outbox = e.outbox ++ m ∷ [] }) else put (message m)) o) [
-    true ↦ adds-on_end (λ e. record e { outbox = e.outbox ++ m ∷ [] }) (λ e. refl) o
-  | false ↦ adds-put (message m) o ]
+adds-posted row m = adds-posted_by row.lazy m
 
 pub adds-awaits_reply : (row : MessageRow) (m : Message) → AddsEffects (sends.awaits_reply row m)
 adds-awaits_reply row m =

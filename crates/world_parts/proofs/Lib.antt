@@ -3,3 +3,4 @@ pub mod Effects
 pub mod Begins
 pub mod Events
 pub mod Follow
+pub mod Leaves
