@@ -4,3 +4,5 @@ pub mod Begins
 pub mod Events
 pub mod Follow
 pub mod Leaves
+pub mod Sublists
+pub mod Known

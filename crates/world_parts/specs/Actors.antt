@@ -3,7 +3,7 @@ use Rattle.std.specs.Prelude.{◌≡◌, ◌≢◌, ℕ, ◌≤◌, ℤ, Bool, t
 use Rattle.std.specs.List.{AllByRecursion, flat_map}
 use Rattle.std.specs.Option.{option_map_or}
 use Rattle.actor_tree.specs.declared.actor.Actor.{Actor}
-use Rattle.actor_tree.specs.Tree.{lives, top, IsTree}
+use Rattle.actor_tree.specs.Tree.{lives, IsTree}
 use Rattle.ipdl_base.specs.declared.kinds.Side.{Side}
 use Rattle.ipdl_base.specs.declared.schema.Schema.{Schema}
 use Rattle.ipdl_base.specs.Sound.{message_of}
@@ -57,15 +57,15 @@ AreDistinct (id ∷ rest) = AllByRecursion (λ later. id ≢ later) rest × AreD
 abbrev pub IsNew : Ids → ℤ → Type 0
 IsNew ids id = IsIdOf (other ids.side) ids.delivered id × (lives id ids.actors ≡ false)
 
-abbrev pub StartsWithTop : ℕ → List Actor → Type 0
-StartsWithTop protocol [] = Unit {0}
-StartsWithTop protocol (a ∷ actors) = a ≡ top protocol
+-- an actor with the id of the top actor is of the top protocol
+abbrev pub IsTopOf : ℕ → Actor → Type 0
+IsTopOf protocol a = a.id ≡ top_id → a.protocol ≡ protocol
 
 -- The living actors are a tree below the top actor, each with an id that is taken; and the constructors that have
 -- arrived have ids that are taken, of nobody who lives, and of which no two are the same.
 pub record AreKnown (protocol : ℕ) (ids : Ids) : Type 0 where
   pub tree : IsTree ids.actors
-  pub top : StartsWithTop protocol ids.actors
+  pub top : AllByRecursion (IsTopOf protocol) ids.actors
   pub taken : (id : ℤ) → lives id ids.actors ≡ true → IsTaken ids id
   pub waiting : AllByRecursion (IsNew ids) ids.waiting
   pub distinct : AreDistinct ids.waiting
