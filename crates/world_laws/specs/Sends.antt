@@ -74,13 +74,17 @@ stack_refusal e row = refusal_of (frames_of e) (record { sync = is_sync_row row;
 abbrev pub value_refusal : Bool → Bool → Option SendRefusal
 value_refusal large dead = if large then Some refusal.TooLarge else (if dead then Some refusal.DeadValue else None)
 
+-- why the values of a send are refused
+abbrev pub send_value_refusal : Schema → End → MessageRow → ℤ → Values → Option SendRefusal
+send_value_refusal schema e row route vs = value_refusal (is_too_large schema (request_of e row route vs)) (has_dead schema e.actors row.params vs)
+
 -- why a send is refused: the first cause that holds
 abbrev pub send_refusal : Schema → End → MessageRow → ℤ → Values → Option SendRefusal
 send_refusal schema e row route vs =
     if not (is_open e.state) then Some refusal.Closed else
     (if not (lives_as e.actors (protocol_of row.number) route) then Some refusal.DeadActor else
     (if is_some (stack_refusal e row) then stack_refusal e row else
-    value_refusal (is_too_large schema (request_of e row route vs)) (has_dead schema e.actors row.params vs)))
+    send_value_refusal schema e row route vs))
 
 abbrev pub send_line : MessageRow → Message → Values → What
 send_line row m vs = if is_sync_row row then what.Call m.seq m.transaction m.route m.number vs else what.Send m.seq m.route m.number vs

@@ -6,3 +6,4 @@ pub mod Follow
 pub mod Leaves
 pub mod Sublists
 pub mod Known
+pub mod KnownSteps

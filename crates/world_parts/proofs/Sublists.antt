@@ -48,7 +48,7 @@ distinct-sublist _ _ (left {xs = xs} {ys = ys} x s) h = distinct-sublist xs ys s
 
 -- Arrived items that stay
 
-without_first-sublist : (test : Item → Bool) (items : List Item) → Sublist (without_first test items) items
+pub without_first-sublist : (test : Item → Bool) (items : List Item) → Sublist (without_first test items) items
 without_first-sublist test [] = nil
 without_first-sublist test (x ∷ xs) = elim (test x) as (λ b. Sublist (cond b xs (x ∷ without_first test xs)) (x ∷ xs)) [
     true ↦ left x (sublist-all xs)

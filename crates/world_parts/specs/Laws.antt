@@ -1,11 +1,13 @@
 -- What follows from the steps of ends, for every schema and every list of moves.
 use Rattle.std.specs.Prelude.{◌≡◌, ℕ, List, Some, None}
+use Rattle.ipdl_base.specs.declared.kinds.Side.{Side}
 use Rattle.ipdl_base.specs.declared.schema.Schema.{Schema}
-use Rattle.world_laws.specs.Ends.{End, Packet}
+use Rattle.world_laws.specs.Ends.{End, Packet, opening_end}
 use Rattle.world_laws.specs.Events.{Event, Move}
 use Rattle.world_laws.specs.Outputs.{Output}
 use Rattle.world_laws.specs.Runs.{history_of}
 use Rattle.world_laws.specs.Steps.{step}
+use Rattle.world_parts.specs.Actors.{IsAccepted, AreKnown, ids_of}
 use Rattle.world_parts.specs.EventLines.{IsEventWithEffects, EffectsFollow}
 
 -- Each event prints its line, and then a line for each of its effects; the end keeps its side.
@@ -20,3 +22,13 @@ EventsHaveTheirLines =
 -- In every history each effect stands behind an event of its side, or behind another effect of that event.
 abbrev pub EffectsFollowEvents : Type 0
 EffectsFollowEvents = (schema : Schema) (top : ℕ) (moves : List Move) → EffectsFollow None (history_of schema top moves)
+
+-- Actors stay known: a step whose packet, if it delivers one, is not refused keeps them so.
+abbrev pub KnownActorsStay : Type 0
+KnownActorsStay =
+    (schema : Schema) (protocol : ℕ) (e : End) (link : List Packet) (event : Event) (output : Output)
+    → step schema e link event ≡ Some output → IsAccepted schema e link event → AreKnown protocol (ids_of schema e) → AreKnown protocol (ids_of schema output.end)
+
+-- At an end as it begins the top actor alone is known.
+abbrev pub FirstActorsAreKnown : Type 0
+FirstActorsAreKnown = (schema : Schema) (protocol : ℕ) (side : Side) → AreKnown protocol (ids_of schema (opening_end protocol side))

@@ -1,4 +1,4 @@
-ghost use Rattle.world_parts.specs.Laws.{EffectsFollowEvents, EventsHaveTheirLines};
+ghost use Rattle.world_parts.specs.Laws.{EffectsFollowEvents, EventsHaveTheirLines, FirstActorsAreKnown, KnownActorsStay};
 
 /// The law of an event's lines: one line of the event and then those of its effects, all of the end's side.
 pub fn events_have_their_lines()
@@ -8,4 +8,15 @@ pub fn events_have_their_lines()
 /// The law of effects: each stands behind an event of its side, or behind another effect of that event.
 pub fn effects_follow_events()
     ensures { EffectsFollowEvents }
+{}
+
+/// The law of first actors: an end begins with the top actor alone, which is known.
+pub fn first_actors_are_known()
+    ensures { FirstActorsAreKnown }
+{}
+
+/// The law of known actors: every step keeps the living actors a tree, with ids that are taken, and the new ids that
+/// have arrived free, where an end delivers nothing that it refuses.
+pub fn known_actors_stay()
+    ensures { KnownActorsStay }
 {}

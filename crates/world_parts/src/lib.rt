@@ -3,4 +3,6 @@
 
 mod laws;
 
-pub use laws::{effects_follow_events, events_have_their_lines};
+pub use laws::{
+    effects_follow_events, events_have_their_lines, first_actors_are_known, known_actors_stay,
+};
