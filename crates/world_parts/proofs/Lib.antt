@@ -7,3 +7,4 @@ pub mod Leaves
 pub mod Sublists
 pub mod Known
 pub mod KnownSteps
+pub mod InState

@@ -9,6 +9,7 @@ use Rattle.world_laws.specs.Runs.{history_of}
 use Rattle.world_laws.specs.Steps.{step}
 use Rattle.world_parts.specs.Actors.{IsAccepted, AreKnown, ids_of}
 use Rattle.world_parts.specs.EventLines.{IsEventWithEffects, EffectsFollow}
+use Rattle.world_parts.specs.States.{IsInState}
 
 -- Each event prints its line, and then a line for each of its effects; the end keeps its side.
 pub record HasItsLines (e : End) (output : Output) : Type 0 where
@@ -32,3 +33,12 @@ KnownActorsStay =
 -- At an end as it begins the top actor alone is known.
 abbrev pub FirstActorsAreKnown : Type 0
 FirstActorsAreKnown = (schema : Schema) (protocol : ℕ) (side : Side) → AreKnown protocol (ids_of schema (opening_end protocol side))
+
+-- Every step keeps what the state of an end says, where its actors are known.
+abbrev pub StatesStay : Type 0
+StatesStay =
+    (schema : Schema) (protocol : ℕ) (e : End) (link : List Packet) (event : Event) (output : Output)
+    → step schema e link event ≡ Some output → AreKnown protocol (ids_of schema e) → IsInState e → IsInState output.end
+
+abbrev pub FirstStates : Type 0
+FirstStates = (protocol : ℕ) (side : Side) → IsInState (opening_end protocol side)

@@ -1,3 +1,4 @@
 pub mod EventLines
 pub mod Laws
 pub mod Actors
+pub mod States
