@@ -1,13 +1,9 @@
 -- Parts of steps that add lines of effects alone, and leave the end its side.
-use Rattle.std.proofs.Common.{◌≡◌, ℕ, ℤ, Bool, true, false, List, [], ◌∷◌, ◌++◌, map, flat_map, Option, Some, None, refl, sym, ap, subst, ◌∙◌, append_assoc}
+use Rattle.std.proofs.Common.{◌≡◌, Bool, true, false, List, [], ◌∷◌, ◌++◌, map, flat_map, refl, sym, ap, ◌∙◌, append_assoc}
 use Rattle.std.specs.List.{AllByRecursion}
 use Rattle.std.proofs.lemmas.List.{map-append, append-nil}
-use Rattle.actor_tree.specs.declared.actor.Actor.{Actor}
-use Rattle.history.specs.declared.line.Line.{Line}
 use Rattle.history.specs.declared.line.What.{What}
-use Rattle.history.specs.declared.line.What.TheVariants as what
 use Rattle.history.specs.Text.{is_effect}
-use Rattle.ipdl_base.specs.declared.kinds.Side.{Side}
 use Rattle.world_laws.specs.Ends.{End, Packet}
 use Rattle.world_laws.specs.Outputs.{Output, Change, unchanged, ◌▷◌, when, when_open, on_end, line, line_at, lines, put, is_open}
 

@@ -1,17 +1,16 @@
 -- Steps that print the line of their event, and then those of effects.
-use Rattle.std.proofs.Common.{◌≡◌, ℕ, ℤ, Bool, true, false, List, [], ◌∷◌, ◌++◌, map, Option, Some, None, refl, sym, ap, subst, ◌∙◌, append_assoc, option_and_then, if◌then◌else◌}
+use Rattle.std.proofs.Common.{◌≡◌, Bool, false, List, [], ◌∷◌, ◌++◌, map, Option, Some, refl, sym, ap, subst, ◌∙◌, append_assoc, option_and_then}
 use Rattle.std.specs.List.{AllByRecursion}
-use Rattle.std.proofs.lemmas.Option.{same_Some}
-use Rattle.history.specs.declared.line.Line.{Line}
 use Rattle.history.specs.declared.line.What.{What}
 use Rattle.history.specs.Text.{is_effect}
 use Rattle.ipdl_base.specs.declared.kinds.Side.{Side}
 use Rattle.world_laws.specs.Ends.{End}
 use Rattle.world_laws.specs.Outputs.{Output, Change, beginning, ◌▷◌, on_end, line, line_at}
 use Rattle.world_laws.specs.Steps.{provided}
-use Rattle.world_parts.specs.EventLines.{IsEventOf, IsEffectOf, IsEventWithEffects}
+use Rattle.world_parts.specs.EventLines.{IsEffectOf, IsEventWithEffects}
 use Rattle.world_parts.specs.Laws.{HasItsLines}
-use Rattle.world_parts.proofs.Adds.{IsEffect, AllEffects, Adds, AddsEffects}
+use Rattle.world_parts.proofs.Provided.{provided-gives, found-gives}
+use Rattle.world_parts.proofs.Adds.{AllEffects, Adds, AddsEffects}
 
 -- an event's line and those of its effects
 pub record Begins (change : Change) (o : Output) : Type 0 where
@@ -75,9 +74,7 @@ begun change e b = record {
 }
 
 pub provided-has : (b : Bool) (change : Change) (e : End) (output : Output) → BeginsEvent change → provided b change e ≡ Some output → HasItsLines e output
-provided-has true change e output h is = subst (HasItsLines e) (same_Some (change (beginning e)) output is) (begun change e (h (beginning e)))
-provided-has false change e output h is = cc
+provided-has b change e output h is = provided-gives (HasItsLines e) b change e output (λ may. begun change e (h (beginning e))) is
 
 pub found-has : {A : Type 0} (found : Option A) (f : A → Option Output) (e : End) (output : Output) → ((x : A) → f x ≡ Some output → HasItsLines e output) → option_and_then f found ≡ Some output → HasItsLines e output
-found-has None f e output h is = cc
-found-has (Some x) f e output h is = h x is
+found-has found f e output h is = found-gives (HasItsLines e) found f output (λ x at. h x) is

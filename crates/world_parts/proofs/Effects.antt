@@ -1,5 +1,5 @@
 -- Each part of a step behind its first line adds effects alone.
-use Rattle.std.proofs.Common.{◌≡◌, ℕ, ℤ, Bool, true, false, List, [], ◌∷◌, ◌++◌, map, filter, flat_map, Option, Some, None, refl, is_some, is_none, ◌||◌, if◌then◌else◌, unwrap_or}
+use Rattle.std.proofs.Common.{◌≡◌, ℕ, ℤ, Bool, true, false, List, [], ◌∷◌, ◌++◌, map, filter, flat_map, Option, Some, None, refl, if◌then◌else◌}
 use Rattle.actor_tree.specs.declared.actor.Actor.{Actor}
 use Rattle.actor_tree.specs.Fall.{post_order, others}
 use Rattle.actor_tree.specs.Tree.{lives}
@@ -13,7 +13,6 @@ use Rattle.ipdl_base.specs.declared.schema.Kind.{Kind}
 use Rattle.ipdl_base.specs.declared.schema.Kind.TheVariants.{Normal, Constructor, Delete}
 use Rattle.ipdl_base.specs.declared.schema.MessageRow.{MessageRow}
 use Rattle.ipdl_base.specs.declared.schema.Schema.{Schema}
-use Rattle.ipdl_base.specs.declared.value.Values.{Values}
 use Rattle.nesting_core.specs.declared.frame.Answer.{Answer}
 use Rattle.nesting_core.specs.declared.frame.Answer.TheVariants as answer
 use Rattle.pending_queue.specs.declared.item.Item.{Item}
@@ -23,19 +22,18 @@ use Rattle.promise_table.specs.declared.promise.Outcome.{Outcome}
 use Rattle.promise_table.specs.declared.promise.Outcome.TheVariants.{Resolved, Rejected}
 use Rattle.promise_table.specs.declared.promise.Promise.{Promise}
 use Rattle.promise_table.specs.Promises.{is_pending_of}
-use Rattle.ipdl_base.specs.Sound.{message_of}
 use Rattle.std.specs.Option.{option_map_or}
 use Rattle.world_laws.specs.declared.end.EndState.TheVariants.{Closed, Draining}
 use Rattle.world_laws.specs.Deliveries as delivery
-use Rattle.world_laws.specs.Ends.{End, Packet, message, PromiseEntry, Holds, actor, resolver, Resolver}
-use Rattle.world_laws.specs.Falls.{passes, rejections, rejected, fall_lines, fallen, why_deleted, deleted, deletes, abandoned, closed}
+use Rattle.world_laws.specs.Ends.{End, message, PromiseEntry, Holds, actor, resolver, Resolver}
+use Rattle.world_laws.specs.Falls.{passes, rejections, rejected, fall_lines, fallen, why_deleted, deletes, abandoned, closed}
 use Rattle.world_laws.specs.Names.{held_by_name, without_name, let_go, holding, renamed, without_resolvers}
 use Rattle.world_laws.specs.Numbers.{top_id, is_sync_row, makes_promise}
-use Rattle.world_laws.specs.Outputs.{Output, Change, unchanged, ◌▷◌, when, on_end, line, lines, put, Answered, answered, destroyed, resolver_answered, request_answered, answer_line, reply_to, body_of}
+use Rattle.world_laws.specs.Outputs.{Change, ◌▷◌, when, on_end, line, lines, put, Answered, answered, destroyed, resolver_answered, request_answered, answer_line, reply_to, body_of}
 use Rattle.world_laws.specs.Sends as sends
 use Rattle.world_laws.specs.Takes as takes
 use Rattle.world_laws.specs.ValueActors.{received}
-use Rattle.world_parts.proofs.Adds.{IsEffect, AllEffects, effects-append, effects-map, effects-flat_map, Adds, AddsEffects, adds-nothing, adds-unchanged, adds-chain, adds-when, adds-when_open, adds-on_end, adds-line, adds-lines, adds-put, adds-as}
+use Rattle.world_parts.proofs.Adds.{IsEffect, AllEffects, effects-append, effects-map, effects-flat_map, AddsEffects, adds-unchanged, adds-chain, adds-when, adds-when_open, adds-on_end, adds-line, adds-lines, adds-put, adds-as}
 
 -- Answers and names
 
@@ -46,7 +44,7 @@ answer_line-effect seq (answer.Fault reason) = refl
 pub adds-answered : (q : Answered) (a : Answer) → AddsEffects (answered q a)
 adds-answered q a =
     adds-when_open (line (answer_line q.seq a) ▷ put (message (reply_to q (body_of a))))
-        (adds-chain (line (answer_line q.seq a)) (put (message (reply_to q (body_of a)))) (adds-line (answer_line q.seq a) (answer_line-effect q.seq a)) (adds-put (message (reply_to q (body_of a)))))
+    (adds-chain (line (answer_line q.seq a)) (put (message (reply_to q (body_of a)))) (adds-line (answer_line q.seq a) (answer_line-effect q.seq a)) (adds-put (message (reply_to q (body_of a)))))
 
 pub adds-destroyed : (r : Resolver) → AddsEffects (destroyed r)
 adds-destroyed r = adds-answered (resolver_answered r) (answer.Fault reason.ResolverDestroyed)
@@ -62,8 +60,8 @@ adds-renamed name holds o =
     let taken : Change = on_end (λ e. record e { names = without_name name e.names }) in
     let given : Change = on_end (λ e. record e { names = e.names ++ holding name holds }) in
     adds-as (renamed name holds) (taken ▷ let_go before ▷ given) o refl
-        (adds-chain taken (let_go before ▷ given) (adds-on_end (λ e. record e { names = without_name name e.names }) (λ e. refl))
-            (adds-chain (let_go before) given (adds-let_go before) (adds-on_end (λ e. record e { names = e.names ++ holding name holds }) (λ e. refl))) o)
+    (adds-chain taken (let_go before ▷ given) (adds-on_end (λ e. record e { names = without_name name e.names }) (λ e. refl))
+    (adds-chain (let_go before) given (adds-let_go before) (adds-on_end (λ e. record e { names = e.names ++ holding name holds }) (λ e. refl))) o)
 
 -- Falls
 
@@ -84,7 +82,7 @@ adds-fallen id why o =
     let ws : List What = flat_map (fall_lines why o.end.promises) falling in
     let f : End → End = λ e. record e { actors = others falling e.actors; promises = rejected (λ p. lives p.actor falling) reason.ActorDestroyed e.promises } in
     adds-as (fallen id why) (lines ws ▷ on_end f) o refl
-        (adds-lines_then ws f (effects-flat_map (fall_lines why o.end.promises) falling (fall_lines-effects why o.end.promises)) (λ e. refl) o)
+    (adds-lines_then ws f (effects-flat_map (fall_lines why o.end.promises) falling (fall_lines-effects why o.end.promises)) (λ e. refl) o)
 
 pub adds-deletes : (route : ℤ) (kind : Kind) → AddsEffects (deletes route kind)
 adds-deletes route Normal = adds-unchanged
@@ -101,7 +99,7 @@ pub adds-closed : (why : Destroy) → AddsEffects (closed why)
 adds-closed why =
     let last : Change = on_end (λ e. record e { state = Closed; arrived = []; names = without_resolvers e.names }) in
     adds-chain abandoned (fallen top_id (λ id. why) ▷ last) adds-abandoned
-        (adds-chain (fallen top_id (λ id. why)) last (adds-fallen top_id (λ id. why)) (adds-on_end (λ e. record e { state = Closed; arrived = []; names = without_resolvers e.names }) (λ e. refl)))
+    (adds-chain (fallen top_id (λ id. why)) last (adds-fallen top_id (λ id. why)) (adds-on_end (λ e. record e { state = Closed; arrived = []; names = without_resolvers e.names }) (λ e. refl)))
 
 -- Sends
 
@@ -117,8 +115,8 @@ adds-awaits_reply row m =
     let waits : End → End = λ e. record e { stack = sends.wait_for row m ∷ e.stack } in
     let promises : End → End = λ e. record e { promises = e.promises ++ record { promise = record { seq = m.seq; actor = m.route; outcome = None }; number = m.number } ∷ [] } in
     adds-chain (when (is_sync_row row) (on_end waits)) (when (makes_promise row) (on_end promises))
-        (adds-when (is_sync_row row) (on_end waits) (adds-on_end waits (λ e. refl)))
-        (adds-when (makes_promise row) (on_end promises) (adds-on_end promises (λ e. refl)))
+    (adds-when (is_sync_row row) (on_end waits) (adds-on_end waits (λ e. refl)))
+    (adds-when (makes_promise row) (on_end promises) (adds-on_end promises (λ e. refl)))
 
 adds-built : (id : ℤ) (protocol : ℕ) (manager : ℤ) → AddsEffects (sends.built id protocol manager)
 adds-built id protocol manager =
@@ -142,14 +140,14 @@ adds-replacing row (Some item.Broken) = adds-unchanged
 adds-replacing row (Some (item.Message old sync level)) =
     let told : Change = answered (request_answered old) (answer.Fault reason.ResolverDestroyed) in
     adds-chain (line (what.Replaced old.seq)) (when (makes_promise row) told) (adds-line (what.Replaced old.seq) refl)
-        (adds-when (makes_promise row) told (adds-answered (request_answered old) (answer.Fault reason.ResolverDestroyed)))
+    (adds-when (makes_promise row) told (adds-answered (request_answered old) (answer.Fault reason.ResolverDestroyed)))
 
 pub adds-request_arrives : (m : Message) (row : MessageRow) → AddsEffects (delivery.request_arrives m row)
 adds-request_arrives m row o =
     let old : Option Item = replaced row.compress (delivery.item_of row m) o.end.arrived in
     let f : End → End = delivery.counted row (delivery.item_of row m) in
     adds-as (delivery.request_arrives m row) (on_end f ▷ delivery.replacing row old) o refl
-        (adds-chain (on_end f) (delivery.replacing row old) (adds-on_end f (λ e. refl)) (adds-replacing row old) o)
+    (adds-chain (on_end f) (delivery.replacing row old) (adds-on_end f (λ e. refl)) (adds-replacing row old) o)
 
 reply_arrives-side : (b : Bool) (a : Answer) (new : Item) (e : End) → (if b then delivery.answers_wait a e else delivery.arrives new e).side ≡ e.side
 reply_arrives-side true a new e = refl

@@ -1,5 +1,5 @@
 -- Each event has its lines.
-use Rattle.std.proofs.Common.{◌≡◌, ℕ, ◌+◌, ℤ, pos, Bool, true, false, not, List, [], ◌∷◌, ◌++◌, drop, map, length, Option, Some, None, refl, option_and_then, if◌then◌else◌, ◌||◌, sym}
+use Rattle.std.proofs.Common.{◌≡◌, ℕ, ◌+◌, ℤ, pos, Bool, true, false, List, [], ◌∷◌, drop, length, Option, Some, None, refl, option_and_then, if◌then◌else◌, ◌||◌}
 use Rattle.std.specs.Option.{option_map_or}
 use Rattle.history.specs.declared.line.What.{What}
 use Rattle.history.specs.declared.line.What.TheVariants as what
@@ -30,17 +30,17 @@ use Rattle.world_laws.specs.Ends.{End, Packet, message, mark, StackEntry, Resolv
 use Rattle.world_laws.specs.Events.{Answering, handled, kept, Event}
 use Rattle.world_laws.specs.Events as event
 use Rattle.world_laws.specs.Falls.{closed, deletes}
-use Rattle.world_laws.specs.Names.{renamed, without_name}
+use Rattle.world_laws.specs.Names.{renamed}
 use Rattle.world_laws.specs.Numbers.{counting, is_sync_row, makes_promise, request_row}
-use Rattle.world_laws.specs.Outputs.{Output, Change, unchanged, ◌▷◌, when, when_open, on_end, line, line_at, put, answered, destroyed, request_answered, resolver_answered, reply_to, is_open}
+use Rattle.world_laws.specs.Outputs.{Change, unchanged, ◌▷◌, when, when_open, on_end, line, put, answered, destroyed, request_answered, resolver_answered, reply_to, is_open}
 use Rattle.world_laws.specs.Returns as returns
 use Rattle.world_laws.specs.Sends as sends
-use Rattle.world_laws.specs.Steps.{provided, first_packet, step}
+use Rattle.world_laws.specs.Steps.{provided, first_packet}
 use Rattle.world_laws.specs.Takes as takes
 use Rattle.world_laws.specs.ValueActors.{nulled, received}
-use Rattle.world_parts.specs.Laws.{HasItsLines, EventsHaveTheirLines}
-use Rattle.world_parts.proofs.Adds.{Adds, AddsEffects, adds-unchanged, adds-chain, adds-when, adds-when_open, adds-on_end, adds-put}
-use Rattle.world_parts.proofs.Begins.{Begins, BeginsEvent, begins-line, begins-line_then, begins-behind, begins-as, provided-has, found-has}
+use Rattle.world_parts.specs.Laws.{EventsHaveTheirLines}
+use Rattle.world_parts.proofs.Adds.{adds-unchanged, adds-chain, adds-when, adds-when_open, adds-on_end, adds-put}
+use Rattle.world_parts.proofs.Begins.{BeginsEvent, begins-line, begins-line_then, begins-behind, begins-as, provided-has, found-has}
 use Rattle.world_parts.proofs.Effects.{adds-answered, adds-destroyed, adds-renamed, adds-deletes, adds-closed, adds-posted, adds-awaits_reply, adds-constructs, adds-names_actor, adds-request_arrives, adds-reply_arrives, adds-ended, adds-by_row, adds-reply_taken}
 
 -- Sends
@@ -57,11 +57,11 @@ begins-sent row m vs name =
     let awaited : Change = sends.awaits_reply row m ▷ named in
     let posted : Change = sends.posted row m ▷ awaited in
     begins-line_then (sends.send_line row m vs) (on_end f ▷ posted) (send_line-event (is_sync_row row) m vs)
-        (adds-chain (on_end f) posted (adds-on_end f (λ e. refl))
-            (adds-chain (sends.posted row m) awaited (adds-posted row m)
-                (adds-chain (sends.awaits_reply row m) named (adds-awaits_reply row m)
-                    (adds-chain (sends.names_actor m.made name) last (adds-names_actor m.made name)
-                        (adds-chain (sends.constructs m.made m.route row.kind) (deletes m.route row.kind) (adds-constructs m.made m.route row.kind) (adds-deletes m.route row.kind))))))
+    (adds-chain (on_end f) posted (adds-on_end f (λ e. refl))
+    (adds-chain (sends.posted row m) awaited (adds-posted row m)
+    (adds-chain (sends.awaits_reply row m) named (adds-awaits_reply row m)
+    (adds-chain (sends.names_actor m.made name) last (adds-names_actor m.made name)
+    (adds-chain (sends.constructs m.made m.route row.kind) (deletes m.route row.kind) (adds-constructs m.made m.route row.kind) (adds-deletes m.route row.kind))))))
 
 begins-sent_unless : (cause : Option SendRefusal) (row : MessageRow) (m : Message) (vs : Values) (name : Option (List ℕ)) → BeginsEvent (sends.sent_unless cause row m vs name)
 begins-sent_unless None row m vs name = begins-sent row m vs name
@@ -85,7 +85,7 @@ begins-resolved : (by : Answering) (vs : Option Values) (r : Resolver) → Begin
 begins-resolved by vs r =
     let reply : Change = put (message (reply_to (resolver_answered r) (answers.answer_body vs))) in
     begins-line_then (answers.answering_line r.seq vs) (on_end (answers.without_resolver by) ▷ reply) (answering_line-event r.seq vs)
-        (adds-chain (on_end (answers.without_resolver by)) reply (adds-on_end (answers.without_resolver by) (without_resolver-side by)) (adds-put (message (reply_to (resolver_answered r) (answers.answer_body vs)))))
+    (adds-chain (on_end (answers.without_resolver by)) reply (adds-on_end (answers.without_resolver by) (without_resolver-side by)) (adds-put (message (reply_to (resolver_answered r) (answers.answer_body vs)))))
 
 begins-answered_unless : (cause : Option SendRefusal) (by : Answering) (vs : Option Values) (r : Option Resolver) → BeginsEvent (answers.answered_unless cause by vs r)
 begins-answered_unless (Some cause) by vs r = begins-line (answers.refused_line cause vs) (refused_line-event cause vs)
@@ -97,19 +97,19 @@ begins-keep e seq name =
     let f : End → End = λ e. record e { stack = answers.released seq e.stack } in
     let renaming : Change = renamed name (option_and_then (answers.kept_by e) (answers.handled_resolver e seq)) in
     begins-line_then (what.Keep seq name) (on_end f ▷ renaming) refl
-        (adds-chain (on_end f) renaming (adds-on_end f (λ e. refl)) (adds-renamed name (option_and_then (answers.kept_by e) (answers.handled_resolver e seq))))
+    (adds-chain (on_end f) renaming (adds-on_end f (λ e. refl)) (adds-renamed name (option_and_then (answers.kept_by e) (answers.handled_resolver e seq))))
 
 -- Other acts
 
 begins-name_actor : (name : List ℕ) (id : ℤ) → BeginsEvent (acts.name_actor name id)
 begins-name_actor name id =
     begins-line_then (what.Let name (if acts.is_positive id then id else pos 0)) (renamed name (if acts.is_positive id then Some (actor id) else None)) refl
-        (adds-renamed name (if acts.is_positive id then Some (actor id) else None))
+    (adds-renamed name (if acts.is_positive id then Some (actor id) else None))
 
 begins-close_unless : (cause : Option SendRefusal) → BeginsEvent (acts.close_unless cause)
 begins-close_unless None =
     begins-line_then what.Close (put (message acts.goodbye) ▷ closed destroy.NormalShutdown) refl
-        (adds-chain (put (message acts.goodbye)) (closed destroy.NormalShutdown) (adds-put (message acts.goodbye)) (adds-closed destroy.NormalShutdown))
+    (adds-chain (put (message acts.goodbye)) (closed destroy.NormalShutdown) (adds-put (message acts.goodbye)) (adds-closed destroy.NormalShutdown))
 begins-close_unless (Some cause) = begins-line (what.RefusedClose cause) refl
 
 begins-die : BeginsEvent acts.die
@@ -122,12 +122,12 @@ begins-die =
 begins-reply_delivered : (schema : Schema) (m : Message) (a : Answer) → BeginsEvent (line (what.DeliverReply m.seq) ▷ delivery.by_row schema m (delivery.reply_arrives m a) unchanged)
 begins-reply_delivered schema m a =
     begins-line_then (what.DeliverReply m.seq) (delivery.by_row schema m (delivery.reply_arrives m a) unchanged) refl
-        (adds-by_row (message_of schema m.number) (delivery.reply_arrives m a) unchanged (adds-reply_arrives m a) adds-unchanged)
+    (adds-by_row (message_of schema m.number) (delivery.reply_arrives m a) unchanged (adds-reply_arrives m a) adds-unchanged)
 
 begins-body_delivered : (schema : Schema) (m : Message) (body : Body) → BeginsEvent (delivery.body_delivered schema m body)
 begins-body_delivered schema m (Request vs) =
     begins-line_then (what.DeliverRequest m.seq) (delivery.by_row schema m (delivery.request_arrives m) unchanged) refl
-        (adds-by_row (message_of schema m.number) (delivery.request_arrives m) unchanged (adds-request_arrives m) adds-unchanged)
+    (adds-by_row (message_of schema m.number) (delivery.request_arrives m) unchanged (adds-request_arrives m) adds-unchanged)
 begins-body_delivered schema m (Reply vs) = begins-reply_delivered schema m (answer.Ok vs)
 begins-body_delivered schema m (Fault reason) = begins-reply_delivered schema m (answer.Fault reason)
 begins-body_delivered schema m Goodbye = begins-line_then what.DeliverGoodbye (delivery.ended (item.Message m false Not)) refl (adds-ended (item.Message m false Not))
@@ -141,19 +141,19 @@ begins-deliver schema mark = begins-line_then what.DeliverBroken (delivery.ended
 begins-reply_taken : (schema : Schema) (m : Message) (a : Answer) → BeginsEvent (line (what.TakeReply m.seq) ▷ delivery.by_row schema m (takes.reply_taken schema m a) unchanged)
 begins-reply_taken schema m a =
     begins-line_then (what.TakeReply m.seq) (delivery.by_row schema m (takes.reply_taken schema m a) unchanged) refl
-        (adds-by_row (message_of schema m.number) (takes.reply_taken schema m a) unchanged (adds-reply_taken schema m a) adds-unchanged)
+    (adds-by_row (message_of schema m.number) (takes.reply_taken schema m a) unchanged (adds-reply_taken schema m a) adds-unchanged)
 
 begins-dropped : (row : MessageRow) (m : Message) (id : ℤ) → BeginsEvent (takes.dropped row m id)
 begins-dropped row m id =
     let told : Change = answered (request_answered m) (answer.Fault reason.ActorDestroyed) in
     begins-line_then (what.Drop m.seq m.route m.number id) (when (is_sync_row row || makes_promise row) told) refl
-        (adds-when (is_sync_row row || makes_promise row) told (adds-answered (request_answered m) (answer.Fault reason.ActorDestroyed)))
+    (adds-when (is_sync_row row || makes_promise row) told (adds-answered (request_answered m) (answer.Fault reason.ActorDestroyed)))
 
 begins-handled : (row : MessageRow) (m : Message) (vs : Values) → BeginsEvent (takes.handled row m vs)
 begins-handled row m vs =
     let f : End → End = λ e. record e { stack = takes.dispatch_of row m ∷ e.stack } in
     begins-line_then (what.Take m.seq m.route m.number vs) (on_end f ▷ sends.constructs m.made m.route row.kind) refl
-        (adds-chain (on_end f) (sends.constructs m.made m.route row.kind) (adds-on_end f (λ e. refl)) (adds-constructs m.made m.route row.kind))
+    (adds-chain (on_end f) (sends.constructs m.made m.route row.kind) (adds-on_end f (λ e. refl)) (adds-constructs m.made m.route row.kind))
 
 begins-dropped_or_handled : (id : Option ℤ) (row : MessageRow) (m : Message) (vs : Values) → BeginsEvent (takes.dropped_or_handled id row m vs)
 begins-dropped_or_handled None row m vs = begins-handled row m vs
@@ -172,7 +172,7 @@ begins-by_row (Some row) change otherwise h k = h row
 begins-body_taken : (schema : Schema) (m : Message) (body : Body) → BeginsEvent (takes.body_taken schema m body)
 begins-body_taken schema m (Request vs) =
     begins-by_row (message_of schema m.number) (takes.request_taken schema m vs) (line (what.Drop m.seq m.route m.number m.route)) (begins-request_taken schema m vs)
-        (begins-line (what.Drop m.seq m.route m.number m.route) refl)
+    (begins-line (what.Drop m.seq m.route m.number m.route) refl)
 begins-body_taken schema m (Reply vs) = begins-reply_taken schema m (answer.Ok vs)
 begins-body_taken schema m (Fault reason) = begins-reply_taken schema m (answer.Fault reason)
 begins-body_taken schema m Goodbye = begins-line_then what.ShutNormal (closed destroy.NormalShutdown) refl (adds-closed destroy.NormalShutdown)
@@ -193,9 +193,9 @@ begins-return schema e row entry vs =
     let lost : Change = destroyed (answers.resolver_in entry) in
     let last : Change = when entry.resolves lost ▷ deletes entry.route row.kind in
     begins-behind (λ e. record e { stack = drop 1 e.stack }) (line (what.Return (head_of entry.frame).seq) ▷ when (is_sync_row row) told ▷ last) (λ e. refl)
-        (begins-line_then (what.Return (head_of entry.frame).seq) (when (is_sync_row row) told ▷ last) refl
-            (adds-chain (when (is_sync_row row) told) last (adds-when (is_sync_row row) told (adds-answered (returns.dispatch_answered entry) (returns.return_answer schema e row entry vs)))
-                (adds-chain (when entry.resolves lost) (deletes entry.route row.kind) (adds-when entry.resolves lost (adds-destroyed (answers.resolver_in entry))) (adds-deletes entry.route row.kind))))
+    (begins-line_then (what.Return (head_of entry.frame).seq) (when (is_sync_row row) told ▷ last) refl
+    (adds-chain (when (is_sync_row row) told) last (adds-when (is_sync_row row) told (adds-answered (returns.dispatch_answered entry) (returns.return_answer schema e row entry vs)))
+    (adds-chain (when entry.resolves lost) (deletes entry.route row.kind) (adds-when entry.resolves lost (adds-destroyed (answers.resolver_in entry))) (adds-deletes entry.route row.kind))))
 
 resume_line-event : (seq : ℤ) (a : Answer) → is_effect (returns.resume_line seq a) ≡ false
 resume_line-event seq (answer.Ok vs) = refl
@@ -214,27 +214,27 @@ begins-flush o = record { event = what.Flush (length o.end.outbox); more = []; i
 pub events_have_their_lines : EventsHaveTheirLines
 events_have_their_lines schema e link (event.send route number vs name) output is =
     found-has (request_row schema number) (λ row. provided (sends.may_send schema e row vs name) (sends.send schema e row route vs name) e) e output
-        (λ row. provided-has (sends.may_send schema e row vs name) (sends.send schema e row route vs name) e output
-            (begins-sent_unless (sends.send_refusal schema e row route vs) row (sends.request_of e row route vs) vs name)) is
+    (λ row. provided-has (sends.may_send schema e row vs name) (sends.send schema e row route vs name) e output
+    (begins-sent_unless (sends.send_refusal schema e row route vs) row (sends.request_of e row route vs) vs name)) is
 events_have_their_lines schema e link (event.answer by vs) output is =
     found-has (answers.answered_row schema e by) (λ row. provided (answers.may_answer schema e row vs) (answers.answer schema e row by vs) e) e output
-        (λ row. provided-has (answers.may_answer schema e row vs) (answers.answer schema e row by vs) e output
-            (begins-answered_unless (answers.answer_refusal schema e row by vs) by vs (answers.resolver_used e by))) is
+    (λ row. provided-has (answers.may_answer schema e row vs) (answers.answer schema e row by vs) e output
+    (begins-answered_unless (answers.answer_refusal schema e row by vs) by vs (answers.resolver_used e by))) is
 events_have_their_lines schema e link (event.keep seq name) output is = provided-has (answers.may_keep e seq) (answers.keep e seq name) e output (begins-keep e seq name) is
 events_have_their_lines schema e link (event.name name id) output is = provided-has (sends.may_act e) (acts.name_actor name id) e output (begins-name_actor name id) is
 events_have_their_lines schema e link event.close output is = provided-has (sends.may_act e) (acts.close e) e output (begins-close_unless (acts.close_refusal e)) is
 events_have_their_lines schema e link event.die output is = provided-has (acts.may_die e) acts.die e output begins-die is
 events_have_their_lines schema e link event.deliver output is =
     found-has (first_packet link) (λ packet. provided (is_open e.state) (delivery.deliver schema packet) e) e output
-        (λ packet. provided-has (is_open e.state) (delivery.deliver schema packet) e output (begins-deliver schema packet)) is
+    (λ packet. provided-has (is_open e.state) (delivery.deliver schema packet) e output (begins-deliver schema packet)) is
 events_have_their_lines schema e link event.take output is =
     found-has (takes.taken_next e) (λ taken. provided true (takes.take schema taken) e) e output (λ taken. provided-has true (takes.take schema taken) e output (begins-take schema taken)) is
 events_have_their_lines schema e link (event.return vs) output is =
     found-has (returns.dispatch_on_top e.stack) (λ entry. option_and_then (λ row. provided (returns.may_return schema row vs) (returns.return schema e row entry vs) e) (request_row schema entry.number)) e output
-        (λ entry. found-has (request_row schema entry.number) (λ row. provided (returns.may_return schema row vs) (returns.return schema e row entry vs) e) e output
-            (λ row. provided-has (returns.may_return schema row vs) (returns.return schema e row entry vs) e output (begins-return schema e row entry vs))) is
+    (λ entry. found-has (request_row schema entry.number) (λ row. provided (returns.may_return schema row vs) (returns.return schema e row entry vs) e) e output
+    (λ row. provided-has (returns.may_return schema row vs) (returns.return schema e row entry vs) e output (begins-return schema e row entry vs))) is
 events_have_their_lines schema e link event.resume output is =
     found-has (returns.answered_wait_on_top e.stack) (λ wait. option_and_then (λ row. provided true (returns.resume schema e wait row) e) (request_row schema wait.number)) e output
-        (λ wait. found-has (request_row schema wait.number) (λ row. provided true (returns.resume schema e wait row) e) e output
-            (λ row. provided-has true (returns.resume schema e wait row) e output (begins-resume schema e wait row))) is
+    (λ wait. found-has (request_row schema wait.number) (λ row. provided true (returns.resume schema e wait row) e) e output
+    (λ row. provided-has true (returns.resume schema e wait row) e output (begins-resume schema e wait row))) is
 events_have_their_lines schema e link event.flush output is = provided-has (returns.may_flush e) returns.flush e output begins-flush is

@@ -1,5 +1,5 @@
 -- Effects follow their events in every history.
-use Rattle.std.proofs.Common.{◌≡◌, ℕ, Bool, true, false, List, [], ◌∷◌, ◌++◌, Option, Some, None, refl, sym, ap, subst}
+use Rattle.std.proofs.Common.{◌≡◌, Bool, true, false, List, [], ◌∷◌, ◌++◌, Option, Some, None, refl, sym, ap, subst}
 use Rattle.std.specs.Bool.{MatchBool}
 use Rattle.std.specs.List.{AllByRecursion}
 use Rattle.history.specs.declared.line.Line.{Line}
@@ -9,7 +9,7 @@ use Rattle.ipdl_base.specs.declared.schema.Schema.{Schema}
 use Rattle.world_laws.specs.Ends.{World, opening, end_of, link_to}
 use Rattle.world_laws.specs.Events.{Move}
 use Rattle.world_laws.specs.Outputs.{Output}
-use Rattle.world_laws.specs.Runs.{Passed, output_of, passed_by, happens, run}
+use Rattle.world_laws.specs.Runs.{output_of, passed_by, happens, run}
 use Rattle.world_parts.specs.EventLines.{IsEffectOf, IsEventWithEffects, EffectsFollow}
 use Rattle.world_parts.specs.Laws.{HasItsLines, EffectsFollowEvents}
 use Rattle.world_parts.proofs.Events.{events_have_their_lines}

@@ -1,5 +1,5 @@
 -- Parts of steps that keep what the state of an end says.
-use Rattle.std.proofs.Common.{◌≡◌, ℕ, ℤ, Bool, true, false, not, ◌&&◌, cond, if◌then◌else◌, List, [], ◌∷◌, ◌++◌, map, filter, drop, Option, Some, None, refl, sym, ap, subst, ◌∙◌}
+use Rattle.std.proofs.Common.{◌≡◌, ℕ, ℤ, Bool, true, false, ◌&&◌, cond, List, [], ◌∷◌, ◌++◌, map, drop, Option, Some, None, refl, sym, ap, subst, ◌∙◌}
 use Rattle.std.specs.List.{AllByRecursion}
 use Rattle.actor_tree.specs.declared.actor.Actor.{Actor}
 use Rattle.actor_tree.specs.Fall.{post_order, others}
@@ -9,7 +9,6 @@ use Rattle.history.specs.declared.line.What.{What}
 use Rattle.ipdl_base.specs.declared.kinds.Destroy.{Destroy}
 use Rattle.ipdl_base.specs.declared.kinds.Reason.{Reason}
 use Rattle.ipdl_base.specs.declared.kinds.Reason.TheVariants as reason
-use Rattle.ipdl_base.specs.declared.message.Message.{Message}
 use Rattle.ipdl_base.specs.declared.schema.Kind.{Kind}
 use Rattle.ipdl_base.specs.declared.schema.Kind.TheVariants.{Normal, Constructor, Delete}
 use Rattle.nesting_core.specs.declared.frame.Answer.{Answer}
@@ -19,14 +18,13 @@ use Rattle.nesting_core.specs.declared.frame.Frame.TheVariants.{Dispatch, Wait}
 use Rattle.promise_table.specs.declared.promise.Promise.{Promise}
 use Rattle.promise_table.specs.Promises.{is_pending}
 use Rattle.world_laws.specs.declared.end.EndState.{EndState}
-use Rattle.world_laws.specs.declared.end.EndState.TheVariants.{Open, Draining, Closed, Dead}
 use Rattle.world_laws.specs.Answers.{has_resolver, released}
 use Rattle.world_laws.specs.Deliveries.{with_failed_wait, failed}
 use Rattle.world_laws.specs.Ends.{End, StackEntry, PromiseEntry, Packet, message, Holds, actor, resolver, Resolver, Naming}
-use Rattle.world_laws.specs.Falls.{passes, rejected_entry, rejected, fallen, why_deleted, deletes, abandoned, closed}
-use Rattle.world_laws.specs.Names.{held_by_name, without_name, let_go, holding, renamed, without_resolvers}
+use Rattle.world_laws.specs.Falls.{passes, rejected_entry, rejected, fallen, why_deleted, deletes, closed}
+use Rattle.world_laws.specs.Names.{held_by_name, without_name, let_go, holding, renamed}
 use Rattle.world_laws.specs.Numbers.{top_id}
-use Rattle.world_laws.specs.Outputs.{Output, Change, unchanged, ◌▷◌, when, when_open, on_end, line, put, is_open, is_closed, is_dead_end, Answered, answered, destroyed, resolver_answered, answer_line, reply_to, body_of}
+use Rattle.world_laws.specs.Outputs.{Output, Change, ◌▷◌, when, when_open, on_end, line, put, is_open, is_closed, is_dead_end, Answered, answered, destroyed, resolver_answered, answer_line, reply_to, body_of}
 use Rattle.world_laws.specs.Sends.{frames_of}
 use Rattle.world_parts.specs.States.{HasArrived, IsAnswered, IsSettled, IsInState}
 
@@ -86,7 +84,7 @@ state-put packet o = record { state = refl; arrived = refl; outbox = λ x. refl;
 pub state-answered : (q : Answered) (a : Answer) → KeepsState (answered q a)
 state-answered q a =
     state-when_open (line (answer_line q.seq a) ▷ put (message (reply_to q (body_of a))))
-        (state-chain (line (answer_line q.seq a)) (put (message (reply_to q (body_of a)))) (state-line (answer_line q.seq a)) (state-put (message (reply_to q (body_of a)))))
+    (state-chain (line (answer_line q.seq a)) (put (message (reply_to q (body_of a)))) (state-line (answer_line q.seq a)) (state-put (message (reply_to q (body_of a)))))
 
 pub state-destroyed : (r : Resolver) → KeepsState (destroyed r)
 state-destroyed r = state-answered (resolver_answered r) (answer.Fault reason.ResolverDestroyed)
@@ -105,7 +103,7 @@ state-renamed name holds o =
     let taken : Output = on_end (λ e. record e { names = without_name name e.names }) o in
     let gone : Output = let_go before taken in
     follows-chain o.end taken.end (record gone.end { names = gone.end.names ++ holding name holds }) (names-follow o.end (without_name name o.end.names))
-        (follows-chain taken.end gone.end (record gone.end { names = gone.end.names ++ holding name holds }) (state-let_go before taken) (names-follow gone.end (gone.end.names ++ holding name holds)))
+    (follows-chain taken.end gone.end (record gone.end { names = gone.end.names ++ holding name holds }) (state-let_go before taken) (names-follow gone.end (gone.end.names ++ holding name holds)))
 
 -- Promises and falls
 

@@ -1,10 +1,10 @@
 -- What changes of actors and ids keep them known.
-use Rattle.std.proofs.Common.{◌≡◌, ◌≢◌, ◌⊎◌, inl, inr, ℕ, ◌+◌, ◌*◌, ◌≤◌, ℤ, pos, Bool, true, false, not, cond, List, [], ◌∷◌, ◌++◌, filter, refl, sym, ap, subst, ◌∙◌, arith}
+use Rattle.std.proofs.Common.{◌≡◌, ◌≢◌, ◌⊎◌, inl, inr, ℕ, ◌+◌, ◌*◌, ◌≤◌, ℤ, Bool, true, false, not, cond, List, [], ◌∷◌, ◌++◌, filter, refl, sym, subst, ◌∙◌, arith}
 use Rattle.std.specs.List.{AllByRecursion}
 use Rattle.actor_tree.specs.declared.actor.Actor.{Actor}
 use Rattle.actor_tree.specs.Fall.{post_order, others, Falls}
 use Rattle.actor_tree.specs.Tree.{lives, IsTree}
-use Rattle.actor_tree.proofs.Ids.{Has, has, lives-true, lives-false, has_not, Has-append, Has-left}
+use Rattle.actor_tree.proofs.Ids.{Has, has, lives-true, lives-false, has_not, Has-append}
 use Rattle.actor_tree.proofs.Kept.{IsTree-append, IsTree-without}
 use Rattle.actor_tree.proofs.Whole.{gives_subtree}
 use Rattle.ipdl_base.specs.declared.kinds.Side.{Side}
@@ -70,8 +70,9 @@ all-behind P (x ∷ xs) ys h = all-behind P xs ys h.1
 all-filter : {A : Type 0} (P : A → Type 0) (test : A → Bool) (xs : List A) → AllByRecursion P xs → AllByRecursion P (filter test xs)
 all-filter P test [] h = tt
 all-filter P test (x ∷ xs) h = elim (test x) as (λ b. AllByRecursion P (cond b (x ∷ filter test xs) (filter test xs))) [
-    true ↦ (h.0, all-filter P test xs h.1)
-  | false ↦ all-filter P test xs h.1 ]
+  | true ↦ (h.0, all-filter P test xs h.1)
+  | false ↦ all-filter P test xs h.1
+]
 
 distinct-last : (xs : List ℤ) (y : ℤ) → AreDistinct xs → AllByRecursion (λ x. x ≢ y) xs → AreDistinct (xs ++ y ∷ [])
 distinct-last [] y d h = (tt, tt)
@@ -91,13 +92,15 @@ distinct-without (x ∷ xs) y zs d =
 
 dead-append : (id : ℤ) (actors : List Actor) (a : Actor) → lives id actors ≡ false → id ≢ a.id → lives id (actors ++ a ∷ []) ≡ false
 dead-append id actors a h n = lives-false id (actors ++ a ∷ []) (λ k. elim (Has-append id actors (a ∷ []) k) [
-    inl p ↦ has_not id actors h p
-  | inr p ↦ elim p [ inl e ↦ n (sym e) | inr q ↦ absurd q ] ])
+  | inl p ↦ has_not id actors h p
+  | inr p ↦ elim p [ inl e ↦ n (sym e) | inr q ↦ absurd q ]
+])
 
 living-append : (id : ℤ) (actors : List Actor) (a : Actor) → lives id (actors ++ a ∷ []) ≡ true → (lives id actors ≡ true) ⊎ (a.id ≡ id)
 living-append id actors a h = elim (Has-append id actors (a ∷ []) (has id (actors ++ a ∷ []) h)) [
-    inl p ↦ inl (lives-true id actors p)
-  | inr p ↦ elim p [ inl e ↦ inr e | inr q ↦ absurd q ] ]
+  | inl p ↦ inl (lives-true id actors p)
+  | inr p ↦ elim p [ inl e ↦ inr e | inr q ↦ absurd q ]
+]
 
 Has-if : (id : ℤ) (b : Bool) (a : Actor) (some all : List Actor) → (Has id some → Has id all) → Has id (cond b (a ∷ some) some) → Has id (a ∷ all)
 Has-if id true a some all k (inl e) = inl e
@@ -129,8 +132,9 @@ known-counted protocol ids h = record {
   tree = h.tree;
   top = h.top;
   taken = λ id k. elim (h.taken id k) [
-      inl e ↦ inl e
-    | inr t ↦ inr (elim t [ inl own ↦ inl (more_ids ids.side ids.sent (ids.sent + 1) id (omega arith) own) | inr others ↦ inr others ]) ];
+    | inl e ↦ inl e
+    | inr t ↦ inr (elim t [ inl own ↦ inl (more_ids ids.side ids.sent (ids.sent + 1) id (omega arith) own) | inr others ↦ inr others ])
+  ];
   waiting = h.waiting;
   distinct = h.distinct;
 }
@@ -144,8 +148,9 @@ known-own protocol ids a h is manager =
       tree = IsTree-append ids.actors a h.tree free manager;
       top = all-append (IsTopOf protocol) ids.actors (a ∷ []) h.top ((λ e. absurd (not_top ids.side (ids.sent + 1) (sym is ∙ e))), tt);
       taken = λ id k. elim (living-append id ids.actors a k) [
-          inl before ↦ (known-counted protocol ids h).taken id before
-        | inr e ↦ inr (inl (ids.sent + 1, omega arith, sym e ∙ is)) ];
+        | inl before ↦ (known-counted protocol ids h).taken id before
+        | inr e ↦ inr (inl (ids.sent + 1, omega arith, sym e ∙ is))
+      ];
       waiting = all-map (IsNew ids) (IsNew (record ids { sent = ids.sent + 1; actors = ids.actors ++ a ∷ [] })) ids.waiting
           (λ id new. (new.0, dead-append id ids.actors a new.1 (λ e. ids_apart ids.side (ids.sent + 1) new.0.0 (sym is ∙ sym e ∙ new.0.2)))) h.waiting;
       distinct = h.distinct;
@@ -163,8 +168,9 @@ known-arrived protocol ids a before behind h is manager =
       tree = IsTree-append ids.actors a h.tree own.1 manager;
       top = all-append (IsTopOf protocol) ids.actors (a ∷ []) h.top ((λ e. absurd (not_top (other ids.side) own.0.0 (sym own.0.2 ∙ e))), tt);
       taken = λ id k. elim (living-append id ids.actors a k) [
-          inl lived ↦ h.taken id lived
-        | inr e ↦ inr (inr (subst (IsIdOf (other ids.side) ids.delivered) e own.0)) ];
+        | inl lived ↦ h.taken id lived
+        | inr e ↦ inr (inr (subst (IsIdOf (other ids.side) ids.delivered) e own.0))
+      ];
       waiting = all-both (IsNew ids) (λ x. x ≢ a.id) (IsNew (record ids { actors = ids.actors ++ a ∷ []; waiting = before ++ behind })) (before ++ behind)
           (λ id new differs. (new.0, dead-append id ids.actors a new.1 differs)) rest (distinct-from before a.id behind distinct);
       distinct = distinct-without before a.id behind distinct;
@@ -191,8 +197,9 @@ known-arrives protocol ids some made h s is =
       tree = h.tree;
       top = h.top;
       taken = λ id k. elim (h.taken id k) [
-          inl e ↦ inl e
-        | inr t ↦ inr (elim t [ inl own ↦ inl own | inr others ↦ inr (more_ids (other ids.side) ids.delivered (ids.delivered + 1) id (omega arith) others) ]) ];
+        | inl e ↦ inl e
+        | inr t ↦ inr (elim t [ inl own ↦ inl own | inr others ↦ inr (more_ids (other ids.side) ids.delivered (ids.delivered + 1) id (omega arith) others) ])
+      ];
       waiting = all-append (IsNew new) some (made ∷ [])
           (all-map (IsNew ids) (IsNew new) some (λ id old. (more_ids (other ids.side) ids.delivered (ids.delivered + 1) id (omega arith) old.0, old.1)) fewer)
           (((ids.delivered + 1, omega arith, is), free), tt);

@@ -1,13 +1,11 @@
 -- Every step keeps actors known.
-use Rattle.std.proofs.Common.{◌≡◌, ◌≢◌, inl, inr, ℕ, ◌+◌, ◌==◌, ℤ, pos, Bool, true, false, not, ◌&&◌, ◌||◌, cond, if◌then◌else◌, List, [], ◌∷◌, ◌++◌, map, flat_map, drop, find, length, Option, Some, None, refl, sym, ap, subst, ◌∙◌, is_some, option_and_then, append_assoc}
+use Rattle.std.proofs.Common.{◌≡◌, inl, inr, ℕ, ◌+◌, ◌==◌, ℤ, pos, Bool, true, false, not, ◌&&◌, ◌||◌, cond, if◌then◌else◌, List, [], ◌∷◌, ◌++◌, find, Option, Some, None, refl, sym, ap, subst, ◌∙◌, is_some, option_and_then}
 use Rattle.std.specs.Option.{option_map_or}
 use Rattle.std.specs.Ordering.{int_eq}
 use Rattle.std.proofs.lemmas.Bool.Decides.{Decides-int_eq}
 use Rattle.std.proofs.lemmas.Grind.{flat_map-append}
 use Rattle.std.proofs.lemmas.List.{append-nil}
-use Rattle.std.proofs.lemmas.Option.{same_Some}
 use Rattle.actor_tree.specs.declared.actor.Actor.{Actor}
-use Rattle.actor_tree.specs.Fall.{post_order, others}
 use Rattle.actor_tree.specs.Tree.{actor_of, lives, top}
 use Rattle.actor_tree.proofs.Ids.{has}
 use Rattle.history.specs.declared.line.What.TheVariants as what
@@ -17,7 +15,6 @@ use Rattle.ipdl_base.specs.declared.kinds.Level.TheVariants.{Not}
 use Rattle.ipdl_base.specs.declared.kinds.Reason.TheVariants as reason
 use Rattle.ipdl_base.specs.declared.kinds.SendRefusal.{SendRefusal}
 use Rattle.ipdl_base.specs.declared.kinds.SendRefusal.TheVariants as refusal
-use Rattle.ipdl_base.specs.declared.kinds.Side.{Side}
 use Rattle.ipdl_base.specs.declared.message.Body.{Body}
 use Rattle.ipdl_base.specs.declared.message.Body.TheVariants.{Request, Reply, Fault, Goodbye}
 use Rattle.ipdl_base.specs.declared.message.Message.{Message}
@@ -35,28 +32,28 @@ use Rattle.pending_queue.specs.declared.item.Item.{Item}
 use Rattle.pending_queue.specs.declared.item.Item.TheVariants as item
 use Rattle.pending_queue.specs.Compression.{is_request, replaced, staying}
 use Rattle.pending_queue.specs.Holding.{is_free, without_first}
-use Rattle.world_laws.specs.declared.end.EndState.{EndState}
-use Rattle.world_laws.specs.declared.end.EndState.TheVariants.{Closed, Draining, Dead}
+use Rattle.world_laws.specs.declared.end.EndState.TheVariants.{Closed, Dead}
 use Rattle.world_laws.specs.Acts as acts
 use Rattle.world_laws.specs.Answers as answers
 use Rattle.world_laws.specs.Deliveries as delivery
-use Rattle.world_laws.specs.Ends.{End, Packet, message, mark, StackEntry, Resolver, actor, opening_end}
+use Rattle.world_laws.specs.Ends.{End, Packet, message, mark, StackEntry, Resolver, actor}
 use Rattle.world_laws.specs.Events.{Answering, handled, kept, Event}
 use Rattle.world_laws.specs.Events as event
 use Rattle.world_laws.specs.Falls.{fallen, why_deleted, deletes, abandoned, closed}
-use Rattle.world_laws.specs.Names.{renamed, without_name, without_resolvers}
+use Rattle.world_laws.specs.Names.{without_resolvers}
 use Rattle.world_laws.specs.Numbers.{other, id_of, top_id, protocol_of, counting, is_sync_row, makes_promise, is_constructor, request_row}
-use Rattle.world_laws.specs.Outputs.{Output, Change, beginning, unchanged, ◌▷◌, when, when_open, on_end, line, put, answered, destroyed, request_answered, resolver_answered, reply_to, is_open}
-use Rattle.world_laws.specs.Refusals.{DeliveryRefusal, wrong_direction, wrong_number, wrong_new_id, expected_id, expected_seq, body_refusal, request_refusal, actor_refusal, packet_refusal}
+use Rattle.world_laws.specs.Outputs.{Output, Change, beginning, unchanged, ◌▷◌, when, when_open, on_end, line, put, answered, destroyed, request_answered, is_open}
+use Rattle.world_laws.specs.Refusals.{wrong_direction, wrong_number, wrong_new_id, expected_id, body_refusal, actor_refusal, packet_refusal}
 use Rattle.world_laws.specs.Returns as returns
 use Rattle.world_laws.specs.Sends as sends
-use Rattle.world_laws.specs.Steps.{provided, first_packet, step}
+use Rattle.world_laws.specs.Steps.{provided}
 use Rattle.world_laws.specs.Takes as takes
 use Rattle.world_laws.specs.ValueActors.{lives_as, missing, nulled, received}
-use Rattle.world_parts.specs.Actors.{Ids, ids_of, new_ids, new_ids_in, constructs_by, AreKnown, IsAccepted}
+use Rattle.world_parts.specs.Actors.{Ids, ids_of, new_ids, new_ids_in, constructs_by, AreKnown}
 use Rattle.world_parts.specs.Laws.{KnownActorsStay, FirstActorsAreKnown}
-use Rattle.world_parts.proofs.Known.{known-counted, known-own, known-arrived, known-fewer, known-arrives, known-fallen}
-use Rattle.world_parts.proofs.Leaves.{Leaves, Ignores, leaves-unchanged, leaves-chain, leaves-when, leaves-when_open, leaves-line, leaves-put, leaves-answered, leaves-destroyed, leaves-renamed, leaves-names_actor, leaves-posted, leaves-replacing}
+use Rattle.world_parts.proofs.Known.{known-own, known-arrived, known-fewer, known-arrives, known-fallen}
+use Rattle.world_parts.proofs.Leaves.{Leaves, Ignores, leaves-chain, leaves-when, leaves-when_open, leaves-answered, leaves-destroyed, leaves-renamed, leaves-names_actor, leaves-posted, leaves-replacing}
+use Rattle.world_parts.proofs.Provided.{provided-gives, found-gives}
 use Rattle.world_parts.proofs.Sublists.{Sublist, sublist-none, sublist-flat_map, without_first-sublist, staying-sublist, TakenOut, taken_out}
 
 -- the actors of an end are known
@@ -95,7 +92,7 @@ keeps-closed : (schema : Schema) (protocol : ℕ) (why : Destroy) → Keeps sche
 keeps-closed schema protocol why =
     let f : End → End = λ e. record e { state = Closed; arrived = []; names = without_resolvers e.names } in
     keeps-chain schema protocol abandoned (fallen top_id (λ id. why) ▷ on_end f) (keeps-leaves schema protocol abandoned (λ o. refl))
-        (keeps-chain schema protocol (fallen top_id (λ id. why)) (on_end f) (keeps-fallen schema protocol top_id (λ id. why)) (keeps-dropped schema protocol f (λ e. refl)))
+    (keeps-chain schema protocol (fallen top_id (λ id. why)) (on_end f) (keeps-fallen schema protocol top_id (λ id. why)) (keeps-dropped schema protocol f (λ e. refl)))
 
 -- Tests
 
@@ -136,13 +133,13 @@ sent-known : (schema : Schema) (protocol : ℕ) (row : MessageRow) (m : Message)
 sent-known schema protocol row m vs name e h next manager =
     let counted : Output = (line (sends.send_line row m vs) ▷ on_end (λ e. record e { sent = e.sent + 1; constructors_sent = counting row.kind e.constructors_sent })) (beginning e) in
     let waits : Leaves (ids_of schema) (sends.awaits_reply row m) = leaves-chain (ids_of schema)
-        (when (is_sync_row row) (on_end (λ e. record e { stack = sends.wait_for row m ∷ e.stack })))
-        (when (makes_promise row) (on_end (λ e. record e { promises = e.promises ++ record { promise = record { seq = m.seq; actor = m.route; outcome = None }; number = m.number } ∷ [] })))
-        (leaves-when (ids_of schema) (is_sync_row row) (on_end (λ e. record e { stack = sends.wait_for row m ∷ e.stack })) (λ o. refl))
-        (leaves-when (ids_of schema) (makes_promise row) (on_end (λ e. record e { promises = e.promises ++ record { promise = record { seq = m.seq; actor = m.route; outcome = None }; number = m.number } ∷ [] })) (λ o. refl)) in
+    (when (is_sync_row row) (on_end (λ e. record e { stack = sends.wait_for row m ∷ e.stack })))
+    (when (makes_promise row) (on_end (λ e. record e { promises = e.promises ++ record { promise = record { seq = m.seq; actor = m.route; outcome = None }; number = m.number } ∷ [] })))
+    (leaves-when (ids_of schema) (is_sync_row row) (on_end (λ e. record e { stack = sends.wait_for row m ∷ e.stack })) (λ o. refl))
+    (leaves-when (ids_of schema) (makes_promise row) (on_end (λ e. record e { promises = e.promises ++ record { promise = record { seq = m.seq; actor = m.route; outcome = None }; number = m.number } ∷ [] })) (λ o. refl)) in
     let quiet : Leaves (ids_of schema) (sends.posted row m ▷ sends.awaits_reply row m ▷ sends.names_actor m.made name) =
-        leaves-chain (ids_of schema) (sends.posted row m) (sends.awaits_reply row m ▷ sends.names_actor m.made name) (leaves-posted (ids_of schema) row m (ignores schema))
-            (leaves-chain (ids_of schema) (sends.awaits_reply row m) (sends.names_actor m.made name) waits (leaves-names_actor (ids_of schema) m.made name (ignores schema))) in
+    leaves-chain (ids_of schema) (sends.posted row m) (sends.awaits_reply row m ▷ sends.names_actor m.made name) (leaves-posted (ids_of schema) row m (ignores schema))
+    (leaves-chain (ids_of schema) (sends.awaits_reply row m) (sends.names_actor m.made name) waits (leaves-names_actor (ids_of schema) m.made name (ignores schema))) in
     sent-last schema protocol row.kind m.made m.route (ids_of schema e) ((sends.posted row m ▷ sends.awaits_reply row m ▷ sends.names_actor m.made name) counted) (quiet counted) h next manager
 
 next_made-is : (e : End) (kind : Kind) → is_constructor kind ≡ true → sends.next_made e kind ≡ id_of e.side (e.constructors_sent + 1)
@@ -155,9 +152,9 @@ send-known : (schema : Schema) (protocol : ℕ) (e : End) (row : MessageRow) (ro
     → Known schema protocol (sends.sent_unless cause row (sends.request_of e row route vs) vs name (beginning e)).end
 send-known schema protocol e row route vs name None is h =
     sent-known schema protocol row (sends.request_of e row route vs) vs name e h (next_made-is e row.kind)
-        (lives_as-lives e.actors (protocol_of row.number) route
-            (second_passes (is_open e.state) (lives_as e.actors (protocol_of row.number) route) refusal.Closed refusal.DeadActor
-                (if is_some (sends.stack_refusal e row) then sends.stack_refusal e row else sends.send_value_refusal schema e row route vs) is))
+    (lives_as-lives e.actors (protocol_of row.number) route
+    (second_passes (is_open e.state) (lives_as e.actors (protocol_of row.number) route) refusal.Closed refusal.DeadActor
+    (if is_some (sends.stack_refusal e row) then sends.stack_refusal e row else sends.send_value_refusal schema e row route vs) is))
 send-known schema protocol e row route vs name (Some cause) is h = h
 
 -- Answers
@@ -181,9 +178,9 @@ die-known : (schema : Schema) (protocol : ℕ) → Keeps schema protocol acts.di
 die-known schema protocol =
     let f : End → End = λ e. record e { state = Dead; stack = []; arrived = [] } in
     keeps-chain schema protocol (line what.Die) (when_open (put mark) ▷ on_end f) (λ o h. h)
-        (keeps-chain schema protocol (when_open (put mark)) (on_end f)
-            (keeps-leaves schema protocol (when_open (put mark)) (leaves-when_open (ids_of schema) (put mark) (λ o. refl)))
-            (keeps-dropped schema protocol f (λ e. refl)))
+    (keeps-chain schema protocol (when_open (put mark)) (on_end f)
+    (keeps-leaves schema protocol (when_open (put mark)) (leaves-when_open (ids_of schema) (put mark) (λ o. refl)))
+    (keeps-dropped schema protocol f (λ e. refl)))
 
 -- Deliveries
 
@@ -230,12 +227,12 @@ request_arrives-known schema protocol m row o found request next h =
     let stays : List Item = staying row.compress new o.end.arrived in
     let old : Option Item = replaced row.compress new o.end.arrived in
     let own : new_ids_in schema new ≡ cond (is_constructor row.kind) (m.made ∷ []) [] =
-        ap (λ (b : Bool). cond (b && constructs_by schema m.number) (m.made ∷ []) []) request ∙ ap (λ (b : Bool). cond b (m.made ∷ []) []) (constructs_by-row schema m.number row found) in
+    ap (λ (b : Bool). cond (b && constructs_by schema m.number) (m.made ∷ []) []) request ∙ ap (λ (b : Bool). cond b (m.made ∷ []) []) (constructs_by-row schema m.number row found) in
     let known : AreKnown protocol (record (ids_of schema o.end) { delivered = counting row.kind o.end.constructors_delivered; waiting = new_ids schema stays ++ new_ids_in schema new }) =
-        counted-known schema protocol o.end (new_ids schema stays) (new_ids_in schema new) (is_constructor row.kind) m.made h
-            (sublist-flat_map (new_ids_in schema) stays o.end.arrived (staying-sublist row.compress new o.end.arrived)) own next in
+    counted-known schema protocol o.end (new_ids schema stays) (new_ids_in schema new) (is_constructor row.kind) m.made h
+    (sublist-flat_map (new_ids_in schema) stays o.end.arrived (staying-sublist row.compress new o.end.arrived)) own next in
     subst (AreKnown protocol) (sym (leaves-replacing (ids_of schema) row old (ignores schema) (on_end (delivery.counted row new) o)))
-        (subst (λ (ids : List ℤ). AreKnown protocol (record (ids_of schema o.end) { delivered = counting row.kind o.end.constructors_delivered; waiting = ids })) (sym (new_ids-last schema stays new)) known)
+    (subst (λ (ids : List ℤ). AreKnown protocol (record (ids_of schema o.end) { delivered = counting row.kind o.end.constructors_delivered; waiting = ids })) (sym (new_ids-last schema stays new)) known)
 
 request_delivered-known : (schema : Schema) (protocol : ℕ) (m : Message) (vs : Values) (row : Option MessageRow) (e : End) (o : Output)
     → o.end ≡ e → message_of schema m.number ≡ row → is_request m.body ≡ true → option_map_or (body_refusal schema e m (Request vs)) row None ≡ None → Known schema protocol e
@@ -243,9 +240,9 @@ request_delivered-known : (schema : Schema) (protocol : ℕ) (m : Message) (vs :
 request_delivered-known schema protocol m vs None e o same found request accepted h = subst (Known schema protocol) (sym same) h
 request_delivered-known schema protocol m vs (Some row) e o same found request accepted h =
     request_arrives-known schema protocol m row o found request
-        (λ constructor. subst (λ (end : End). m.made ≡ expected_id end) (sym same)
-            ((Decides-int_eq m.made (expected_id e)).0 (third_passes _ _ (is_constructor row.kind) (int_eq m.made (expected_id e)) wrong_direction wrong_number wrong_new_id (actor_refusal schema e row m) accepted constructor)))
-        (subst (Known schema protocol) (sym same) h)
+    (λ constructor. subst (λ (end : End). m.made ≡ expected_id end) (sym same)
+    ((Decides-int_eq m.made (expected_id e)).0 (third_passes _ _ (is_constructor row.kind) (int_eq m.made (expected_id e)) wrong_direction wrong_number wrong_new_id (actor_refusal schema e row m) accepted constructor)))
+    (subst (Known schema protocol) (sym same) h)
 
 delivered-known : (schema : Schema) (protocol : ℕ) (m : Message) (body : Body) (e : End)
     → m.body ≡ body → option_map_or (body_refusal schema e m body) (message_of schema m.number) None ≡ None → Known schema protocol e
@@ -286,9 +283,9 @@ dropped_or_handled-known : (schema : Schema) (protocol : ℕ) (id : Option ℤ) 
     → Known schema protocol (takes.dropped_or_handled id row m given o).end
 dropped_or_handled-known schema protocol None row m vs given e before behind o drops actors is h whole k =
     let manager : lives m.route o.end.actors ≡ true =
-        lives_as-lives o.end.actors (protocol_of m.number) m.route (first_passes (lives_as o.end.actors (protocol_of m.number) m.route) m.route (missing schema o.end.actors row.params vs) drops) in
+    lives_as-lives o.end.actors (protocol_of m.number) m.route (first_passes (lives_as o.end.actors (protocol_of m.number) m.route) m.route (missing schema o.end.actors row.params vs) drops) in
     handled-last schema protocol row.kind m.made m.route (ids_of schema e) before behind ((line (what.Take m.seq m.route m.number given) ▷ on_end (λ e. record e { stack = takes.dispatch_of row m ∷ e.stack })) o) is h whole
-        (subst (λ (living : List Actor). lives m.route living ≡ true) actors manager) k
+    (subst (λ (living : List Actor). lives m.route living ≡ true) actors manager) k
 dropped_or_handled-known schema protocol (Some id) row m vs given e before behind o drops actors is h whole k =
     let told : Change = answered (request_answered m) (answer.Fault reason.ActorDestroyed) in
     subst (AreKnown protocol) (sym (leaves-when (ids_of schema) (is_sync_row row || makes_promise row) told (leaves-answered (ids_of schema) (request_answered m) (answer.Fault reason.ActorDestroyed) (ignores schema)) (line (what.Drop m.seq m.route m.number id) o))) k
@@ -300,11 +297,11 @@ request_taken-known : (schema : Schema) (protocol : ℕ) (m : Message) (vs : Val
 request_taken-known schema protocol m vs None sync level e test o same found request out h k = k
 request_taken-known schema protocol m vs (Some row) sync level e test o same found request out h k =
     let own : new_ids_in schema (item.Message m sync level) ≡ cond (is_constructor row.kind) (m.made ∷ []) [] =
-        ap (λ (b : Bool). cond (b && constructs_by schema m.number) (m.made ∷ []) []) request ∙ ap (λ (b : Bool). cond b (m.made ∷ []) []) (constructs_by-row schema m.number row found) in
+    ap (λ (b : Bool). cond (b && constructs_by schema m.number) (m.made ∷ []) []) request ∙ ap (λ (b : Bool). cond b (m.made ∷ []) []) (constructs_by-row schema m.number row found) in
     dropped_or_handled-known schema protocol (takes.dropped_for schema o.end row m vs) row m vs (nulled schema o.end.actors row.params vs) e out.before out.behind o refl
-        (ap (λ (end : End). end.actors) same)
-        (ap (ids_of schema) same ∙ ap (λ (ids : List ℤ). record (ids_of schema e) { waiting = ids }) out.rest) h
-        (out.whole ∙ ap (λ (ids : List ℤ). out.before ++ (ids ++ out.behind)) own) k
+    (ap (λ (end : End). end.actors) same)
+    (ap (ids_of schema) same ∙ ap (λ (ids : List ℤ). record (ids_of schema e) { waiting = ids }) out.rest) h
+    (out.whole ∙ ap (λ (ids : List ℤ). out.before ++ (ids ++ out.behind)) own) k
 
 reply_taken-leaves : (schema : Schema) (m : Message) (a : Answer) (row : Option MessageRow) → Leaves (ids_of schema) (option_map_or (takes.reply_taken schema m a) row unchanged)
 reply_taken-leaves schema m a None o = refl
@@ -331,7 +328,7 @@ take-known : (schema : Schema) (protocol : ℕ) (taken : Item) (e : End) → fin
 take-known schema protocol taken e found h =
     let test : Item → Bool = is_free (takes.holding_of e) in
     item_taken-known schema protocol taken e test (on_end (λ e. record e { arrived = without_first (is_free (takes.holding_of e)) e.arrived }) (beginning e)) refl found h
-        (known-fewer protocol (ids_of schema e) (new_ids schema (without_first test e.arrived)) h (sublist-flat_map (new_ids_in schema) (without_first test e.arrived) e.arrived (without_first-sublist test e.arrived)))
+    (known-fewer protocol (ids_of schema e) (new_ids schema (without_first test e.arrived)) h (sublist-flat_map (new_ids_in schema) (without_first test e.arrived) e.arrived (without_first-sublist test e.arrived)))
 
 taken_next-found : (b : Bool) (found : Option Item) (x : Item) → cond b found None ≡ Some x → found ≡ Some x
 taken_next-found true found x is = is
@@ -345,38 +342,36 @@ return-known schema protocol e row entry vs o h =
     let lost : Change = destroyed (answers.resolver_in entry) in
     let off : Output = (returns.popped ▷ line (what.Return (head_of entry.frame).seq)) o in
     let quiet : Leaves (ids_of schema) (when (is_sync_row row) told ▷ when entry.resolves lost) =
-        leaves-chain (ids_of schema) (when (is_sync_row row) told) (when entry.resolves lost)
-            (leaves-when (ids_of schema) (is_sync_row row) told (leaves-answered (ids_of schema) (returns.dispatch_answered entry) (returns.return_answer schema e row entry vs) (ignores schema)))
-            (leaves-when (ids_of schema) entry.resolves lost (leaves-destroyed (ids_of schema) (answers.resolver_in entry) (ignores schema))) in
+    leaves-chain (ids_of schema) (when (is_sync_row row) told) (when entry.resolves lost)
+    (leaves-when (ids_of schema) (is_sync_row row) told (leaves-answered (ids_of schema) (returns.dispatch_answered entry) (returns.return_answer schema e row entry vs) (ignores schema)))
+    (leaves-when (ids_of schema) entry.resolves lost (leaves-destroyed (ids_of schema) (answers.resolver_in entry) (ignores schema))) in
     keeps-deletes schema protocol entry.route row.kind ((when (is_sync_row row) told ▷ when entry.resolves lost) off) (subst (AreKnown protocol) (sym (quiet off)) h)
 
 -- Every step
 
 provided-known : (schema : Schema) (protocol : ℕ) (b : Bool) (change : Change) (e : End) (output : Output) → Known schema protocol (change (beginning e)).end → provided b change e ≡ Some output → Known schema protocol output.end
-provided-known schema protocol true change e output h is = subst (λ (o : Output). Known schema protocol o.end) (same_Some (change (beginning e)) output is) h
-provided-known schema protocol false change e output h is = cc
+provided-known schema protocol b change e output h is = provided-gives (λ (o : Output). Known schema protocol o.end) b change e output (λ may. h) is
 
 found-known : {A : Type 0} (schema : Schema) (protocol : ℕ) (found : Option A) (f : A → Option Output) (output : Output) → ((x : A) → found ≡ Some x → f x ≡ Some output → Known schema protocol output.end) → option_and_then f found ≡ Some output → Known schema protocol output.end
-found-known schema protocol None f output h is = cc
-found-known schema protocol (Some x) f output h is = h x refl is
+found-known schema protocol found f output h is = found-gives (λ (o : Output). Known schema protocol o.end) found f output h is
 
 pub known_actors_stay : KnownActorsStay
 known_actors_stay schema protocol e link (event.send route number vs name) output is accepted h =
     found-known schema protocol (request_row schema number) (λ row. provided (sends.may_send schema e row vs name) (sends.send schema e row route vs name) e) output
-        (λ row found. provided-known schema protocol (sends.may_send schema e row vs name) (sends.send schema e row route vs name) e output
-            (send-known schema protocol e row route vs name (sends.send_refusal schema e row route vs) refl h)) is
+    (λ row found. provided-known schema protocol (sends.may_send schema e row vs name) (sends.send schema e row route vs name) e output
+    (send-known schema protocol e row route vs name (sends.send_refusal schema e row route vs) refl h)) is
 known_actors_stay schema protocol e link (event.answer by vs) output is accepted h =
     found-known schema protocol (answers.answered_row schema e by) (λ row. provided (answers.may_answer schema e row vs) (answers.answer schema e row by vs) e) output
-        (λ row found. provided-known schema protocol (answers.may_answer schema e row vs) (answers.answer schema e row by vs) e output
-            (subst (AreKnown protocol) (sym (answer-known schema (answers.answer_refusal schema e row by vs) by vs (answers.resolver_used e by) (beginning e))) h)) is
+    (λ row found. provided-known schema protocol (answers.may_answer schema e row vs) (answers.answer schema e row by vs) e output
+    (subst (AreKnown protocol) (sym (answer-known schema (answers.answer_refusal schema e row by vs) by vs (answers.resolver_used e by) (beginning e))) h)) is
 known_actors_stay schema protocol e link (event.keep seq name) output is accepted h =
     provided-known schema protocol (answers.may_keep e seq) (answers.keep e seq name) e output
-        (subst (AreKnown protocol) (sym (leaves-renamed (ids_of schema) name (option_and_then (answers.kept_by e) (answers.handled_resolver e seq)) (ignores schema)
-            ((line (what.Keep seq name) ▷ on_end (λ e. record e { stack = answers.released seq e.stack })) (beginning e)))) h) is
+    (subst (AreKnown protocol) (sym (leaves-renamed (ids_of schema) name (option_and_then (answers.kept_by e) (answers.handled_resolver e seq)) (ignores schema)
+    ((line (what.Keep seq name) ▷ on_end (λ e. record e { stack = answers.released seq e.stack })) (beginning e)))) h) is
 known_actors_stay schema protocol e link (event.name name id) output is accepted h =
     provided-known schema protocol (sends.may_act e) (acts.name_actor name id) e output
-        (subst (AreKnown protocol) (sym (leaves-renamed (ids_of schema) name (if acts.is_positive id then Some (actor id) else None) (ignores schema)
-            (line (what.Let name (if acts.is_positive id then id else pos 0)) (beginning e)))) h) is
+    (subst (AreKnown protocol) (sym (leaves-renamed (ids_of schema) name (if acts.is_positive id then Some (actor id) else None) (ignores schema)
+    (line (what.Let name (if acts.is_positive id then id else pos 0)) (beginning e)))) h) is
 known_actors_stay schema protocol e link event.close output is accepted h =
     provided-known schema protocol (sends.may_act e) (acts.close e) e output (close-known schema protocol (acts.close_refusal e) (beginning e) h) is
 known_actors_stay schema protocol e link event.die output is accepted h = provided-known schema protocol (acts.may_die e) acts.die e output (die-known schema protocol (beginning e) h) is
@@ -385,16 +380,16 @@ known_actors_stay schema protocol e (packet ∷ rest) event.deliver output is ac
     provided-known schema protocol (is_open e.state) (delivery.deliver schema packet) e output (deliver-known schema protocol packet e accepted h) is
 known_actors_stay schema protocol e link event.take output is accepted h =
     found-known schema protocol (takes.taken_next e) (λ taken. provided true (takes.take schema taken) e) output
-        (λ taken found. provided-known schema protocol true (takes.take schema taken) e output
-            (take-known schema protocol taken e (taken_next-found (takes.takes_in_state e.state && takes.takes_under (top_of (sends.frames_of e))) (takes.first_free e) taken found) h)) is
+    (λ taken found. provided-known schema protocol true (takes.take schema taken) e output
+    (take-known schema protocol taken e (taken_next-found (takes.takes_in_state e.state && takes.takes_under (top_of (sends.frames_of e))) (takes.first_free e) taken found) h)) is
 known_actors_stay schema protocol e link (event.return vs) output is accepted h =
     found-known schema protocol (returns.dispatch_on_top e.stack) (λ entry. option_and_then (λ row. provided (returns.may_return schema row vs) (returns.return schema e row entry vs) e) (request_row schema entry.number)) output
-        (λ entry on_top. found-known schema protocol (request_row schema entry.number) (λ row. provided (returns.may_return schema row vs) (returns.return schema e row entry vs) e) output
-            (λ row found. provided-known schema protocol (returns.may_return schema row vs) (returns.return schema e row entry vs) e output (return-known schema protocol e row entry vs (beginning e) h))) is
+    (λ entry on_top. found-known schema protocol (request_row schema entry.number) (λ row. provided (returns.may_return schema row vs) (returns.return schema e row entry vs) e) output
+    (λ row found. provided-known schema protocol (returns.may_return schema row vs) (returns.return schema e row entry vs) e output (return-known schema protocol e row entry vs (beginning e) h))) is
 known_actors_stay schema protocol e link event.resume output is accepted h =
     found-known schema protocol (returns.answered_wait_on_top e.stack) (λ wait. option_and_then (λ row. provided true (returns.resume schema e wait row) e) (request_row schema wait.number)) output
-        (λ wait on_top. found-known schema protocol (request_row schema wait.number) (λ row. provided true (returns.resume schema e wait row) e) output
-            (λ row found. provided-known schema protocol true (returns.resume schema e wait row) e output h)) is
+    (λ wait on_top. found-known schema protocol (request_row schema wait.number) (λ row. provided true (returns.resume schema e wait row) e) output
+    (λ row found. provided-known schema protocol true (returns.resume schema e wait row) e output h)) is
 known_actors_stay schema protocol e link event.flush output is accepted h = provided-known schema protocol (returns.may_flush e) returns.flush e output h is
 
 pub first_actors_are_known : FirstActorsAreKnown

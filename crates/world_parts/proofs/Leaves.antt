@@ -13,7 +13,7 @@ use Rattle.world_laws.specs.Deliveries as delivery
 use Rattle.world_laws.specs.Ends.{End, Packet, message, Naming, Holds, actor, resolver, Resolver}
 use Rattle.world_laws.specs.Names.{held_by_name, without_name, let_go, holding, renamed}
 use Rattle.world_laws.specs.Numbers.{makes_promise}
-use Rattle.world_laws.specs.Outputs.{Output, Change, unchanged, ◌▷◌, when, when_open, on_end, line, lines, put, is_open, Answered, answered, destroyed, resolver_answered, request_answered, answer_line, reply_to, body_of}
+use Rattle.world_laws.specs.Outputs.{Output, Change, unchanged, ◌▷◌, when, when_open, on_end, line, put, is_open, Answered, answered, destroyed, resolver_answered, request_answered, answer_line, reply_to, body_of}
 use Rattle.world_laws.specs.Sends as sends
 
 -- a part leaves what `f` shows of the end

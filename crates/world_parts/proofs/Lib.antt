@@ -1,3 +1,4 @@
+pub mod Provided
 pub mod Adds
 pub mod Effects
 pub mod Begins
@@ -8,3 +9,4 @@ pub mod Sublists
 pub mod Known
 pub mod KnownSteps
 pub mod InState
+pub mod StateSteps

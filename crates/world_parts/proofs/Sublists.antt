@@ -1,5 +1,5 @@
 -- Lists that leave some elements of another out.
-use Rattle.std.proofs.Common.{◌≡◌, ◌≢◌, ℕ, zero, suc, ◌-◌, ℤ, Bool, true, false, not, ◌&&◌, cond, if◌then◌else◌, List, [], ◌∷◌, ◌++◌, length, take, find, flat_map, Option, Some, None, refl, sym, ap, subst, ◌∙◌, append_assoc, is_some}
+use Rattle.std.proofs.Common.{◌≡◌, ◌≢◌, ℕ, zero, suc, ◌-◌, ℤ, Bool, true, false, not, ◌&&◌, cond, List, [], ◌∷◌, ◌++◌, length, take, find, flat_map, Some, refl, sym, ap, ◌∙◌, append_assoc, is_some}
 use Rattle.std.specs.List.{AllByRecursion, list_any}
 use Rattle.std.proofs.lemmas.Option.{same_Some}
 use Rattle.ipdl_base.specs.declared.kinds.Compress.{Compress}
@@ -51,14 +51,16 @@ distinct-sublist _ _ (left {xs = xs} {ys = ys} x s) h = distinct-sublist xs ys s
 pub without_first-sublist : (test : Item → Bool) (items : List Item) → Sublist (without_first test items) items
 without_first-sublist test [] = nil
 without_first-sublist test (x ∷ xs) = elim (test x) as (λ b. Sublist (cond b xs (x ∷ without_first test xs)) (x ∷ xs)) [
-    true ↦ left x (sublist-all xs)
-  | false ↦ kept x (without_first-sublist test xs) ]
+  | true ↦ left x (sublist-all xs)
+  | false ↦ kept x (without_first-sublist test xs)
+]
 
 without_latest-sublist : (test : Item → Bool) (items : List Item) → Sublist (without_latest test items) items
 without_latest-sublist test [] = nil
 without_latest-sublist test (x ∷ xs) = elim (test x && not (list_any test xs)) as (λ b. Sublist (cond b xs (x ∷ without_latest test xs)) (x ∷ xs)) [
-    true ↦ left x (sublist-all xs)
-  | false ↦ kept x (without_latest-sublist test xs) ]
+  | true ↦ left x (sublist-all xs)
+  | false ↦ kept x (without_latest-sublist test xs)
+]
 
 take-sublist : {A : Type 0} (n : ℕ) (xs : List A) → Sublist (take n xs) xs
 take-sublist zero xs = sublist-none xs
@@ -68,8 +70,9 @@ take-sublist (suc n) (x ∷ xs) = kept x (take-sublist n xs)
 pub staying-sublist : (compress : Compress) (new : Item) (items : List Item) → Sublist (staying compress new items) items
 staying-sublist Plain new items = sublist-all items
 staying-sublist Last new items = elim (is_some (replaced Last new items)) as (λ b. Sublist (cond b (take (length items - 1) items) items) items) [
-    true ↦ take-sublist (length items - 1) items
-  | false ↦ sublist-all items ]
+  | true ↦ take-sublist (length items - 1) items
+  | false ↦ sublist-all items
+]
 staying-sublist All new items = without_latest-sublist (are_alike new) items
 
 -- An item that is taken out, with what stands before and behind it in a list that is made of the items

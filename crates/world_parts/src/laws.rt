@@ -1,4 +1,4 @@
-ghost use Rattle.world_parts.specs.Laws.{EffectsFollowEvents, EventsHaveTheirLines, FirstActorsAreKnown, KnownActorsStay};
+ghost use Rattle.world_parts.specs.Laws.{EffectsFollowEvents, EventsHaveTheirLines, FirstActorsAreKnown, FirstStates, KnownActorsStay, StatesStay};
 
 /// The law of an event's lines: one line of the event and then those of its effects, all of the end's side.
 pub fn events_have_their_lines()
@@ -19,4 +19,14 @@ pub fn first_actors_are_known()
 /// have arrived free, where an end delivers nothing that it refuses.
 pub fn known_actors_stay()
     ensures { KnownActorsStay }
+{}
+
+/// The law of first states: an end begins as its state says.
+pub fn first_states()
+    ensures { FirstStates }
+{}
+
+/// The law of states: every step keeps what the state of an end says of all else that it keeps.
+pub fn states_stay()
+    ensures { StatesStay }
 {}

@@ -4,5 +4,6 @@
 mod laws;
 
 pub use laws::{
-    effects_follow_events, events_have_their_lines, first_actors_are_known, known_actors_stay,
+    effects_follow_events, events_have_their_lines, first_actors_are_known, first_states,
+    known_actors_stay, states_stay,
 };
