@@ -7,7 +7,6 @@ use Rattle.ipdl_base.specs.declared.message.Body.TheVariants.{Request, Reply, Fa
 use Rattle.ipdl_base.specs.declared.message.Message.{Message}
 use Rattle.world_laws.specs.Acts.{goodbye}
 use Rattle.world_laws.specs.Ends.{End, opening, mark, message}
-use Rattle.world_laws.specs.Events.{Event, Move}
 use Rattle.world_laws.specs.Events as event
 use Rattle.world_laws.specs.Refusals.{DeliveryRefusal, wrong_direction, wrong_number, wrong_new_id, stray, wrong_actor, packet_refusal}
 use Rattle.world_laws.specs.Runs.{run}

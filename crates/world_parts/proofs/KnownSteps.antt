@@ -37,7 +37,7 @@ use Rattle.world_laws.specs.Acts as acts
 use Rattle.world_laws.specs.Answers as answers
 use Rattle.world_laws.specs.Deliveries as delivery
 use Rattle.world_laws.specs.Ends.{End, Packet, message, mark, StackEntry, Resolver, actor}
-use Rattle.world_laws.specs.Events.{Answering, handled, kept, Event}
+use Rattle.world_laws.specs.Events.{Answering, handled, kept}
 use Rattle.world_laws.specs.Events as event
 use Rattle.world_laws.specs.Falls.{fallen, why_deleted, deletes, abandoned, closed}
 use Rattle.world_laws.specs.Names.{without_resolvers}

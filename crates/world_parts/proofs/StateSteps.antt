@@ -38,7 +38,7 @@ use Rattle.world_laws.specs.Acts as acts
 use Rattle.world_laws.specs.Answers as answers
 use Rattle.world_laws.specs.Deliveries as delivery
 use Rattle.world_laws.specs.Ends.{End, Packet, message, mark, StackEntry, PromiseEntry, Resolver, actor}
-use Rattle.world_laws.specs.Events.{Answering, handled, kept, Event}
+use Rattle.world_laws.specs.Events.{Answering, handled, kept}
 use Rattle.world_laws.specs.Events as event
 use Rattle.world_laws.specs.Falls.{deletes}
 use Rattle.world_laws.specs.Names.{renamed}
