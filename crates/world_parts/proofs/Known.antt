@@ -47,7 +47,7 @@ others_is_free ids (inr (inr (k, low, e))) = let f : ids.delivered + 1 ≡ k = s
 
 -- Lists
 
-all-map : {A : Type 0} (P Q : A → Type 0) (xs : List A) → ((x : A) → P x → Q x) → AllByRecursion P xs → AllByRecursion Q xs
+pub all-map : {A : Type 0} (P Q : A → Type 0) (xs : List A) → ((x : A) → P x → Q x) → AllByRecursion P xs → AllByRecursion Q xs
 all-map P Q [] h k = tt
 all-map P Q (x ∷ xs) h k = (h x k.0, all-map P Q xs h k.1)
 
@@ -74,7 +74,7 @@ all-filter P test (x ∷ xs) h = elim (test x) as (λ b. AllByRecursion P (cond 
   | false ↦ all-filter P test xs h.1
 ]
 
-distinct-last : (xs : List ℤ) (y : ℤ) → AreDistinct xs → AllByRecursion (λ x. x ≢ y) xs → AreDistinct (xs ++ y ∷ [])
+pub distinct-last : (xs : List ℤ) (y : ℤ) → AreDistinct xs → AllByRecursion (λ x. x ≢ y) xs → AreDistinct (xs ++ y ∷ [])
 distinct-last [] y d h = (tt, tt)
 distinct-last (x ∷ xs) y d h = (all-append (λ later. x ≢ later) xs (y ∷ []) d.0 (h.0, tt), distinct-last xs y d.1 h.1)
 

@@ -10,3 +10,4 @@ pub mod Known
 pub mod KnownSteps
 pub mod InState
 pub mod StateSteps
+pub mod Numbered

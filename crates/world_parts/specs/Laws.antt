@@ -1,14 +1,17 @@
 -- What follows from the steps of ends, for every schema and every list of moves.
-use Rattle.std.specs.Prelude.{◌≡◌, ℕ, List, Some, None}
+use Rattle.std.specs.Prelude.{◌≡◌, ◌≢◌, ℕ, List, Some, None}
+use Rattle.std.specs.List.{AllByRecursion}
 use Rattle.ipdl_base.specs.declared.kinds.Side.{Side}
 use Rattle.ipdl_base.specs.declared.schema.Schema.{Schema}
 use Rattle.world_laws.specs.Ends.{End, Packet, opening_end}
 use Rattle.world_laws.specs.Events.{Event, Move}
 use Rattle.world_laws.specs.Outputs.{Output}
 use Rattle.world_laws.specs.Runs.{history_of}
+use Rattle.world_laws.specs.Sends.{next_seq}
 use Rattle.world_laws.specs.Steps.{step}
 use Rattle.world_parts.specs.Actors.{IsAccepted, AreKnown, ids_of}
 use Rattle.world_parts.specs.EventLines.{IsEventWithEffects, EffectsFollow}
+use Rattle.world_parts.specs.Requests.{AreNumbered, requests_of}
 use Rattle.world_parts.specs.States.{IsInState}
 
 -- Each event prints its line, and then a line for each of its effects; the end keeps its side.
@@ -42,3 +45,12 @@ StatesStay =
 
 abbrev pub FirstStates : Type 0
 FirstStates = (protocol : ℕ) (side : Side) → IsInState (opening_end protocol side)
+
+-- Every step keeps promises numbered, so the next request has a number that no promise has.
+abbrev pub NumbersStay : Type 0
+NumbersStay =
+    (schema : Schema) (e : End) (link : List Packet) (event : Event) (output : Output)
+    → step schema e link event ≡ Some output → AreNumbered (requests_of e) → AreNumbered (requests_of output.end)
+
+abbrev pub NextNumberIsFree : Type 0
+NextNumberIsFree = (e : End) → AreNumbered (requests_of e) → AllByRecursion (λ seq. seq ≢ next_seq e) (requests_of e).promised

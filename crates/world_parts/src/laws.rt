@@ -1,4 +1,4 @@
-ghost use Rattle.world_parts.specs.Laws.{EffectsFollowEvents, EventsHaveTheirLines, FirstActorsAreKnown, FirstStates, KnownActorsStay, StatesStay};
+ghost use Rattle.world_parts.specs.Laws.{EffectsFollowEvents, EventsHaveTheirLines, FirstActorsAreKnown, FirstStates, KnownActorsStay, NextNumberIsFree, NumbersStay, StatesStay};
 
 /// The law of an event's lines: one line of the event and then those of its effects, all of the end's side.
 pub fn events_have_their_lines()
@@ -29,4 +29,14 @@ pub fn first_states()
 /// The law of states: every step keeps what the state of an end says of all else that it keeps.
 pub fn states_stay()
     ensures { StatesStay }
+{}
+
+/// The law of numbers: every step keeps promises with numbers of requests that were sent, no two with one.
+pub fn numbers_stay()
+    ensures { NumbersStay }
+{}
+
+/// The law of the next number: no promise has it.
+pub fn next_number_is_free()
+    ensures { NextNumberIsFree }
 {}
