@@ -12,7 +12,7 @@ use Rattle.world_laws.specs.Events.{Event, Move}
 use Rattle.world_laws.specs.Events as event
 use Rattle.world_laws.specs.Runs.{history_of, is_still, run}
 use Rattle.world_laws.proofs.WorkedMoves as worked
-use Rattle.world_laws.proofs.WorkedSchemas.{top, none, a_number, an_actor, bytes, waiting, asking, trading, pshop, pitem, pw_call_p, pw_poke, pw_base, pw_call_c, pw_tell, pw_give, pq_get, pq_tell, pitem_delete, pshop_construct, pshop_find, pshop_swap, pshop_store}
+use Rattle.world_laws.proofs.WorkedSchemas.{keeping, pk, pk_delete, pk_get, top, none, a_number, an_actor, bytes, waiting, asking, trading, pshop, pitem, pw_call_p, pw_poke, pw_base, pw_call_c, pw_tell, pw_give, pq_get, pq_tell, pitem_delete, pshop_construct, pshop_find, pshop_swap, pshop_store}
 
 abbrev parent : Event → Move
 parent event = record { side = side.Parent; event = event }
@@ -282,6 +282,14 @@ fallen_resolved : history_of trading pshop resolve_by_the_fallen ≡
     ∷ of_child (what.TakeReply (negsuc 0))
     ∷ of_child (what.Rejected (negsuc 0) reason.ActorDestroyed) ∷ []
 fallen_resolved = refl
+
+-- A top actor whose protocol has a destructor can be deleted. Nobody lives then at an end that is open.
+top_deleted : history_of keeping pk (child (event.send top pk_delete none None) ∷ child (event.send top pk_get none None) ∷ child event.close ∷ []) ≡
+    of_child (what.Send (negsuc 0) top pk_delete none)
+    ∷ of_child (what.Fall top destroy.Deletion)
+    ∷ of_child (what.RefusedSend refusal.DeadActor pk_get)
+    ∷ of_child what.Close ∷ []
+top_deleted = refl
 
 -- A move that is not possible has no line: a delivery from an empty link, a take of nothing, a return without a handler,
 -- a send by the end that receives the message, and one with a value of another type.

@@ -11,3 +11,4 @@ pub mod KnownSteps
 pub mod InState
 pub mod StateSteps
 pub mod Numbered
+pub mod RunsKeep

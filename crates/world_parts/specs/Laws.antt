@@ -3,10 +3,10 @@ use Rattle.std.specs.Prelude.{◌≡◌, ◌≢◌, ℕ, List, Some, None}
 use Rattle.std.specs.List.{AllByRecursion}
 use Rattle.ipdl_base.specs.declared.kinds.Side.{Side}
 use Rattle.ipdl_base.specs.declared.schema.Schema.{Schema}
-use Rattle.world_laws.specs.Ends.{End, Packet, opening_end}
+use Rattle.world_laws.specs.Ends.{End, Packet, opening, opening_end}
 use Rattle.world_laws.specs.Events.{Event, Move}
 use Rattle.world_laws.specs.Outputs.{Output}
-use Rattle.world_laws.specs.Runs.{history_of}
+use Rattle.world_laws.specs.Runs.{run, history_of}
 use Rattle.world_laws.specs.Sends.{next_seq}
 use Rattle.world_laws.specs.Steps.{step}
 use Rattle.world_parts.specs.Actors.{IsAccepted, AreKnown, ids_of}
@@ -54,3 +54,9 @@ NumbersStay =
 
 abbrev pub NextNumberIsFree : Type 0
 NextNumberIsFree = (e : End) → AreNumbered (requests_of e) → AllByRecursion (λ seq. seq ≢ next_seq e) (requests_of e).promised
+
+-- So at both ends of every run promises are numbered.
+abbrev pub NumbersInEveryRun : Type 0
+NumbersInEveryRun =
+    (schema : Schema) (top : ℕ) (moves : List Move)
+    → AreNumbered (requests_of (run schema moves (opening top)).world.parent) × AreNumbered (requests_of (run schema moves (opening top)).world.child)

@@ -1,4 +1,4 @@
-ghost use Rattle.world_parts.specs.Laws.{EffectsFollowEvents, EventsHaveTheirLines, FirstActorsAreKnown, FirstStates, KnownActorsStay, NextNumberIsFree, NumbersStay, StatesStay};
+ghost use Rattle.world_parts.specs.Laws.{EffectsFollowEvents, EventsHaveTheirLines, FirstActorsAreKnown, FirstStates, KnownActorsStay, NextNumberIsFree, NumbersInEveryRun, NumbersStay, StatesStay};
 
 /// The law of an event's lines: one line of the event and then those of its effects, all of the end's side.
 pub fn events_have_their_lines()
@@ -39,4 +39,9 @@ pub fn numbers_stay()
 /// The law of the next number: no promise has it.
 pub fn next_number_is_free()
     ensures { NextNumberIsFree }
+{}
+
+/// The law of numbers in runs: at both ends of every run promises are numbered.
+pub fn numbers_in_every_run()
+    ensures { NumbersInEveryRun }
 {}
