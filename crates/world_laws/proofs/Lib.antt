@@ -1,5 +1,6 @@
 pub mod TypesDecided
 pub mod Histories
+pub mod PlainValues
 mod WorkedSchemas
 mod WorkedMoves
 mod Worked

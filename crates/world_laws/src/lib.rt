@@ -8,4 +8,5 @@ mod laws;
 pub use end::EndState;
 pub use laws::{
     decides_types, every_run_is_legal, impossible_moves_change_nothing, moves_go_one_after_another,
+    plain_forms_commute,
 };

@@ -1,9 +1,9 @@
 -- What every step keeps of an end holds of both ends in every run.
-use Rattle.std.proofs.Common.{◌≡◌, ℕ, List, [], ◌∷◌, Option, Some, None, refl}
+use Rattle.std.proofs.Common.{◌≡◌, List, [], ◌∷◌, Option, Some, None, refl}
 use Rattle.ipdl_base.specs.declared.kinds.Side.{Side}
 use Rattle.ipdl_base.specs.declared.kinds.Side.TheVariants.{Parent, Child}
 use Rattle.ipdl_base.specs.declared.schema.Schema.{Schema}
-use Rattle.world_laws.specs.Ends.{End, World, Packet, end_of, link_to, opening, opening_end}
+use Rattle.world_laws.specs.Ends.{End, World, Packet, end_of, link_to, opening}
 use Rattle.world_laws.specs.Events.{Event, Move}
 use Rattle.world_laws.specs.Outputs.{Output}
 use Rattle.world_laws.specs.Runs.{output_of, passed_by, happens, run, world_after}
