@@ -1,0 +1,71 @@
+-- The law Fallen: an actor falls once, behind those that it manages, and only where a destructor or a closing lets it fall.
+use Rattle.std.specs.Prelude.{ℕ, ℤ, Bool, true, false, not, ◌&&◌, ◌||◌, nat_lt, if◌then◌else◌, List, [], ◌∷◌, reverse}
+use Rattle.std.specs.List.{list_any}
+use Rattle.std.specs.Ordering.{int_eq}
+use Rattle.ipdl_base.specs.declared.kinds.Destroy.{Destroy}
+use Rattle.ipdl_base.specs.declared.kinds.Destroy.TheVariants as destroy
+use Rattle.history.specs.declared.line.What.{What}
+use Rattle.history.specs.declared.line.What.TheVariants as what
+use Rattle.history_laws.specs.declared.parts.Actor.{Actor}
+use Rattle.history_laws.specs.declared.parts.Cause.{Cause}
+use Rattle.history_laws.specs.declared.parts.Cause.TheVariants as cause
+use Rattle.history_laws.specs.declared.parts.Standing.{Standing}
+use Rattle.history_laws.specs.Half.{Half, lives, is_empty}
+use Rattle.history_laws.specs.Numbers.{has}
+use Rattle.history_laws.specs.Reading.{route_of, standing_of}
+
+-- an actor that lives has this manager
+abbrev pub is_living_under : List ℤ → ℤ → Actor → Bool
+is_living_under fallen manager a = int_eq a.manager manager && not (has fallen a.id)
+
+abbrev pub manages_living : Half → ℤ → Bool
+manages_living half id = list_any (is_living_under half.fallen id) half.built
+
+-- a younger one of the same manager has fallen in the event
+abbrev pub is_younger : Standing → Standing → Bool
+is_younger actor b = int_eq b.manager actor.manager && nat_lt actor.place b.place
+
+abbrev pub younger_fell : Half → ℤ → Bool
+younger_fell half id = list_any (is_younger (standing_of half.built id)) half.falls
+
+-- the way from an actor to its manager, the manager of that, and so on, among the actors that were built, the latest first, leads to another
+abbrev pub climbs : List Actor → ℤ → ℤ → Bool
+climbs [] id top = false
+climbs (a ∷ earlier) id top = if int_eq a.id id then (int_eq a.manager top || climbs earlier a.manager top) else climbs earlier id top
+
+-- an actor is below another
+abbrev pub is_below : List Actor → ℤ → ℤ → Bool
+is_below built id top = climbs (reverse built) id top
+
+abbrev pub same_destroy : Destroy → Destroy → Bool
+same_destroy destroy.Deletion destroy.Deletion = true
+same_destroy destroy.AncestorDeletion destroy.AncestorDeletion = true
+same_destroy destroy.NormalShutdown destroy.NormalShutdown = true
+same_destroy destroy.AbnormalShutdown destroy.AbnormalShutdown = true
+same_destroy _ _ = false
+
+-- why an actor falls by a destructor: it is its actor, or it is below that
+abbrev pub is_deleted : List Actor → ℤ → ℤ → Destroy → Bool
+is_deleted built top id destroy.Deletion = int_eq id top
+is_deleted built top id destroy.AncestorDeletion = is_below built id top
+is_deleted built top id _ = false
+
+-- the event lets an actor fall for this reason
+abbrev pub lets_fall : List Actor → Cause → ℤ → Destroy → Bool
+lets_fall built cause.Nobody id why = false
+lets_fall built (cause.Delete top) id why = is_deleted built top id why
+lets_fall built (cause.Closing reason) id why = same_destroy why reason
+
+-- an actor may fall now
+abbrev pub may_fall : Half → ℤ → Destroy → Bool
+may_fall half id why = lives half id && (not (manages_living half id) && (not (younger_fell half id) && lets_fall half.built half.cause id why))
+
+-- a line of an end, behind what is read of that end, is as the law demands
+abbrev pub fallen_line : Half → What → Bool
+fallen_line half (what.Built id protocol) = not (has half.fallen (route_of half.event))
+fallen_line half (what.Fall id why) = may_fall half id why
+fallen_line half _ = true
+
+-- at an end that has closed nobody lives
+abbrev pub fallen_moment : Half → Bool
+fallen_moment half = if half.over then is_empty half else true

@@ -1,0 +1,102 @@
+-- What is read from the lines of one end.
+use Rattle.std.specs.Prelude.{ℕ, ℤ, pos, Bool, true, false, ◌&&◌, not, if◌then◌else◌, List, [], ◌∷◌, find, Option, Some, None}
+use Rattle.std.specs.List.{list_any, list_all}
+use Rattle.std.specs.Option.{option_map_or}
+use Rattle.std.specs.Ordering.{int_eq}
+use Rattle.history_laws.specs.declared.parts.Actor.{Actor}
+use Rattle.history_laws.specs.declared.parts.Call.{Call}
+use Rattle.history_laws.specs.declared.parts.Cause.{Cause}
+use Rattle.history_laws.specs.declared.parts.Cause.TheVariants as cause
+use Rattle.history_laws.specs.declared.parts.Event.{Event}
+use Rattle.history_laws.specs.declared.parts.Event.TheVariants as event
+use Rattle.history_laws.specs.declared.parts.Frame.{Frame}
+use Rattle.history_laws.specs.declared.parts.Frame.TheVariants as frame
+use Rattle.history_laws.specs.declared.parts.Seen.{Seen}
+use Rattle.history_laws.specs.declared.parts.Standing.{Standing}
+use Rattle.history_laws.specs.declared.parts.State.{State}
+use Rattle.history_laws.specs.declared.parts.State.TheVariants as state
+use Rattle.history_laws.specs.Numbers.{has}
+use Rattle.history_laws.specs.Told.{Told, Request, request_of}
+
+-- Stacks have the innermost frame first, all other lists the oldest first.
+pub record Half : Type 0 where
+  -- the state of the end, whether it has sent or been given an end of the channel, whether it has closed
+  pub state : State
+  pub ended : Bool
+  pub over : Bool
+  -- the actors that were built, first the top actor, and the ids of those that fell
+  pub built : List Actor
+  pub fallen : List ℤ
+  -- what was sent, delivered, and has arrived and not left
+  pub sent : List Told
+  pub delivered : List Seen
+  pub arrived : List Seen
+  -- the numbers of the requests that were taken or dropped, and of those that were replaced
+  pub gone : List ℤ
+  pub replaced : List ℤ
+  -- the numbers of the replies that were taken, of the calls that failed, of the promises that were settled
+  pub replies : List ℤ
+  pub failed : List ℤ
+  pub settled : List ℤ
+  pub stack : List Frame
+  -- the last event, why actors fall in it, and where those stand that fell in it
+  pub event : Event
+  pub cause : Cause
+  pub falls : List Standing
+
+-- the half of no lines: the top actor lives
+abbrev pub opening : Half
+opening = record {
+  state = state.Open; ended = false; over = false;
+  built = record { id = pos 2147483647; manager = pos 0 } ∷ []; fallen = [];
+  sent = []; delivered = []; arrived = [];
+  gone = []; replaced = []; replies = []; failed = []; settled = [];
+  stack = [];
+  event = event.Other; cause = cause.Nobody; falls = [];
+}
+
+-- an actor of this id was built
+abbrev pub was_built : List Actor → ℤ → Bool
+was_built built id = list_any (λ a. int_eq a.id id) built
+
+-- an actor lives where it was built and has not fallen
+abbrev pub lives : Half → ℤ → Bool
+lives half id = was_built half.built id && not (has half.fallen id)
+
+-- the request of a number that the end has sent
+abbrev pub own_request : Half → ℤ → Option Request
+own_request half n = request_of half.sent n
+
+-- whether the end's request of a number is sync, and whether it is async with returns
+abbrev pub is_sync_request : Half → ℤ → Bool
+is_sync_request half n = option_map_or (λ r. r.sync) (own_request half n) false
+
+abbrev pub is_promise : Half → ℤ → Bool
+is_promise half n = option_map_or (λ r. r.wants) (own_request half n) false
+
+-- whether a frame is a wait that is not answered, and whether it is that of this number
+abbrev pub is_unanswered : Frame → Bool
+is_unanswered (frame.Dispatch d) = false
+is_unanswered (frame.Unanswered c) = true
+is_unanswered (frame.Answered c) = false
+
+abbrev pub is_wait_for : ℤ → Frame → Bool
+is_wait_for n (frame.Dispatch d) = false
+is_wait_for n (frame.Unanswered c) = int_eq c.seq n
+is_wait_for n (frame.Answered c) = false
+
+-- whether the innermost unanswered wait is that of this number
+abbrev pub awaits : List Frame → ℤ → Bool
+awaits stack n = option_map_or (is_wait_for n) (find is_unanswered stack) false
+
+-- whether some wait is not answered
+abbrev pub has_unanswered : List Frame → Bool
+has_unanswered stack = list_any is_unanswered stack
+
+-- whether nobody lives
+abbrev pub is_empty : Half → Bool
+is_empty half = list_all (λ a. has half.fallen a.id) half.built
+
+-- whether each request that is async with returns is settled
+abbrev pub is_settled_request : List ℤ → Request → Bool
+is_settled_request settled r = if r.wants then has settled r.seq else true

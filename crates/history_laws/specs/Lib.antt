@@ -1,0 +1,14 @@
+pub mod Chain
+pub mod Fallen
+pub mod Half
+pub mod Holds
+pub mod Living
+pub mod Nulled
+pub mod Numbers
+pub mod Prefix
+pub mod Reading
+pub mod Rows
+pub mod Settled
+pub mod Still
+pub mod Told
+pub mod Waits

@@ -1,0 +1,50 @@
+-- What the message of a request's number says of it.
+use Rattle.std.specs.Prelude.{ℕ, ◌==◌, ℤ, pos, Bool, true, false, ◌&&◌, not, if◌then◌else◌, is_some, List, [], Option, Some, None, unwrap_or}
+use Rattle.std.specs.Option.{option_map_or}
+use Rattle.ipdl_base.specs.declared.schema.Kind.{Kind}
+use Rattle.ipdl_base.specs.declared.schema.Kind.TheVariants.{Normal, Constructor, Delete}
+use Rattle.ipdl_base.specs.declared.schema.MessageRow.{MessageRow}
+use Rattle.ipdl_base.specs.declared.schema.ParamRow.{ParamRow}
+use Rattle.ipdl_base.specs.declared.schema.Schema.{Schema}
+use Rattle.ipdl_base.specs.Sound.{is_sync, message_of}
+use Rattle.history_laws.specs.declared.parts.Cause.{Cause}
+use Rattle.history_laws.specs.declared.parts.Cause.TheVariants as cause
+
+-- whether a number is that of the request of a message
+abbrev pub is_request_number : Schema → ℕ → Bool
+is_request_number schema number = option_map_or (λ row. row.number == number) (message_of schema number) false
+
+-- a message whose sender waits for its reply
+abbrev pub is_sync_number : Schema → ℕ → Bool
+is_sync_number schema number = option_map_or (λ row. is_sync row.semantics) (message_of schema number) false
+
+-- an async message with returns: its sender has a promise
+abbrev pub wants_row : MessageRow → Bool
+wants_row row = not (is_sync row.semantics) && is_some row.returns
+
+abbrev pub wants_number : Schema → ℕ → Bool
+wants_number schema number = option_map_or wants_row (message_of schema number) false
+
+abbrev pub constructs : Kind → Bool
+constructs Normal = false
+constructs (Constructor p) = true
+constructs Delete = false
+
+abbrev pub deletes : Kind → Bool
+deletes Normal = false
+deletes (Constructor p) = false
+deletes Delete = true
+
+abbrev pub is_constructor : Schema → ℕ → Bool
+is_constructor schema number = option_map_or (λ row. constructs row.kind) (message_of schema number) false
+
+-- the actor of a destructor's message falls with all below it, and no other does
+abbrev pub delete_cause : Schema → ℕ → ℤ → Cause
+delete_cause schema number route = if option_map_or (λ row. deletes row.kind) (message_of schema number) false then cause.Delete route else cause.Nobody
+
+-- the parameters and the returns of a message
+abbrev pub params_of : Schema → ℕ → List ParamRow
+params_of schema number = option_map_or (λ row. row.params) (message_of schema number) []
+
+abbrev pub returns_of : Schema → ℕ → List ParamRow
+returns_of schema number = option_map_or (λ row. unwrap_or row.returns []) (message_of schema number) []

@@ -1,0 +1,106 @@
+-- What an end defers, and whether nothing but acts is possible, as far as lines tell.
+use Rattle.std.specs.Prelude.{ℕ, ℤ, pos, Bool, true, false, not, ◌&&◌, ◌||◌, ◌==◌, nat_lt, if◌then◌else◌, List, [], ◌∷◌, length, find, Option, Some, None, option_map, option_and_then}
+use Rattle.std.specs.List.{list_any, filter_map}
+use Rattle.std.specs.Option.{option_map_or}
+use Rattle.ipdl_base.specs.declared.kinds.Level.{Level}
+use Rattle.ipdl_base.specs.declared.kinds.Level.TheVariants.{InsideSync}
+use Rattle.ipdl_base.specs.declared.kinds.Side.{Side}
+use Rattle.ipdl_base.specs.declared.kinds.Side.TheVariants as side
+use Rattle.ipdl_base.specs.declared.schema.Schema.{Schema}
+use Rattle.ipdl_base.specs.Deferral.{rank, Arrival, request, reply, goodbye, mark, defers_arrival}
+use Rattle.ipdl_base.specs.Sound.{is_sync, message_of}
+use Rattle.nesting_core.specs.declared.frame.Head.{Head}
+use Rattle.history_laws.specs.declared.parts.Call.{Call}
+use Rattle.history_laws.specs.declared.parts.Frame.{Frame}
+use Rattle.history_laws.specs.declared.parts.Frame.TheVariants as frame
+use Rattle.history_laws.specs.declared.parts.Seen.{Seen}
+use Rattle.history_laws.specs.declared.parts.Seen.TheVariants as seen
+use Rattle.history_laws.specs.declared.parts.State.{State}
+use Rattle.history_laws.specs.declared.parts.State.TheVariants as state
+use Rattle.history_laws.specs.Half.{Half, own_request, has_unanswered}
+use Rattle.history_laws.specs.Reading.{Reading, half_of, other_of}
+
+-- the head of a message with a number and a transaction; none where there is no such message
+abbrev pub head_of : Schema → ℕ → ℤ → ℤ → Option Head
+head_of schema number seq transaction = option_map (λ row. record { sync = is_sync row.semantics; level = row.level; seq = seq; transaction = transaction }) (message_of schema number)
+
+-- the head of a call, by its line
+abbrev pub call_head : Schema → Call → Option Head
+call_head schema call = head_of schema call.number call.seq call.transaction
+
+-- the head of a request that the other end has sent
+abbrev pub request_head : Schema → Half → ℤ → Option Head
+request_head schema other n = option_and_then (λ r. head_of schema r.number n r.transaction) (own_request other n)
+
+-- the head of a frame: that of a wait by its own line, that of a dispatch by the request of the other end
+abbrev pub frame_head : Schema → Half → Frame → Option Head
+frame_head schema other (frame.Dispatch d) = request_head schema other d.seq
+frame_head schema other (frame.Unanswered c) = call_head schema c
+frame_head schema other (frame.Answered c) = call_head schema c
+
+-- the transaction of a frame of a sync message of level inside_sync
+abbrev pub inner_of_head : Head → Option ℤ
+inner_of_head head = if head.sync && (rank head.level == rank InsideSync) then Some head.transaction else None
+
+abbrev pub frame_inner : Schema → Half → Frame → Option ℤ
+frame_inner schema other f = option_and_then inner_of_head (frame_head schema other f)
+
+-- that of the innermost such frame
+abbrev pub inner_transaction : Schema → Half → List Frame → Option ℤ
+inner_transaction schema other [] = None
+inner_transaction schema other (top ∷ below) = option_map_or Some (frame_inner schema other top) (inner_transaction schema other below)
+
+-- the call on top whose answer has not come
+abbrev pub awaited_call : List Frame → Option Call
+awaited_call (frame.Unanswered c ∷ below) = Some c
+awaited_call _ = None
+
+-- the level of that call
+abbrev pub awaited_level : Schema → List Frame → Option Level
+awaited_level schema stack = option_map (λ head. head.level) (option_and_then (call_head schema) (awaited_call stack))
+
+-- what an end defers of what arrives
+abbrev pub defers : Schema → Side → Half → Half → Arrival → Bool
+defers schema end half other arrival = defers_arrival end (awaited_level schema half.stack) (inner_transaction schema other half.stack) arrival
+
+abbrev pub defers_head : Schema → Side → Half → Half → Option Head → Bool
+defers_head schema end half other None = false
+defers_head schema end half other (Some head) = defers schema end half other (request head.sync head.level head.transaction)
+
+-- what an end defers of the packets that have arrived; a request that the other end has not sent is not deferred
+abbrev pub defers_seen : Schema → Side → Half → Half → Seen → Bool
+defers_seen schema end half other (seen.Request n) = defers_head schema end half other (request_head schema other n)
+defers_seen schema end half other (seen.Reply n) = defers schema end half other (reply false)
+defers_seen schema end half other seen.Goodbye = defers schema end half other goodbye
+defers_seen schema end half other seen.Broken = defers schema end half other mark
+
+abbrev pub is_open : State → Bool
+is_open state.Open = true
+is_open _ = false
+
+abbrev pub takes_items : State → Bool
+takes_items state.Open = true
+takes_items state.Draining = true
+takes_items _ = false
+
+-- a packet can be delivered
+abbrev pub can_deliver : Half → Half → Bool
+can_deliver half other = is_open half.state && nat_lt (length half.delivered) (length other.sent)
+
+-- nothing is on top but a wait that is not answered
+abbrev pub can_take_now : List Frame → Bool
+can_take_now [] = true
+can_take_now (frame.Dispatch d ∷ below) = false
+can_take_now (frame.Unanswered c ∷ below) = true
+can_take_now (frame.Answered c ∷ below) = false
+
+-- some packet that has arrived can be taken
+abbrev pub can_take : Schema → Side → Half → Half → Bool
+can_take schema end half other = takes_items half.state && list_any (λ packet. not (defers_seen schema end half other packet)) half.arrived
+
+-- nothing is possible at an end but acts: no delivery, no return and no call that goes on, no packet that is taken
+abbrev pub is_still_at : Schema → Side → Half → Half → Bool
+is_still_at schema end half other = not (can_deliver half other) && (can_take_now half.stack && not (can_take schema end half other))
+
+abbrev pub is_still : Schema → Reading → Bool
+is_still schema reading = is_still_at schema side.Parent reading.parent reading.child && is_still_at schema side.Child reading.child reading.parent
