@@ -1,5 +1,5 @@
 -- What is read from the lines of one end.
-use Rattle.std.specs.Prelude.{ℕ, ℤ, pos, Bool, true, false, ◌&&◌, not, if◌then◌else◌, List, [], ◌∷◌, find, Option, Some, None}
+use Rattle.std.specs.Prelude.{ℕ, ℤ, pos, Bool, true, false, ◌&&◌, not, if◌then◌else◌, List, [], ◌∷◌, find, Option, Some, None, option_map}
 use Rattle.std.specs.List.{list_any, list_all}
 use Rattle.std.specs.Option.{option_map_or}
 use Rattle.std.specs.Ordering.{int_eq}
@@ -16,6 +16,7 @@ use Rattle.history_laws.specs.declared.parts.Standing.{Standing}
 use Rattle.history_laws.specs.declared.parts.State.{State}
 use Rattle.history_laws.specs.declared.parts.State.TheVariants as state
 use Rattle.history_laws.specs.Numbers.{has}
+use Rattle.history_laws.specs.Told as told
 use Rattle.history_laws.specs.Told.{Told, Request, request_of}
 
 -- Stacks have the innermost frame first, all other lists the oldest first.
@@ -27,6 +28,8 @@ pub record Half : Type 0 where
   -- the actors that were built, first the top actor, and the ids of those that fell
   pub built : List Actor
   pub fallen : List ℤ
+  -- how many actors the end has constructed
+  pub made : ℕ
   -- what was sent, delivered, and has arrived and not left
   pub sent : List Told
   pub delivered : List Seen
@@ -47,12 +50,24 @@ pub record Half : Type 0 where
 -- the half of no lines: the top actor lives
 abbrev pub opening : Half
 opening = record {
-  state = state.Open; ended = false; over = false;
-  built = record { id = pos 2147483647; manager = pos 0 } ∷ []; fallen = [];
-  sent = []; delivered = []; arrived = [];
-  gone = []; replaced = []; replies = []; failed = []; settled = [];
+  state = state.Open;
+  ended = false;
+  over = false;
+  built = record { id = pos 2147483647; manager = pos 0 } ∷ [];
+  fallen = [];
+  made = 0;
+  sent = [];
+  delivered = [];
+  arrived = [];
+  gone = [];
+  replaced = [];
+  replies = [];
+  failed = [];
+  settled = [];
   stack = [];
-  event = event.Other; cause = cause.Nobody; falls = [];
+  event = event.Other;
+  cause = cause.Nobody;
+  falls = [];
 }
 
 -- an actor of this id was built
@@ -85,9 +100,19 @@ is_wait_for n (frame.Dispatch d) = false
 is_wait_for n (frame.Unanswered c) = int_eq c.seq n
 is_wait_for n (frame.Answered c) = false
 
--- whether the innermost unanswered wait is that of this number
+-- the number of a frame's request
+abbrev pub frame_seq : Frame → ℤ
+frame_seq (frame.Dispatch d) = d.seq
+frame_seq (frame.Unanswered c) = c.seq
+frame_seq (frame.Answered c) = c.seq
+
+-- the number of the innermost unanswered wait
+abbrev pub awaited : List Frame → Option ℤ
+awaited stack = option_map frame_seq (find is_unanswered stack)
+
+-- whether that is this number
 abbrev pub awaits : List Frame → ℤ → Bool
-awaits stack n = option_map_or (is_wait_for n) (find is_unanswered stack) false
+awaits stack n = option_map_or (λ m. int_eq m n) (awaited stack) false
 
 -- whether some wait is not answered
 abbrev pub has_unanswered : List Frame → Bool
@@ -97,6 +122,9 @@ has_unanswered stack = list_any is_unanswered stack
 abbrev pub is_empty : Half → Bool
 is_empty half = list_all (λ a. has half.fallen a.id) half.built
 
--- whether each request that is async with returns is settled
-abbrev pub is_settled_request : List ℤ → Request → Bool
-is_settled_request settled r = if r.wants then has settled r.seq else true
+-- whether a packet that is a request which is async with returns is settled
+abbrev pub is_settled_told : List ℤ → Told → Bool
+is_settled_told settled (told.request r) = if r.wants then has settled r.seq else true
+is_settled_told settled (told.said n what) = true
+is_settled_told settled told.goodbye = true
+is_settled_told settled told.broken = true

@@ -1,7 +1,9 @@
 pub mod Chain
 pub mod Fallen
 pub mod Half
+pub mod Halves
 pub mod Holds
+pub mod Kept
 pub mod Living
 pub mod Nulled
 pub mod Numbers

@@ -26,7 +26,7 @@ use Rattle.history_laws.specs.declared.parts.Seen.TheVariants as seen
 use Rattle.history_laws.specs.declared.parts.Standing.{Standing}
 use Rattle.history_laws.specs.declared.parts.State.{State}
 use Rattle.history_laws.specs.declared.parts.State.TheVariants as state
-use Rattle.history_laws.specs.Half.{Half, opening, is_sync_request}
+use Rattle.history_laws.specs.Half.{Half, opening, is_sync_request, is_wait_for}
 use Rattle.history_laws.specs.Numbers.{same_seen}
 use Rattle.history_laws.specs.Rows.{is_sync_number, wants_number, is_constructor, delete_cause}
 use Rattle.history_laws.specs.Told as told
@@ -48,17 +48,17 @@ telling packet half = record half { sent = half.sent ++ packet ∷ [] }
 abbrev pub pushing : Frame → Half → Half
 pushing top half = record half { stack = top ∷ half.stack }
 
--- the how-manyeth actor of its sender a request makes, behind what was sent
-abbrev pub made_after : Schema → ℕ → List Told → ℕ
-made_after schema number sent = if is_constructor schema number then count_by (λ r. is_constructor schema r.number) (requests_of sent) + 1 else 0
+-- how many actors an end has constructed behind one more request
+abbrev pub made_after : Schema → ℕ → ℕ → ℕ
+made_after schema number made = if is_constructor schema number then made + 1 else made
 
 abbrev pub request_after : Schema → ℤ → ℤ → ℤ → ℕ → Values → Half → Request
 request_after schema n transaction route number values half =
-    record { seq = n; transaction = transaction; sync = is_sync_number schema number; wants = wants_number schema number; route = route; number = number; made = made_after schema number half.sent; values = values }
+    record { seq = n; transaction = transaction; sync = is_sync_number schema number; wants = wants_number schema number; route = route; number = number; made = if is_constructor schema number then half.made + 1 else 0; values = values }
 
 -- a request is sent
 abbrev pub sending : Schema → ℤ → ℤ → ℤ → ℕ → Values → Half → Half
-sending schema n transaction route number values half = telling (told.request (request_after schema n transaction route number values half)) half
+sending schema n transaction route number values half = record (telling (told.request (request_after schema n transaction route number values half)) half) { made = made_after schema number half.made }
 
 -- a packet is delivered, and one that arrives is there until it leaves
 abbrev pub delivering : Seen → Half → Half
@@ -75,12 +75,16 @@ without_first packet (first ∷ rest) = if same_seen first packet then rest else
 abbrev pub leaving : Seen → Half → Half
 leaving packet half = record half { arrived = without_first packet half.arrived }
 
+-- a wait with its answer
+abbrev pub answered_frame : Frame → Frame
+answered_frame (frame.Dispatch d) = frame.Dispatch d
+answered_frame (frame.Unanswered c) = frame.Answered c
+answered_frame (frame.Answered c) = frame.Answered c
+
 -- the innermost unanswered wait of a number is answered
 abbrev pub answered : ℤ → List Frame → List Frame
 answered n [] = []
-answered n (frame.Dispatch d ∷ below) = frame.Dispatch d ∷ answered n below
-answered n (frame.Unanswered c ∷ below) = if int_eq c.seq n then frame.Answered c ∷ below else frame.Unanswered c ∷ answered n below
-answered n (frame.Answered c ∷ below) = frame.Answered c ∷ answered n below
+answered n (top ∷ below) = if is_wait_for n top then answered_frame top ∷ below else top ∷ answered n below
 
 abbrev pub answering : ℤ → Half → Half
 answering n half = record half { stack = answered n half.stack }

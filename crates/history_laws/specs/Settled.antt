@@ -15,10 +15,10 @@ use Rattle.history.specs.declared.line.What.TheVariants as what
 use Rattle.history.specs.Messages.{same_side}
 use Rattle.history_laws.specs.declared.parts.Event.{Event}
 use Rattle.history_laws.specs.declared.parts.Event.TheVariants as event
-use Rattle.history_laws.specs.Half.{Half, lives, own_request, is_promise, is_settled_request}
+use Rattle.history_laws.specs.Half.{Half, lives, own_request, is_promise, is_settled_told}
 use Rattle.history_laws.specs.Nulled.{is_nulled, missing}
 use Rattle.history_laws.specs.Numbers.{has}
-use Rattle.history_laws.specs.Told.{Said, resolved, rejected, ok, fault, says, requests_of}
+use Rattle.history_laws.specs.Told.{Said, resolved, rejected, ok, fault, says}
 use Rattle.history_laws.specs.Waits.{is_fault, own_returns}
 
 -- a promise that has not been settled
@@ -86,4 +86,4 @@ settled_line schema end half other _ behind = true
 
 -- an end that has closed has settled each of its promises
 abbrev pub settled_moment : Half → Bool
-settled_moment half = if half.over then list_all (is_settled_request half.settled) (requests_of half.sent) else true
+settled_moment half = if half.over then list_all (is_settled_told half.settled) half.sent else true

@@ -2,8 +2,13 @@
 #![tactic(auto)]
 
 mod chain;
+mod half;
 mod law;
+mod numbers;
 mod parts;
+mod sent;
+mod stack;
+mod told;
 
 pub use chain::Held;
 pub use law::Law;
