@@ -7,7 +7,7 @@ use Rattle.nesting_core.specs.declared.frame.Head.{Head}
 use Rattle.history.specs.declared.line.Line.{Line}
 use Rattle.history.specs.declared.line.What.{What}
 use Rattle.history.specs.declared.line.What.TheVariants as what
-use Rattle.history_laws.specs.declared.chain.Held.{Held}
+use Rattle.history_laws.specs.declared.held.Held.{Held}
 use Rattle.history_laws.specs.declared.parts.Frame.{Frame}
 use Rattle.history_laws.specs.declared.parts.Frame.TheVariants as frame
 use Rattle.history_laws.specs.Reading.{Reading, half_of, read}

@@ -1,5 +1,5 @@
 -- What is read from lines: a fold over the lines of each end.
-use Rattle.std.specs.Prelude.{ℕ, ◌+◌, ℤ, pos, Bool, true, false, not, if◌then◌else◌, List, [], ◌∷◌, ◌++◌, length, position, unwrap_or, count_by, fold, find, Option, Some, None}
+use Rattle.std.specs.Prelude.{ℕ, ◌+◌, ℤ, pos, Bool, true, false, not, if◌then◌else◌, List, [], ◌∷◌, ◌++◌, length, position, unwrap_or, fold, find, remove, Option, Some, None, option_map}
 use Rattle.std.specs.List.{list_any}
 use Rattle.std.specs.Option.{option_map_or}
 use Rattle.std.specs.Ordering.{int_eq}
@@ -68,9 +68,8 @@ abbrev pub arriving : Seen → Half → Half
 arriving packet half = record half { delivered = half.delivered ++ packet ∷ []; arrived = half.arrived ++ packet ∷ [] }
 
 -- the first that shows the packet leaves
-abbrev pub without_first : Seen → List Seen → List Seen
-without_first packet [] = []
-without_first packet (first ∷ rest) = if same_seen first packet then rest else first ∷ without_first packet rest
+unfoldable pub without_first : Seen → List Seen → List Seen
+without_first packet packets = option_map_or (remove packets) (position (λ p. same_seen p packet) packets) packets
 
 abbrev pub leaving : Seen → Half → Half
 leaving packet half = record half { arrived = without_first packet half.arrived }
@@ -105,6 +104,10 @@ going n half = record (leaving (seen.Request n) half) { gone = half.gone ++ n �
 abbrev pub closing : Destroy → Half → Half
 closing why half = record (begun event.Closes (cause.Closing why) half) { state = state.Closed; over = true; arrived = [] }
 
+-- and does so by its own act: it sends the goodbye
+abbrev pub closing_by_act : Half → Half
+closing_by_act half = record (closing NormalShutdown (telling told.goodbye half)) { ended = true }
+
 -- the end dies, and the mark of that is sent where no end was
 abbrev pub dying : Half → Half
 dying half = record (quiet half) { state = state.Dead; stack = []; arrived = []; sent = if half.ended then half.sent else half.sent ++ told.broken ∷ [] }
@@ -134,7 +137,7 @@ building id half = record half { built = half.built ++ record { id = id; manager
 
 -- the manager of an actor, 0 where it was not built
 abbrev pub manager_of : List Actor → ℤ → ℤ
-manager_of built id = option_map_or (λ a. a.manager) (find (λ a. int_eq a.id id) built) (pos 0)
+manager_of built id = unwrap_or (option_map (λ a. a.manager) (find (λ a. int_eq a.id id) built)) (pos 0)
 
 -- where an actor stands among those that were built
 abbrev pub standing_of : List Actor → ℤ → Standing
@@ -142,6 +145,19 @@ standing_of built id = record { place = unwrap_or (position (λ a. int_eq a.id i
 
 abbrev pub falling : ℤ → Half → Half
 falling id half = record half { fallen = half.fallen ++ id ∷ []; falls = half.falls ++ standing_of half.built id ∷ [] }
+
+-- a reply is taken, a request is replaced, a call fails, a promise is settled
+abbrev pub taking_reply : ℤ → Half → Half
+taking_reply n half = quiet (record (leaving (seen.Reply n) half) { replies = half.replies ++ n ∷ [] })
+
+abbrev pub replacing : ℤ → Half → Half
+replacing n half = record (leaving (seen.Request n) half) { replaced = half.replaced ++ n ∷ [] }
+
+abbrev pub failing : ℤ → Half → Half
+failing n half = record (answering n half) { failed = half.failed ++ n ∷ [] }
+
+abbrev pub settling : ℤ → Half → Half
+settling n half = record half { settled = half.settled ++ n ∷ [] }
 
 -- The half of an end behind one more line of it, which stands at a place in the history.
 abbrev pub after_what : Schema → ℕ → What → Half → Half
@@ -156,7 +172,7 @@ after_what schema place (what.Resolve n values) half = quiet (telling (told.said
 after_what schema place (what.Reject n) half = quiet (telling (told.said n told.rejected) half)
 after_what schema place (what.Keep n name) half = quiet half
 after_what schema place (what.Let name id) half = quiet half
-after_what schema place what.Close half = record (closing NormalShutdown (telling told.goodbye half)) { ended = true }
+after_what schema place what.Close half = closing_by_act half
 after_what schema place what.Die half = dying half
 after_what schema place (what.DeliverRequest n) half = quiet (arriving (seen.Request n) half)
 after_what schema place (what.DeliverReply n) half = quiet (replying n half)
@@ -165,7 +181,7 @@ after_what schema place what.DeliverBroken half = begun event.Ends cause.Nobody 
 after_what schema place (what.Take n route number values) half =
     begun (event.Takes n route) cause.Nobody (pushing (frame.Dispatch (record { seq = n; route = route; number = number })) (going n half))
 after_what schema place (what.Drop n route number id) half = quiet (going n half)
-after_what schema place (what.TakeReply n) half = quiet (record (leaving (seen.Reply n) half) { replies = half.replies ++ n ∷ [] })
+after_what schema place (what.TakeReply n) half = taking_reply n half
 after_what schema place what.ShutNormal half = closing NormalShutdown half
 after_what schema place what.ShutAbnormal half = closing AbnormalShutdown half
 after_what schema place (what.Return n) half = popping (return_cause schema half.stack) half
@@ -173,12 +189,12 @@ after_what schema place (what.ResumeOk n values) half = popping cause.Nobody hal
 after_what schema place (what.ResumeFault n reason) half = popping cause.Nobody half
 after_what schema place (what.Flush count) half = quiet half
 after_what schema place (what.Built id protocol) half = building id half
-after_what schema place (what.Replaced n) half = record (leaving (seen.Request n) half) { replaced = half.replaced ++ n ∷ [] }
+after_what schema place (what.Replaced n) half = replacing n half
 after_what schema place (what.AnswerOk n values) half = telling (told.said n (told.ok values)) half
 after_what schema place (what.AnswerFault n reason) half = telling (told.said n (told.fault reason)) half
-after_what schema place (what.Fails n) half = record (answering n half) { failed = half.failed ++ n ∷ [] }
-after_what schema place (what.Resolved n values) half = record half { settled = half.settled ++ n ∷ [] }
-after_what schema place (what.Rejected n reason) half = record half { settled = half.settled ++ n ∷ [] }
+after_what schema place (what.Fails n) half = failing n half
+after_what schema place (what.Resolved n values) half = settling n half
+after_what schema place (what.Rejected n reason) half = settling n half
 after_what schema place (what.Fall id destroy) half = falling id half
 
 -- Both halves, the end of the last event, and how many lines there were.

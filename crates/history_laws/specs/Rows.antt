@@ -15,12 +15,15 @@ abbrev pub is_request_number : Schema → ℕ → Bool
 is_request_number schema number = option_map_or (λ row. row.number == number) (message_of schema number) false
 
 -- a message whose sender waits for its reply
+abbrev pub is_sync_row : MessageRow → Bool
+is_sync_row row = is_sync row.semantics
+
 abbrev pub is_sync_number : Schema → ℕ → Bool
-is_sync_number schema number = option_map_or (λ row. is_sync row.semantics) (message_of schema number) false
+is_sync_number schema number = option_map_or is_sync_row (message_of schema number) false
 
 -- an async message with returns: its sender has a promise
 abbrev pub wants_row : MessageRow → Bool
-wants_row row = not (is_sync row.semantics) && is_some row.returns
+wants_row row = not (is_sync_row row) && is_some row.returns
 
 abbrev pub wants_number : Schema → ℕ → Bool
 wants_number schema number = option_map_or wants_row (message_of schema number) false
@@ -30,21 +33,24 @@ constructs Normal = false
 constructs (Constructor p) = true
 constructs Delete = false
 
-abbrev pub deletes : Kind → Bool
-deletes Normal = false
-deletes (Constructor p) = false
-deletes Delete = true
-
 abbrev pub is_constructor : Schema → ℕ → Bool
 is_constructor schema number = option_map_or (λ row. constructs row.kind) (message_of schema number) false
 
 -- the actor of a destructor's message falls with all below it, and no other does
+abbrev pub kind_cause : Kind → ℤ → Cause
+kind_cause Normal route = cause.Nobody
+kind_cause (Constructor p) route = cause.Nobody
+kind_cause Delete route = cause.Delete route
+
 abbrev pub delete_cause : Schema → ℕ → ℤ → Cause
-delete_cause schema number route = if option_map_or (λ row. deletes row.kind) (message_of schema number) false then cause.Delete route else cause.Nobody
+delete_cause schema number route = option_map_or (λ row. kind_cause row.kind route) (message_of schema number) cause.Nobody
 
 -- the parameters and the returns of a message
 abbrev pub params_of : Schema → ℕ → List ParamRow
 params_of schema number = option_map_or (λ row. row.params) (message_of schema number) []
 
+abbrev pub returns_of_row : MessageRow → List ParamRow
+returns_of_row row = option_map_or (λ returns. returns) row.returns []
+
 abbrev pub returns_of : Schema → ℕ → List ParamRow
-returns_of schema number = option_map_or (λ row. unwrap_or row.returns []) (message_of schema number) []
+returns_of schema number = option_map_or returns_of_row (message_of schema number) []

@@ -1,4 +1,6 @@
-ghost use Rattle.std.specs.Prelude.{◌≡◌, ◌∷◌, ◌++◌, [], OnOk, IfOk};
+ghost use Rattle.std.specs.Prelude.{◌≡◌, ◌∷◌, ◌++◌, [], OnOk, IfOk, option_map, find, position};
+ghost use Rattle.std.specs.Ordering.{int_eq};
+ghost use Rattle.history_laws.specs.Numbers.{same_seen};
 ghost use Rattle.history_laws.specs.Half.{opening};
 ghost use Rattle.history_laws.specs.Halves.{half_view};
 ghost use Rattle.history_laws.specs.Kept.{told_view};
@@ -215,8 +217,6 @@ impl Event {
 }
 
 impl Seen {
-    ghost use Rattle.history_laws.specs.Numbers.{same_seen};
-
     /// Whether both show the same packet.
     pub fn same(&self, other: &Seen) -> bool
         ensures { result ≡ same_seen self.now other.now }
@@ -229,36 +229,45 @@ impl Seen {
     }
 }
 
+/// The place of the first that shows a packet.
+fn place_of(packets: &[Seen], packet: Seen) -> Option<usize>
+    ensures { result ≡ position (λ p. same_seen p packet) packets.now }
+{
+    packets.iter().position(|first| first.same(&packet))
+}
+
 /// Takes out the first that shows a packet, where there is one.
+#[tactic(auto, unfolding(crate::specs::Reading::without_first))]
 fn remove_first(packets: &mut Vec<Seen>, packet: Seen)
     ensures { packets.new.items ≡ read.without_first packet packets.old.items }
 {
-    let found = packets.iter().position(|first| first.same(&packet));
-    if let Some(index) = found {
-        packets.remove(index);
+    if let Some(index) = place_of(packets.as_slice(), packet) {
+        if index < packets.len() {
+            packets.remove(index);
+        }
     }
 }
 
-/// The manager of an actor, 0 where it was not built.
-fn manager_of(built: &[Actor], id: i32) -> i32
-    ensures { result ≡ read.manager_of built.now id }
+/// The manager of the first actor of an id that was built.
+fn found_manager(built: &[Actor], id: i32) -> Option<i32>
+    ensures { result ≡ option_map (λ a. a.manager) (find (λ a. int_eq a.id id) built.now) }
 {
-    match built.iter().find(|actor| actor.id == id) {
-        Some(actor) => actor.manager,
-        None => 0,
-    }
+    let found = built.iter().find(|actor| actor.id == id);
+    found.map(|actor| actor.manager)
+}
+
+/// The place of the first actor of an id that was built.
+fn found_place(built: &[Actor], id: i32) -> Option<usize>
+    ensures { result ≡ position (λ a. int_eq a.id id) built.now }
+{
+    built.iter().position(|actor| actor.id == id)
 }
 
 /// Where an actor stands among those that were built, behind all where it was not.
 pub fn standing_of(built: &[Actor], id: i32) -> Standing
     ensures { result ≡ read.standing_of built.now id }
 {
-    let place = built
-        .iter()
-        .position(|actor| actor.id == id)
-        .unwrap_or(built.len());
-    Standing {
-        place,
-        manager: manager_of(built, id),
-    }
+    let place = found_place(built, id).unwrap_or(built.len());
+    let manager = found_manager(built, id).unwrap_or(0);
+    Standing { place, manager }
 }

@@ -1,15 +1,21 @@
 //! What is read from the lines of a history, and the five laws of histories (docs/laws.md).
 #![tactic(auto)]
 
-mod chain;
 mod half;
+mod held;
 mod law;
+mod note;
 mod numbers;
 mod parts;
+mod rows;
 mod sent;
 mod stack;
 mod told;
+mod unanswered;
+mod verdict;
 
-pub use chain::Held;
+pub use held::Held;
 pub use law::Law;
 pub use parts::{Actor, Call, Cause, Event, Frame, Handled, Seen, Standing, State};
+pub use unanswered::chain;
+pub use verdict::holds;
