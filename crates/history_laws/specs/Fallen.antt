@@ -1,6 +1,6 @@
 -- The law Fallen: an actor falls once, behind those that it manages, and only where a destructor or a closing lets it fall.
 use Rattle.std.specs.Prelude.{ℕ, ℤ, Bool, true, false, not, ◌&&◌, ◌||◌, nat_lt, if◌then◌else◌, List, [], ◌∷◌, reverse}
-use Rattle.std.specs.List.{list_any}
+use Rattle.std.specs.List.{list_all, list_any}
 use Rattle.std.specs.Ordering.{int_eq}
 use Rattle.ipdl_base.specs.declared.kinds.Destroy.{Destroy}
 use Rattle.ipdl_base.specs.declared.kinds.Destroy.TheVariants as destroy
@@ -10,7 +10,7 @@ use Rattle.history_laws.specs.declared.parts.Actor.{Actor}
 use Rattle.history_laws.specs.declared.parts.Cause.{Cause}
 use Rattle.history_laws.specs.declared.parts.Cause.TheVariants as cause
 use Rattle.history_laws.specs.declared.parts.Standing.{Standing}
-use Rattle.history_laws.specs.Half.{Half, lives, is_empty}
+use Rattle.history_laws.specs.Half.{Half, lives}
 use Rattle.history_laws.specs.Numbers.{has}
 use Rattle.history_laws.specs.Reading.{route_of, standing_of}
 
@@ -18,15 +18,21 @@ use Rattle.history_laws.specs.Reading.{route_of, standing_of}
 abbrev pub is_living_under : List ℤ → ℤ → Actor → Bool
 is_living_under fallen manager a = int_eq a.manager manager && not (has fallen a.id)
 
+abbrev pub manages_living_of : List ℤ → List Actor → ℤ → Bool
+manages_living_of fallen built id = list_any (is_living_under fallen id) built
+
 abbrev pub manages_living : Half → ℤ → Bool
-manages_living half id = list_any (is_living_under half.fallen id) half.built
+manages_living half id = manages_living_of half.fallen half.built id
 
 -- a younger one of the same manager has fallen in the event
 abbrev pub is_younger : Standing → Standing → Bool
 is_younger actor b = int_eq b.manager actor.manager && nat_lt actor.place b.place
 
+abbrev pub younger_fell_of : List Standing → Standing → Bool
+younger_fell_of falls actor = list_any (is_younger actor) falls
+
 abbrev pub younger_fell : Half → ℤ → Bool
-younger_fell half id = list_any (is_younger (standing_of half.built id)) half.falls
+younger_fell half id = younger_fell_of half.falls (standing_of half.built id)
 
 -- the way from an actor to its manager, the manager of that, and so on, among the actors that were built, the latest first, leads to another
 abbrev pub climbs : List Actor → ℤ → ℤ → Bool
@@ -66,6 +72,10 @@ fallen_line half (what.Built id protocol) = not (has half.fallen (route_of half.
 fallen_line half (what.Fall id why) = may_fall half id why
 fallen_line half _ = true
 
+-- all that were built have fallen
+abbrev pub all_fallen : List ℤ → List Actor → Bool
+all_fallen fallen built = list_all (λ a. has fallen a.id) built
+
 -- at an end that has closed nobody lives
 abbrev pub fallen_moment : Half → Bool
-fallen_moment half = if half.over then is_empty half else true
+fallen_moment half = if half.over then all_fallen half.fallen half.built else true

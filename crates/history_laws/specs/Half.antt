@@ -1,6 +1,6 @@
 -- What is read from the lines of one end.
 use Rattle.std.specs.Prelude.{ℕ, ℤ, pos, Bool, true, false, ◌&&◌, not, if◌then◌else◌, List, [], ◌∷◌, find, Option, Some, None, option_map}
-use Rattle.std.specs.List.{list_any, list_all}
+use Rattle.std.specs.List.{list_any}
 use Rattle.std.specs.Option.{option_map_or}
 use Rattle.std.specs.Ordering.{int_eq}
 use Rattle.history_laws.specs.declared.parts.Actor.{Actor}
@@ -117,10 +117,6 @@ awaits stack n = option_map_or (λ m. int_eq m n) (awaited stack) false
 -- whether some wait is not answered
 abbrev pub has_unanswered : List Frame → Bool
 has_unanswered stack = list_any is_unanswered stack
-
--- whether nobody lives
-abbrev pub is_empty : Half → Bool
-is_empty half = list_all (λ a. has half.fallen a.id) half.built
 
 -- whether a packet that is a request which is async with returns is settled
 abbrev pub is_settled_told : List ℤ → Told → Bool

@@ -9,8 +9,10 @@ pub mod Nulled
 pub mod Numbers
 pub mod Prefix
 pub mod Reading
+pub mod Readings
 pub mod Rows
 pub mod Settled
 pub mod Still
 pub mod Told
 pub mod Waits
+pub mod Wanted

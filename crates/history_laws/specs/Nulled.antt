@@ -89,6 +89,10 @@ missing schema lives params vs = option_map (λ actor. actor.id) (find (is_missi
 abbrev pub all_live : Schema → (ℤ → Bool) → List ParamRow → Values → Bool
 all_live schema lives params vs = is_none (find (is_dead lives) (actors_in_fields schema params vs))
 
+-- null in the place of an actor that does not live, where its type has null
+abbrev pub nulled_id : (ℤ → Bool) → Option Shape → ℤ → ℤ
+nulled_id lives shape id = if is_nullable shape && not (lives id) then pos 0 else id
+
 -- A value with null in the place of each actor that does not live, where its type has null.
 abbrev mutual
   pub nulled : Schema → (ℤ → Bool) → Option Shape → Value → Value
@@ -101,7 +105,7 @@ abbrev mutual
   nulled schema lives shape (Union' index at v) = Union' index at (nulled schema lives (component_of schema shape index) v)
   nulled schema lives shape (value.Array vs) = value.Array (nulled_each schema lives (element_of shape) vs)
   nulled schema lives shape (Maybe' held) = Maybe' (nulled_held schema lives (held_by shape) held)
-  nulled schema lives shape (value.Actor id) = value.Actor (if is_nullable shape && not (lives id) then pos 0 else id)
+  nulled schema lives shape (value.Actor id) = value.Actor (nulled_id lives shape id)
 
   pub nulled_held : Schema → (ℤ → Bool) → Option Shape → Held-Value-Maybe-0 → Held-Value-Maybe-0
   nulled_held schema lives shape None' = None'
@@ -115,10 +119,14 @@ abbrev mutual
   nulled_fields schema lives fields values.Nothing = values.Nothing
   nulled_fields schema lives fields (First' at v more vs) = First' at (nulled schema lives (first_shape fields) v) more (nulled_fields schema lives (other_fields fields) vs)
 
+abbrev pub bool_eq : Bool → Bool → Bool
+bool_eq true b = b
+bool_eq false b = not b
+
 -- Whether two values are the same, wherever their boxes lie.
 abbrev mutual
   pub same_value : Value → Value → Bool
-  same_value (value.Bool a) (value.Bool b) = if a then b else not b
+  same_value (value.Bool a) (value.Bool b) = bool_eq a b
   same_value (value.Int a) (value.Int b) = int_eq a b
   same_value (value.Text a) (value.Text b) = pointwise nat_eq a b
   same_value (value.Bytes a) (value.Bytes b) = pointwise nat_eq a b

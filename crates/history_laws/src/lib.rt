@@ -1,14 +1,19 @@
 //! What is read from the lines of a history, and the five laws of histories (docs/laws.md).
 #![tactic(auto)]
 
+mod fallen;
 mod half;
 mod held;
 mod law;
 mod note;
+mod nulled;
 mod numbers;
 mod parts;
+mod readable;
+mod reading;
 mod rows;
 mod sent;
+mod shapes;
 mod stack;
 mod told;
 mod unanswered;
