@@ -62,9 +62,13 @@ lets_fall built cause.Nobody id why = false
 lets_fall built (cause.Delete top) id why = is_deleted built top id why
 lets_fall built (cause.Closing reason) id why = same_destroy why reason
 
+-- an actor is the next to fall: it manages none that lives, and no younger one has fallen before it
+abbrev pub is_next : Half → ℤ → Bool
+is_next half id = not (manages_living half id) && not (younger_fell half id)
+
 -- an actor may fall now
 abbrev pub may_fall : Half → ℤ → Destroy → Bool
-may_fall half id why = lives half id && (not (manages_living half id) && (not (younger_fell half id) && lets_fall half.built half.cause id why))
+may_fall half id why = lives half id && (is_next half id && lets_fall half.built half.cause id why)
 
 -- a line of an end, behind what is read of that end, is as the law demands
 abbrev pub fallen_line : Half → What → Bool

@@ -12,11 +12,15 @@ use Rattle.history_laws.specs.Half.{Half, lives, own_request}
 use Rattle.history_laws.specs.Nulled.{is_nulled}
 use Rattle.history_laws.specs.Numbers.{has, has_seen, same_seen}
 use Rattle.history_laws.specs.Rows.{params_of}
-use Rattle.history_laws.specs.Told.{Request, seen_of}
+use Rattle.history_laws.specs.Told.{Request, Told, seen_of}
+
+-- a packet is the next of those that were sent behind so many
+abbrev pub is_next_of : List Told → ℕ → Seen → Bool
+is_next_of sent count packet = option_map_or (λ told. same_seen (seen_of told) packet) (slice_get sent count) false
 
 -- a packet is the next of those that the other end has sent
 abbrev pub is_next : Seen → Half → Half → Bool
-is_next packet half other = option_map_or (λ told. same_seen (seen_of told) packet) (slice_get other.sent (length half.delivered)) false
+is_next packet half other = is_next_of other.sent (length half.delivered) packet
 
 -- a request was delivered, and has neither been replaced nor taken or dropped
 abbrev pub is_there : Half → ℤ → Bool
@@ -26,9 +30,14 @@ is_there half n = has_seen half.delivered (seen.Request n) && (not (has half.rep
 abbrev pub is_for : ℤ → ℕ → Request → Bool
 is_for route number r = int_eq r.route route && (r.number == number)
 
+-- the other end's request of a number does so
+abbrev pub was_sent : Half → ℤ → ℤ → ℕ → Bool
+was_sent other n route number = option_map_or (is_for route number) (own_request other n) false
+
 -- and has these values, in which dead actors are null
-abbrev pub is_for_with : Schema → Half → ℤ → ℕ → Values → Request → Bool
-is_for_with schema half route number values r = is_for route number r && is_nulled schema (lives half) (params_of schema number) r.values values
+abbrev pub was_sent_with : Schema → Half → Half → ℤ → ℤ → ℕ → Values → Bool
+was_sent_with schema half other n route number values =
+    option_map_or (λ r. is_for route number r && is_nulled schema (lives half) (params_of schema number) r.values values) (own_request other n) false
 
 -- a reply was delivered, and has not been taken
 abbrev pub is_reply_there : Half → ℤ → Bool
@@ -40,7 +49,7 @@ prefix_line schema half other (what.DeliverRequest n) = is_next (seen.Request n)
 prefix_line schema half other (what.DeliverReply n) = is_next (seen.Reply n) half other
 prefix_line schema half other what.DeliverGoodbye = is_next seen.Goodbye half other
 prefix_line schema half other what.DeliverBroken = is_next seen.Broken half other
-prefix_line schema half other (what.Take n route number values) = is_there half n && option_map_or (is_for_with schema half route number values) (own_request other n) false
-prefix_line schema half other (what.Drop n route number id) = is_there half n && option_map_or (is_for route number) (own_request other n) false
+prefix_line schema half other (what.Take n route number values) = is_there half n && was_sent_with schema half other n route number values
+prefix_line schema half other (what.Drop n route number id) = is_there half n && was_sent other n route number
 prefix_line schema half other (what.TakeReply n) = is_reply_there half n
 prefix_line schema half other _ = true

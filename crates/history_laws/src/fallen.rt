@@ -83,16 +83,20 @@ fn lets_fall(built: &[Actor], cause: Cause, id: i32, why: Destroy) -> bool
     }
 }
 
+/// Whether an actor is the next to fall.
+fn is_next(half: &Half<'_>, id: i32) -> bool
+    ensures { result ≡ the.is_next (half_view half.now) id }
+{
+    let built = half.built.as_slice();
+    let standing = standing_of(built, id);
+    !manages_living(built, &half.fallen, id) && !younger_fell(half.falls.as_slice(), &standing)
+}
+
 /// Whether an actor may fall now.
 fn may_fall(half: &Half<'_>, id: i32, why: Destroy) -> bool
     ensures { result ≡ the.may_fall (half_view half.now) id why }
 {
-    let built = half.built.as_slice();
-    let standing = standing_of(built, id);
-    half.lives(id)
-        && !manages_living(built, &half.fallen, id)
-        && !younger_fell(half.falls.as_slice(), &standing)
-        && lets_fall(built, half.cause, id, why)
+    half.lives(id) && is_next(half, id) && lets_fall(half.built.as_slice(), half.cause, id, why)
 }
 
 /// Whether a line is as the law demands.
