@@ -66,9 +66,13 @@ lets_fall built (cause.Closing reason) id why = same_destroy why reason
 abbrev pub is_next : Half → ℤ → Bool
 is_next half id = not (manages_living half id) && not (younger_fell half id)
 
--- an actor may fall now
+-- and the event lets it fall
+abbrev pub falls_now : Half → ℤ → Destroy → Bool
+falls_now half id why = is_next half id && lets_fall half.built half.cause id why
+
+-- an actor may fall now: it lives, and so on
 abbrev pub may_fall : Half → ℤ → Destroy → Bool
-may_fall half id why = lives half id && (is_next half id && lets_fall half.built half.cause id why)
+may_fall half id why = lives half id && falls_now half id why
 
 -- a line of an end, behind what is read of that end, is as the law demands
 abbrev pub fallen_line : Half → What → Bool

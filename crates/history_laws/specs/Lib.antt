@@ -1,3 +1,4 @@
+pub mod Asking
 pub mod Chain
 pub mod Fallen
 pub mod Half

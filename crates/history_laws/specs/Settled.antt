@@ -18,7 +18,7 @@ use Rattle.history_laws.specs.declared.parts.Event.TheVariants as event
 use Rattle.history_laws.specs.Half.{Half, lives, own_request, is_promise, is_settled_told}
 use Rattle.history_laws.specs.Nulled.{is_nulled, missing}
 use Rattle.history_laws.specs.Numbers.{has}
-use Rattle.history_laws.specs.Told.{Said, resolved, rejected, ok, fault, says}
+use Rattle.history_laws.specs.Told.{Said, Told, resolved, rejected, ok, fault, says}
 use Rattle.history_laws.specs.Waits.{is_fault, own_returns}
 
 -- a promise that has not been settled
@@ -64,26 +64,37 @@ is_fall_of id _ = false
 abbrev pub falls_next : Side → ℤ → List Line → Bool
 falls_next end id behind = option_map_or (λ line. same_side line.side end && is_fall_of id line.what) (find (λ line. not (is_settle line.what)) behind) false
 
--- the promise's actor falls next
+-- the actor of a promise falls next
 abbrev pub promise_falls_next : Side → Half → ℤ → List Line → Bool
 promise_falls_next end half n behind = option_map_or (λ r. falls_next end r.route behind) (own_request half n) false
+
+-- a promise may be rejected because an actor was destroyed: the other end says so, an actor in the values is missing, or the promise's own falls next
+abbrev pub is_destroyed : Schema → Side → Half → Half → ℤ → List Line → Bool
+is_destroyed schema end half other n behind =
+    if says (is_fault reason.ActorDestroyed) other.sent n then true else
+    (if says (is_resolved_missing schema half (own_returns schema half n)) other.sent n then true else promise_falls_next end half n behind)
 
 -- a rejection has its cause
 abbrev pub is_cause : Schema → Side → Half → Half → ℤ → List Line → Reason → Bool
 is_cause schema end half other n behind reason.HandlerRejected = says is_rejected other.sent n
 is_cause schema end half other n behind reason.ResolverDestroyed = says (is_fault reason.ResolverDestroyed) other.sent n
 is_cause schema end half other n behind reason.ChannelClosed = is_close_event half.event
-is_cause schema end half other n behind reason.ActorDestroyed =
-    says (is_fault reason.ActorDestroyed) other.sent n
-    || (says (is_resolved_missing schema half (own_returns schema half n)) other.sent n
-    || promise_falls_next end half n behind)
+is_cause schema end half other n behind reason.ActorDestroyed = is_destroyed schema end half other n behind
+
+-- a promise is settled with values that the other end resolved it with
+abbrev pub is_resolved : Schema → Half → Half → ℤ → Values → Bool
+is_resolved schema half other n values = says (is_resolved_with schema half (own_returns schema half n) values) other.sent n
 
 -- a line of an end, behind what is read of that end and of the other and before the lines behind it, is as the law demands
 abbrev pub settled_line : Schema → Side → Half → Half → What → List Line → Bool
-settled_line schema end half other (what.Resolved n values) behind = is_unsettled half n && says (is_resolved_with schema half (own_returns schema half n) values) other.sent n
+settled_line schema end half other (what.Resolved n values) behind = is_unsettled half n && is_resolved schema half other n values
 settled_line schema end half other (what.Rejected n r) behind = is_unsettled half n && is_cause schema end half other n behind r
 settled_line schema end half other _ behind = true
 
+-- each promise is settled
+abbrev pub all_settled : List ℤ → List Told → Bool
+all_settled settled sent = list_all (is_settled_told settled) sent
+
 -- an end that has closed has settled each of its promises
 abbrev pub settled_moment : Half → Bool
-settled_moment half = if half.over then list_all (is_settled_told half.settled) half.sent else true
+settled_moment half = if half.over then all_settled half.settled half.sent else true

@@ -55,24 +55,39 @@ abbrev pub awaited_call : List Frame → Option Call
 awaited_call (frame.Unanswered c ∷ below) = Some c
 awaited_call _ = None
 
--- the level of that call
-abbrev pub awaited_level : Schema → List Frame → Option Level
-awaited_level schema stack = option_map (λ head. head.level) (option_and_then (call_head schema) (awaited_call stack))
+-- its head, and its level
+abbrev pub awaited_head : Schema → List Frame → Option Head
+awaited_head schema stack = option_and_then (call_head schema) (awaited_call stack)
 
--- what an end defers of what arrives
-abbrev pub defers : Schema → Side → Half → Half → Arrival → Bool
-defers schema end half other arrival = defers_arrival end (awaited_level schema half.stack) (inner_transaction schema other half.stack) arrival
+abbrev pub awaited_level : Schema → List Frame → Option Level
+awaited_level schema stack = option_map (λ head. head.level) (awaited_head schema stack)
+
+-- what decides deferral at an end: its side, the level of the call whose answer it awaits, and its inner transaction
+pub record Deferring : Type 0 where
+  pub side : Side
+  pub level : Option Level
+  pub inner : Option ℤ
+
+abbrev pub deferring_of : Schema → Side → Half → Half → Deferring
+deferring_of schema end half other = record { side = end; level = awaited_level schema half.stack; inner = inner_transaction schema other half.stack }
+
+-- what is deferred of what arrives; a request whose head is not known is not
+abbrev pub defers : Deferring → Arrival → Bool
+defers d arrival = defers_arrival d.side d.level d.inner arrival
+
+abbrev pub defers_request_head : Deferring → Option Head → Bool
+defers_request_head d None = false
+defers_request_head d (Some head) = defers d (request head.sync head.level head.transaction)
 
 abbrev pub defers_head : Schema → Side → Half → Half → Option Head → Bool
-defers_head schema end half other None = false
-defers_head schema end half other (Some head) = defers schema end half other (request head.sync head.level head.transaction)
+defers_head schema end half other head = defers_request_head (deferring_of schema end half other) head
 
--- what an end defers of the packets that have arrived; a request that the other end has not sent is not deferred
-abbrev pub defers_seen : Schema → Side → Half → Half → Seen → Bool
-defers_seen schema end half other (seen.Request n) = defers_head schema end half other (request_head schema other n)
-defers_seen schema end half other (seen.Reply n) = defers schema end half other (reply false)
-defers_seen schema end half other seen.Goodbye = defers schema end half other goodbye
-defers_seen schema end half other seen.Broken = defers schema end half other mark
+-- and of the packets that have arrived: a request that the other end has not sent is not
+abbrev pub defers_seen : Schema → Half → Deferring → Seen → Bool
+defers_seen schema other d (seen.Request n) = defers_request_head d (request_head schema other n)
+defers_seen schema other d (seen.Reply n) = defers d (reply false)
+defers_seen schema other d seen.Goodbye = defers d goodbye
+defers_seen schema other d seen.Broken = defers d mark
 
 abbrev pub is_open : State → Bool
 is_open state.Open = true
@@ -94,13 +109,17 @@ can_take_now (frame.Dispatch d ∷ below) = false
 can_take_now (frame.Unanswered c ∷ below) = true
 can_take_now (frame.Answered c ∷ below) = false
 
+-- some packet is not deferred
+abbrev pub some_is_free : Schema → Half → Deferring → List Seen → Bool
+some_is_free schema other d packets = list_any (λ packet. not (defers_seen schema other d packet)) packets
+
 -- some packet that has arrived can be taken
 abbrev pub can_take : Schema → Side → Half → Half → Bool
-can_take schema end half other = takes_items half.state && list_any (λ packet. not (defers_seen schema end half other packet)) half.arrived
+can_take schema end half other = takes_items half.state && some_is_free schema other (deferring_of schema end half other) half.arrived
 
 -- nothing is possible at an end but acts: no delivery, no return and no call that goes on, no packet that is taken
 abbrev pub is_still_at : Schema → Side → Half → Half → Bool
-is_still_at schema end half other = not (can_deliver half other) && (can_take_now half.stack && not (can_take schema end half other))
+is_still_at schema end half other = if can_deliver half other then false else (if can_take_now half.stack then not (can_take schema end half other) else false)
 
 abbrev pub is_still : Schema → Reading → Bool
 is_still schema reading = is_still_at schema side.Parent reading.parent reading.child && is_still_at schema side.Child reading.child reading.parent

@@ -17,7 +17,7 @@ use Rattle.history_laws.specs.Nulled.{is_nulled, missing}
 use Rattle.history_laws.specs.Numbers.{has}
 use Rattle.history_laws.specs.Reading.{Reading}
 use Rattle.history_laws.specs.Rows.{returns_of}
-use Rattle.history_laws.specs.Still.{awaited_call, call_head, defers_head, is_still}
+use Rattle.history_laws.specs.Still.{awaited_head, defers_head, is_still}
 use Rattle.history_laws.specs.Told.{Said, resolved, rejected, ok, fault, says}
 
 -- the returns of an end's request of a number
@@ -59,6 +59,13 @@ is_own_fault schema half other n reason.ActorDestroyed = says (is_ok_missing sch
 is_own_fault schema half other n reason.HandlerRejected = false
 is_own_fault schema half other n reason.ResolverDestroyed = false
 
+-- a call goes on with values that the other end answered, or with a fault that it said or that came without a reply
+abbrev pub is_answered : Schema → Half → Half → ℤ → Values → Bool
+is_answered schema half other n values = says (is_ok_with schema half (own_returns schema half n) values) other.sent n
+
+abbrev pub is_failed : Schema → Half → Half → ℤ → Reason → Bool
+is_failed schema half other n r = if says (is_fault r) other.sent n then true else is_own_fault schema half other n r
+
 -- an event in which the end of the other end is delivered
 abbrev pub is_end_event : Event → Bool
 is_end_event event.Ends = true
@@ -68,13 +75,13 @@ is_end_event _ = false
 abbrev pub waits_line : Schema → Half → Half → What → Bool
 waits_line schema half other (what.DeliverReply n) = if is_sync_request half n then awaits half.stack n else true
 waits_line schema half other (what.Fails n) = awaits half.stack n && is_end_event half.event
-waits_line schema half other (what.ResumeOk n values) = says (is_ok_with schema half (own_returns schema half n) values) other.sent n
-waits_line schema half other (what.ResumeFault n r) = says (is_fault r) other.sent n || is_own_fault schema half other n r
+waits_line schema half other (what.ResumeOk n values) = is_answered schema half other n values
+waits_line schema half other (what.ResumeFault n r) = is_failed schema half other n r
 waits_line schema half other _ = true
 
 -- the head of the call on top whose answer has not come is deferred by the other end, which waits too
 abbrev pub blocks : Schema → Side → Half → Half → Bool
-blocks schema end half other = defers_head schema end half other (option_and_then (call_head schema) (awaited_call other.stack))
+blocks schema end half other = defers_head schema end half other (awaited_head schema other.stack)
 
 -- both ends wait, and each defers what the other waits for
 abbrev pub block_each_other : Schema → Half → Half → Bool
@@ -84,9 +91,13 @@ block_each_other schema parent child = blocks schema side.Parent parent child &&
 abbrev pub waits_behind_end : Half → Bool
 waits_behind_end half = is_end_event half.event && has_unanswered half.stack
 
+-- some end waits where nothing but acts is possible
+abbrev pub waits_while_still : Schema → Reading → Bool
+waits_while_still schema reading = (has_unanswered reading.parent.stack || has_unanswered reading.child.stack) && is_still schema reading
+
 -- what is read at a moment is as the law demands
 abbrev pub waits_moment : Schema → Reading → Bool
 waits_moment schema reading =
-    not (block_each_other schema reading.parent reading.child)
-    && (not (waits_behind_end reading.parent || waits_behind_end reading.child)
-    && not (is_still schema reading && (has_unanswered reading.parent.stack || has_unanswered reading.child.stack)))
+    if block_each_other schema reading.parent reading.child then false else
+    (if waits_behind_end reading.parent then false else
+    (if waits_behind_end reading.child then false else not (waits_while_still schema reading)))

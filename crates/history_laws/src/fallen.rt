@@ -83,20 +83,40 @@ fn lets_fall(built: &[Actor], cause: Cause, id: i32, why: Destroy) -> bool
     }
 }
 
+/// Whether a younger one of the manager of an actor has fallen in the event.
+fn has_younger_fall(half: &Half<'_>, id: i32) -> bool
+    ensures { result ≡ the.younger_fell (half_view half.now) id }
+{
+    let standing = standing_of(half.built.as_slice(), id);
+    younger_fell(half.falls.as_slice(), &standing)
+}
+
+/// Whether an actor manages one that lives.
+fn has_living_below(half: &Half<'_>, id: i32) -> bool
+    ensures { result ≡ the.manages_living (half_view half.now) id }
+{
+    manages_living(half.built.as_slice(), &half.fallen, id)
+}
+
 /// Whether an actor is the next to fall.
 fn is_next(half: &Half<'_>, id: i32) -> bool
     ensures { result ≡ the.is_next (half_view half.now) id }
 {
-    let built = half.built.as_slice();
-    let standing = standing_of(built, id);
-    !manages_living(built, &half.fallen, id) && !younger_fell(half.falls.as_slice(), &standing)
+    !has_living_below(half, id) && !has_younger_fall(half, id)
+}
+
+/// Whether an actor that lives may fall now.
+fn falls_now(half: &Half<'_>, id: i32, why: Destroy) -> bool
+    ensures { result ≡ the.falls_now (half_view half.now) id why }
+{
+    is_next(half, id) && lets_fall(half.built.as_slice(), half.cause, id, why)
 }
 
 /// Whether an actor may fall now.
 fn may_fall(half: &Half<'_>, id: i32, why: Destroy) -> bool
     ensures { result ≡ the.may_fall (half_view half.now) id why }
 {
-    half.lives(id) && is_next(half, id) && lets_fall(half.built.as_slice(), half.cause, id, why)
+    half.lives(id) && falls_now(half, id, why)
 }
 
 /// Whether a line is as the law demands.

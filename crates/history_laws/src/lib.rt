@@ -14,6 +14,7 @@ mod prefix;
 mod readable;
 mod reading;
 mod rows;
+mod said;
 mod sent;
 mod shapes;
 mod stack;
