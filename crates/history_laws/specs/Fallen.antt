@@ -57,13 +57,13 @@ is_deleted built top id destroy.AncestorDeletion = is_below built id top
 is_deleted built top id _ = false
 
 -- the event lets an actor fall for this reason
-abbrev pub lets_fall : List Actor → Cause → ℤ → Destroy → Bool
+unfoldable pub lets_fall : List Actor → Cause → ℤ → Destroy → Bool
 lets_fall built cause.Nobody id why = false
 lets_fall built (cause.Delete top) id why = is_deleted built top id why
 lets_fall built (cause.Closing reason) id why = same_destroy why reason
 
 -- an actor is the next to fall: it manages none that lives, and no younger one has fallen before it
-abbrev pub is_next : Half → ℤ → Bool
+unfoldable pub is_next : Half → ℤ → Bool
 is_next half id = not (manages_living half id) && not (younger_fell half id)
 
 -- and the event lets it fall

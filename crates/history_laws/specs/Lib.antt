@@ -1,5 +1,6 @@
 pub mod Asking
 pub mod Chain
+pub mod Deferrals
 pub mod Fallen
 pub mod Half
 pub mod Halves

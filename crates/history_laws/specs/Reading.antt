@@ -140,7 +140,7 @@ abbrev pub manager_of : List Actor → ℤ → ℤ
 manager_of built id = unwrap_or (option_map (λ a. a.manager) (find (λ a. int_eq a.id id) built)) (pos 0)
 
 -- where an actor stands among those that were built
-abbrev pub standing_of : List Actor → ℤ → Standing
+unfoldable pub standing_of : List Actor → ℤ → Standing
 standing_of built id = record { place = unwrap_or (position (λ a. int_eq a.id id) built) (length built); manager = manager_of built id }
 
 abbrev pub falling : ℤ → Half → Half

@@ -1,5 +1,5 @@
 -- The law Settled: a promise is settled once, by what was said or by what happened to it.
-use Rattle.std.specs.Prelude.{ℕ, ℤ, Bool, true, false, not, ◌&&◌, ◌||◌, if◌then◌else◌, List, find, Option, Some, None, is_some}
+use Rattle.std.specs.Prelude.{ℕ, ℤ, Bool, true, false, not, ◌&&◌, ◌||◌, if◌then◌else◌, List, [], ◌∷◌, Option, Some, None, is_some}
 use Rattle.std.specs.List.{list_all}
 use Rattle.std.specs.Option.{option_map_or}
 use Rattle.std.specs.Ordering.{int_eq}
@@ -60,9 +60,13 @@ abbrev pub is_fall_of : ℤ → What → Bool
 is_fall_of id (what.Fall a why) = int_eq a id
 is_fall_of id _ = false
 
+abbrev pub is_fall_at : Side → ℤ → Line → Bool
+is_fall_at end id line = same_side line.side end && is_fall_of id line.what
+
 -- of the lines behind, the first that settles nothing is the fall of this actor at this end
 abbrev pub falls_next : Side → ℤ → List Line → Bool
-falls_next end id behind = option_map_or (λ line. same_side line.side end && is_fall_of id line.what) (find (λ line. not (is_settle line.what)) behind) false
+falls_next end id [] = false
+falls_next end id (line ∷ behind) = if is_settle line.what then falls_next end id behind else is_fall_at end id line
 
 -- the actor of a promise falls next
 abbrev pub promise_falls_next : Side → Half → ℤ → List Line → Bool

@@ -6,6 +6,7 @@ use Rattle.ipdl_base.specs.declared.kinds.Level.{Level}
 use Rattle.ipdl_base.specs.declared.kinds.Level.TheVariants.{InsideSync}
 use Rattle.ipdl_base.specs.declared.kinds.Side.{Side}
 use Rattle.ipdl_base.specs.declared.kinds.Side.TheVariants as side
+use Rattle.ipdl_base.specs.declared.schema.MessageRow.{MessageRow}
 use Rattle.ipdl_base.specs.declared.schema.Schema.{Schema}
 use Rattle.ipdl_base.specs.Deferral.{rank, Arrival, request, reply, goodbye, mark, defers_arrival}
 use Rattle.ipdl_base.specs.Sound.{is_sync, message_of}
@@ -21,8 +22,11 @@ use Rattle.history_laws.specs.Half.{Half, own_request, has_unanswered}
 use Rattle.history_laws.specs.Reading.{Reading, half_of, other_of}
 
 -- the head of a message with a number and a transaction; none where there is no such message
+abbrev pub head_of_row : ℤ → ℤ → MessageRow → Head
+head_of_row seq transaction row = record { sync = is_sync row.semantics; level = row.level; seq = seq; transaction = transaction }
+
 abbrev pub head_of : Schema → ℕ → ℤ → ℤ → Option Head
-head_of schema number seq transaction = option_map (λ row. record { sync = is_sync row.semantics; level = row.level; seq = seq; transaction = transaction }) (message_of schema number)
+head_of schema number seq transaction = option_map (head_of_row seq transaction) (message_of schema number)
 
 -- the head of a call, by its line
 abbrev pub call_head : Schema → Call → Option Head

@@ -71,9 +71,13 @@ abbrev pub is_end_event : Event → Bool
 is_end_event event.Ends = true
 is_end_event _ = false
 
+-- the reply to a sync request finds its wait innermost
+abbrev pub is_reply_in_order : Half → ℤ → Bool
+is_reply_in_order half n = if is_sync_request half n then awaits half.stack n else true
+
 -- a line of an end, behind what is read of that end and of the other, is as the law demands
 abbrev pub waits_line : Schema → Half → Half → What → Bool
-waits_line schema half other (what.DeliverReply n) = if is_sync_request half n then awaits half.stack n else true
+waits_line schema half other (what.DeliverReply n) = is_reply_in_order half n
 waits_line schema half other (what.Fails n) = awaits half.stack n && is_end_event half.event
 waits_line schema half other (what.ResumeOk n values) = is_answered schema half other n values
 waits_line schema half other (what.ResumeFault n r) = is_failed schema half other n r
@@ -91,13 +95,18 @@ block_each_other schema parent child = blocks schema side.Parent parent child &&
 abbrev pub waits_behind_end : Half → Bool
 waits_behind_end half = is_end_event half.event && has_unanswered half.stack
 
--- some end waits where nothing but acts is possible
+abbrev pub some_waits_behind_end : Reading → Bool
+some_waits_behind_end reading = waits_behind_end reading.parent || waits_behind_end reading.child
+
+-- some end waits, and does so where nothing but acts is possible
+abbrev pub some_waits : Reading → Bool
+some_waits reading = has_unanswered reading.parent.stack || has_unanswered reading.child.stack
+
 abbrev pub waits_while_still : Schema → Reading → Bool
-waits_while_still schema reading = (has_unanswered reading.parent.stack || has_unanswered reading.child.stack) && is_still schema reading
+waits_while_still schema reading = some_waits reading && is_still schema reading
 
 -- what is read at a moment is as the law demands
 abbrev pub waits_moment : Schema → Reading → Bool
 waits_moment schema reading =
     if block_each_other schema reading.parent reading.child then false else
-    (if waits_behind_end reading.parent then false else
-    (if waits_behind_end reading.child then false else not (waits_while_still schema reading)))
+    (if some_waits_behind_end reading then false else not (waits_while_still schema reading))

@@ -73,6 +73,7 @@ fn is_deleted(built: &[Actor], top: i32, id: i32, why: Destroy) -> bool
 }
 
 /// Whether the event lets an actor fall for this reason.
+#[tactic(auto, unfolding(crate::specs::Fallen::lets_fall))]
 fn lets_fall(built: &[Actor], cause: Cause, id: i32, why: Destroy) -> bool
     ensures { result ≡ the.lets_fall built.now cause id why }
 {
@@ -99,6 +100,7 @@ fn has_living_below(half: &Half<'_>, id: i32) -> bool
 }
 
 /// Whether an actor is the next to fall.
+#[tactic(auto, unfolding(crate::specs::Fallen::is_next))]
 fn is_next(half: &Half<'_>, id: i32) -> bool
     ensures { result ≡ the.is_next (half_view half.now) id }
 {

@@ -264,6 +264,7 @@ fn found_place(built: &[Actor], id: i32) -> Option<usize>
 }
 
 /// Where an actor stands among those that were built, behind all where it was not.
+#[tactic(auto, unfolding(crate::specs::Reading::standing_of))]
 pub fn standing_of(built: &[Actor], id: i32) -> Standing
     ensures { result ≡ read.standing_of built.now id }
 {

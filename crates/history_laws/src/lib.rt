@@ -16,11 +16,14 @@ mod reading;
 mod rows;
 mod said;
 mod sent;
+mod settled;
 mod shapes;
 mod stack;
+mod still;
 mod told;
 mod unanswered;
 mod verdict;
+mod waits;
 
 pub use held::Held;
 pub use law::Law;

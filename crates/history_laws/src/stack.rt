@@ -89,6 +89,13 @@ impl CallStack {
         self.frames.last().copied()
     }
 
+    /// The frames, the outermost first.
+    pub fn outward(&self) -> &[Frame]
+        ensures { reverse result.now ≡ self.now }
+    {
+        self.frames.as_slice()
+    }
+
     /// Takes the top frame off, where there is one.
     pub fn pop(&mut self)
         ensures { self.new ≡ below_top self.old }
