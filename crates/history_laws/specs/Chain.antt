@@ -1,6 +1,7 @@
 -- The calls whose answers have not come, behind some lines.
-use Rattle.std.specs.Prelude.{ℕ, ◌+◌, ◌==◌, ℤ, Bool, false, if◌then◌else◌, List, [], ◌∷◌, Option, Some, None, option_map}
-use Rattle.std.specs.List.{list_any, filter_map, enumerate_from}
+use Rattle.std.specs.Prelude.{ℕ, ◌+◌, ◌==◌, ℤ, Bool, false, if◌then◌else◌, List, [], ◌∷◌, ◌++◌, Option, Some, None, option_map}
+use Rattle.std.specs.List.{list_any}
+use Rattle.std.specs.Option.{option_to_list}
 use Rattle.ipdl_base.specs.declared.kinds.Side.{Side}
 use Rattle.ipdl_base.specs.declared.schema.Schema.{Schema}
 use Rattle.nesting_core.specs.declared.frame.Head.{Head}
@@ -25,10 +26,17 @@ called schema (what.Call n transaction route number values) = head_of schema num
 called schema _ = None
 
 -- a line at a place as an unanswered call, where it is one
-abbrev pub held_at : Schema → Reading → ℕ × Line → Option Held
-held_at schema reading (place, line) =
-    if list_any (is_wait_from place) (half_of line.side reading).stack then option_map (λ head. record { side = line.side; head = head }) (called schema line.what) else None
+abbrev pub held_call : Schema → Line → Option Held
+held_call schema line = option_map (λ head. record { side = line.side; head = head }) (called schema line.what)
+
+abbrev pub held_at : Schema → Reading → ℕ → Line → Option Held
+held_at schema reading place line = if list_any (is_wait_from place) (half_of line.side reading).stack then held_call schema line else None
+
+-- the unanswered calls of lines, of which the first stands at this place
+abbrev pub held_from : Schema → Reading → ℕ → List Line → List Held
+held_from schema reading place [] = []
+held_from schema reading place (line ∷ rest) = option_to_list (held_at schema reading place line) ++ held_from schema reading (place + 1) rest
 
 -- the calls whose answers have not come behind these lines, the oldest first
 abbrev pub chain_of : Schema → List Line → List Held
-chain_of schema lines = filter_map (held_at schema (read schema lines)) (enumerate_from 0 lines)
+chain_of schema lines = held_from schema (read schema lines) 0 lines

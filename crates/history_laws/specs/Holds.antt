@@ -73,23 +73,28 @@ line_test law.Settled schema end half other said behind = settled_line schema en
 line_test law.Fallen schema end half other said behind = fallen_line half said
 
 -- the test of a law of a moment
-abbrev pub moment_test : Law → Schema → Reading → Bool
+unfoldable pub moment_test : Law → Schema → Reading → Bool
 moment_test law.Prefix schema reading = true
 moment_test law.Living schema reading = true
 moment_test law.Waits schema reading = waits_moment schema reading
 moment_test law.Settled schema reading = settled_moment reading.parent && settled_moment reading.child
 moment_test law.Fallen schema reading = fallen_moment reading.parent && fallen_moment reading.child
 
+-- the moment before a line, where that is an event
+abbrev pub moment_before : Law → Schema → Reading → What → Bool
+moment_before law schema reading said = if is_effect said then true else moment_test law schema reading
+
 -- a line passes: it can be read, the moment before it passes where it is an event, and so does the line
-abbrev pub passes : Law → Schema → Reading → Line → List Line → Bool
+unfoldable pub passes : Law → Schema → Reading → Line → List Line → Bool
 passes law schema reading line behind =
-    is_readable schema reading line
-    && ((if is_effect line.what then true else moment_test law schema reading)
-    && line_test law schema line.side (half_of line.side reading) (other_of line.side reading) line.what behind)
+    is_readable schema reading line && (moment_before law schema reading line.what && line_test law schema line.side (half_of line.side reading) (other_of line.side reading) line.what behind)
 
 -- A law holds of lines where each of them passes, and the moment behind the last does.
+abbrev pub each_passes : Law → Schema → List Line → Bool
+each_passes law schema lines = each_line (λ before line behind. passes law schema (read schema before) line behind) [] lines
+
 abbrev pub holds_of : Law → Schema → List Line → Bool
-holds_of law schema lines = each_line (λ before line behind. passes law schema (read schema before) line behind) [] lines && moment_test law schema (read schema lines)
+holds_of law schema lines = each_passes law schema lines && moment_test law schema (read schema lines)
 
 abbrev pub Holds : Law → Schema → List Line → Type 0
 Holds law schema lines = IsTrue (holds_of law schema lines)

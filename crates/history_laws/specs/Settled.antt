@@ -69,11 +69,11 @@ falls_next end id [] = false
 falls_next end id (line ∷ behind) = if is_settle line.what then falls_next end id behind else is_fall_at end id line
 
 -- the actor of a promise falls next
-abbrev pub promise_falls_next : Side → Half → ℤ → List Line → Bool
+unfoldable pub promise_falls_next : Side → Half → ℤ → List Line → Bool
 promise_falls_next end half n behind = option_map_or (λ r. falls_next end r.route behind) (own_request half n) false
 
 -- a promise may be rejected because an actor was destroyed: the other end says so, an actor in the values is missing, or the promise's own falls next
-abbrev pub is_destroyed : Schema → Side → Half → Half → ℤ → List Line → Bool
+unfoldable pub is_destroyed : Schema → Side → Half → Half → ℤ → List Line → Bool
 is_destroyed schema end half other n behind =
     if says (is_fault reason.ActorDestroyed) other.sent n then true else
     (if says (is_resolved_missing schema half (own_returns schema half n)) other.sent n then true else promise_falls_next end half n behind)

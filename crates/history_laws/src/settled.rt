@@ -89,6 +89,7 @@ fn falls_next(behind: &[Line], side: Side, id: i32) -> bool
 }
 
 /// Whether the actor of a promise falls next.
+#[tactic(auto, unfolding(crate::specs::Settled::promise_falls_next))]
 fn promise_falls_next(behind: &[Line], side: Side, half: &Half<'_>, n: i32) -> bool
     ensures { result ≡ the.promise_falls_next side (half_view half.now) n behind.now }
 {
@@ -99,6 +100,7 @@ fn promise_falls_next(behind: &[Line], side: Side, half: &Half<'_>, n: i32) -> b
 }
 
 /// Whether a promise may be rejected because an actor was destroyed.
+#[tactic(auto, unfolding(crate::specs::Settled::is_destroyed))]
 fn is_destroyed(
     schema: &Schema,
     side: Side,
