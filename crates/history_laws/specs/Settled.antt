@@ -72,11 +72,13 @@ falls_next end id (line ∷ behind) = if is_settle line.what then falls_next end
 unfoldable pub promise_falls_next : Side → Half → ℤ → List Line → Bool
 promise_falls_next end half n behind = option_map_or (λ r. falls_next end r.route behind) (own_request half n) false
 
--- a promise may be rejected because an actor was destroyed: the other end says so, an actor in the values is missing, or the promise's own falls next
+-- the other end says that an actor was destroyed, or resolves with values in which one is missing
+unfoldable pub says_destroyed : Schema → Half → Half → ℤ → Bool
+says_destroyed schema half other n = if says (is_fault reason.ActorDestroyed) other.sent n then true else says (is_resolved_missing schema half (own_returns schema half n)) other.sent n
+
+-- a promise may be rejected because an actor was destroyed: the other end says so, or the promise's own actor falls next
 unfoldable pub is_destroyed : Schema → Side → Half → Half → ℤ → List Line → Bool
-is_destroyed schema end half other n behind =
-    if says (is_fault reason.ActorDestroyed) other.sent n then true else
-    (if says (is_resolved_missing schema half (own_returns schema half n)) other.sent n then true else promise_falls_next end half n behind)
+is_destroyed schema end half other n behind = if says_destroyed schema half other n then true else promise_falls_next end half n behind
 
 -- a rejection has its cause
 abbrev pub is_cause : Schema → Side → Half → Half → ℤ → List Line → Reason → Bool

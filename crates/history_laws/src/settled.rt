@@ -99,6 +99,26 @@ fn promise_falls_next(behind: &[Line], side: Side, half: &Half<'_>, n: i32) -> b
     }
 }
 
+/// Whether the other end says that an actor was destroyed, or resolves with values in which one is
+/// missing.
+#[tactic(auto, unfolding(crate::specs::Settled::says_destroyed))]
+fn says_destroyed(schema: &Schema, half: &Half<'_>, other: &Half<'_>, n: i32) -> bool
+    requires { IsSound schema.now }
+    ensures { result ≡ the.says_destroyed schema.now (half_view half.now) (half_view other.now) n }
+{
+    if says(
+        schema,
+        half,
+        other,
+        n,
+        &Asked::Fault(Reason::ActorDestroyed),
+    ) {
+        return true;
+    }
+    let missing = Asked::ResolvedMissing(own_returns(schema, half, n));
+    says(schema, half, other, n, &missing)
+}
+
 /// Whether a promise may be rejected because an actor was destroyed.
 #[tactic(auto, unfolding(crate::specs::Settled::is_destroyed))]
 fn is_destroyed(
@@ -112,15 +132,7 @@ fn is_destroyed(
     requires { IsSound schema.now }
     ensures { result ≡ the.is_destroyed schema.now side (half_view half.now) (half_view other.now) n behind.now }
 {
-    let fault = Asked::Fault(Reason::ActorDestroyed);
-    let missing = Asked::ResolvedMissing(own_returns(schema, half, n));
-    if says(schema, half, other, n, &fault) {
-        true
-    } else if says(schema, half, other, n, &missing) {
-        true
-    } else {
-        promise_falls_next(behind, side, half, n)
-    }
+    says_destroyed(schema, half, other, n) || promise_falls_next(behind, side, half, n)
 }
 
 /// Whether a rejection has its cause.
