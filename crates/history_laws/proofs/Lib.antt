@@ -1,4 +1,5 @@
 pub mod Answered
+pub mod Loops
 pub mod Maps
 pub mod SentLemmas
 pub mod WantedLemmas

@@ -72,9 +72,17 @@ falls_next end id (line ∷ behind) = if is_settle line.what then falls_next end
 unfoldable pub promise_falls_next : Side → Half → ℤ → List Line → Bool
 promise_falls_next end half n behind = option_map_or (λ r. falls_next end r.route behind) (own_request half n) false
 
--- the other end says that an actor was destroyed, or resolves with values in which one is missing
-unfoldable pub says_destroyed : Schema → Half → Half → ℤ → Bool
-says_destroyed schema half other n = if says (is_fault reason.ActorDestroyed) other.sent n then true else says (is_resolved_missing schema half (own_returns schema half n)) other.sent n
+-- the other end says that an actor was destroyed
+unfoldable pub says_fallen : Half → ℤ → Bool
+says_fallen other n = says (is_fault reason.ActorDestroyed) other.sent n
+
+-- it resolves a promise with values in which an actor is missing
+unfoldable pub resolves_missing : Schema → Half → Half → ℤ → Bool
+resolves_missing schema half other n = says (is_resolved_missing schema half (own_returns schema half n)) other.sent n
+
+-- one or the other
+abbrev pub says_destroyed : Schema → Half → Half → ℤ → Bool
+says_destroyed schema half other n = if says_fallen other n then true else resolves_missing schema half other n
 
 -- a promise may be rejected because an actor was destroyed: the other end says so, or the promise's own actor falls next
 unfoldable pub is_destroyed : Schema → Side → Half → Half → ℤ → List Line → Bool

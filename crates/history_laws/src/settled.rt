@@ -99,24 +99,31 @@ fn promise_falls_next(behind: &[Line], side: Side, half: &Half<'_>, n: i32) -> b
     }
 }
 
-/// Whether the other end says that an actor was destroyed, or resolves with values in which one is
-/// missing.
-#[tactic(auto, unfolding(crate::specs::Settled::says_destroyed))]
+/// Whether the other end says that an actor was destroyed.
+#[tactic(auto, unfolding(crate::specs::Settled::says_fallen))]
+fn says_fallen(schema: &Schema, half: &Half<'_>, other: &Half<'_>, n: i32) -> bool
+    ensures { result ≡ the.says_fallen (half_view other.now) n }
+{
+    let asked = Asked::Fault(Reason::ActorDestroyed);
+    says(schema, half, other, n, &asked)
+}
+
+/// Whether the other end resolves a promise with values in which an actor is missing.
+#[tactic(auto, unfolding(crate::specs::Settled::resolves_missing))]
+fn resolves_missing(schema: &Schema, half: &Half<'_>, other: &Half<'_>, n: i32) -> bool
+    requires { IsSound schema.now }
+    ensures { result ≡ the.resolves_missing schema.now (half_view half.now) (half_view other.now) n }
+{
+    let asked = Asked::ResolvedMissing(own_returns(schema, half, n));
+    says(schema, half, other, n, &asked)
+}
+
+/// Whether it does one or the other.
 fn says_destroyed(schema: &Schema, half: &Half<'_>, other: &Half<'_>, n: i32) -> bool
     requires { IsSound schema.now }
     ensures { result ≡ the.says_destroyed schema.now (half_view half.now) (half_view other.now) n }
 {
-    if says(
-        schema,
-        half,
-        other,
-        n,
-        &Asked::Fault(Reason::ActorDestroyed),
-    ) {
-        return true;
-    }
-    let missing = Asked::ResolvedMissing(own_returns(schema, half, n));
-    says(schema, half, other, n, &missing)
+    says_fallen(schema, half, other, n) || resolves_missing(schema, half, other, n)
 }
 
 /// Whether a promise may be rejected because an actor was destroyed.
