@@ -58,7 +58,7 @@ const POWN: Texts = &[
     ),
 ];
 
-const PQ: Texts = &[(
+pub const PQ: Texts = &[(
     "PQ.ipdl",
     "protocol PQ { both: async Get() returns (int32_t r); parent: async Tell(int32_t n); };\n",
 )];

@@ -49,7 +49,7 @@ abbrev pub is_of_event : Side → Option Side → Bool
 is_of_event end last = option_map_or (λ side. same_side side end) last false
 
 -- a line can be read behind what is read before it
-abbrev pub is_readable : Schema → Reading → Line → Bool
+unfoldable pub is_readable : Schema → Reading → Line → Bool
 is_readable schema reading line = (if is_effect line.what then is_of_event line.side reading.last else true) && is_readable_what schema (half_of line.side reading).stack line.what
 
 -- a test of each line: of the lines before it, the line, and the lines behind it

@@ -28,5 +28,5 @@ mod waits;
 pub use held::Held;
 pub use law::Law;
 pub use parts::{Actor, Call, Cause, Event, Frame, Handled, Seen, Standing, State};
-pub use unanswered::chain;
+pub use unanswered::{can_read, chain};
 pub use verdict::holds;

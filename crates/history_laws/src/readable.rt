@@ -69,6 +69,7 @@ fn is_of_event(side: Side, last: Option<Side>) -> bool
 }
 
 /// Whether a line can be read behind what is read before it.
+#[tactic(auto, unfolding(crate::specs::Holds::is_readable))]
 pub fn is_readable(schema: &Schema, reading: &Reading<'_>, line: &Line) -> bool
     requires { IsSound schema.now }
     ensures { result ≡ the.is_readable schema.now (reading_view reading.now) line.now }

@@ -1,13 +1,14 @@
-ghost use Rattle.std.specs.Prelude.{◌≡◌, ◌≤◌, ◌++◌, length, take, reverse, IfOk};
+ghost use Rattle.std.specs.Prelude.{◌≡◌, ◌≤◌, ◌↔◌, ◌++◌, length, take, reverse, IfOk, IsTrue};
 ghost use Rattle.std.specs.List.{list_any};
 ghost use Rattle.ipdl_base.specs.Sound.{IsSound};
 ghost use Rattle.history_laws.specs.Chain as the;
-ghost use Rattle.history_laws.specs.Holds.{IsReadable};
+ghost use Rattle.history_laws.specs.Holds.{IsReadable, is_readable_list};
 ghost use Rattle.history_laws.specs.Reading.{read};
 ghost use Rattle.history_laws.specs.Readings.{reading_view};
 
 use crate::held::Held;
 use crate::parts::Frame;
+use crate::readable::is_readable;
 use crate::reading::Reading;
 use crate::still::head_of;
 use history::{History, Line, What};
@@ -67,6 +68,36 @@ fn held_at(schema: &Schema, reading: &Reading<'_>, place: usize, line: &Line) ->
     } else {
         None
     }
+}
+
+/// Whether lines can be read.
+fn are_readable(alloc: Global, schema: &Schema, lines: &[Line]) -> Result<bool, AllocError>
+    requires { IsSound schema.now }
+    ensures { IfOk result (λ yes. yes ≡ is_readable_list schema.now lines.now) }
+{
+    let mut reading = Reading::new(alloc)?;
+    for line in lines {
+        if !is_readable(schema, &reading, line) {
+            return Ok(false);
+        }
+        reading.note(schema, line)?;
+    }
+    Ok(true)
+}
+
+/// Whether the first `lines` lines of a history are readable (docs/laws.md). The only error is want of
+/// memory.
+pub fn can_read(
+    alloc: Global,
+    schema: &Schema,
+    history: &History,
+    lines: usize,
+) -> Result<bool, AllocError>
+    requires sound { IsSound schema.now }
+    requires within { lines ≤ length history.now.lines }
+    ensures { IfOk result (λ yes. IsTrue yes ↔ IsReadable schema.now (take lines history.now.lines)) }
+{
+    are_readable(alloc, schema, &history.lines()[..lines])
 }
 
 /// The reading of lines.
