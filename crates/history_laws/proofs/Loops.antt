@@ -5,7 +5,7 @@ use Rattle.std.proofs.lemmas.List.Sums.{fold_more}
 use Rattle.ipdl_base.specs.declared.schema.Schema.{Schema}
 use Rattle.history.specs.declared.line.Line.{Line}
 use Rattle.history_laws.specs.Holds.{each_line}
-use Rattle.history_laws.specs.Reading.{Reading, after, opening_reading, read}
+use Rattle.history_reading.specs.Reading.{Reading, after, opening_reading, read}
 
 -- the test of the lines from one on: of that line, and of those behind it
 pub each_more : (test : List Line → Line → List Line → Bool) (lines : List Line) (i : ℕ) (line : Line) → i < length lines → line ≡ get_or lines i line

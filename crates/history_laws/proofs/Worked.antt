@@ -31,7 +31,7 @@ use Rattle.history_laws.specs.Chain.{chain_of}
 use Rattle.history_laws.specs.Holds.{holds_of, is_readable, moment_test, passes}
 use Rattle.history_laws.specs.Settled.{is_destroyed, promise_falls_next, resolves_missing, says_fallen}
 use Rattle.history_laws.specs.Fallen.{is_next, lets_fall}
-use Rattle.history_laws.specs.Reading.{standing_of, without_first}
+use Rattle.history_reading.specs.Reading.{standing_of, without_first}
 
 abbrev message : ℕ → List ℕ → Semantics → Kind → List ParamRow → Option (List ParamRow) → MessageRow
 message number name semantics kind params returns =

@@ -3,9 +3,9 @@ use Rattle.std.specs.Prelude.{Bool}
 use Rattle.ipdl_base.specs.declared.schema.Schema.{Schema}
 use Rattle.history_laws.specs.declared.said.Asked.{Asked}
 use Rattle.history_laws.specs.declared.said.Asked.TheVariants as asked
-use Rattle.history_laws.specs.Half.{Half}
+use Rattle.history_reading.specs.Half.{Half}
 use Rattle.history_laws.specs.Settled.{is_rejected, is_resolved_missing, is_resolved_with}
-use Rattle.history_laws.specs.Told.{Said}
+use Rattle.history_reading.specs.Told.{Said}
 use Rattle.history_laws.specs.Waits.{is_fault, is_ok_missing, is_ok_with}
 
 abbrev pub is_asked : Schema → Half → Asked → Said → Bool

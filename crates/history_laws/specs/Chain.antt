@@ -9,9 +9,9 @@ use Rattle.history.specs.declared.line.Line.{Line}
 use Rattle.history.specs.declared.line.What.{What}
 use Rattle.history.specs.declared.line.What.TheVariants as what
 use Rattle.history_laws.specs.declared.held.Held.{Held}
-use Rattle.history_laws.specs.declared.parts.Frame.{Frame}
-use Rattle.history_laws.specs.declared.parts.Frame.TheVariants as frame
-use Rattle.history_laws.specs.Reading.{Reading, half_of, read}
+use Rattle.history_reading.specs.declared.parts.Frame.{Frame}
+use Rattle.history_reading.specs.declared.parts.Frame.TheVariants as frame
+use Rattle.history_reading.specs.Reading.{Reading, half_of, read}
 use Rattle.history_laws.specs.Still.{head_of}
 
 -- whether a frame is the wait of the call whose line stands at this place, and is not answered

@@ -6,13 +6,13 @@ use Rattle.ipdl_base.specs.declared.kinds.Destroy.{Destroy}
 use Rattle.ipdl_base.specs.declared.kinds.Destroy.TheVariants as destroy
 use Rattle.history.specs.declared.line.What.{What}
 use Rattle.history.specs.declared.line.What.TheVariants as what
-use Rattle.history_laws.specs.declared.parts.Actor.{Actor}
-use Rattle.history_laws.specs.declared.parts.Cause.{Cause}
-use Rattle.history_laws.specs.declared.parts.Cause.TheVariants as cause
-use Rattle.history_laws.specs.declared.parts.Standing.{Standing}
-use Rattle.history_laws.specs.Half.{Half, lives}
-use Rattle.history_laws.specs.Numbers.{has}
-use Rattle.history_laws.specs.Reading.{route_of, standing_of}
+use Rattle.history_reading.specs.declared.parts.Actor.{Actor}
+use Rattle.history_reading.specs.declared.parts.Cause.{Cause}
+use Rattle.history_reading.specs.declared.parts.Cause.TheVariants as cause
+use Rattle.history_reading.specs.declared.parts.Standing.{Standing}
+use Rattle.history_reading.specs.Half.{Half, lives}
+use Rattle.history_reading.specs.Numbers.{has}
+use Rattle.history_reading.specs.Reading.{route_of, standing_of}
 
 -- an actor that lives has this manager
 abbrev pub is_living_under : List ℤ → ℤ → Actor → Bool

@@ -11,14 +11,14 @@ use Rattle.history.specs.Messages.{same_side}
 use Rattle.history.specs.Text.{is_effect}
 use Rattle.history_laws.specs.declared.law.Law.{Law}
 use Rattle.history_laws.specs.declared.law.Law.TheVariants as law
-use Rattle.history_laws.specs.declared.parts.Frame.{Frame}
-use Rattle.history_laws.specs.declared.parts.Frame.TheVariants as frame
+use Rattle.history_reading.specs.declared.parts.Frame.{Frame}
+use Rattle.history_reading.specs.declared.parts.Frame.TheVariants as frame
 use Rattle.history_laws.specs.Fallen.{fallen_line, fallen_moment}
-use Rattle.history_laws.specs.Half.{Half}
+use Rattle.history_reading.specs.Half.{Half}
 use Rattle.history_laws.specs.Living.{living_line}
 use Rattle.history_laws.specs.Prefix.{prefix_line}
-use Rattle.history_laws.specs.Reading.{Reading, half_of, other_of, read}
-use Rattle.history_laws.specs.Rows.{is_request_number}
+use Rattle.history_reading.specs.Reading.{Reading, half_of, other_of, read}
+use Rattle.history_reading.specs.Rows.{is_request_number}
 use Rattle.history_laws.specs.Settled.{settled_line, settled_moment}
 use Rattle.history_laws.specs.Waits.{waits_line, waits_moment}
 

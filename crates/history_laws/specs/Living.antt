@@ -9,13 +9,13 @@ use Rattle.ipdl_base.specs.declared.schema.ParamRow.{ParamRow}
 use Rattle.ipdl_base.specs.declared.value.Values.{Values}
 use Rattle.history.specs.declared.line.What.{What}
 use Rattle.history.specs.declared.line.What.TheVariants as what
-use Rattle.history_laws.specs.declared.parts.Event.{Event}
-use Rattle.history_laws.specs.declared.parts.Event.TheVariants as event
-use Rattle.history_laws.specs.Half.{Half, lives, own_request, was_built}
-use Rattle.history_laws.specs.Nulled.{all_live, missing}
-use Rattle.history_laws.specs.Numbers.{id_of}
-use Rattle.history_laws.specs.Rows.{params_of}
-use Rattle.history_laws.specs.Told.{Request}
+use Rattle.history_reading.specs.declared.parts.Event.{Event}
+use Rattle.history_reading.specs.declared.parts.Event.TheVariants as event
+use Rattle.history_reading.specs.Half.{Half, lives, own_request, was_built}
+use Rattle.history_values.specs.Nulled.{all_live, missing}
+use Rattle.history_reading.specs.Numbers.{id_of}
+use Rattle.history_reading.specs.Rows.{params_of}
+use Rattle.history_reading.specs.Told.{Request}
 
 abbrev pub other_side : Side → Side
 other_side side.Parent = side.Child

@@ -6,13 +6,13 @@ use Rattle.ipdl_base.specs.declared.schema.Schema.{Schema}
 use Rattle.ipdl_base.specs.declared.value.Values.{Values}
 use Rattle.history.specs.declared.line.What.{What}
 use Rattle.history.specs.declared.line.What.TheVariants as what
-use Rattle.history_laws.specs.declared.parts.Seen.{Seen}
-use Rattle.history_laws.specs.declared.parts.Seen.TheVariants as seen
-use Rattle.history_laws.specs.Half.{Half, lives, own_request}
-use Rattle.history_laws.specs.Nulled.{is_nulled}
-use Rattle.history_laws.specs.Numbers.{has, has_seen, same_seen}
-use Rattle.history_laws.specs.Rows.{params_of}
-use Rattle.history_laws.specs.Told.{Request, Told, seen_of}
+use Rattle.history_reading.specs.declared.parts.Seen.{Seen}
+use Rattle.history_reading.specs.declared.parts.Seen.TheVariants as seen
+use Rattle.history_reading.specs.Half.{Half, lives, own_request}
+use Rattle.history_values.specs.Nulled.{is_nulled}
+use Rattle.history_reading.specs.Numbers.{has, has_seen, same_seen}
+use Rattle.history_reading.specs.Rows.{params_of}
+use Rattle.history_reading.specs.Told.{Request, Told, seen_of}
 
 -- a packet is the next of those that were sent behind so many
 abbrev pub is_next_of : List Told → ℕ → Seen → Bool

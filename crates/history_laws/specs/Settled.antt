@@ -13,12 +13,12 @@ use Rattle.history.specs.declared.line.Line.{Line}
 use Rattle.history.specs.declared.line.What.{What}
 use Rattle.history.specs.declared.line.What.TheVariants as what
 use Rattle.history.specs.Messages.{same_side}
-use Rattle.history_laws.specs.declared.parts.Event.{Event}
-use Rattle.history_laws.specs.declared.parts.Event.TheVariants as event
-use Rattle.history_laws.specs.Half.{Half, lives, own_request, is_promise, is_settled_told}
-use Rattle.history_laws.specs.Nulled.{is_nulled, missing}
-use Rattle.history_laws.specs.Numbers.{has}
-use Rattle.history_laws.specs.Told.{Said, Told, resolved, rejected, ok, fault, says}
+use Rattle.history_reading.specs.declared.parts.Event.{Event}
+use Rattle.history_reading.specs.declared.parts.Event.TheVariants as event
+use Rattle.history_reading.specs.Half.{Half, lives, own_request, is_promise, is_settled_told}
+use Rattle.history_values.specs.Nulled.{is_nulled, missing}
+use Rattle.history_reading.specs.Numbers.{has}
+use Rattle.history_reading.specs.Told.{Said, Told, resolved, rejected, ok, fault, says}
 use Rattle.history_laws.specs.Waits.{is_fault, own_returns}
 
 -- a promise that has not been settled

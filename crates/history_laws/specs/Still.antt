@@ -11,15 +11,15 @@ use Rattle.ipdl_base.specs.declared.schema.Schema.{Schema}
 use Rattle.ipdl_base.specs.Deferral.{rank, Arrival, request, reply, goodbye, mark, defers_arrival}
 use Rattle.ipdl_base.specs.Sound.{is_sync, message_of}
 use Rattle.nesting_core.specs.declared.frame.Head.{Head}
-use Rattle.history_laws.specs.declared.parts.Call.{Call}
-use Rattle.history_laws.specs.declared.parts.Frame.{Frame}
-use Rattle.history_laws.specs.declared.parts.Frame.TheVariants as frame
-use Rattle.history_laws.specs.declared.parts.Seen.{Seen}
-use Rattle.history_laws.specs.declared.parts.Seen.TheVariants as seen
-use Rattle.history_laws.specs.declared.parts.State.{State}
-use Rattle.history_laws.specs.declared.parts.State.TheVariants as state
-use Rattle.history_laws.specs.Half.{Half, own_request, has_unanswered}
-use Rattle.history_laws.specs.Reading.{Reading, half_of, other_of}
+use Rattle.history_reading.specs.declared.parts.Call.{Call}
+use Rattle.history_reading.specs.declared.parts.Frame.{Frame}
+use Rattle.history_reading.specs.declared.parts.Frame.TheVariants as frame
+use Rattle.history_reading.specs.declared.parts.Seen.{Seen}
+use Rattle.history_reading.specs.declared.parts.Seen.TheVariants as seen
+use Rattle.history_reading.specs.declared.parts.State.{State}
+use Rattle.history_reading.specs.declared.parts.State.TheVariants as state
+use Rattle.history_reading.specs.Half.{Half, own_request, has_unanswered}
+use Rattle.history_reading.specs.Reading.{Reading, half_of, other_of}
 
 -- the head of a message with a number and a transaction; none where there is no such message
 abbrev pub head_of_row : ℤ → ℤ → MessageRow → Head

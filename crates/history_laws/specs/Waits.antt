@@ -10,15 +10,15 @@ use Rattle.ipdl_base.specs.declared.schema.Schema.{Schema}
 use Rattle.ipdl_base.specs.declared.value.Values.{Values}
 use Rattle.history.specs.declared.line.What.{What}
 use Rattle.history.specs.declared.line.What.TheVariants as what
-use Rattle.history_laws.specs.declared.parts.Event.{Event}
-use Rattle.history_laws.specs.declared.parts.Event.TheVariants as event
-use Rattle.history_laws.specs.Half.{Half, lives, own_request, awaits, has_unanswered, is_sync_request}
-use Rattle.history_laws.specs.Nulled.{is_nulled, missing}
-use Rattle.history_laws.specs.Numbers.{has}
-use Rattle.history_laws.specs.Reading.{Reading}
-use Rattle.history_laws.specs.Rows.{returns_of}
+use Rattle.history_reading.specs.declared.parts.Event.{Event}
+use Rattle.history_reading.specs.declared.parts.Event.TheVariants as event
+use Rattle.history_reading.specs.Half.{Half, lives, own_request, awaits, has_unanswered, is_sync_request}
+use Rattle.history_values.specs.Nulled.{is_nulled, missing}
+use Rattle.history_reading.specs.Numbers.{has}
+use Rattle.history_reading.specs.Reading.{Reading}
+use Rattle.history_reading.specs.Rows.{returns_of}
 use Rattle.history_laws.specs.Still.{awaited_head, defers_head, is_still}
-use Rattle.history_laws.specs.Told.{Said, resolved, rejected, ok, fault, says}
+use Rattle.history_reading.specs.Told.{Said, resolved, rejected, ok, fault, says}
 
 -- the returns of an end's request of a number
 abbrev pub own_returns : Schema → Half → ℤ → List ParamRow

@@ -1,10 +1,8 @@
 ghost use Rattle.std.specs.Prelude.{◌≡◌, ℤ, reverse};
 ghost use Rattle.history_laws.specs.Fallen as the;
-ghost use Rattle.history_laws.specs.Halves.{half_view};
+ghost use Rattle.history_reading.specs.Halves.{half_view};
 
-use crate::half::{Half, standing_of};
-use crate::numbers::NumberList;
-use crate::parts::{Actor, Cause, Standing};
+use history_reading::{Actor, Cause, Half, NumberList, Standing, standing_of};
 use history::What;
 use ipdl_base::Destroy;
 

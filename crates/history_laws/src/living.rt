@@ -1,15 +1,12 @@
 ghost use Rattle.std.specs.Prelude.{◌≡◌};
 ghost use Rattle.ipdl_base.specs.Sound.{IsSound};
-ghost use Rattle.history_laws.specs.Halves.{half_view};
-ghost use Rattle.history_laws.specs.Kept.{request_view};
+ghost use Rattle.history_reading.specs.Halves.{half_view};
+ghost use Rattle.history_reading.specs.Kept.{request_view};
 ghost use Rattle.history_laws.specs.Living as the;
-ghost use Rattle.history_laws.specs.Numbers.{id_of};
+ghost use Rattle.history_reading.specs.Numbers.{id_of};
 
-use crate::half::Half;
-use crate::nulled::{all_live, missing};
-use crate::parts::Event;
-use crate::rows::params_of;
-use crate::told::Request;
+use history_reading::{Event, Half, Request, params_of};
+use history_values::{all_live, missing};
 use history::What;
 use ipdl_base::{ParamRow, Schema, Side, Values};
 

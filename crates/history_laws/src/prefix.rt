@@ -1,16 +1,13 @@
 ghost use Rattle.std.specs.Prelude.{◌≡◌};
 ghost use Rattle.ipdl_base.specs.Sound.{IsSound};
-ghost use Rattle.history_laws.specs.Halves.{half_view};
-ghost use Rattle.history_laws.specs.Kept.{request_view, sent_view, told_view};
-ghost use Rattle.history_laws.specs.Numbers.{has_seen};
+ghost use Rattle.history_reading.specs.Halves.{half_view};
+ghost use Rattle.history_reading.specs.Kept.{request_view, sent_view, told_view};
+ghost use Rattle.history_reading.specs.Numbers.{has_seen};
 ghost use Rattle.history_laws.specs.Prefix as the;
-ghost use Rattle.history_laws.specs.Told.{seen_of};
+ghost use Rattle.history_reading.specs.Told.{seen_of};
 
-use crate::half::Half;
-use crate::nulled::is_nulled;
-use crate::parts::Seen;
-use crate::rows::params_of;
-use crate::told::{Request, Told};
+use history_reading::{Half, Request, Seen, Told, params_of};
+use history_values::is_nulled;
 use history::What;
 use ipdl_base::{Schema, Values};
 

@@ -2,12 +2,9 @@ ghost use Rattle.std.specs.Prelude.{◌≡◌};
 ghost use Rattle.ipdl_base.specs.Sound.{IsSound};
 ghost use Rattle.history.specs.Messages.{same_side};
 ghost use Rattle.history_laws.specs.Holds as the;
-ghost use Rattle.history_laws.specs.Readings.{reading_view};
+ghost use Rattle.history_reading.specs.Readings.{reading_view};
 
-use crate::parts::Frame;
-use crate::reading::{Reading, is_effect};
-use crate::rows::is_request_number;
-use crate::stack::CallStack;
+use history_reading::{CallStack, Frame, Reading, is_effect, is_request_number};
 use history::{Line, What};
 use ipdl_base::{Schema, Side};
 

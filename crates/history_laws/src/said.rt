@@ -2,15 +2,14 @@
 ghost use Rattle.std.specs.Prelude.{◌≡◌};
 ghost use Rattle.std.specs.List.{list_any};
 ghost use Rattle.history_laws.specs.Asking.{is_asked};
-ghost use Rattle.history_laws.specs.Halves.{half_view};
-ghost use Rattle.history_laws.specs.Kept.{said_view, sent_view, told_view};
+ghost use Rattle.history_reading.specs.Halves.{half_view};
+ghost use Rattle.history_reading.specs.Kept.{said_view, sent_view, told_view};
 ghost use Rattle.history_laws.specs.Settled as settled;
-ghost use Rattle.history_laws.specs.Told.{is_said, says};
+ghost use Rattle.history_reading.specs.Told.{is_said, says};
 ghost use Rattle.history_laws.specs.Waits as waits;
 
-use crate::half::Half;
-use crate::nulled::{is_nulled, missing};
-use crate::told::{Said, Told};
+use history_reading::{Half, Said, Told};
+use history_values::{is_nulled, missing};
 use ipdl_base::{ParamRow, Reason, Schema, Values};
 
 /// Whether both are the same reason.

@@ -1,19 +1,15 @@
 ghost use Rattle.std.specs.Prelude.{◌≡◌, find, not};
 ghost use Rattle.std.specs.List.{list_all};
 ghost use Rattle.ipdl_base.specs.Sound.{IsSound};
-ghost use Rattle.history_laws.specs.Half.{is_promise, is_settled_told};
-ghost use Rattle.history_laws.specs.Halves.{half_view};
-ghost use Rattle.history_laws.specs.Kept.{sent_view, told_view};
+ghost use Rattle.history_reading.specs.Half.{is_promise, is_settled_told};
+ghost use Rattle.history_reading.specs.Halves.{half_view};
+ghost use Rattle.history_reading.specs.Kept.{sent_view, told_view};
 ghost use Rattle.history_laws.specs.Settled as the;
 ghost use Rattle.history_laws.specs.Waits.{own_returns};
 
-use crate::half::Half;
-use crate::numbers::NumberList;
-use crate::parts::Event;
+use history_reading::{Event, Half, NumberList, Told, returns_of};
 use crate::readable::same_side;
-use crate::rows::returns_of;
 use crate::said::{Asked, says};
-use crate::told::Told;
 use history::{Line, What};
 use ipdl_base::{ParamRow, Reason, Schema, Side, Values};
 

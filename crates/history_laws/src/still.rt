@@ -2,16 +2,13 @@ ghost use Rattle.std.specs.Prelude.{◌≡◌, reverse};
 ghost use Rattle.std.specs.List.{list_any};
 ghost use Rattle.ipdl_base.specs.Deferral.{defers_arrival, goodbye, mark, reply, request};
 ghost use Rattle.ipdl_base.specs.Sound.{IsSound};
-ghost use Rattle.history_laws.specs.Halves.{half_view};
-ghost use Rattle.history_laws.specs.Readings.{reading_view};
+ghost use Rattle.history_reading.specs.Halves.{half_view};
+ghost use Rattle.history_reading.specs.Readings.{reading_view};
 ghost use Rattle.history_laws.specs.Still as the;
 ghost use Rattle.history_laws.specs.Waits.{block_each_other, blocks};
 ghost use Rattle.history_laws.specs.Deferrals.{deferring_view};
 
-use crate::half::Half;
-use crate::parts::{Call, Frame, Seen, State};
-use crate::reading::Reading;
-use crate::stack::CallStack;
+use history_reading::{Call, CallStack, Frame, Half, Reading, Seen, State};
 use ipdl_base::{Level, MessageRow, Schema, Semantics, Side, defers_request};
 use nesting_core::Head;
 

@@ -3,13 +3,12 @@ ghost use Rattle.std.specs.List.{list_any};
 ghost use Rattle.ipdl_base.specs.Sound.{IsSound};
 ghost use Rattle.history_laws.specs.Chain as the;
 ghost use Rattle.history_laws.specs.Holds.{IsReadable, is_readable_list};
-ghost use Rattle.history_laws.specs.Reading.{read};
-ghost use Rattle.history_laws.specs.Readings.{reading_view};
+ghost use Rattle.history_reading.specs.Reading.{read};
+ghost use Rattle.history_reading.specs.Readings.{reading_view};
 
 use crate::held::Held;
-use crate::parts::Frame;
+use history_reading::{Frame, Reading};
 use crate::readable::is_readable;
-use crate::reading::Reading;
 use crate::still::head_of;
 use history::{History, Line, What};
 use ipdl_base::Schema;

@@ -1,15 +1,15 @@
 ghost use Rattle.std.specs.Prelude.{◌≡◌, ◌↔◌, IfOk, IsTrue};
 ghost use Rattle.ipdl_base.specs.Sound.{IsSound};
 ghost use Rattle.history_laws.specs.Holds as the;
-ghost use Rattle.history_laws.specs.Reading.{half_of, other_of};
-ghost use Rattle.history_laws.specs.Readings.{reading_view};
+ghost use Rattle.history_reading.specs.Reading.{half_of, other_of};
+ghost use Rattle.history_reading.specs.Readings.{reading_view};
 
 use crate::fallen::{fallen_line, fallen_moment};
 use crate::law::Law;
 use crate::living::living_line;
 use crate::prefix::prefix_line;
 use crate::readable::is_readable;
-use crate::reading::{Reading, is_effect};
+use history_reading::{Reading, is_effect};
 use crate::settled::{settled_line, settled_moment};
 use crate::waits::{waits_line, waits_moment};
 use history::{History, Line, What};

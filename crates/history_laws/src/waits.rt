@@ -1,12 +1,10 @@
 ghost use Rattle.std.specs.Prelude.{◌≡◌};
 ghost use Rattle.ipdl_base.specs.Sound.{IsSound};
-ghost use Rattle.history_laws.specs.Halves.{half_view};
-ghost use Rattle.history_laws.specs.Readings.{reading_view};
+ghost use Rattle.history_reading.specs.Halves.{half_view};
+ghost use Rattle.history_reading.specs.Readings.{reading_view};
 ghost use Rattle.history_laws.specs.Waits as the;
 
-use crate::half::Half;
-use crate::parts::Event;
-use crate::reading::Reading;
+use history_reading::{Event, Half, Reading};
 use crate::said::{Asked, says};
 use crate::settled::own_returns;
 use crate::still::{block_each_other, is_still};

@@ -1,9 +1,9 @@
 use Rattle.std.proofs.Common.{SFits, w32, rules, sym, ap, ◌∙◌, to_z-of_z}
 use Rattle.std.specs.List.{list_any}
 use Rattle.history_laws.specs.Asking.{is_asked}
-use Rattle.history_laws.specs.Halves.{half_view}
-use Rattle.history_laws.specs.Kept.{told_view}
-use Rattle.history_laws.specs.Told.{is_said}
+use Rattle.history_reading.specs.Halves.{half_view}
+use Rattle.history_reading.specs.Kept.{told_view}
+use Rattle.history_reading.specs.Told.{is_said}
 use Rattle.history_laws.proofs.Maps.{any_mapped}
 use Rattle.history_laws.proofs.said.says.Goals as goal
 

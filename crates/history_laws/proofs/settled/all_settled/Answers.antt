@@ -1,7 +1,7 @@
 use Rattle.std.proofs.Common.{sym, ap, ◌∙◌}
 use Rattle.std.specs.List.{list_all}
-use Rattle.history_laws.specs.Half.{is_settled_told}
-use Rattle.history_laws.specs.Kept.{told_view}
+use Rattle.history_reading.specs.Half.{is_settled_told}
+use Rattle.history_reading.specs.Kept.{told_view}
 use Rattle.history_laws.proofs.Maps.{all_mapped}
 use Rattle.history_laws.proofs.settled.all_settled.Goals as goal
 

@@ -1,5 +1,5 @@
 use Rattle.std.proofs.Common.{◌≡◌, take, reverse}
-use Rattle.history_laws.specs.Halves.{half_view}
+use Rattle.history_reading.specs.Halves.{half_view}
 use Rattle.history_laws.specs.Still.{inner_transaction}
 use Rattle.history_laws.proofs.still.inner_transaction.Given as goal
 

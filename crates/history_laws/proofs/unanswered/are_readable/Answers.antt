@@ -1,7 +1,7 @@
 use Rattle.std.proofs.Common.{◌∙◌, sym, ap, arith}
 use Rattle.history_laws.specs.Holds.{is_readable}
-use Rattle.history_laws.specs.Reading.{Reading, read}
-use Rattle.history_laws.specs.Readings.{reading_view}
+use Rattle.history_reading.specs.Reading.{Reading, read}
+use Rattle.history_reading.specs.Readings.{reading_view}
 use Rattle.history_laws.proofs.Loops.{each_goes_on, read_more}
 use Rattle.history_laws.proofs.unanswered.are_readable.Goals as goal
 

@@ -1,6 +1,6 @@
 use Rattle.std.proofs.Common.{◌≡◌, ◌++◌, drop}
 use Rattle.history_laws.specs.Chain.{held_from}
-use Rattle.history_laws.specs.Readings.{reading_view}
+use Rattle.history_reading.specs.Readings.{reading_view}
 use Rattle.history_laws.proofs.unanswered.held_calls.Given as goal
 
 -- the calls so far go on with those of the lines that are left

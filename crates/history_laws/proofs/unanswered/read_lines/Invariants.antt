@@ -1,6 +1,6 @@
 use Rattle.std.proofs.Common.{◌≡◌, take}
-use Rattle.history_laws.specs.Reading.{read}
-use Rattle.history_laws.specs.Readings.{reading_view}
+use Rattle.history_reading.specs.Reading.{read}
+use Rattle.history_reading.specs.Readings.{reading_view}
 use Rattle.history_laws.proofs.unanswered.read_lines.Given as goal
 
 -- the reading is that of the lines so far

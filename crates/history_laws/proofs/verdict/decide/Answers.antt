@@ -2,8 +2,8 @@ use Rattle.std.proofs.Common.{◌≡◌, List, true, drop, ◌+◌, ◌∙◌, s
 use Rattle.std.proofs.lemmas.List.{take_rest}
 use Rattle.history.specs.declared.line.Line.{Line}
 use Rattle.history_laws.specs.Holds.{passes}
-use Rattle.history_laws.specs.Reading.{Reading, read}
-use Rattle.history_laws.specs.Readings.{reading_view}
+use Rattle.history_reading.specs.Reading.{Reading, read}
+use Rattle.history_reading.specs.Readings.{reading_view}
 use Rattle.history_laws.proofs.Loops.{each_goes_on, read_more}
 use Rattle.history_laws.proofs.verdict.decide.Goals as goal
 
