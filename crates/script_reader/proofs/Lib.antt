@@ -1,0 +1,4 @@
+pub mod Begins
+pub mod Refused
+pub mod Sequences
+pub mod TokenLists

@@ -1,0 +1,6 @@
+pub mod Grammar
+pub mod Lines
+pub mod Parts
+pub mod Plain
+pub mod Reading
+pub mod Tokens

@@ -1,0 +1,17 @@
+//! The lines of a handler script: the tokens of a line, the statement that they are, and what each
+//! line of a text says (docs/scripts.md).
+#![tactic(auto)]
+
+mod cursor;
+mod line;
+mod parts;
+mod pieces;
+mod statement;
+mod stop;
+mod token;
+mod tokens;
+mod written;
+
+pub use line::{LineReading, LineReadings, MAX_LINE_LEN, read_lines};
+pub use statement::{Call, MessageName, Statement};
+pub use written::{Atom, Who, Written, WrittenValues};
