@@ -1,1 +1,3 @@
-
+pub mod Messages
+pub mod Plain
+pub mod Terms
