@@ -1,3 +1,7 @@
+ghost use Rattle.std.specs.Prelude.{◌≡◌, filter, slice_get};
+ghost use Rattle.std.specs.Option.{option_map};
+ghost use Rattle.handler_script.specs.Served.{serves};
+
 use crate::term::Terms;
 use ipdl_base::{Items, Name, Side};
 use script_reader::Who;
@@ -56,3 +60,26 @@ pub struct Block {
 
 /// A list of blocks.
 pub type Blocks = Items<Block>;
+
+/// Whether a block is the main of the side, or one for the message.
+pub fn serves(block: &Block, side: Side, handled: Option<u32>) -> bool
+    ensures { result ≡ serves side handled block.now }
+{
+    block.side == side && block.handles == handled
+}
+
+/// The block of this index among those of the side for the message, or among its mains.
+pub fn block_at(blocks: &[Block], side: Side, handled: Option<u32>, at: u32) -> Option<&Block>
+    ensures { option_map (λ b. b.now) result ≡ slice_get (filter (serves side handled) blocks.now) at }
+{
+    let mut left = at;
+    for block in blocks {
+        if serves(block, side, handled) {
+            if left == 0 {
+                return Some(block);
+            }
+            left -= 1;
+        }
+    }
+    None
+}

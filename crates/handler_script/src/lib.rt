@@ -3,10 +3,12 @@
 #![tactic(auto)]
 
 mod action;
+mod read;
 mod script;
 mod term;
 
 pub use action::{Action, Actions, Block, Blocks};
+pub use read::read_script;
 pub use script::{Point, Script, ScriptFault};
 pub use script_reader::Who;
 pub use term::{Term, Terms};
