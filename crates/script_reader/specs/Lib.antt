@@ -1,4 +1,5 @@
 pub mod Grammar
+pub mod Heads
 pub mod Lines
 pub mod Parts
 pub mod Plain

@@ -6,10 +6,12 @@ mod cursor;
 mod line;
 mod parts;
 mod pieces;
+mod reader;
 mod statement;
 mod stop;
 mod token;
 mod tokens;
+mod words;
 mod written;
 
 pub use line::{LineReading, LineReadings, MAX_LINE_LEN, read_lines};
