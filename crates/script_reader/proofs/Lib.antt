@@ -1,4 +1,6 @@
 pub mod Begins
+pub mod Heads
 pub mod Refused
 pub mod Sequences
 pub mod TokenLists
+pub mod ValueForms

@@ -11,6 +11,7 @@ mod statement;
 mod stop;
 mod token;
 mod tokens;
+mod values;
 mod words;
 mod written;
 
