@@ -1,5 +1,6 @@
 pub mod Begins
 pub mod Heads
+pub mod NoValues
 pub mod Refused
 pub mod Sequences
 pub mod TokenLists

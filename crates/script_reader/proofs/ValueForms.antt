@@ -30,10 +30,10 @@ one_single {X} read x y from to end h k =
     let held : x ≡ y = cc in
     (held, rest)
 
-tail_of : (t u : Token) (from to end : List Token) → from ≡ t ∷ to → from ≡ u ∷ end → to ≡ end
+pub tail_of : (t u : Token) (from to end : List Token) → from ≡ t ∷ to → from ≡ u ∷ end → to ≡ end
 tail_of t u from to end h k = let e : t ∷ to ≡ u ∷ end = sym h ∙ k in cc
 
-head_of : (t u : Token) (from to end : List Token) → from ≡ t ∷ to → from ≡ u ∷ end → t ≡ u
+pub head_of : (t u : Token) (from to end : List Token) → from ≡ t ∷ to → from ≡ u ∷ end → t ≡ u
 head_of t u from to end h k = let e : t ∷ to ≡ u ∷ end = sym h ∙ k in cc
 
 closing_no_value : (c : Bracket) (v : Written) (from to end : List Token) → mark (closing c) from to → ¬ value v from end

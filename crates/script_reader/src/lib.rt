@@ -8,6 +8,7 @@ mod parts;
 mod pieces;
 mod reader;
 mod statement;
+mod statements;
 mod stop;
 mod token;
 mod tokens;
