@@ -1,4 +1,4 @@
-ghost use Rattle.std.specs.Prelude.{◌≡◌, [], IfOk, IfErr, List};
+ghost use Rattle.std.specs.Prelude.{◌≡◌, ◌≢◌, true, false, [], IfOk, IfErr, List};
 ghost use Rattle.script_reader.specs.declared.parts.Keyword.TheVariants as keywords;
 ghost use Rattle.script_reader.specs.declared.statement.Call.{Call as CallType};
 ghost use Rattle.script_reader.specs.declared.statement.MessageName.{MessageName as MessageNameType};
@@ -48,16 +48,24 @@ fn call(alloc: Global, reader: &mut Reader) -> Result<Call, Stop>
     Ok(Call { message, values })
 }
 
+/// Whether a word is this one.
+fn is(word: &[u8], other: &[u8]) -> bool
+    ensures yes { result ≡ true → word.now ≡ other.now }
+    ensures not { result ≡ false → word.now ≢ other.now }
+{
+    word == other
+}
+
 /// The statement of a side, behind its word.
 fn opening(alloc: Global, reader: &mut Reader, side: Side) -> Result<Statement, Stop>
     ensures read { IfOk result (IsBehind (keywords.Side side) reader.old) }
     ensures stops { IfErr result (Refuses ((s : StatementType) → ¬ IsBehind (keywords.Side side) reader.old s)) }
 {
     let word = reader.word(alloc)?;
-    if word.as_slice() == b"main".as_slice() {
+    if is(word.as_slice(), b"main") {
         reader.end()?;
         Ok(Statement::Main(side))
-    } else if word.as_slice() == b"on".as_slice() {
+    } else if is(word.as_slice(), b"on") {
         let message = message(alloc, reader)?;
         reader.end()?;
         Ok(Statement::On(side, message))
