@@ -5,4 +5,6 @@ pub mod Refused
 pub mod Sequences
 pub mod StatementForms
 pub mod TokenLists
+pub mod Turns
+pub mod Unique
 pub mod ValueForms

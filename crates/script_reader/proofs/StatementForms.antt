@@ -128,3 +128,54 @@ mark_no_name b n from to end m h =
     let e : token.Mark b ≡ h.0 = head_of _ _ from to end m h.1 in
     let P : Token → Type 0 = λ t. name_of t ≡ Some n in
     none-some n (subst P (sym e) h.2)
+
+both_names : (m n : List ℕ) (P Q : Part) (from : List Token) → (name m ⨾ P) from [] → (name n ⨾ Q) from [] → (m ≡ n) × ((middle : List Token) × P middle [] × Q middle [])
+both_names m n P Q from h k =
+    let e = one_single name_of m n from h.0 k.0 h.1 k.1 in
+    let S : List Token → Type 0 = λ l. P l [] in
+    (e.0, (k.0, subst S e.1 h.2, k.2))
+
+both_whos : (v w : Who) (P Q : Part) (from : List Token) → (who v ⨾ P) from [] → (who w ⨾ Q) from [] → (v ≡ w) × ((middle : List Token) × P middle [] × Q middle [])
+both_whos v w P Q from h k =
+    let e = one_single who_of v w from h.0 k.0 h.1 k.1 in
+    let S : List Token → Type 0 = λ l. P l [] in
+    (e.0, (k.0, subst S e.1 h.2, k.2))
+
+-- the same statement stands behind the same keyword
+pub one_behind : (s u : Statement) (from : List Token) → keyword_for s ≡ keyword_for u → behind_keyword s from [] → behind_keyword u from [] → plain_statement s ≡ plain_statement u
+one_behind (forms.Main s) (forms.Main u) from e h k = let same : s ≡ u = cc in ap forms.Main same
+one_behind (forms.Main s) (forms.On u m) from e h k = absurd (let f = (same_word (codes "main") (codes "on") from [] k.0 h k.1).0 in let no : ⊥ = cc in no)
+one_behind (forms.On s m) (forms.Main u) from e h k = absurd (let f = (same_word (codes "on") (codes "main") from h.0 [] h.1 k).0 in let no : ⊥ = cc in no)
+one_behind (forms.On s m) (forms.On u n) from e h k =
+    let same : s ≡ u = cc in
+    let S : List Token → Type 0 = λ l. message m l [] in
+    let f = one_message m n k.0 [] [] (subst S ((same_word (codes "on") (codes "on") from h.0 k.0 h.1 k.1).1) h.2) k.2 in
+    ap (λ x. forms.On x m) same ∙ ap (λ x. forms.On u x) f.0
+one_behind forms.End forms.End from e h k = refl
+one_behind (forms.Send v c) (forms.Send w d) from e h k =
+    let f = both_whos v w (call c) (call d) from h k in
+    ap (λ x. forms.Send x (plain_call c)) f.0 ∙ ap (λ x. forms.Send w x) (one_call c d f.1.0 [] [] f.1.1 f.1.2).0
+one_behind (forms.New m v c) (forms.New n w d) from e h k =
+    let f = both_names m n (who v ⨾ call c) (who w ⨾ call d) from h k in
+    let g = both_whos v w (call c) (call d) f.1.0 f.1.1 f.1.2 in
+    ap (λ x. forms.New x v (plain_call c)) f.0 ∙ ap (λ x. forms.New n x (plain_call c)) g.0 ∙ ap (λ x. forms.New n w x) (one_call c d g.1.0 [] [] g.1.1 g.1.2).0
+one_behind (forms.Let m v) (forms.Let n w) from e h k =
+    let f = both_names m n (who v) (who w) from h k in
+    ap (λ x. forms.Let x v) f.0 ∙ ap (λ x. forms.Let n x) (one_single who_of v w f.1.0 [] [] f.1.1 f.1.2).0
+one_behind (forms.Resolve vs) (forms.Resolve ws) from e h k = ap forms.Resolve (one_arguments vs ws from [] [] h k).0
+one_behind (forms.Resolve vs) (forms.ResolveKept n d) from e h k = absurd (mark_no_name 40 n from h.0 k.0 h.1 k.1)
+one_behind (forms.ResolveKept m c) (forms.Resolve ws) from e h k = absurd (mark_no_name 40 m from k.0 h.0 k.1 h.1)
+one_behind (forms.ResolveKept m c) (forms.ResolveKept n d) from e h k =
+    let f = both_names m n (call c) (call d) from h k in
+    ap (λ x. forms.ResolveKept x (plain_call c)) f.0 ∙ ap (λ x. forms.ResolveKept n x) (one_call c d f.1.0 [] [] f.1.1 f.1.2).0
+one_behind forms.Reject forms.Reject from e h k = refl
+one_behind forms.Reject (forms.RejectKept n l) from e h k = absurd (let a : from ≡ [] = h in let b = k.1.1 in let no : ⊥ = cc in no)
+one_behind (forms.RejectKept m j) forms.Reject from e h k = absurd (let a : from ≡ [] = k in let b = h.1.1 in let no : ⊥ = cc in no)
+one_behind (forms.RejectKept m j) (forms.RejectKept n l) from e h k =
+    let f = both_names m n (message j) (message l) from h k in
+    ap (λ x. forms.RejectKept x j) f.0 ∙ ap (λ x. forms.RejectKept n x) (one_message j l f.1.0 [] [] f.1.1 f.1.2).0
+one_behind (forms.Keep m) (forms.Keep n) from e h k = ap forms.Keep (one_single name_of m n from [] [] h k).0
+one_behind forms.Close forms.Close from e h k = refl
+one_behind forms.Die forms.Die from e h k = refl
+one_behind (forms.Return vs) (forms.Return ws) from e h k = ap forms.Return (one_arguments vs ws from [] [] h k).0
+one_behind s u from e h k = absurd (let no : ⊥ = cc in no)

@@ -1,5 +1,6 @@
 pub mod Grammar
 pub mod Heads
+pub mod Laws
 pub mod Lines
 pub mod Parts
 pub mod Plain

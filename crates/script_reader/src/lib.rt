@@ -3,6 +3,7 @@
 #![tactic(auto)]
 
 mod cursor;
+mod laws;
 mod line;
 mod parts;
 mod pieces;
@@ -16,6 +17,7 @@ mod values;
 mod words;
 mod written;
 
+pub use laws::one_reading;
 pub use line::{LineReading, LineReadings, MAX_LINE_LEN, read_lines};
 pub use statement::{Call, MessageName, Statement};
 pub use written::{Atom, Who, Written, WrittenValues};
