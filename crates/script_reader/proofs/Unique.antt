@@ -26,20 +26,20 @@ one_line : (line : List ℕ) (s u : Statement) → IsStatement line s → IsStat
 one_line line s u x y = let P : List Token → Type 0 = λ l. statement s l [] in one_statement s u y.0 (subst P (one_tokens x.0 y.0 line x.1 y.1) x.2) y.2
 
 pub one_reading : OneReading
-one_reading line line.Silent line.Silent x y = refl
-one_reading line line.Silent (line.Statement t) x y = absurd (y.1 x.1)
-one_reading line line.Silent line.NoStatement x y = absurd (y.1 x.1)
-one_reading line line.Silent line.TooLong x y = let a = x.0 in absurd (omega (arith, a, y))
-one_reading line (line.Statement s) line.Silent x y = absurd (x.1 y.1)
-one_reading line (line.Statement s) (line.Statement t) x y =
-    ap (λ (v : Statement). line.Statement (record { ptr = null_ptr; alloc = record { memory = record { seal = tt } }; value = v })) (one_line line s.value t.value x.2 y.2)
-one_reading line (line.Statement s) line.NoStatement x y = absurd (y.2 s.value x.2)
-one_reading line (line.Statement s) line.TooLong x y = let a = x.0 in absurd (omega (arith, a, y))
-one_reading line line.NoStatement line.Silent x y = absurd (x.1 y.1)
-one_reading line line.NoStatement (line.Statement t) x y = absurd (x.2 t.value y.2)
-one_reading line line.NoStatement line.NoStatement x y = refl
-one_reading line line.NoStatement line.TooLong x y = let a = x.0 in absurd (omega (arith, a, y))
-one_reading line line.TooLong line.TooLong x y = refl
-one_reading line line.TooLong line.Silent x y = let a = y.0 in absurd (omega (arith, a, x))
-one_reading line line.TooLong (line.Statement t) x y = let a = y.0 in absurd (omega (arith, a, x))
-one_reading line line.TooLong line.NoStatement x y = let a = y.0 in absurd (omega (arith, a, x))
+one_reading l line.Silent line.Silent x y = refl
+one_reading l line.Silent (line.Statement t) x y = absurd (y.1 x.1)
+one_reading l line.Silent line.NoStatement x y = absurd (y.1 x.1)
+one_reading l line.Silent line.TooLong x y = let a = x.0 in absurd (omega (arith, a, y))
+one_reading l (line.Statement s) line.Silent x y = absurd (x.1 y.1)
+one_reading l (line.Statement s) (line.Statement t) x y =
+    ap (λ (v : Statement). line.Statement (record { ptr = null_ptr; alloc = record { memory = record { seal = tt } }; value = v })) (one_line l s.value t.value x.2 y.2)
+one_reading l (line.Statement s) line.NoStatement x y = absurd (y.2 s.value x.2)
+one_reading l (line.Statement s) line.TooLong x y = let a = x.0 in absurd (omega (arith, a, y))
+one_reading l line.NoStatement line.Silent x y = absurd (x.1 y.1)
+one_reading l line.NoStatement (line.Statement t) x y = absurd (x.2 t.value y.2)
+one_reading l line.NoStatement line.NoStatement x y = refl
+one_reading l line.NoStatement line.TooLong x y = let a = x.0 in absurd (omega (arith, a, y))
+one_reading l line.TooLong line.TooLong x y = refl
+one_reading l line.TooLong line.Silent x y = let a = y.0 in absurd (omega (arith, a, x))
+one_reading l line.TooLong (line.Statement t) x y = let a = y.0 in absurd (omega (arith, a, x))
+one_reading l line.TooLong line.NoStatement x y = let a = y.0 in absurd (omega (arith, a, x))
