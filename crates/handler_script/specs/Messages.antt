@@ -40,25 +40,21 @@ sends side.Parent direction.Parent = false
 sends side.Child direction.Child = false
 sends _ _ = true
 
-abbrev pub is_async : Semantics → Bool
-is_async Async = true
-is_async Sync = false
-
 -- the types of what answers an async message with returns, and none of another message
+abbrev pub if_async : Semantics → Option (List ParamRow) → Option (List ParamRow)
+if_async Async returns = returns
+if_async Sync returns = None
+
 abbrev pub resolves : MessageRow → Option (List ParamRow)
-resolves message = option_and_then (λ returns. if_async message.semantics returns) message.returns
-  where
-    if_async : Semantics → List ParamRow → Option (List ParamRow)
-    if_async Async returns = Some returns
-    if_async Sync returns = None
+resolves message = if_async message.semantics message.returns
 
 -- the types of what a sync message with returns gives back, and none of another message
+abbrev pub if_sync : Semantics → Option (List ParamRow) → Option (List ParamRow)
+if_sync Sync returns = returns
+if_sync Async returns = None
+
 abbrev pub replies : MessageRow → Option (List ParamRow)
-replies message = option_and_then (λ returns. if_sync message.semantics returns) message.returns
-  where
-    if_sync : Semantics → List ParamRow → Option (List ParamRow)
-    if_sync Sync returns = Some returns
-    if_sync Async returns = None
+replies message = if_sync message.semantics message.returns
 
 abbrev pub is_constructor : Kind → Bool
 is_constructor (Constructor p) = true

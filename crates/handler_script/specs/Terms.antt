@@ -1,5 +1,5 @@
 -- What written values stand for in a type: whether they fit it, and the term.
-use Rattle.std.specs.Prelude.{◌≡◌, ℕ, suc, zero, ◌+◌, ◌*◌, ◌⊎◌, Bool, true, false, IsTrue, pos, List, [], ◌∷◌, length, fold, slice_get, Option, Some, None, IsSome, IsSomeAnd, unwrap_or, option_and_then}
+use Rattle.std.specs.Prelude.{◌≡◌, ℕ, suc, zero, ◌+◌, ◌*◌, ◌==◌, ◌⊎◌, if◌then◌else◌, Bool, true, false, IsTrue, pos, List, [], ◌∷◌, length, fold, slice_get, Option, Some, None, IsSome, IsSomeAnd, unwrap_or, option_and_then}
 use Rattle.std.specs.Str.{IsUtf8}
 use Rattle.ipdl_base.specs.declared.builtin.Builtin.{Builtin as BuiltinType}
 use Rattle.ipdl_base.specs.declared.builtin.Builtin.TheVariants as builtin
@@ -87,10 +87,10 @@ abbrev mutual
 abbrev pub number_of : List ℕ → ℕ
 number_of bytes = fold (λ n b. 256 * n + b) 0 bytes
 
--- hexadecimal bytes: the bits of a float or a double, and else bytes
+-- so many hexadecimal bytes: the bits of a float of four, or of a double of eight, and else bytes
 abbrev pub bytes_term : Option BuiltinType → List ℕ → Term
-bytes_term (Some builtin.Float) bytes = term.Bits (number_of bytes)
-bytes_term (Some builtin.Double) bytes = term.Bits (number_of bytes)
+bytes_term (Some builtin.Float) bytes = if length bytes == 4 then term.Bits (number_of bytes) else term.Bytes bytes
+bytes_term (Some builtin.Double) bytes = if length bytes == 8 then term.Bits (number_of bytes) else term.Bytes bytes
 bytes_term _ bytes = term.Bytes bytes
 
 abbrev pub who_term : Who → Term

@@ -3,9 +3,12 @@
 #![tactic(auto)]
 
 mod action;
+mod fits;
 mod read;
 mod script;
+mod shapes;
 mod term;
+mod typed;
 
 pub use action::{Action, Actions, Block, Blocks};
 pub use read::read_script;

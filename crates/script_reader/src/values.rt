@@ -1,6 +1,9 @@
 ghost use Rattle.std.specs.Prelude.{◌≡◌, ◌<◌, length, List, IfOk, IfErr, OnOk};
 ghost use Rattle.script_reader.specs.declared.token.Token.{Token as TokenType};
+ghost use Rattle.script_reader.specs.declared.written.Atom.{Atom as AtomType};
 ghost use Rattle.script_reader.specs.declared.written.Written.{Written as WrittenType};
+ghost use Rattle.script_reader.specs.declared.stop.Stop.TheVariants.{NoMemory};
+ghost use Rattle.script_reader.specs.Parts.{single};
 ghost use Rattle.script_reader.specs.declared.written.WrittenValues.{WrittenValues as ValuesType};
 ghost use Rattle.script_reader.specs.Grammar as grammar;
 ghost use Rattle.script_reader.specs.Reading.{Refuses};
@@ -22,33 +25,56 @@ fn closing(bracket: Bracket) -> u8
     }
 }
 
+/// A box of a value. It is no part of the functions that call themselves, so that these need
+/// little room on the stack.
+#[inline(never)]
+fn boxed(alloc: Global, value: Written) -> Result<Box<Written>, Stop>
+    ensures ok { IfOk result (λ b. b.value ≡ value) }
+    ensures memory { IfErr result (λ e. e ≡ NoMemory) }
+{
+    Ok(Box::new(alloc, value)?)
+}
+
+/// Takes a value of one token, apart from the functions that call themselves.
+#[inline(never)]
+fn atom(alloc: Global, reader: &mut Reader) -> Result<Box<Written>, Stop>
+    ensures read { IfOk result (λ v. grammar.value v.value reader.old reader.new) }
+    ensures stops { IfErr result (Refuses ((a : AtomType) (to : List TokenType) → ¬ single grammar.atom_of a reader.old to)) }
+    ensures less { OnOk result (length reader.new < length reader.old) }
+{
+    let atom = reader.atom(alloc)?;
+    boxed(alloc, Written::Atom(atom))
+}
+
 /// Takes a value.
 #[cycle(values)]
-fn value(alloc: Global, reader: &mut Reader) -> Result<Written, Stop>
-    ensures read { IfOk result (λ v. grammar.value v reader.old reader.new) }
+fn value(alloc: Global, reader: &mut Reader) -> Result<Box<Written>, Stop>
+    ensures read { IfOk result (λ v. grammar.value v.value reader.old reader.new) }
     ensures stops { IfErr result (Refuses ((v : WrittenType) (to : List TokenType) → ¬ grammar.value v reader.old to)) }
     ensures less { OnOk result (length reader.new < length reader.old) }
 {
     match reader.begin() {
         Begin::Struct => {
             reader.pass();
-            Ok(Written::Struct(listed(alloc, reader, Bracket::Curly)?))
+            let fields = listed(alloc, reader, Bracket::Curly)?;
+            boxed(alloc, Written::Struct(fields))
         }
         Begin::Array => {
             reader.pass();
-            Ok(Written::Array(listed(alloc, reader, Bracket::Square)?))
+            let elements = listed(alloc, reader, Bracket::Square)?;
+            boxed(alloc, Written::Array(elements))
         }
         Begin::Union(index) => {
             reader.pass();
             let held = value(alloc, reader)?;
-            Ok(Written::Union(index, Box::new(alloc, held)?))
+            boxed(alloc, Written::Union(index, held))
         }
         Begin::Held => {
             reader.pass();
             let held = value(alloc, reader)?;
-            Ok(Written::Held(Box::new(alloc, held)?))
+            boxed(alloc, Written::Held(held))
         }
-        Begin::Atom => Ok(Written::Atom(reader.atom(alloc)?)),
+        Begin::Atom => atom(alloc, reader),
     }
 }
 
@@ -64,7 +90,6 @@ pub fn listed(alloc: Global, reader: &mut Reader, close: Bracket) -> Result<Writ
     }
     let first = value(alloc, reader)?;
     let rest = more(alloc, reader, close)?;
-    let first = Box::new(alloc, first)?;
     Ok(WrittenValues::First(first, Box::new(alloc, rest)?))
 }
 
@@ -81,6 +106,5 @@ fn more(alloc: Global, reader: &mut Reader, close: Bracket) -> Result<WrittenVal
     reader.mark(b',')?;
     let first = value(alloc, reader)?;
     let rest = more(alloc, reader, close)?;
-    let first = Box::new(alloc, first)?;
     Ok(WrittenValues::First(first, Box::new(alloc, rest)?))
 }
