@@ -38,10 +38,10 @@ fn orders(rt: HostRuntime) -> Result<(), Fail> {
                 (0, 3, 3, Rule::REPEATED_NAME),
                 (0, 3, 3, Rule::AMBIGUOUS_TYPE),
                 (0, 3, 3, Rule::SYNTAX_FAULT),
-                (0, 3, 2, Rule::NOT_BUILT),
+                (0, 3, 2, Rule::MISNAMED_PROTOCOL),
             ],
             &[
-                (0, 3, 2, Rule::NOT_BUILT),
+                (0, 3, 2, Rule::MISNAMED_PROTOCOL),
                 (0, 3, 3, Rule::SYNTAX_FAULT),
                 (0, 3, 3, Rule::AMBIGUOUS_TYPE),
                 (0, 3, 3, Rule::REPEATED_NAME),

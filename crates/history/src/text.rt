@@ -2,7 +2,6 @@ ghost use Rattle.std.specs.Prelude.{◌≡◌, ◌++◌, ◌/◌, [], IfOk, OnOk
 ghost use Rattle.std.specs.Fmt.{decimal};
 ghost use Rattle.std.specs.Option.{option_map_or};
 ghost use Rattle.ipdl_base.specs.Sound.{IsSound, message_of};
-ghost use Rattle.ipdl_base.specs.Words.{short_name};
 ghost use Rattle.history.specs.Noted.{noted_at};
 ghost use Rattle.history.specs.Text as text;
 
@@ -10,21 +9,9 @@ use crate::history::History;
 use crate::line::{Line, What};
 use crate::messages::Messages;
 use crate::words::{destroy_word, reason_word, refusal_word, side_word};
-use ipdl_base::{MessageRow, ParamRow, Schema, SendRefusal, Side, Values};
+use ipdl_base::{MessageRow, ParamRow, Schema, SendRefusal, Side, Values, short_name};
 use std::alloc::{AllocError, Global};
 use value_types::push_values;
-
-/// The bytes behind the last colon, or all where there is none.
-fn short_name(full: &[u8]) -> &[u8]
-    ensures { result.now ≡ short_name full.now }
-{
-    for index in (0..full.len()).rev() {
-        if full[index] == b':' {
-            return &full[index + 1..];
-        }
-    }
-    full
-}
 
 /// The short name of a protocol, or nothing where there is none of this number.
 fn protocol_name(schema: &Schema, number: u32) -> &[u8]

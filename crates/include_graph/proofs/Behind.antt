@@ -1,7 +1,6 @@
 -- What stands behind the last byte of a kind, byte by byte.
-use Rattle.std.proofs.Common.{◌≡◌, ℕ, Bool, true, false, ◌||◌, cond, nat_eq, List, [], ◌∷◌, ◌++◌, refl, ◌∙◌, ap}
+use Rattle.std.proofs.Common.{◌≡◌, ℕ, Bool, true, false, ◌||◌, cond, nat_eq, List, [], ◌∷◌, ◌++◌, refl, ◌∙◌}
 use Rattle.std.specs.List.{list_any}
-use Rattle.ipdl_base.specs.Words.{short_name}
 use Rattle.include_graph.specs.Keys.{behind_last}
 use Rattle.include_graph.proofs.Ends.{by_test}
 
@@ -36,8 +35,3 @@ behind_other m b [] e = rw e refl
 behind_other m b (x ∷ xs) e =
     let any : list_any (λ c. nat_eq c m) (xs ++ b ∷ []) ≡ list_any (λ c. nat_eq c m) xs = any_push (λ c. nat_eq c m) xs b ∙ rw e (or_false (list_any (λ c. nat_eq c m) xs)) in
     rw any (split m b x xs (list_any (λ c. nat_eq c m) xs) (nat_eq x m) (behind_other m b xs e))
-
--- a short name is what stands behind the last colon
-pub short_is : (name : List ℕ) → short_name name ≡ behind_last 58 name
-short_is [] = refl
-short_is (b ∷ bs) = ap (λ rest. cond (list_any (λ c. nat_eq c 58) bs) rest (cond (nat_eq b 58) bs (b ∷ bs))) (short_is bs)

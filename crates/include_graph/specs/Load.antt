@@ -1,12 +1,8 @@
 -- What a load answers.
-use Rattle.std.specs.Prelude.{◌≡◌, ◌≢◌, ℕ, List, [], ◌++◌, map, slice_get, Option, Some, None, Result, IfSome, MatchResult}
-use Rattle.std.specs.List.{AllByRecursion}
+use Rattle.std.specs.Prelude.{◌≡◌, ◌≢◌, ℕ, List, [], map, slice_get, Option, Some, None, Result, MatchResult}
 use Rattle.ipdl_base.specs.declared.finding.Finding.{Finding}
 use Rattle.ipdl_base.specs.Outside.{FileMap}
-use Rattle.ipdl_base.specs.Words.{short_name}
 use Rattle.ipdl_syntax.specs.declared.program.Entry.{Entry}
-use Rattle.ipdl_syntax.specs.declared.tree.FileKind.TheVariants as file
-use Rattle.ipdl_syntax.specs.Programs.{ending}
 use Rattle.findings.specs.Report.{IsReport}
 use Rattle.include_graph.specs.declared.loader.LoadFault.{LoadFault}
 use Rattle.include_graph.specs.declared.loader.LoadFault.TheVariants.{Broken, ReadFault, NoMemory}

@@ -3,7 +3,7 @@ ghost use Rattle.ipdl_base.specs.Words as words;
 ghost use Rattle.ipdl_syntax.specs.Programs.{ending, named_key};
 ghost use Rattle.include_graph.specs.Keys as keys;
 
-use ipdl_base::{Items, Name};
+use ipdl_base::{Items, Name, short_name};
 use ipdl_syntax::{FileKind, Include, IncludeKind};
 use std::alloc::{AllocError, Global};
 
@@ -41,7 +41,7 @@ pub fn key_of(name: &[u8]) -> &[u8]
 pub fn bears_name(full: &[u8], key: &[u8]) -> bool
     ensures { IsTrue result ↔ (words.short_name full.now ++ ending FileKind.Protocol ≡ key.now) }
 {
-    let short = behind_last(full, b':');
+    let short = short_name(full);
     let Some(n) = key.len().checked_sub(PROTOCOL_ENDING.len()) else {
         return false;
     };

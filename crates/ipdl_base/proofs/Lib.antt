@@ -1,4 +1,5 @@
 pub mod FindLemmas
 pub mod Numbers
+mod ShortNames
 pub mod WorkedSchema
 mod FalseSchemas

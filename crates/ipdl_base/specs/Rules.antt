@@ -50,7 +50,22 @@ rule_texts =
     (rule.UNCARRIED_TYPE, codes "type is not carried") ∷
     (rule.NOT_A_TOP_PROTOCOL, codes "not a top protocol") ∷
     (rule.UNREADABLE_SCRIPT, codes "script too large or absent") ∷
-    (rule.NOT_BUILT, codes "not built yet") ∷
+    (rule.LARGE_PAYLOAD, codes "payload too large") ∷
+    (rule.UNKNOWN_FRAME_TYPE, codes "unknown type") ∷
+    (rule.BAD_FLAGS, codes "bad flags") ∷
+    (rule.BAD_FIELD, codes "bad field") ∷
+    (rule.BAD_TAG, codes "bad tag") ∷
+    (rule.BAD_TEXT, codes "bad text") ∷
+    (rule.SHORT_PAYLOAD, codes "payload too short") ∷
+    (rule.LONG_PAYLOAD, codes "payload too long") ∷
+    (rule.BAD_VALUE, codes "bad value") ∷
+    (rule.UNSENT_REQUEST, codes "wrong direction") ∷
+    (rule.WRONG_NUMBER, codes "wrong number") ∷
+    (rule.WRONG_ID, codes "wrong id") ∷
+    (rule.BAD_PADDING, codes "bad padding") ∷
+    (rule.BAD_MARK, codes "bad mark") ∷
+    (rule.EARLY_END, codes "ends too early") ∷
+    (rule.NO_SUCH_STEP, codes "no such step") ∷
     []
 
 abbrev pub is_same_rule : Rule → Rule → Bool

@@ -274,10 +274,100 @@ impl Rule {
         number: 9,
     };
 
-    /// The program does not read such a file yet.
-    pub const NOT_BUILT: Rule = Rule {
-        letter: b'N',
+    /// A frame's payload is longer than its layout allows.
+    pub const LARGE_PAYLOAD: Rule = Rule {
+        letter: b'F',
         number: 1,
+    };
+
+    /// The type of a frame names no carried request or reply, and no goodbye.
+    pub const UNKNOWN_FRAME_TYPE: Rule = Rule {
+        letter: b'F',
+        number: 2,
+    };
+
+    /// The flags of a frame are not those of its type.
+    pub const BAD_FLAGS: Rule = Rule {
+        letter: b'F',
+        number: 3,
+    };
+
+    /// The route, the number or the transaction of a frame is none that its type has.
+    pub const BAD_FIELD: Rule = Rule {
+        letter: b'F',
+        number: 4,
+    };
+
+    /// A byte that chooses among forms of a value, or the index of a union, is none.
+    pub const BAD_TAG: Rule = Rule {
+        letter: b'F',
+        number: 5,
+    };
+
+    /// A text is not UTF-8.
+    pub const BAD_TEXT: Rule = Rule {
+        letter: b'F',
+        number: 6,
+    };
+
+    /// A value needs more bytes than the payload has left.
+    pub const SHORT_PAYLOAD: Rule = Rule {
+        letter: b'F',
+        number: 7,
+    };
+
+    /// Bytes are left behind the last value.
+    pub const LONG_PAYLOAD: Rule = Rule {
+        letter: b'F',
+        number: 8,
+    };
+
+    /// An actor, a new id or a fault's reason is none that may stand there.
+    pub const BAD_VALUE: Rule = Rule {
+        letter: b'F',
+        number: 9,
+    };
+
+    /// The other side does not send this request.
+    pub const UNSENT_REQUEST: Rule = Rule {
+        letter: b'F',
+        number: 11,
+    };
+
+    /// A request does not have the next number of its side.
+    pub const WRONG_NUMBER: Rule = Rule {
+        letter: b'F',
+        number: 12,
+    };
+
+    /// A constructor does not have the next id of its side.
+    pub const WRONG_ID: Rule = Rule {
+        letter: b'F',
+        number: 13,
+    };
+
+    /// A padding byte is not 0.
+    pub const BAD_PADDING: Rule = Rule {
+        letter: b'F',
+        number: 14,
+    };
+
+    /// A frame does not begin with the mark of its layout.
+    pub const BAD_MARK: Rule = Rule {
+        letter: b'F',
+        number: 15,
+    };
+
+    /// A transcript ends before a whole history does.
+    pub const EARLY_END: Rule = Rule {
+        letter: b'C',
+        number: 1,
+    };
+
+    /// A line of a transcript is no step that may come there.
+    pub const NO_SUCH_STEP: Rule = Rule {
+        letter: b'C',
+        number: 2,
     };
 
     /// What the rule says of a place where it is broken; nothing where there is no such rule.
@@ -327,7 +417,22 @@ impl Rule {
             Rule::UNCARRIED_TYPE => "type is not carried",
             Rule::NOT_A_TOP_PROTOCOL => "not a top protocol",
             Rule::UNREADABLE_SCRIPT => "script too large or absent",
-            Rule::NOT_BUILT => "not built yet",
+            Rule::LARGE_PAYLOAD => "payload too large",
+            Rule::UNKNOWN_FRAME_TYPE => "unknown type",
+            Rule::BAD_FLAGS => "bad flags",
+            Rule::BAD_FIELD => "bad field",
+            Rule::BAD_TAG => "bad tag",
+            Rule::BAD_TEXT => "bad text",
+            Rule::SHORT_PAYLOAD => "payload too short",
+            Rule::LONG_PAYLOAD => "payload too long",
+            Rule::BAD_VALUE => "bad value",
+            Rule::UNSENT_REQUEST => "wrong direction",
+            Rule::WRONG_NUMBER => "wrong number",
+            Rule::WRONG_ID => "wrong id",
+            Rule::BAD_PADDING => "bad padding",
+            Rule::BAD_MARK => "bad mark",
+            Rule::EARLY_END => "ends too early",
+            Rule::NO_SUCH_STEP => "no such step",
             _ => "",
         }
     }

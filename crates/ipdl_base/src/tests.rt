@@ -254,7 +254,22 @@ fn rules(rt: HostRuntime) -> Result<(), Fail> {
         (Rule::UNCARRIED_TYPE, "K7 type is not carried"),
         (Rule::NOT_A_TOP_PROTOCOL, "K8 not a top protocol"),
         (Rule::UNREADABLE_SCRIPT, "K9 script too large or absent"),
-        (Rule::NOT_BUILT, "N1 not built yet"),
+        (Rule::LARGE_PAYLOAD, "F1 payload too large"),
+        (Rule::UNKNOWN_FRAME_TYPE, "F2 unknown type"),
+        (Rule::BAD_FLAGS, "F3 bad flags"),
+        (Rule::BAD_FIELD, "F4 bad field"),
+        (Rule::BAD_TAG, "F5 bad tag"),
+        (Rule::BAD_TEXT, "F6 bad text"),
+        (Rule::SHORT_PAYLOAD, "F7 payload too short"),
+        (Rule::LONG_PAYLOAD, "F8 payload too long"),
+        (Rule::BAD_VALUE, "F9 bad value"),
+        (Rule::UNSENT_REQUEST, "F11 wrong direction"),
+        (Rule::WRONG_NUMBER, "F12 wrong number"),
+        (Rule::WRONG_ID, "F13 wrong id"),
+        (Rule::BAD_PADDING, "F14 bad padding"),
+        (Rule::BAD_MARK, "F15 bad mark"),
+        (Rule::EARLY_END, "C1 ends too early"),
+        (Rule::NO_SUCH_STEP, "C2 no such step"),
     ];
     for (rule, line) in rows {
         let text = rule.to_string(rt.alloc())?;

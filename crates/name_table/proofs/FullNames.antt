@@ -1,11 +1,10 @@
 -- Full names, their parts and their short names.
-use Rattle.std.proofs.Common.{◌≡◌, ◌⊎◌, inl, inr, ◌∙◌, ℕ, zero, suc, ◌+◌, ◌-◌, ◌<◌, Bool, true, false, true≢false, cond, List, [], ◌∷◌, ◌++◌, length, take, drop, Option, Some, None, refl, sym, ap, subst, arith, not, position, nat_eq, ◌||◌, append_assoc}
+use Rattle.std.proofs.Common.{◌≡◌, ◌⊎◌, inl, inr, ◌∙◌, ℕ, zero, suc, ◌+◌, ◌-◌, ◌<◌, Bool, true, false, true≢false, cond, List, [], ◌∷◌, ◌++◌, length, take, drop, Option, Some, None, refl, sym, ap, subst, arith, not, nat_eq, ◌||◌, append_assoc}
 use Rattle.std.specs.Prelude.{if◌then◌else◌, ◌==◌}
-use Rattle.std.specs.List.{Contains, list_any, before_first, position_from, prefix_len}
+use Rattle.std.specs.List.{Contains, list_any, before_first, prefix_len}
 use Rattle.std.specs.Cmp.Lexicographic.{pointwise}
 use Rattle.std.proofs.lemmas.Bool.Decides.{eqb_tells}
-use Rattle.std.proofs.lemmas.Iterator.Adapters.{position_from-zero}
-use Rattle.std.proofs.lemmas.List.{take-append-drop, take_all, length-drop, append_cancel_left, append_cancel_right}
+use Rattle.std.proofs.lemmas.List.{take-append-drop, append_cancel_left, append_cancel_right}
 use Rattle.std.proofs.lemmas.Slice.Eq.{bytes_eq-Decides}
 use Rattle.std.proofs.Math.Seq.{take-append_seam}
 use Rattle.ipdl_base.specs.Words.{short_name}
@@ -23,60 +22,6 @@ short_name-whole (b ∷ bs) h = go (colon b) (list_any colon bs) refl refl h
     go true there p q bare = absurd (true≢false bare)
     go false true p q bare = absurd (true≢false bare)
     go false false p q bare = ap (λ (t : Bool). if t then short_name bs else (if colon b then bs else b ∷ bs)) q ∙ ap (λ (t : Bool). if t then bs else b ∷ bs) p
-
--- behind the first colon stands the same short name
-pub record Colon (xs : List ℕ) (from at : ℕ) : Type 0 where
-  pub place : ℕ
-  pub at_is : at ≡ from + place
-  pub within : place < length xs
-  pub any : list_any colon xs ≡ true
-  pub short : short_name xs ≡ short_name (drop (suc place) xs)
-
-pub colon_from : (xs : List ℕ) (from at : ℕ) → position_from colon from xs ≡ Some at → Colon xs from at
-colon_from [] from at e = elim (nothing e) [ ]
-  where
-    nothing : None ≡ Some at → ⊥
-    nothing q = cc
-colon_from (b ∷ bs) from at e = go (colon b) refl (λ h. colon_from bs (from + 1) at h)
-  where
-    first : (there : Bool) → list_any colon bs ≡ there → colon b ≡ true → short_name (b ∷ bs) ≡ short_name bs
-    first true q p = ap (λ (t : Bool). if t then short_name bs else (if colon b then bs else b ∷ bs)) q
-    first false q p = ap (λ (t : Bool). if t then short_name bs else (if colon b then bs else b ∷ bs)) q ∙ ap (λ (t : Bool). if t then bs else b ∷ bs) p ∙ sym (short_name-whole bs q)
-
-    go : (here : Bool) → colon b ≡ here → (position_from colon (from + 1) bs ≡ Some at → Colon bs (from + 1) at) → Colon (b ∷ bs) from at
-    go true p rest =
-        let same : Some from ≡ Some at = sym (ap (λ (t : Bool). cond t (Some from) (position_from colon (from + 1) bs)) p) ∙ e in
-        record {
-          place = 0;
-          at_is = (let q : from ≡ at = cc in omega (arith, q));
-          within = omega arith;
-          any = ap (λ (t : Bool). t || list_any colon bs) p;
-          short = first (list_any colon bs) refl p;
-        }
-    go false p rest =
-        let later = rest (sym (ap (λ (t : Bool). cond t (Some from) (position_from colon (from + 1) bs)) p) ∙ e) in
-        record {
-          place = suc later.place;
-          at_is = omega (arith, later.at_is);
-          within = omega (arith, later.within);
-          any = ap (λ (t : Bool). t || list_any colon bs) p ∙ later.any;
-          short = ap (λ (t : Bool). if t then short_name bs else (if colon b then bs else b ∷ bs)) later.any ∙ later.short;
-        }
-
--- where no place is found there is none
-pub none_from : (p : ℕ → Bool) (xs : List ℕ) (from : ℕ) → position_from p from xs ≡ None → list_any p xs ≡ false
-none_from p [] from e = refl
-none_from p (x ∷ xs) from e = go (p x) refl (none_from p xs (from + 1))
-  where
-    impossible : Some from ≡ None → ⊥
-    impossible w = cc
-
-    go : (here : Bool) → p x ≡ here → (position_from p (from + 1) xs ≡ None → list_any p xs ≡ false) → p x || list_any p xs ≡ false
-    go true q rest = absurd (impossible (sym (ap (λ (t : Bool). cond t (Some from) (position_from p (from + 1) xs)) q) ∙ e))
-    go false q rest = ap (λ (t : Bool). t || list_any p xs) q ∙ rest (sym (ap (λ (t : Bool). cond t (Some from) (position_from p (from + 1) xs)) q) ∙ e)
-
-pub position-from : (p : ℕ → Bool) (xs : List ℕ) (o : Option ℕ) → o ≡ position p xs → position_from p 0 xs ≡ o
-position-from p xs o e = sym (e ∙ position_from-zero p xs)
 
 -- a short name is no longer than all, and as long only where it is all
 pub short_name-length : (xs : List ℕ) → (length (short_name xs) < length xs) ⊎ (short_name xs ≡ xs)
@@ -167,16 +112,6 @@ front_not front whole differ more e =
 pub front_is : (front whole : List ℕ) → pointwise nat_eq (take (length front) whole) front ≡ true → whole ≡ front ++ drop (length front) whole
 front_is front whole same =
     sym (take-append-drop (length front) whole) ∙ ap (λ xs. xs ++ drop (length front) whole) ((bytes_eq-Decides (take (length front) whole) front).0 same)
-
-pub drop-drop : (n : ℕ) (xs : List ℕ) → drop 1 (drop n xs) ≡ drop (suc n) xs
-drop-drop zero xs = refl
-drop-drop (suc n) [] = refl
-drop-drop (suc n) (x ∷ xs) = drop-drop n xs
-
--- what a slice from the second byte on is
-pub behind_first : (n : ℕ) (xs part : List ℕ) → part ≡ drop n xs → take (length part - 1) (drop 1 part) ≡ drop (suc n) xs
-behind_first n xs part e =
-    take_all (length part - 1) (drop 1 part) (omega (arith, length-drop 1 part)) ∙ ap (drop 1) e ∙ drop-drop n xs
 
 -- a text that ends with one byte
 pub last_is : (whole : List ℕ) (b : ℕ) → pointwise nat_eq (drop (length whole - 1) whole) (b ∷ []) ≡ true → whole ≡ take (length whole - 1) whole ++ b ∷ []

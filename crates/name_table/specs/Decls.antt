@@ -1,5 +1,5 @@
 -- What stands at a number in a program, and what a name alone finds there.
-use Rattle.std.specs.Prelude.{ℕ, List, Option, None, slice_get, option_and_then}
+use Rattle.std.specs.Prelude.{ℕ, List, Option, slice_get, option_and_then}
 use Rattle.ipdl_syntax.specs.declared.program.Entry.{Entry}
 use Rattle.ipdl_syntax.specs.declared.tree.ProtocolDecl.{ProtocolDecl}
 use Rattle.ipdl_syntax.specs.declared.tree.StructDecl.{StructDecl}

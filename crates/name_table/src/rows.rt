@@ -4,8 +4,9 @@ ghost use Rattle.name_table.specs.declared.decl.DeclId.TheVariants as decl;
 ghost use Rattle.name_table.specs.Rows.{numbered, declared_in, row_of, Lists, AreRows};
 
 use crate::decl::DeclId;
-use crate::texts::{before_argument, short};
+use crate::texts::before_argument;
 use indexmap::IndexMap;
+use ipdl_base::short_name;
 use ipdl_syntax::{Entry, StructDecl, UnionDecl, Using};
 use std::alloc::{AllocError, Global};
 
@@ -43,7 +44,7 @@ fn declare<'p>(
 {
     let front = before_argument(full);
     list(alloc, front, id, rows)?;
-    let last = short(full);
+    let last = short_name(full);
     if front.len() == full.len() && last.len() < full.len() {
         list(alloc, last, id, rows)?;
     }

@@ -1,39 +1,26 @@
 ghost use Rattle.std.specs.Prelude.{◌≡◌, ◌==◌, ◌↔◌, ℕ, Bool, List, IsTrue, IfSome, IfNone, Some, option_map, position};
 ghost use Rattle.std.specs.List.{before_first};
-ghost use Rattle.ipdl_base.specs.Words.{short_name};
 ghost use Rattle.ipdl_base.specs.declared.builtin.Builtin.{Builtin as BuiltinType};
 ghost use Rattle.ipdl_syntax.specs.Grammar.{whole_name};
 ghost use Rattle.name_table.specs.Finds.{IsNameOf, IsNameOfBuiltin, endpoint_word};
 
-use ipdl_base::Builtin;
+use ipdl_base::{Builtin, short_name};
 
-/// The first place of a byte in a text.
-fn first(byte: u8, text: &[u8]) -> Option<usize>
-    ensures { result ≡ position (λ b. b == byte) text.now }
+/// The first place of a `<` in a text.
+fn less_at(text: &[u8]) -> Option<usize>
+    ensures { result ≡ position (λ b. b == 60) text.now }
 {
-    text.iter().position(|b| *b == byte)
+    text.iter().position(|b| *b == b'<')
 }
 
 /// What stands in a full name before the `<` of its argument: all of it where it has none.
 pub fn before_argument(full: &[u8]) -> &[u8]
     ensures { result.now ≡ before_first (λ b. b == 60) full.now }
 {
-    match first(b'<', full) {
+    match less_at(full) {
         Some(at) => &full[..at],
         None => full,
     }
-}
-
-/// What stands behind the last colon of a full name: all of it where it has none.
-pub fn short(full: &[u8]) -> &[u8]
-    ensures { result.now ≡ short_name full.now }
-{
-    let mut rest = full;
-    while let Some(at) = first(b':', rest) {
-        let (_, behind) = rest.split_at(at);
-        rest = &behind[1..];
-    }
-    rest
 }
 
 /// What stands in a text between a front and a `>` at its end.
@@ -63,7 +50,7 @@ pub fn is_name_of(text: &[u8], argument: Option<&[u8]>, full: &[u8]) -> bool
 {
     match argument {
         Some(inner) => is_whole(full, text, inner) && !text.contains(&b'<'),
-        None => !full.contains(&b'<') && (full == text || short(full) == text),
+        None => !full.contains(&b'<') && (full == text || short_name(full) == text),
     }
 }
 

@@ -1,5 +1,4 @@
 pub mod Bytes
-pub mod Colons
 pub mod Cuts
 pub mod Found
 pub mod Grown

@@ -1,13 +1,12 @@
-ghost use Rattle.std.specs.Prelude.{◌≡◌, ◌↔◌, ◌<◌, ◌==◌, List, length, IfOk, OnOk, IfSome, IfNone, IsTrue, position};
+ghost use Rattle.std.specs.Prelude.{◌≡◌, ◌↔◌, List, IfOk, OnOk, IsTrue};
 ghost use Rattle.std.specs.List.{Any};
-ghost use Rattle.ipdl_base.specs.Words.{short_name};
 ghost use Rattle.ipdl_base.specs.declared.kinds.Semantics.TheVariants.{Sync};
 ghost use Rattle.ipdl_syntax.specs.declared.program.Entry.{Entry};
 ghost use Rattle.sync_list.specs.Broken.{Lists, IsRead, HasMessage, NamesAsync, NamesAbsent};
 ghost use Rattle.sync_list.specs.Sets.{same_name, same_pair, KeysAre, AddsKeys};
 
 use crate::list::Section;
-use ipdl_base::Semantics;
+use ipdl_base::{Semantics, short_name};
 use ipdl_syntax::{Entry, MessageDecl};
 use std::alloc::{AllocError, Global};
 use std::collections::HashSet;
@@ -21,34 +20,6 @@ pub struct Known<'a> {
     pub protocols: HashSet<&'a [u8]>,
     pub syncs: HashSet<Pair<'a>>,
     pub asyncs: HashSet<Pair<'a>>,
-}
-
-/// The index of the first colon.
-fn colon_at(name: &[u8]) -> Option<usize>
-    ensures first { result ≡ position (λ b. b == 58) name.now }
-    ensures within { IfSome result (λ n. n < length name.now) }
-{
-    name.iter().position(|b| *b == b':')
-}
-
-/// What stands behind the first colon.
-fn behind_colon(name: &[u8]) -> Option<&[u8]>
-    ensures some { IfSome result (λ rest. (short_name rest.now ≡ short_name name.now) × (length rest.now < length name.now)) }
-    ensures none { IfNone result (short_name name.now ≡ name.now) }
-{
-    let colon = colon_at(name)?;
-    Some(&name[colon + 1..])
-}
-
-/// The part of a full name behind its last colon.
-pub fn short_name(full: &[u8]) -> &[u8]
-    ensures { result.now ≡ short_name full.now }
-{
-    let mut name = full;
-    while let Some(rest) = behind_colon(name) {
-        name = rest;
-    }
-    name
 }
 
 /// The names of a section.

@@ -11,9 +11,9 @@ ghost use Rattle.sync_list.specs.Knowing.{Knows};
 ghost use Rattle.sync_list.specs.Sets.{same_pair, KeysAre};
 
 use crate::list::{Section, SyncList};
-use crate::names::{Known, Pair, listed, short_name};
+use crate::names::{Known, Pair, listed};
 use findings::sorted;
-use ipdl_base::{Finding, Findings, Place, Rule, Semantics};
+use ipdl_base::{Finding, Findings, Place, Rule, Semantics, short_name};
 use ipdl_syntax::{Entry, MessageDecl, Program};
 use std::alloc::{AllocError, Global};
 use std::collections::HashSet;

@@ -6,9 +6,8 @@ ghost use Rattle.findings.specs.Adds.{Adds};
 ghost use Rattle.type_rules.specs.Declarations.{Declaration as TheDeclaration, declarations, Repeats, IsTypeWord, TakesTypeWord, IsRepeatedDeclaration};
 ghost use Rattle.type_rules.specs.Firsts.{told, IsBefore, StandsBefore, IsEarlier, FirstsAre, IsRepeatedAmong};
 
-use ipdl_base::{Builtin, Finding, Place, Rule};
+use ipdl_base::{Builtin, Finding, Place, Rule, short_name};
 use ipdl_syntax::{Entry, StructDecl, UnionDecl, Unit, Using};
-use name_table::short_name;
 use std::alloc::{AllocError, Global};
 use std::collections::HashMap;
 

@@ -1,8 +1,8 @@
 use Rattle.std.proofs.Common.{◌≡◌, ◌∙◌, ℕ, suc, ◌+◌, ◌-◌, false, drop, arith, ap}
 use Rattle.std.specs.List.{list_any}
 use Rattle.std.proofs.lemmas.List.{take_rest}
-use Rattle.history.proofs.Names.{is_colon, all_short, short_behind}
-use Rattle.history.proofs.text.short_name.Goals as goal
+use Rattle.ipdl_base.proofs.ShortNames.{is_colon, all_short, short_behind}
+use Rattle.ipdl_base.proofs.full_name.short_name.Goals as goal
 
 pub returns-then-full-index-eq58 : goal.returns-then-full-index-eq58
 returns-then-full-index-eq58 c =

@@ -1,0 +1,15 @@
+ghost use Rattle.std.specs.Prelude.{◌≡◌};
+ghost use Rattle.ipdl_base.specs.Words.{short_name};
+
+/// The short name of what has this full name: the bytes behind its last colon, or all of them where
+/// it has none (docs/names.md).
+pub fn short_name(full: &[u8]) -> &[u8]
+    ensures { result.now ≡ short_name full.now }
+{
+    for index in (0..full.len()).rev() {
+        if full[index] == b':' {
+            return &full[index + 1..];
+        }
+    }
+    full
+}
