@@ -1,5 +1,5 @@
 -- The rules of a script, where a text breaks them, and the report.
-use Rattle.std.specs.Prelude.{◌≡◌, ◌≢◌, ℕ, ◌+◌, ◌<◌, ◌⊎◌, Bool, true, false, not, IsTrue, List, [], ◌∷◌, ◌++◌, length, slice_get, Option, Some, None, IsSome, IsSomeAnd, is_some, option_and_then}
+use Rattle.std.specs.Prelude.{◌≡◌, ◌≢◌, ℕ, ◌+◌, ◌<◌, ◌⊎◌, Bool, true, false, not, ◌&&◌, ◌||◌, IsTrue, List, [], ◌∷◌, ◌++◌, length, take, drop, slice_get, Option, Some, None, IsSome, IsSomeAnd, is_some, option_and_then}
 use Rattle.std.specs.List.{list_any}
 use Rattle.std.specs.Option.{option_map, option_map_or}
 use Rattle.ipdl_base.specs.declared.finding.Finding.{Finding}
@@ -18,8 +18,9 @@ use Rattle.script_reader.specs.declared.written.Who.{Who}
 use Rattle.script_reader.specs.declared.written.Who.TheVariants as whos
 use Rattle.script_reader.specs.declared.written.WrittenValues.{WrittenValues}
 use Rattle.script_reader.specs.Lines.{IsReading}
+use Rattle.findings.specs.Gains.{AtSome}
 use Rattle.findings.specs.Report as report
-use Rattle.handler_script.specs.Blocks.{opens, answers, said, open_behind, answered_behind, is_followed, is_closed, Standing, in_main, in_handler, standing_behind, side_of, given_in, handled_in}
+use Rattle.handler_script.specs.Blocks.{opens, answers, said, open_behind, answered_behind, is_followed, is_closed, Standing, in_main, in_handler, standing_of, standing_behind, side_of, given_in, handled_in}
 use Rattle.handler_script.specs.Mentions.{any_mentions, values_of, who_of, message_of, speaks_of}
 use Rattle.handler_script.specs.Messages.{message_named, receives, sends, resolves, replies, is_constructor}
 use Rattle.handler_script.specs.Served.{is_side}
@@ -54,28 +55,32 @@ BreaksBlocks before s after = ((opens s ≡ false) × (open_behind before ≡ No
 abbrev pub NamesNone : Schema → Statement → Type 0
 NamesNone schema s = IsSomeAnd (message_of s) (λ name. message_named schema name ≡ None)
 
--- this holds of the message that is sent
-abbrev pub OfSent : Schema → Statement → (MessageRow → Type 0) → Type 0
-OfSent schema (forms.Send w c) Holds = IsSomeAnd (message_named schema c.message) Holds
-OfSent schema (forms.New n w c) Holds = IsSomeAnd (message_named schema c.message) Holds
-OfSent schema _ Holds = ⊥
+-- the message that a statement sends
+abbrev pub sent : Schema → Statement → Option MessageRow
+sent schema (forms.Send w c) = message_named schema c.message
+sent schema (forms.New n w c) = message_named schema c.message
+sent schema _ = None
 
--- this holds of the message whose block is opened, and the side
-abbrev pub OfHandled : Schema → Statement → (Side → MessageRow → Type 0) → Type 0
-OfHandled schema (forms.On s name) Holds = IsSomeAnd (message_named schema name) (Holds s)
-OfHandled schema _ Holds = ⊥
+-- the side cannot receive the message whose block this is; a main handles none
+abbrev pub is_misdirected : Standing → Bool
+is_misdirected (in_main side) = false
+is_misdirected (in_handler side message) = not (receives side message.direction)
+
+abbrev pub is_uncarried : Standing → Bool
+is_uncarried (in_main side) = false
+is_uncarried (in_handler side message) = not message.carried
 
 -- WRONG_DIRECTION: the side cannot send the message, or cannot receive the one whose block is opened
 abbrev pub BreaksDirection : Schema → Option Standing → Statement → Type 0
 BreaksDirection schema block s =
-    OfHandled schema s (λ side message. receives side message.direction ≡ false)
-    ⊎ IsSomeAnd block (λ b. OfSent schema s (λ message. sends (side_of b) message.direction ≡ false))
+    IsSomeAnd (standing_of schema s) (λ b. IsTrue (is_misdirected b))
+    ⊎ IsSomeAnd block (λ b. IsSomeAnd (sent schema s) (λ message. sends (side_of b) message.direction ≡ false))
 
 -- UNCARRIED_TYPE: the message that is sent, or whose block is opened, is not carried
 abbrev pub BreaksCarried : Schema → Option Standing → Statement → Type 0
 BreaksCarried schema block s =
-    OfHandled schema s (λ side message. message.carried ≡ false)
-    ⊎ IsSomeAnd block (λ b. OfSent schema s (λ message. message.carried ≡ false))
+    IsSomeAnd (standing_of schema s) (λ b. IsTrue (is_uncarried b))
+    ⊎ IsSomeAnd block (λ b. IsSomeAnd (sent schema s) (λ message. message.carried ≡ false))
 
 -- Values
 
@@ -103,12 +108,15 @@ abbrev pub AreUnfit : Schema → List ParamRow → Option (List ParamRow) → Wr
 AreUnfit schema given (Some types) vs = ¬ EachFits schema given types vs
 AreUnfit schema given None vs = IsTrue (any_mentions (is_absent given) vs)
 
--- UNFIT_VALUES, where the statement names no message that is not there
+-- in a block, the one to whom the statement goes is no actor, or the values do not fit
+abbrev pub ValuesBreak : Schema → Standing → Statement → Type 0
+ValuesBreak schema b s =
+    IsSomeAnd (who_of s) (λ w. IsTrue (is_no_actor (given_in b) w))
+    ⊎ IsSomeAnd (values_of s) (AreUnfit schema (given_in b) (types_of schema b s))
+
+-- UNFIT_VALUES
 abbrev pub BreaksValues : Schema → Option Standing → Statement → Type 0
-BreaksValues schema block s =
-    IsSomeAnd block (λ b.
-        IsSomeAnd (who_of s) (λ w. IsTrue (is_no_actor (given_in b) w))
-        ⊎ IsSomeAnd (values_of s) (AreUnfit schema (given_in b) (types_of schema b s)))
+BreaksValues schema block s = IsSomeAnd block (λ b. ValuesBreak schema b s)
 
 -- What is allowed where
 
@@ -123,39 +131,62 @@ is_made whos.Made = true
 is_made _ = false
 
 -- those are spoken of in a main
-abbrev pub SpeaksInMain : Standing → Statement → Type 0
-SpeaksInMain (in_main side) s = IsTrue (speaks_of is_of_handler s)
-SpeaksInMain (in_handler side message) s = ⊥
+abbrev pub speaks_in_main : Standing → Statement → Bool
+speaks_in_main (in_main side) s = speaks_of is_of_handler s
+speaks_in_main (in_handler side message) s = false
+
+-- the block handles a constructor
+abbrev pub is_of_constructor : Standing → Bool
+is_of_constructor (in_main side) = false
+is_of_constructor (in_handler side message) = is_constructor message.kind
 
 -- the actor that a constructor built is spoken of elsewhere
-abbrev pub SpeaksOfMade : Standing → Statement → Type 0
-SpeaksOfMade b s = IsTrue (speaks_of is_made s) × ¬ IsSomeAnd (handled_in b) (λ message. IsTrue (is_constructor message.kind))
+abbrev pub speaks_of_made : Standing → Statement → Bool
+speaks_of_made b s = speaks_of is_made s && not (is_of_constructor b)
 
--- a statement of its own kind stands where it may not
-abbrev pub IsMisplaced : Schema → List LineReading → Standing → Statement → List LineReading → Type 0
-IsMisplaced schema before b (forms.New n w c) after = IsSomeAnd (message_named schema c.message) (λ message. is_constructor message.kind ≡ false)
-IsMisplaced schema before b (forms.Return vs) after = (option_and_then replies (handled_in b) ≡ None) ⊎ (is_followed after ≡ true)
-IsMisplaced schema before b (forms.ResolveKept n c) after = IsSomeAnd (message_named schema c.message) (λ message. resolves message ≡ None)
-IsMisplaced schema before b (forms.RejectKept n name) after = IsSomeAnd (message_named schema name) (λ message. resolves message ≡ None)
-IsMisplaced schema before b s after = IsTrue (answers s) × ((option_and_then resolves (handled_in b) ≡ None) ⊎ (answered_behind before ≡ true))
+abbrev pub is_other_constructor : Option MessageRow → Bool
+is_other_constructor None = false
+is_other_constructor (Some message) = not (is_constructor message.kind)
+
+abbrev pub is_unresolved : Option MessageRow → Bool
+is_unresolved None = false
+is_unresolved (Some message) = not (is_some (resolves message))
+
+-- the block handles no message that is answered by a resolver, or none to which values are returned
+abbrev pub has_no_resolver : Standing → Bool
+has_no_resolver b = not (is_some (option_and_then resolves (handled_in b)))
+
+abbrev pub has_no_reply : Standing → Bool
+has_no_reply b = not (is_some (option_and_then replies (handled_in b)))
+
+-- a statement of its own kind stands where it may not, behind lines of which one answered already, or before others
+abbrev pub is_misplaced : Schema → Bool → Standing → Statement → List LineReading → Bool
+is_misplaced schema answered b (forms.New n w c) after = is_other_constructor (message_named schema c.message)
+is_misplaced schema answered b (forms.Return vs) after = has_no_reply b || is_followed after
+is_misplaced schema answered b (forms.ResolveKept n c) after = is_unresolved (message_named schema c.message)
+is_misplaced schema answered b (forms.RejectKept n name) after = is_unresolved (message_named schema name)
+is_misplaced schema answered b s after = answers s && (has_no_resolver b || answered)
 
 -- NOT_ALLOWED_HERE
-abbrev pub BreaksAllowed : Schema → List LineReading → Option Standing → Statement → List LineReading → Type 0
-BreaksAllowed schema before block s after =
-    IsSomeAnd block (λ b. SpeaksInMain b s ⊎ (SpeaksOfMade b s ⊎ IsMisplaced schema before b s after))
+abbrev pub IsNotAllowed : Schema → Bool → Option Standing → Statement → List LineReading → Type 0
+IsNotAllowed schema answered block s after = IsSomeAnd block (λ b. IsTrue (speaks_in_main b s || speaks_of_made b s || is_misplaced schema answered b s after))
 
 -- The report
 
--- The rule is broken by a statement behind these lines and before the others. One that names no message that is there is tested for nothing else but the structure of blocks.
+-- The rule is broken by a statement whose message, if it names one, is there, in a block or in none.
+abbrev pub KnownBreaks : Schema → Rule → Bool → Option Standing → Statement → List LineReading → Type 0
+KnownBreaks schema r answered block s after =
+    ((r ≡ rule.WRONG_DIRECTION) × BreaksDirection schema block s)
+    ⊎ (((r ≡ rule.UNFIT_VALUES) × BreaksValues schema block s)
+    ⊎ (((r ≡ rule.NOT_ALLOWED_HERE) × IsNotAllowed schema answered block s after)
+    ⊎ ((r ≡ rule.UNCARRIED_TYPE) × BreaksCarried schema block s)))
+
+-- The rule is broken by a statement behind these lines and before the others. One that names a message that is not there is tested for nothing else but the structure of blocks.
 abbrev pub StatementBreaks : Schema → Rule → List LineReading → Statement → List LineReading → Type 0
 StatementBreaks schema r before s after =
     ((r ≡ rule.BLOCK_STRUCTURE) × BreaksBlocks before s after)
     ⊎ (((r ≡ rule.UNKNOWN_MESSAGE) × NamesNone schema s)
-    ⊎ ((¬ NamesNone schema s)
-      × (((r ≡ rule.WRONG_DIRECTION) × BreaksDirection schema (standing_behind schema before) s)
-        ⊎ (((r ≡ rule.UNFIT_VALUES) × BreaksValues schema (standing_behind schema before) s)
-        ⊎ (((r ≡ rule.NOT_ALLOWED_HERE) × BreaksAllowed schema before (standing_behind schema before) s after)
-        ⊎ ((r ≡ rule.UNCARRIED_TYPE) × BreaksCarried schema (standing_behind schema before) s))))))
+    ⊎ ((¬ NamesNone schema s) × KnownBreaks schema r (answered_behind before) (standing_behind schema before) s after))
 
 -- the rule is broken by a line
 abbrev pub LineBreaks : Schema → Rule → List LineReading → LineReading → List LineReading → Type 0
@@ -175,22 +206,28 @@ whole_place = record { file = 0; line = 0; column = 0 }
 abbrev pub HasManager : Schema → ℕ → Type 0
 HasManager schema top = IsSomeAnd (slice_get schema.protocols top) (λ protocol. protocol.managers ≢ [])
 
--- the rule is broken at the place, by a line or, with the top, by the whole
-abbrev pub IsBrokenIn : Schema → ℕ → List LineReading → Finding → Type 0
-IsBrokenIn schema top readings f =
-    ((f.rule ≡ rule.NOT_A_TOP_PROTOCOL) × (f.place ≡ whole_place) × HasManager schema top)
-    ⊎ ((before : List LineReading) × (reading : LineReading) × (after : List LineReading)
-      × (readings ≡ before ++ reading ∷ after) × (f.place ≡ line_place (length before + 1)) × LineBreaks schema f.rule before reading after)
+-- the rule is broken at the place by the line of this index, among all lines
+abbrev pub IsBrokenAt : Schema → List LineReading → Finding → ℕ → LineReading → Type 0
+IsBrokenAt schema readings f index reading = (line_place (index + 1) ≡ f.place) × LineBreaks schema f.rule (take index readings) reading (drop (index + 1) readings)
 
--- the text breaks the rule at the place
-abbrev pub IsBroken : List ℕ → Schema → ℕ → Finding → Type 0
-IsBroken text schema top f = (readings : List LineReading) × IsReading text readings × IsBrokenIn schema top readings f
+-- a rule is broken by a line
+abbrev pub IsBrokenByLine : Schema → List LineReading → Finding → Type 0
+IsBrokenByLine schema readings f = AtSome (IsBrokenAt schema readings f) readings
 
--- the report of a text
-abbrev pub IsReport : List ℕ → Schema → ℕ → List Finding → Type 0
-IsReport text schema top findings = report.IsReport (IsBroken text schema top) findings
+-- or by the top
+abbrev pub IsBrokenByTop : Schema → ℕ → Finding → Type 0
+IsBrokenByTop schema top f = (f.rule ≡ rule.NOT_A_TOP_PROTOCOL) × (whole_place ≡ f.place) × HasManager schema top
+
+abbrev pub IsBroken : Schema → ℕ → List LineReading → Finding → Type 0
+IsBroken schema top readings f = IsBrokenByTop schema top f ⊎ IsBrokenByLine schema readings f
+
+-- The report of a text: of what its lines say. (What they say is given up to where boxes lie, which no rule looks at.)
+pub record IsReport (text : List ℕ) (schema : Schema) (top : ℕ) (findings : List Finding) : Type 0 where
+  pub readings : List LineReading
+  pub is_reading : IsReading text readings
+  pub report : report.IsReport (IsBroken schema top readings) findings
 
 -- What a command says of a script that is absent or too large: it reads none, and tests the top alone.
 abbrev pub IsBrokenUnread : Schema → ℕ → Finding → Type 0
 IsBrokenUnread schema top f =
-    (f.place ≡ whole_place) × ((f.rule ≡ rule.UNREADABLE_SCRIPT) ⊎ ((f.rule ≡ rule.NOT_A_TOP_PROTOCOL) × HasManager schema top))
+    (whole_place ≡ f.place) × ((f.rule ≡ rule.UNREADABLE_SCRIPT) ⊎ ((f.rule ≡ rule.NOT_A_TOP_PROTOCOL) × HasManager schema top))

@@ -84,11 +84,11 @@ blocks_of schema [] = []
 blocks_of schema (line.Statement held ∷ rest) = blocks_at schema held.value rest ++ blocks_of schema rest
 blocks_of schema (_ ∷ rest) = blocks_of schema rest
 
--- The text breaks no rule, and the script has its top and its blocks, up to where boxes lie.
+-- What the lines of the text say breaks no rule, and the script has its top and its blocks, up to where boxes lie.
 pub record IsScriptOf (text : List ℕ) (schema : Schema) (top : ℕ) (script : Script) : Type 0 where
-  pub kept : (f : Finding) → ¬ IsBroken text schema top f
   pub readings : List LineReading
   pub is_reading : IsReading text readings
+  pub kept : (f : Finding) → ¬ IsBroken schema top readings f
   pub is : plain_script script ≡ record { top = top; blocks = blocks_of schema readings }
 
 -- Actions

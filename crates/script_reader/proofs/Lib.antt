@@ -1,3 +1,4 @@
+pub mod Balanced
 pub mod Begins
 pub mod Heads
 pub mod NoValues

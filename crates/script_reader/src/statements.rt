@@ -1,4 +1,4 @@
-ghost use Rattle.std.specs.Prelude.{◌≡◌, ◌≢◌, true, false, [], IfOk, IfErr, List};
+ghost use Rattle.std.specs.Prelude.{◌≡◌, ◌≢◌, ◌↔◌, ◌<◌, IsTrue, count_by, true, false, [], IfOk, IfErr, List};
 ghost use Rattle.script_reader.specs.declared.parts.Keyword.TheVariants as keywords;
 ghost use Rattle.script_reader.specs.declared.statement.Call.{Call as CallType};
 ghost use Rattle.script_reader.specs.declared.statement.MessageName.{MessageName as MessageNameType};
@@ -6,6 +6,7 @@ ghost use Rattle.script_reader.specs.declared.statement.Statement.{Statement as 
 ghost use Rattle.script_reader.specs.declared.token.Token.{Token as TokenType};
 ghost use Rattle.script_reader.specs.declared.written.WrittenValues.{WrittenValues as ValuesType};
 ghost use Rattle.script_reader.specs.Grammar as grammar;
+ghost use Rattle.script_reader.specs.Heads as heads;
 ghost use Rattle.script_reader.specs.Reading.{Refuses, IsBehind};
 
 use crate::parts::{Bracket, Keyword};
@@ -205,11 +206,56 @@ fn behind(alloc: Global, reader: &mut Reader, keyword: Keyword) -> Result<Statem
     }
 }
 
+/// Whether a token opens values.
+fn is_opening(token: &Token) -> bool
+    ensures { result ≡ heads.is_opening token.now }
+{
+    match token {
+        Token::Mark(b) => *b == b'(' || *b == b'[' || *b == b'{',
+        _ => false,
+    }
+}
+
+/// Whether a token closes values.
+fn is_closing(token: &Token) -> bool
+    ensures { result ≡ heads.is_closing token.now }
+{
+    match token {
+        Token::Mark(b) => *b == b')' || *b == b']' || *b == b'}',
+        _ => false,
+    }
+}
+
+/// How many tokens open values.
+fn opening_count(tokens: &[Token]) -> usize
+    ensures { result ≡ count_by heads.is_opening tokens.now }
+{
+    tokens.iter().filter(|t| is_opening(t)).count()
+}
+
+/// How many tokens close values.
+fn closing_count(tokens: &[Token]) -> usize
+    ensures { result ≡ count_by heads.is_closing tokens.now }
+{
+    tokens.iter().filter(|t| is_closing(t)).count()
+}
+
+/// Whether fewer marks close than open, so that the tokens are no statement. Without this test a
+/// line of marks that only open would need room on the stack for each.
+fn is_unclosed(tokens: &[Token]) -> bool
+    ensures { IsTrue result ↔ (count_by heads.is_closing tokens.now < count_by heads.is_opening tokens.now) }
+{
+    closing_count(tokens) < opening_count(tokens)
+}
+
 /// The statement that tokens are.
 pub fn statement(alloc: Global, tokens: &[Token]) -> Result<Statement, Stop>
     ensures read { IfOk result (λ s. grammar.statement s tokens.now []) }
     ensures stops { IfErr result (Refuses ((s : StatementType) → ¬ grammar.statement s tokens.now [])) }
 {
+    if is_unclosed(tokens) {
+        return Err(Stop::NoReading);
+    }
     let mut reader = Reader::new(tokens);
     let keyword = reader.keyword()?;
     behind(alloc, &mut reader, keyword)

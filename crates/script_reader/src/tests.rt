@@ -249,7 +249,7 @@ fn depths(rt: HostRuntime) -> Result<(), Fail> {
     check(&rt, marks.as_slice(), "1")?;
     check(&rt, nested(alloc, b"[", b"]", 8_000, b"1")?.as_slice(), "s")?;
     check(&rt, nested(alloc, b"{", b"}", 8_187, b"1")?.as_slice(), "s")?;
-    check(&rt, nested(alloc, b"@0", b"", 8_187, b"1")?.as_slice(), "s")?;
+    check(&rt, nested(alloc, b"@0", b"", 8_186, b" 1")?.as_slice(), "s")?;
     check(&rt, nested(alloc, b"some ", b"", 3_274, b"1")?.as_slice(), "s")?;
     check(&rt, nested(alloc, b"1,", b"", 8_186, b"1")?.as_slice(), "s")?;
     check(&rt, nested(alloc, b"0", b"", 16_000, b"1")?.as_slice(), "s")?;
