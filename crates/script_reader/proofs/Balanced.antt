@@ -51,13 +51,13 @@ plain_single read none x from to (t, e, found) = plain_token t from to e refl re
 
 count_more : (p : Token → Bool) (t : Token) (ts from : List Token) → from ≡ t ∷ ts → p t ≡ true → count_by p from ≡ count_by p ts + 1
 count_more p t ts from e holds =
-    let h : cond (p t) 1 0 ≡ 1 = ap (λ x. cond x 1 0) holds in
+    let h : ◌≡◌ {A = ℕ} (cond (p t) 1 0) 1 = ap (λ x. cond x 1 0) holds in
     let f : count_by p from ≡ cond (p t) 1 0 + count_by p ts = ap (count_by p) e ∙ sum_by-cons (λ x. cond (p x) 1 0) t ts in
     omega (arith, h, f)
 
 count_same : (p : Token → Bool) (t : Token) (ts from : List Token) → from ≡ t ∷ ts → p t ≡ false → count_by p from ≡ count_by p ts
 count_same p t ts from e fails =
-    let h : cond (p t) 1 0 ≡ 0 = ap (λ x. cond x 1 0) fails in
+    let h : ◌≡◌ {A = ℕ} (cond (p t) 1 0) 0 = ap (λ x. cond x 1 0) fails in
     let f : count_by p from ≡ cond (p t) 1 0 + count_by p ts = ap (count_by p) e ∙ sum_by-cons (λ x. cond (p x) 1 0) t ts in
     omega (arith, h, f)
 
