@@ -1,8 +1,6 @@
-pub mod Asked
 pub mod Blocks
 pub mod Broken
 pub mod Faults
-pub mod Knowing
 pub mod Mentions
 pub mod Messages
 pub mod Plain

@@ -23,13 +23,20 @@ pub enum Action {
         values: Terms,
     },
     /// Names an actor.
-    Let { name: Name, who: Who },
+    Let {
+        name: Name,
+        who: Who,
+    },
     /// Answers the handled message.
-    Resolve { values: Terms },
+    Resolve {
+        values: Terms,
+    },
     /// Answers that the handled message is rejected.
     Reject,
     /// Keeps the resolver of the handled message under a name.
-    Keep { name: Name },
+    Keep {
+        name: Name,
+    },
     /// Answers with a resolver that was kept.
     ResolveNamed {
         name: Name,
@@ -37,7 +44,10 @@ pub enum Action {
         values: Terms,
     },
     /// Rejects with a resolver that was kept.
-    RejectNamed { name: Name, number: u32 },
+    RejectNamed {
+        name: Name,
+        number: u32,
+    },
     /// Closes the end.
     Close,
     /// Ends the end.

@@ -4,12 +4,8 @@
 
 mod action;
 mod fits;
-mod lines;
-mod mentions;
 mod messages;
 mod read;
-mod report;
-mod rules;
 mod script;
 mod shapes;
 mod term;

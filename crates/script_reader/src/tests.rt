@@ -159,10 +159,7 @@ fn text(alloc: Global, bytes: &[u8]) -> Result<Name, AllocError> {
 
 fn one(alloc: Global, value: Written) -> Result<WrittenValues, AllocError> {
     let value = Box::new(alloc, value)?;
-    Ok(WrittenValues::First(
-        value,
-        Box::new(alloc, WrittenValues::Nothing)?,
-    ))
+    Ok(WrittenValues::First(value, Box::new(alloc, WrittenValues::Nothing)?))
 }
 
 /// A line and the statement that it is.
@@ -186,10 +183,7 @@ fn statements(rt: HostRuntime) -> Result<(), Fail> {
         b"let x $4294967296",
         Statement::Let(text(alloc, b"x")?, Who::Param(0xffff_ffff)),
     )?;
-    let values = one(
-        alloc,
-        Written::Atom(Atom::Number(-0x1_0000_0000_0000_0000)),
-    )?;
+    let values = one(alloc, Written::Atom(Atom::Number(-0x1_0000_0000_0000_0000)))?;
     says(
         &rt,
         b"return (-00099999999999999999999999999999999999999999999)",
@@ -249,8 +243,16 @@ fn depths(rt: HostRuntime) -> Result<(), Fail> {
     check(&rt, marks.as_slice(), "1")?;
     check(&rt, nested(alloc, b"[", b"]", 8_000, b"1")?.as_slice(), "s")?;
     check(&rt, nested(alloc, b"{", b"}", 8_187, b"1")?.as_slice(), "s")?;
-    check(&rt, nested(alloc, b"@0", b"", 8_186, b" 1")?.as_slice(), "s")?;
-    check(&rt, nested(alloc, b"some ", b"", 3_274, b"1")?.as_slice(), "s")?;
+    check(
+        &rt,
+        nested(alloc, b"@0", b"", 8_186, b" 1")?.as_slice(),
+        "s",
+    )?;
+    check(
+        &rt,
+        nested(alloc, b"some ", b"", 3_274, b"1")?.as_slice(),
+        "s",
+    )?;
     check(&rt, nested(alloc, b"1,", b"", 8_186, b"1")?.as_slice(), "s")?;
     check(&rt, nested(alloc, b"0", b"", 16_000, b"1")?.as_slice(), "s")?;
     Ok(())

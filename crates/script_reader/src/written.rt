@@ -1,7 +1,4 @@
-
-
 use ipdl_base::Name;
-
 
 /// Who a statement speaks of.
 #[derive(Debug, Drop, PartialEq)]

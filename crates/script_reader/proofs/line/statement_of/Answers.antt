@@ -12,5 +12,5 @@ pub returns-clause-stops : goal.returns-clause-stops
 returns-clause-stops c =
     refuses_as _ _ c.statement.result
     (λ none s h. let P : List Token → Type 0 = λ l. statement s l [] in
-        none s (subst P (one_tokens h.0 c.in_ok-tokens.tokens.items c.args.line.now h.1 c.in_ok-tokens.ensures.read ∙ sym c.as_slice.ensures.value) h.2))
+    none s (subst P (one_tokens h.0 c.in_ok-tokens.tokens.items c.args.line.now h.1 c.in_ok-tokens.ensures.read ∙ sym c.as_slice.ensures.value) h.2))
     c.statement.ensures.stops

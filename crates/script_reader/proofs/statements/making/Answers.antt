@@ -18,13 +18,13 @@ pub returns-in_err-call-clause-stops : goal.returns-in_err-call-clause-stops
 returns-in_err-call-clause-stops c =
     refuses_on _ _ _ _ c.from_residual-in_err-call.ensures.1
     (λ none. only_new c.args.reader.now (λ n w d. not_behind name same_name c.in_ok-name.name c.args.reader.now c.name.new.self c.in_ok-name.ensures.read (who w ⨾ call d) []
-        (not_behind who same_who c.in_ok-who.who c.name.new.self c.who.new.self c.in_ok-who.ensures.read (call d) [] (none d []) w) n))
+    (not_behind who same_who c.in_ok-who.who c.name.new.self c.who.new.self c.in_ok-who.ensures.read (call d) [] (none d []) w) n))
     c.in_err-call.ensures.stops
 
 pub returns-in_err-end-clause-stops : goal.returns-in_err-end-clause-stops
 returns-in_err-end-clause-stops c =
     refuses_on _ _ _ _ c.from_residual-in_err-end.ensures.1
     (λ some. only_new c.args.reader.now (λ n w d. not_behind name same_name c.in_ok-name.name c.args.reader.now c.name.new.self c.in_ok-name.ensures.read (who w ⨾ call d) []
-        (not_behind who same_who c.in_ok-who.who c.name.new.self c.who.new.self c.in_ok-who.ensures.read (call d) []
-        (not_whole call same_call c.in_ok-call.call c.who.new.self c.call.new.reader c.in_ok-call.ensures.read some d) w) n))
+    (not_behind who same_who c.in_ok-who.who c.name.new.self c.who.new.self c.in_ok-who.ensures.read (call d) []
+    (not_whole call same_call c.in_ok-call.call c.who.new.self c.call.new.reader c.in_ok-call.ensures.read some d) w) n))
     c.in_err-end.ensures.stops

@@ -24,13 +24,13 @@ pub returns-in_err-call-clause-stops : goal.returns-in_err-call-clause-stops
 returns-in_err-call-clause-stops c =
     refuses_on _ _ _ _ c.from_residual-in_err-call.ensures.1
     (λ none. only_resolve c.args.reader.now (λ vs h. c.is_at.ensures.not c.if-is_at.false h.0 h.1)
-        (λ n d. not_behind name same_name c.in_ok-name.name c.args.reader.now c.name.new.self c.in_ok-name.ensures.read (call d) [] (none d []) n))
+    (λ n d. not_behind name same_name c.in_ok-name.name c.args.reader.now c.name.new.self c.in_ok-name.ensures.read (call d) [] (none d []) n))
     c.in_err-call.ensures.stops
 
 pub returns-in_err-end-2-clause-stops : goal.returns-in_err-end-2-clause-stops
 returns-in_err-end-2-clause-stops c =
     refuses_on _ _ _ _ c.from_residual-in_err-end-2.ensures.1
     (λ some. only_resolve c.args.reader.now (λ vs h. c.is_at.ensures.not c.if-is_at.false h.0 h.1)
-        (λ n d. not_behind name same_name c.in_ok-name.name c.args.reader.now c.name.new.self c.in_ok-name.ensures.read (call d) []
-        (not_whole call same_call c.in_ok-call.call c.name.new.self c.call.new.reader c.in_ok-call.ensures.read some d) n))
+    (λ n d. not_behind name same_name c.in_ok-name.name c.args.reader.now c.name.new.self c.in_ok-name.ensures.read (call d) []
+    (not_whole call same_call c.in_ok-call.call c.name.new.self c.call.new.reader c.in_ok-call.ensures.read some d) n))
     c.in_err-end-2.ensures.stops

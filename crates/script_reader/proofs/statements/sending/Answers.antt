@@ -17,5 +17,5 @@ pub returns-in_err-end-clause-stops : goal.returns-in_err-end-clause-stops
 returns-in_err-end-clause-stops c =
     refuses_on _ _ _ _ c.from_residual-in_err-end.ensures.1
     (λ some. only_send c.args.reader.now (λ w d. not_behind who same_who c.in_ok-who.who c.args.reader.now c.who.new.self c.in_ok-who.ensures.read (call d) []
-        (not_whole call same_call c.in_ok-call.call c.who.new.self c.call.new.reader c.in_ok-call.ensures.read some d) w))
+    (not_whole call same_call c.in_ok-call.call c.who.new.self c.call.new.reader c.in_ok-call.ensures.read some d) w))
     c.in_err-end.ensures.stops
