@@ -1,0 +1,9 @@
+pub mod LittleEndian
+pub mod Lengths
+pub mod Appended
+pub mod Depths
+pub mod Headers
+pub mod Signed
+pub mod Taken
+pub mod BuiltinsRead
+pub mod ValuesRead

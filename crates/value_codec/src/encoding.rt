@@ -1,0 +1,64 @@
+ghost use Rattle.std.specs.Prelude.{◌≡◌, ◌<◌, ◌≤◌, ◌+◌, ◌++◌, min, Err, OnOk, OnErr, IfErr};
+ghost use Rattle.ipdl_base.specs.Sound.{IsSound};
+ghost use Rattle.value_types.specs.declared.layout.TheConstants.{NEW};
+ghost use Rattle.value_types.specs.Fits.{Fits};
+ghost use Rattle.value_types.specs.Sizes as size;
+ghost use Rattle.value_codec.specs.declared.encoding.EncodeFault.TheVariants.{NoMemory};
+ghost use Rattle.value_codec.specs.Encoding.{IsRefused};
+ghost use Rattle.value_codec.specs.Frames.{header_size};
+ghost use Rattle.value_codec.specs.Spelling.{FrameOf, frame_bytes};
+
+use crate::writing::frame_of;
+use ipdl_base::{Message, Schema};
+use std::alloc::{AllocError, Global};
+use value_types::{NEW, payload_size};
+
+/// Why a message is not encoded.
+#[derive(Clone, Copy, Debug, PartialEq, Eq)]
+pub enum EncodeFault {
+    /// The payload has so many bytes, or at least so many where this is the greatest `usize`.
+    TooLarge(usize),
+    NoMemory,
+}
+
+impl From<AllocError> for EncodeFault {
+    ghost from_gives = { λ _ e. e ≡ NoMemory };
+
+    fn from(_error: AllocError) -> EncodeFault {
+        EncodeFault::NoMemory
+    }
+}
+
+/// How many bytes the frame of a message has in the new layout, or the greatest `usize` where it has
+/// more. Takes no memory.
+pub fn frame_size(schema: &Schema, message: &Message) -> usize
+    requires { IsSound schema.now }
+    ensures { result ≡ min (header_size NEW + size.payload_size NEW schema.now message.now) size.greatest_size }
+{
+    payload_size(schema, NEW, message).saturating_add(NEW.header)
+}
+
+/// Appends the frame of a message in the new layout (docs/frames.md). A payload of more than 4,096
+/// bytes is `TooLarge`, which takes no memory. An error leaves `out` as it was.
+pub fn encode(
+    alloc: Global,
+    schema: &Schema,
+    message: &Message,
+    out: &mut Vec<u8>,
+) -> Result<(), EncodeFault>
+    requires sound { IsSound schema.now }
+    requires fits { Fits schema.now message.now }
+    ensures frame { OnOk result (out.new.items ≡ out.old.items ++ frame_bytes NEW schema.now message.now) }
+    ensures spelling { OnOk result (FrameOf NEW schema.now message.now (frame_bytes NEW schema.now message.now)) }
+    ensures refused { IfErr result (λ fault. IsRefused NEW.most_payload (size.payload_size NEW schema.now message.now) fault) }
+    ensures large { let payload = size.payload_size NEW schema.now message.now in NEW.most_payload < payload → result ≡ Err (EncodeFault.TooLarge (min payload size.greatest_size)) }
+    ensures unchanged { OnErr result (out.new.items ≡ out.old.items) }
+{
+    let size = payload_size(schema, NEW, message);
+    if size > NEW.most_payload {
+        return Err(EncodeFault::TooLarge(size));
+    }
+    let frame = frame_of(alloc, NEW, schema, message, size as u32)?;
+    out.extend_from_slice(&frame)?;
+    Ok(())
+}

@@ -1,0 +1,38 @@
+//! Why bytes of a payload are not read.
+
+ghost use Rattle.std.specs.Prelude.{◌≡◌};
+ghost use Rattle.value_codec.specs.declared.fault.Refusal.TheVariants.{NoMemory};
+
+use std::alloc::{AllocError, AllocFailed};
+
+/// The first rule that a payload breaks.
+#[derive(Clone, Copy, Debug, PartialEq, Eq)]
+pub(crate) struct Fault {
+    /// The number of the rule.
+    pub(crate) rule: u8,
+    /// How many bytes of the payload are left at its place.
+    pub(crate) left: usize,
+}
+
+/// Why no value was read.
+#[derive(Debug, Drop)]
+pub(crate) enum Refusal {
+    NoMemory,
+    Broken(Fault),
+}
+
+impl From<AllocError> for Refusal {
+    ghost from_gives = { λ _ e. e ≡ NoMemory };
+
+    fn from(_error: AllocError) -> Refusal {
+        Refusal::NoMemory
+    }
+}
+
+impl<T: Drop> From<AllocFailed<T>> for Refusal {
+    ghost from_gives = { λ _ e. e ≡ NoMemory };
+
+    fn from(_error: AllocFailed<T>) -> Refusal {
+        Refusal::NoMemory
+    }
+}

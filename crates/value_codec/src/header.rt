@@ -1,0 +1,297 @@
+//! The header of a frame.
+
+ghost use Rattle.std.specs.Prelude.{◌≡◌, ◌≤◌, ◌+◌, IfSome, length, drop, option_map};
+ghost use Rattle.std.specs.Int.{w32, cast_signed};
+ghost use Rattle.byteorder.specs.Endian.{little_number};
+ghost use Rattle.ipdl_base.specs.Sound.{IsSound};
+ghost use Rattle.value_codec.specs.Frames as frames;
+ghost use Rattle.value_codec.specs.Frames.{seen};
+ghost use Rattle.value_codec.specs.Spelling as spelling;
+
+use crate::rules::{BAD_FIELD, BAD_FLAGS, BAD_MARK, PAYLOAD_TOO_LARGE, UNKNOWN_TYPE};
+use byteorder::{ByteOrder, LittleEndian};
+use ipdl_base::{Compress, MessageRow, Schema, Semantics};
+use value_types::{Layout, MARK};
+
+/// The number of the type of a goodbye.
+const GOODBYE: u32 = 0xffff_0000;
+
+/// The six fields of a header.
+#[derive(Clone, Copy, Debug, PartialEq, Eq)]
+pub(crate) struct Header {
+    /// The number of bytes of the payload.
+    pub(crate) size: u32,
+    pub(crate) route: i32,
+    /// The number of the type.
+    pub(crate) number: u32,
+    pub(crate) flags: u32,
+    /// The number of the request.
+    pub(crate) seq: i32,
+    pub(crate) transaction: i32,
+}
+
+/// What the type of a frame names.
+#[derive(Clone, Copy)]
+pub(crate) enum FrameType<'s> {
+    Goodbye,
+    Request(&'s MessageRow),
+    Reply(&'s MessageRow),
+}
+
+/// The flag of a sync message.
+fn sync_flag(row: &MessageRow) -> u32
+    ensures { result ≡ spelling.sync_flag row.now }
+{
+    match row.semantics {
+        Semantics::Sync => 1,
+        Semantics::Async => 0,
+    }
+}
+
+/// The flag of how a message compresses.
+fn compress_flag(compress: Compress) -> u32
+    ensures { result ≡ spelling.compress_flag compress }
+{
+    match compress {
+        Compress::Plain => 0,
+        Compress::Last => 32,
+        Compress::All => 64,
+    }
+}
+
+/// The flags of a request.
+pub(crate) fn request_flags(row: &MessageRow) -> u32
+    ensures { result ≡ spelling.request_flags row.now }
+{
+    sync_flag(row) + 2 * u32::from(row.level.rank()) + compress_flag(row.compress)
+}
+
+/// The flags of a reply with values.
+pub(crate) fn reply_flags(row: &MessageRow) -> u32
+    ensures { result ≡ spelling.reply_flags row.now }
+{
+    sync_flag(row) + 8
+}
+
+/// The flags of a reply with a fault.
+pub(crate) fn fault_flags(row: &MessageRow) -> u32
+    ensures { result ≡ spelling.fault_flags row.now }
+{
+    sync_flag(row) + 24
+}
+
+/// The bytes behind so many.
+pub(crate) fn behind(count: usize, bytes: &[u8]) -> &[u8]
+    requires { count ≤ length bytes.now }
+    ensures { result.now ≡ drop count bytes.now }
+{
+    let (_, rest) = bytes.split_at(count);
+    rest
+}
+
+/// The number in the four bytes behind so many.
+fn word_behind(count: usize, bytes: &[u8]) -> u32
+    requires { count + 4 ≤ length bytes.now }
+    ensures { result ≡ little_number 4 (drop count bytes.now) }
+{
+    LittleEndian::read_u32(behind(count, bytes))
+}
+
+/// The signed number in the four bytes behind so many.
+fn signed_word_behind(count: usize, bytes: &[u8]) -> i32
+    requires { count + 4 ≤ length bytes.now }
+    ensures { result ≡ cast_signed w32 (little_number 4 (drop count bytes.now)) }
+{
+    word_behind(count, bytes).cast_signed()
+}
+
+/// The fields in the bytes behind a mark.
+fn header_in(bytes: &[u8]) -> Header
+    requires { 24 ≤ length bytes.now }
+    ensures { result ≡ frames.header_in bytes.now }
+{
+    Header {
+        size: word_behind(0, bytes),
+        route: signed_word_behind(4, bytes),
+        number: word_behind(8, bytes),
+        flags: word_behind(12, bytes),
+        seq: signed_word_behind(16, bytes),
+        transaction: signed_word_behind(20, bytes),
+    }
+}
+
+/// How many bytes the mark of a layout has.
+pub(crate) fn mark_size(layout: Layout) -> usize
+    ensures value { result ≡ length (spelling.mark_of layout) }
+    ensures few { result ≤ 4 }
+{
+    if layout.marked { 4 } else { 0 }
+}
+
+/// How many bytes stand before the payload of a frame.
+pub(crate) fn header_size(layout: Layout) -> usize
+    ensures value { result ≡ frames.header_size layout }
+    ensures few { result ≤ 28 }
+{
+    mark_size(layout) + 24
+}
+
+/// The header that bytes begin with.
+pub(crate) fn header_of(layout: Layout, bytes: &[u8]) -> Header
+    requires { frames.header_size layout ≤ length bytes.now }
+    ensures { result ≡ frames.header_of layout bytes.now }
+{
+    header_in(behind(mark_size(layout), bytes))
+}
+
+/// Whether the mark stands in front where the layout has one.
+fn has_mark(layout: Layout, bytes: &[u8]) -> bool
+    requires { 4 ≤ length bytes.now }
+    ensures { result ≡ frames.has_mark layout bytes.now }
+{
+    if layout.marked {
+        LittleEndian::read_u32(bytes) == LittleEndian::read_u32(&MARK)
+    } else {
+        true
+    }
+}
+
+/// What a message's number names.
+fn request_or_reply(number: u32, row: &MessageRow) -> FrameType<'_>
+    ensures { seen result ≡ frames.request_or_reply number row.now }
+{
+    if row.number == number {
+        FrameType::Request(row)
+    } else {
+        FrameType::Reply(row)
+    }
+}
+
+/// What a number of a type names: a request or a reply that is carried, or a goodbye.
+pub(crate) fn frame_type(schema: &Schema, number: u32) -> Option<FrameType<'_>>
+    requires { IsSound schema.now }
+    ensures { option_map seen result ≡ frames.type_of schema.now number }
+{
+    if number == GOODBYE {
+        return Some(FrameType::Goodbye);
+    }
+    match schema.message(number) {
+        Some(row) => {
+            if row.carried {
+                Some(request_or_reply(number, row))
+            } else {
+                None
+            }
+        }
+        None => None,
+    }
+}
+
+/// Whether flags are those of a type.
+fn are_flags(frame_type: &FrameType, flags: u32) -> bool
+    ensures { result ≡ frames.are_flags (seen frame_type.now) flags }
+{
+    match frame_type {
+        FrameType::Goodbye => flags == 0,
+        FrameType::Request(row) => flags == request_flags(row),
+        FrameType::Reply(row) => flags == reply_flags(row) || flags == fault_flags(row),
+    }
+}
+
+/// Whether a type may have a route.
+fn is_route(frame_type: &FrameType, route: i32) -> bool
+    ensures { result ≡ frames.is_route (seen frame_type.now) route }
+{
+    match frame_type {
+        FrameType::Goodbye => route == 0,
+        FrameType::Request(_) | FrameType::Reply(_) => 0 < route,
+    }
+}
+
+/// Whether a type may have a number of a request.
+fn is_seq(frame_type: &FrameType, seq: i32) -> bool
+    ensures { result ≡ frames.is_seq (seen frame_type.now) seq }
+{
+    match frame_type {
+        FrameType::Goodbye => seq == 0,
+        FrameType::Request(_) | FrameType::Reply(_) => seq != 0,
+    }
+}
+
+/// Whether a message may have a transaction.
+fn has_transaction(semantics: Semantics, transaction: i32) -> bool
+    ensures { result ≡ frames.has_transaction semantics transaction }
+{
+    match semantics {
+        Semantics::Sync => transaction != 0,
+        Semantics::Async => transaction == 0,
+    }
+}
+
+/// Whether a type may have a transaction.
+fn is_transaction(frame_type: &FrameType, transaction: i32) -> bool
+    ensures { result ≡ frames.is_transaction (seen frame_type.now) transaction }
+{
+    match frame_type {
+        FrameType::Goodbye => transaction == 0,
+        FrameType::Request(row) | FrameType::Reply(row) => {
+            has_transaction(row.semantics, transaction)
+        }
+    }
+}
+
+/// The first rule that the fields behind the type's number break, with its offset behind the mark.
+fn type_fault(header: &Header, frame_type: &FrameType) -> Option<(usize, u8)>
+    ensures value { result ≡ frames.type_fault header.now (seen frame_type.now) }
+    ensures few { IfSome result (λ fault. fault.0 ≤ 20) }
+{
+    if !are_flags(frame_type, header.flags) {
+        return Some((12, BAD_FLAGS));
+    }
+    if !is_route(frame_type, header.route) {
+        return Some((4, BAD_FIELD));
+    }
+    if !is_seq(frame_type, header.seq) {
+        return Some((16, BAD_FIELD));
+    }
+    if !is_transaction(frame_type, header.transaction) {
+        return Some((20, BAD_FIELD));
+    }
+    None
+}
+
+/// The first rule that fields break, with its offset behind the mark.
+fn fields_fault(layout: Layout, schema: &Schema, header: &Header) -> Option<(usize, u8)>
+    requires { IsSound schema.now }
+    ensures value { result ≡ frames.fields_fault layout schema.now header.now }
+    ensures few { IfSome result (λ fault. fault.0 ≤ 20) }
+{
+    if layout.most_payload < header.size as usize {
+        return Some((0, PAYLOAD_TOO_LARGE));
+    }
+    match frame_type(schema, header.number) {
+        None => Some((8, UNKNOWN_TYPE)),
+        Some(frame_type) => type_fault(header, &frame_type),
+    }
+}
+
+/// The first rule that a header breaks, with its offset in the frame.
+pub(crate) fn header_fault(
+    layout: Layout,
+    schema: &Schema,
+    header: &Header,
+    bytes: &[u8],
+) -> Option<(usize, u8)>
+    requires sound { IsSound schema.now }
+    requires whole { frames.header_size layout ≤ length bytes.now }
+    requires header { header.now ≡ frames.header_of layout bytes.now }
+    ensures { result ≡ frames.header_fault layout schema.now bytes.now }
+{
+    if !has_mark(layout, bytes) {
+        return Some((0, BAD_MARK));
+    }
+    match fields_fault(layout, schema, header) {
+        None => None,
+        Some((offset, rule)) => Some((mark_size(layout) + offset, rule)),
+    }
+}
