@@ -16,10 +16,13 @@ use Rattle.frame_list.specs.declared.list.ListFault.{ListFault}
 use Rattle.frame_list.specs.declared.list.ListFault.TheVariants.{Short, Broken}
 use Rattle.frame_list.specs.declared.list.Placed.{Placed}
 
--- a number and a transaction, the actor that a message goes to, and the message
+-- the actor that a message goes to, and the message
+abbrev pub receiver_text : Schema → Message → List ℕ
+receiver_text schema m = numbered (codes " to ") m.route ++ codes " " ++ message_text schema m.number
+
+-- a number and a transaction, and to whom which message goes
 abbrev pub addressed : Schema → List ℕ → Message → List ℕ
-addressed schema word m =
-    numbered word m.seq ++ numbered (codes "/") m.transaction ++ numbered (codes " to ") m.route ++ codes " " ++ message_text schema m.number
+addressed schema word m = numbered word m.seq ++ numbered (codes "/") m.transaction ++ receiver_text schema m
 
 -- the new actor of a constructor's request
 abbrev pub made_text : ℤ → List ℕ

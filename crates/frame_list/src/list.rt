@@ -1,10 +1,10 @@
-ghost use Rattle.std.specs.Prelude.{◌≡◌, ◌<◌, ◌≤◌, ◌+◌, ◌^◌, IfOk, length, drop, take};
+ghost use Rattle.std.specs.Prelude.{◌≡◌, ◌<◌, ◌≤◌, ◌+◌, IfOk, length, drop, take};
 ghost use Rattle.std.specs.Str.{bytes_eq};
 ghost use Rattle.ipdl_base.specs.Sound.{IsSound};
 ghost use Rattle.value_types.specs.declared.layout.TheConstants.{MARK};
 ghost use Rattle.value_codec.specs.Decoding.{IsTrueOf};
 ghost use Rattle.frame_list.specs.Frames.{Holds, all_plain, layout_at};
-ghost use Rattle.frame_list.specs.Steps.{IsNext};
+ghost use Rattle.frame_list.specs.Steps.{IsFound};
 
 use ipdl_base::{Items, Message, Rule, Schema};
 use std::alloc::{AllocError, Global};
@@ -36,7 +36,7 @@ pub struct FrameList {
 
 /// What stands at an offset.
 #[derive(Drop)]
-enum Next {
+enum Found {
     /// A frame of this message, of so many bytes.
     Frame(Message, usize),
     /// No frame.
@@ -63,25 +63,25 @@ fn begun(alloc: Global, schema: &Schema, bytes: &[u8]) -> Decoded
 }
 
 /// What stands at an offset of a file, where these bytes are left.
-fn next(
+fn found_at(
     alloc: Global,
     schema: &Schema,
     offset: usize,
     bytes: &[u8],
-) -> Result<Next, AllocError>
+) -> Result<Found, AllocError>
     requires sound { IsSound schema.now }
-    requires within { offset + length bytes.now < 2 ^ 63 }
-    ensures { IfOk result (IsNext schema.now offset bytes.now) }
+    requires within { offset + length bytes.now ≤ usize.MAX }
+    ensures { IfOk result (IsFound schema.now offset bytes.now) }
 {
     match begun(alloc, schema, bytes) {
-        Decoded::Frame(message, size) => Ok(Next::Frame(message, size)),
-        Decoded::Short(missing) => Ok(Next::Fault(ListFault::Short(offset, missing))),
+        Decoded::Frame(message, size) => Ok(Found::Frame(message, size)),
+        Decoded::Short(missing) => Ok(Found::Fault(ListFault::Short(offset, missing))),
         Decoded::Bad(within, number) => {
             let rule = Rule {
                 letter: b'F',
                 number,
             };
-            Ok(Next::Fault(ListFault::Broken(offset + within, rule)))
+            Ok(Found::Fault(ListFault::Broken(offset + within, rule)))
         }
         Decoded::NoMemory => Err(AllocError),
     }
@@ -96,14 +96,14 @@ pub fn frames_of(alloc: Global, schema: &Schema, bytes: &[u8]) -> Result<FrameLi
     let mut rest = bytes;
     let mut offset = 0;
     while !rest.is_empty() {
-        match next(alloc, schema, offset, rest)? {
-            Next::Frame(message, size) => {
+        match found_at(alloc, schema, offset, rest)? {
+            Found::Frame(message, size) => {
                 frames.push(Placed { offset, message })?;
                 let (_, behind) = rest.split_at(size);
                 rest = behind;
                 offset += size;
             }
-            Next::Fault(fault) => {
+            Found::Fault(fault) => {
                 return Ok(FrameList {
                     frames: Items::from_vec(frames),
                     fault: Some(fault),

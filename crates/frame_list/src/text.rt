@@ -2,7 +2,7 @@ ghost use Rattle.std.specs.Prelude.{◌≡◌, ◌++◌, IfOk, OnOk, [], if◌th
 ghost use Rattle.std.specs.Ordering.{int_eq};
 ghost use Rattle.ipdl_base.specs.Sound.{IsSound};
 ghost use Rattle.frame_list.specs.Frames.{all_plain};
-ghost use Rattle.frame_list.specs.Lines.{addressed, fault_line, frame_line, frames_lines, made_text, said_text};
+ghost use Rattle.frame_list.specs.Lines.{addressed, fault_line, frame_line, frames_lines, made_text, receiver_text, said_text};
 
 use crate::list::{ListFault, Placed};
 use history::{params_of, push_listed, push_message, push_numbered, reason_word, returns_of_number};
@@ -10,7 +10,22 @@ use ipdl_base::{Body, Message, Schema};
 use std::alloc::{AllocError, Global};
 use value_types::boxes_say_nothing;
 
-/// Appends a word, the number and the transaction of a message, the actor that it goes to, and its name.
+/// Appends the actor that a message goes to, and the message's name.
+fn push_receiver(
+    out: &mut Vec<u8>,
+    alloc: Global,
+    schema: &Schema,
+    message: &Message,
+) -> Result<(), AllocError>
+    requires { IsSound schema.now }
+    ensures { OnOk result (out.new.items ≡ out.old.items ++ receiver_text schema.now message.now) }
+{
+    push_numbered(out, alloc, b" to ", message.route)?;
+    out.extend_from_slice(b" ")?;
+    push_message(out, schema, message.number)
+}
+
+/// Appends a word, the number and the transaction of a message, and to whom which message goes.
 fn push_addressed(
     out: &mut Vec<u8>,
     alloc: Global,
@@ -23,9 +38,7 @@ fn push_addressed(
 {
     push_numbered(out, alloc, word, message.seq)?;
     push_numbered(out, alloc, b"/", message.transaction)?;
-    push_numbered(out, alloc, b" to ", message.route)?;
-    out.extend_from_slice(b" ")?;
-    push_message(out, schema, message.number)
+    push_receiver(out, alloc, schema, message)
 }
 
 /// Appends the new actor of a constructor's request.
