@@ -30,7 +30,7 @@ part_length layout bytes = length-append bytes (replicate (padding layout (lengt
 number_length : (layout : Layout) (count n : ℕ) → length (part layout (little_bytes count n)) ≡ padded layout count
 number_length layout count n = part_length layout (little_bytes count n) ∙ ap (padded layout) (length-bytes_low_first 0 count n)
 
-counted_length : (layout : Layout) (bytes : List ℕ) → length (counted layout bytes) ≡ padded layout (4 + length bytes)
+pub counted_length : (layout : Layout) (bytes : List ℕ) → length (counted layout bytes) ≡ padded layout (4 + length bytes)
 counted_length layout bytes = part_length layout (word (length bytes) ++ bytes) ∙ ap (padded layout) (length-append (word (length bytes)) bytes)
 
 -- what stands for a part that may be missing

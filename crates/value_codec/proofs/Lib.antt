@@ -7,3 +7,10 @@ pub mod Signed
 pub mod Taken
 pub mod BuiltinsRead
 pub mod ValuesRead
+pub mod BuiltinsAgain
+pub mod ValuesAgain
+pub mod Payloads
+pub mod Types
+pub mod Fielded
+pub mod Said
+pub mod Framed

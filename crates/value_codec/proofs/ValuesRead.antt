@@ -60,11 +60,11 @@ module _ (layout : Layout) (schema : Schema) (inside : Inside) (sound : ReadsSou
       let f = sound shape bytes b.0.0 b.0.1 fits b.1 in
       let o = elements_read shape n b.0.1 c.0.0 c.0.1 f.takes.rest_fits c.1 in
       moved (AreElements layout schema shape (suc n) bytes) (First' one_box b.0.0 one_box c.0.0) c.0.1 vs rest c.2 (record {
-      takes = Takes-then bytes (value_bytes layout schema shape b.0.0) b.0.1 (elements_bytes layout schema shape c.0.0) c.0.1 f.takes o.takes;
-      types = (f.type, o.types);
-      ids = all_append IsCarriedId (actor_ids b.0.0) (all_actor_ids c.0.0) f.ids o.ids;
-      size = omega (arith, o.size);
-    })
+        takes = Takes-then bytes (value_bytes layout schema shape b.0.0) b.0.1 (elements_bytes layout schema shape c.0.0) c.0.1 f.takes o.takes;
+        types = (f.type, o.types);
+        ids = all_append IsCarriedId (actor_ids b.0.0) (all_actor_ids c.0.0) f.ids o.ids;
+        size = omega (arith, o.size);
+      })
 
   pub values_read : (fields : List ParamRow) (bytes : List ℕ) (vs : Values) (rest : List ℕ) → IsBytes bytes → values_at inside fields bytes ≡ Ok (vs, rest) → AreValues layout schema fields bytes vs rest
   unfolding values_at
@@ -76,10 +76,10 @@ module _ (layout : Layout) (schema : Schema) (inside : Inside) (sound : ReadsSou
       let f = sound field.shape bytes b.0.0 b.0.1 fits b.1 in
       let o = values_read fields b.0.1 c.0.0 c.0.1 f.takes.rest_fits c.1 in
       moved (AreValues layout schema (field ∷ fields) bytes) (First' one_box b.0.0 one_box c.0.0) c.0.1 vs rest c.2 (record {
-      takes = Takes-then bytes (value_bytes layout schema field.shape b.0.0) b.0.1 (values_bytes layout schema fields c.0.0) c.0.1 f.takes o.takes;
-      types = (f.type, o.types);
-      ids = all_append IsCarriedId (actor_ids b.0.0) (all_actor_ids c.0.0) f.ids o.ids;
-    })
+        takes = Takes-then bytes (value_bytes layout schema field.shape b.0.0) b.0.1 (values_bytes layout schema fields c.0.0) c.0.1 f.takes o.takes;
+        types = (f.type, o.types);
+        ids = all_append IsCarriedId (actor_ids b.0.0) (all_actor_ids c.0.0) f.ids o.ids;
+      })
 
   array_read : (at : _) (shape : Shape) (bytes : List ℕ) (v : Value) (rest : List ℕ) → IsBytes bytes → array_at inside shape bytes ≡ Ok (v, rest) → IsRead layout schema (Array' at shape) bytes v rest
   unfolding array_at
@@ -91,10 +91,10 @@ module _ (layout : Layout) (schema : Schema) (inside : Inside) (sound : ReadsSou
       let n-is : b.0.0 ≡ count c.0.0 = sym o.size in
       let counted : Takes bytes (word (count c.0.0)) b.0.1 = subst (λ (n : ℕ). Takes bytes (word n) b.0.1) n-is w.0 in
       moved (IsRead layout schema (Array' at shape) bytes) (value.Array c.0.0) c.0.1 v rest c.2 (record {
-      takes = Takes-then bytes (word (count c.0.0)) b.0.1 (elements_bytes layout schema shape c.0.0) c.0.1 counted o.takes;
-      type = o.types;
-      ids = o.ids;
-    })
+        takes = Takes-then bytes (word (count c.0.0)) b.0.1 (elements_bytes layout schema shape c.0.0) c.0.1 counted o.takes;
+        type = o.types;
+        ids = o.ids;
+      })
 
   abbrev IsHeld : Shape → List ℕ → (Value → List ℕ → Type 0) → Type 0
   IsHeld shape bytes S = (held : Held-Value-Maybe-0) (r : List ℕ) → Takes bytes (held_bytes layout schema (Some shape) held) r → HeldHasType schema shape held → AllByRecursion IsCarriedId (held_actor_ids held) → S (boxed.Maybe' held) r
@@ -123,10 +123,10 @@ module _ (layout : Layout) (schema : Schema) (inside : Inside) (sound : ReadsSou
       let whole = Takes-then bytes (part layout (struct_byte ∷ [])) b.0 (values_bytes layout schema fields c.0.0) c.0.1 s o.takes in
       let found : fields_of schema (Named t) ≡ Some fields = ap (option_and_then fields_in) is in
       moved (IsRead layout schema (Named t) bytes) (value.Struct c.0.0) c.0.1 v rest c.2 (record {
-      takes = subst (λ (o : Option (List ParamRow)). Takes bytes (part layout (struct_byte ∷ []) ++ values_bytes layout schema (unwrap_or o []) c.0.0) c.0.1) (sym found) whole;
-      type = subst (λ (o : Option (List ParamRow)). IsSomeAnd o (λ fields. HaveTypes schema fields c.0.0)) (sym found) o.types;
-      ids = o.ids;
-    })
+        takes = subst (λ (o : Option (List ParamRow)). Takes bytes (part layout (struct_byte ∷ []) ++ values_bytes layout schema (unwrap_or o []) c.0.0) c.0.1) (sym found) whole;
+        type = subst (λ (o : Option (List ParamRow)). IsSomeAnd o (λ fields. HaveTypes schema fields c.0.0)) (sym found) o.types;
+        ids = o.ids;
+      })
 
   component_read : (t index : ℕ) (component : Option Shape) → component_of schema (Named t) index ≡ component → (bytes behind : List ℕ) (v : Value) (rest : List ℕ) → Takes bytes (index_bytes index) behind → component_at inside component index bytes behind ≡ Ok (v, rest) → IsRead layout schema (Named t) bytes v rest
   unfolding component_at
@@ -136,10 +136,10 @@ module _ (layout : Layout) (schema : Schema) (inside : Inside) (sound : ReadsSou
       let f = sound shape behind b.0.0 b.0.1 w.rest_fits b.1 in
       let whole = Takes-then bytes (index_bytes index) behind (value_bytes layout schema shape b.0.0) b.0.1 w f.takes in
       moved (IsRead layout schema (Named t) bytes) (boxed.Union' index one_box b.0.0) b.0.1 v rest b.2 (record {
-      takes = subst (λ (o : Option Shape). Takes bytes (index_bytes index ++ option_map_or (λ component. value_bytes layout schema component b.0.0) o []) b.0.1) (sym is) whole;
-      type = subst (λ (o : Option Shape). IsSomeAnd o (λ component. HasType schema component b.0.0)) (sym is) f.type;
-      ids = f.ids;
-    })
+        takes = subst (λ (o : Option Shape). Takes bytes (index_bytes index ++ option_map_or (λ component. value_bytes layout schema component b.0.0) o []) b.0.1) (sym is) whole;
+        type = subst (λ (o : Option Shape). IsSomeAnd o (λ component. HasType schema component b.0.0)) (sym is) f.type;
+        ids = f.ids;
+      })
 
   union_read : (t : ℕ) (name : List ℕ) (components : List Shape) → slice_get schema.types t ≡ Some (Union name components) → (bytes : List ℕ) (v : Value) (rest : List ℕ) → IsBytes bytes → union_at inside components bytes ≡ Ok (v, rest) → IsRead layout schema (Named t) bytes v rest
   unfolding union_at

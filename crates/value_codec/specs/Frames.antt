@@ -173,4 +173,4 @@ contents_by inside layout (request row) flags bytes = request_at inside row byte
 contents_by inside layout (reply row) flags bytes = if flags == reply_flags row then returns_at inside row bytes else fault_at layout row bytes
 
 abbrev pub contents_at : Layout → Schema → FrameType → ℕ → List ℕ → Result (ℤ × Body) Fault
-contents_at layout schema type flags bytes = contents_by (value_at (length bytes) layout schema) layout type flags bytes
+contents_at layout schema type flags bytes = contents_by (value_at (length bytes + 1) layout schema) layout type flags bytes

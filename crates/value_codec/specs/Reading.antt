@@ -236,7 +236,7 @@ shape_at inside layout schema (Maybe' _ s) bytes = maybe_at inside layout s byte
 shape_at inside layout schema (Unique' _ s) bytes = maybe_at inside layout s bytes
 shape_at inside layout schema (Endpoint p managed) bytes = not_carried bytes
 
--- The same where values stand at most so deep inside each other. Each value has a byte of its own, so as many as there are bytes are enough.
+-- The same where values stand less than so deep inside each other. Each value has a byte of its own, so a depth above the number of bytes is enough.
 unfoldable pub value_at : ℕ → Layout → Schema → Shape → List ℕ → Result (Value × List ℕ) Fault
 value_at zero layout schema shape bytes = Err short
 value_at (suc depth) layout schema shape bytes = shape_at (value_at depth layout schema) layout schema shape bytes

@@ -145,10 +145,10 @@ pub(crate) fn contents(
 {
     match frame_type {
         FrameType::Goodbye => ended(0, Body::Goodbye, bytes),
-        FrameType::Request(row) => request(alloc, layout, schema, row, bytes.len(), bytes),
+        FrameType::Request(row) => request(alloc, layout, schema, row, bytes.len() + 1, bytes),
         FrameType::Reply(row) => {
             if flags == reply_flags(row) {
-                reply(alloc, layout, schema, row, bytes.len(), bytes)
+                reply(alloc, layout, schema, row, bytes.len() + 1, bytes)
             } else {
                 fault(layout, row, bytes)
             }

@@ -1,0 +1,16 @@
+use Rattle.std.proofs.Common.{arith}
+use Rattle.value_types.specs.declared.layout.TheConstants.{OLD}
+use Rattle.value_codec.proofs.Framed.{told, frame_told, short_told, bad_told}
+use Rattle.value_codec.proofs.decoding.decode_old.Goals as goal
+
+pub returns-clause-told : goal.returns-clause-told
+returns-clause-told c = told OLD c.args.schema.now c.args.bytes.now (λ i. omega (arith, c.type_inv.bytes i)) c.begun.result c.begun.ensures
+
+pub returns-clause-frame : goal.returns-clause-frame
+returns-clause-frame c = frame_told OLD c.args.schema.now c.args.bytes.now c.requires (omega arith) (λ i. omega (arith, c.type_inv.bytes i)) c.begun.result c.begun.ensures
+
+pub returns-clause-short : goal.returns-clause-short
+returns-clause-short c = short_told OLD c.args.schema.now c.args.bytes.now (λ i. omega (arith, c.type_inv.bytes i)) c.begun.result c.begun.ensures
+
+pub returns-clause-bad : goal.returns-clause-bad
+returns-clause-bad c = bad_told OLD c.args.schema.now c.args.bytes.now (λ i. omega (arith, c.type_inv.bytes i)) c.begun.result c.begun.ensures
