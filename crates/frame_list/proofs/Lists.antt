@@ -1,5 +1,5 @@
 -- Lists of frames, one frame at a time.
-use Rattle.std.proofs.Common.{◌≡◌, ◌≢◌, ◌∙◌, ℕ, ◌+◌, ◌-◌, ◌<◌, List, [], ◌∷◌, ◌++◌, length, drop, Option, Some, None, arith, sym, ap, subst, refl, append_assoc, append-nil}
+use Rattle.std.proofs.Common.{◌≡◌, ◌≢◌, ℕ, ◌+◌, List, [], ◌∷◌, ◌++◌, length, drop, Option, Some, None, Result, Ok, Err, IfOk, arith, sym, ap, subst, refl, append-nil}
 use Rattle.std.proofs.lemmas.List.{length-drop}
 use Rattle.ipdl_base.specs.declared.message.Message.{Message}
 use Rattle.ipdl_base.specs.declared.schema.Schema.{Schema}
@@ -43,3 +43,8 @@ pub fault_found : (schema : Schema) (bytes : List ℕ) (offset : ℕ) (rest : Li
 fault_found schema bytes offset rest frames fault come some it =
     subst (λ (fs : List Placed). Holds schema 0 bytes fs (Some fault)) (append-nil (all_plain frames))
     (come.comes [] (Some fault) (faults offset rest fault some it))
+
+-- what follows from what holds of a result
+pub whenever : {T E : Type 0} (r : Result T E) (P Q : T → Type 0) → IfOk r P → ((x : T) → P x → Q x) → IfOk r Q
+whenever (Ok x) P Q h more = more x h
+whenever (Err e) P Q h more = tt

@@ -1,5 +1,5 @@
 -- Where a fault stands in bytes, and how long a frame is at least.
-use Rattle.std.proofs.Common.{◌≡◌, ◌∙◌, ℕ, zero, suc, ◌+◌, ◌-◌, ◌≤◌, ◌<◌, Bool, true, false, List, [], ◌++◌, length, take, Option, Some, None, arith, sym, ap, subst, refl, inl, inr, lit≤}
+use Rattle.std.proofs.Common.{◌≡◌, ℕ, zero, suc, ◌≤◌, ◌<◌, Bool, true, false, List, ◌++◌, length, Option, Some, None, arith, ap, subst, refl, inl, inr, lit≤}
 use Rattle.std.specs.Prelude.{if◌then◌else◌, nat_lt, not}
 use Rattle.std.proofs.lemmas.List.{length-append}
 use Rattle.ipdl_base.specs.declared.message.Message.{Message}

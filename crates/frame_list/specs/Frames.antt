@@ -1,5 +1,5 @@
 -- Bytes as a list of frames.
-use Rattle.std.specs.Prelude.{◌≡◌, ◌≢◌, ℕ, ◌+◌, Bool, if◌then◌else◌, List, [], ◌∷◌, take, drop, map, Option, Some, None}
+use Rattle.std.specs.Prelude.{◌≡◌, ◌≢◌, ℕ, ◌+◌, if◌then◌else◌, List, [], ◌∷◌, take, drop, map, Option, Some, None}
 use Rattle.std.specs.Str.{bytes_eq}
 use Rattle.ipdl_base.specs.declared.finding.Rule.{Rule}
 use Rattle.ipdl_base.specs.declared.message.Message.{Message}

@@ -3,8 +3,10 @@
 //! (docs/frames.md).
 #![tactic(auto)]
 
+mod convert;
 mod list;
 mod text;
 
+pub use convert::converted;
 pub use list::{FrameList, ListFault, Placed, frames_of};
 pub use text::{fault_text, frames_text};

@@ -1,4 +1,4 @@
-use Rattle.std.proofs.Common.{arith, ◌≤◌, ◌+◌, length}
+use Rattle.std.proofs.Common.{arith, ◌≤◌, length}
 use Rattle.frame_list.specs.Frames.{layout_at}
 use Rattle.frame_list.proofs.Offsets.{fault_within}
 use Rattle.frame_list.proofs.list.found_at.Goals as goal

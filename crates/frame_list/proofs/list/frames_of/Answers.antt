@@ -1,14 +1,11 @@
-use Rattle.std.proofs.Common.{◌≡◌, ◌≢◌, ◌∙◌, ◌<◌, ◌≤◌, ◌+◌, ◌==◌, length, drop, ℕ, Bool, true, false, List, [], ◌∷◌, ◌++◌, Some, None, arith, refl, sym, ap, subst}
+use Rattle.std.proofs.Common.{◌≡◌, ◌≢◌, ◌∙◌, ◌+◌, ◌==◌, length, drop, ℕ, true, false, List, [], ◌∷◌, Some, None, arith, refl, sym, subst}
 use Rattle.std.proofs.lemmas.Bool.Decides.{nat_tests}
 use Rattle.ipdl_base.specs.Plain.{plain_message}
 use Rattle.value_codec.specs.Decoding.{FrameBegins}
-use Rattle.frame_list.specs.Frames.{Holds, IsFault, all_plain, layout_at, placed_at}
-use Rattle.frame_list.specs.declared.list.Found.{Found}
-use Rattle.frame_list.specs.declared.list.Found.TheVariants.{Frame, Fault}
+use Rattle.frame_list.specs.Frames.{Holds, IsFault, all_plain, layout_at}
 use Rattle.frame_list.specs.declared.list.Placed.{Placed}
 use Rattle.frame_list.specs.Steps.{IsFound}
 use Rattle.frame_list.proofs.Lists.{IsCome, all_found, fault_found, goes_on}
-use Rattle.frame_list.proofs.Offsets.{frame_some}
 use Rattle.frame_list.proofs.list.frames_of.Goals as goal
 
 no_length : (rest : List ℕ) → (length rest == 0) ≡ true → rest ≡ []
