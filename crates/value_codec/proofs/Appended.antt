@@ -1,5 +1,5 @@
 -- What is appended piece by piece.
-use Rattle.std.proofs.Common.{◌≡◌, ℕ, List, ◌++◌, OnOk, sym, ap, ◌∙◌, append_assoc}
+use Rattle.std.proofs.Common.{◌≡◌, ℕ, List, ◌++◌, OnOk, ap, ◌∙◌, append_assoc}
 use Rattle.std.specs.Prelude.{Result, Ok, Err}
 
 pub appended-three : {X E : Type 0} (result : Result X E) (old first second new a b c : List ℕ) → first ≡ old ++ a → second ≡ first ++ b → OnOk result (new ≡ second ++ c) → OnOk result (new ≡ old ++ (a ++ b ++ c))

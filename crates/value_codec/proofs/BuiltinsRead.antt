@@ -1,9 +1,9 @@
 -- What is read of a builtin is a value of it, as it is spelled.
-use Rattle.std.proofs.Common.{◌≡◌, ◌≤◌, ◌<◌, ℕ, zero, suc, ◌^◌, ◌%◌, ◌-◌, ℤ, pos, negsuc, ◌≤ℤ◌, Bool, true, false, List, [], ◌∷◌, ◌++◌, length, Result, Ok, Err, refl, sym, ap, subst, ◌∙◌, arith}
+use Rattle.std.proofs.Common.{◌≡◌, ◌<◌, ℕ, zero, suc, ◌^◌, ◌%◌, ◌-◌, ℤ, pos, negsuc, ◌≤ℤ◌, Bool, true, false, List, Ok, refl, sym, subst, ◌∙◌, arith}
 use Rattle.std.proofs.Math.Nat.{mod-eq_of_lt}
 use Rattle.std.proofs.lemmas.Int.{ints}
 use Rattle.std.proofs.lemmas.Str.{IsUtf8-from_is_utf8}
-use Rattle.std.specs.Int.{w32, w128, cast_unsigned, cast_signed}
+use Rattle.std.specs.Int.{w32, w128, cast_unsigned}
 use Rattle.std.specs.Int.RustNames.{FitsSigned}
 use Rattle.std.specs.List.{AllByRecursion}
 use Rattle.byteorder.specs.Endian.{little_bytes, little_number, twos_complement}
@@ -11,18 +11,17 @@ use Rattle.byteorder.specs.Numbers.{little_from-lt}
 use Rattle.ipdl_base.specs.declared.builtin.Builtin.{Builtin as BuiltinType}
 use Rattle.ipdl_base.specs.declared.builtin.Builtin.TheVariants as builtin
 use Rattle.ipdl_base.specs.declared.schema.Schema.{Schema}
-use Rattle.ipdl_base.specs.declared.schema.Shape.{Shape, Builtin, Using, Actor}
+use Rattle.ipdl_base.specs.declared.schema.Shape.{Shape, Builtin, Actor}
 use Rattle.ipdl_base.specs.declared.value.Value.{Value}
 use Rattle.ipdl_base.specs.declared.value.Value.TheVariants as value
 use Rattle.value_types.specs.declared.layout.Layout.{Layout}
 use Rattle.value_types.specs.Fits.{actor_ids, IsCarriedId}
 use Rattle.value_types.specs.HasType.{HasType, IsActorOf}
-use Rattle.value_codec.specs.declared.fault.Fault.{Fault}
-use Rattle.value_codec.specs.Reading.{◌>>=◌, field_at, flag_at, counted_at, is_id, id_at, flag_value_at, signed_at, unsigned_at, bits_at, text_at, bytes_at, actor_at, builtin_at}
-use Rattle.value_codec.specs.Spelling.{part, counted, truth_byte, value_bytes}
-use Rattle.value_codec.proofs.LittleEndian.{IsBytes, bytes_back, low_bytes_same, length-little}
+use Rattle.value_codec.specs.Reading.{field_at, flag_at, counted_at, is_id, id_at, flag_value_at, signed_at, unsigned_at, bits_at, text_at, bytes_at, actor_at, builtin_at}
+use Rattle.value_codec.specs.Spelling.{part, counted, value_bytes}
+use Rattle.value_codec.proofs.LittleEndian.{IsBytes, bytes_back, low_bytes_same}
 use Rattle.value_codec.proofs.Signed.{IsSigned, signed1, signed2, signed4, signed8, greatest_word}
-use Rattle.value_codec.proofs.Taken.{bind_ok, both, moved, Takes, TakesField, TakesId, field_takes, flag_takes, counted_takes, id_takes}
+use Rattle.value_codec.proofs.Taken.{bind_ok, moved, Takes, TakesField, field_takes, flag_takes, counted_takes, id_takes}
 use Rattle.std.proofs.lemmas.List.{take_all}
 
 -- What was read of a type is a value of it, whose bytes stood there.

@@ -1,9 +1,9 @@
 -- The fields of a header are the bytes that they are spelled by.
-use Rattle.std.proofs.Common.{◌≡◌, ◌≤◌, ◌<◌, ℕ, ◌+◌, ◌-◌, ◌^◌, ℤ, Bool, true, false, cond, ltb, eqb, List, [], ◌∷◌, ◌++◌, length, take, drop, refl, sym, ap, subst, ◌∙◌, arith, append_assoc, length-append}
+use Rattle.std.proofs.Common.{◌≡◌, ◌≤◌, ◌<◌, ℕ, ◌^◌, ℤ, Bool, true, false, cond, eqb, List, [], ◌++◌, length, take, drop, refl, sym, ap, ◌∙◌, arith}
 use Rattle.std.proofs.Math.Seq.{take-add}
 use Rattle.std.proofs.lemmas.Bool.{eqb-true}
 use Rattle.std.proofs.lemmas.Int.{to_z-of_z, of_z-to_z}
-use Rattle.std.proofs.lemmas.List.{take_at, drop_at, take-append-drop, length-take, length-drop, drop-drop, take_all}
+use Rattle.std.proofs.lemmas.List.{length-drop, drop-drop}
 use Rattle.std.specs.Int.{w32, cast_signed, cast_unsigned}
 use Rattle.std.specs.Int.RustNames.{FitsSigned}
 use Rattle.byteorder.specs.Endian.{little_number}
@@ -11,7 +11,7 @@ use Rattle.byteorder.specs.Numbers.{little_from-lt, little_number-reads_back}
 use Rattle.value_types.specs.declared.layout.Layout.{Layout}
 use Rattle.value_types.specs.declared.layout.TheConstants.{MARK}
 use Rattle.value_codec.specs.declared.header.Header.{Header}
-use Rattle.value_codec.specs.Frames.{header_in, header_of, header_size, has_mark}
+use Rattle.value_codec.specs.Frames.{header_in, has_mark}
 use Rattle.value_codec.specs.Spelling.{word, signed_word, mark_of, address_bytes, order_bytes, fields_bytes}
 use Rattle.value_codec.proofs.LittleEndian.{IsBytes, bytes_back}
 use Rattle.value_codec.proofs.Signed.{word_fits, unsigned_small}

@@ -1,23 +1,23 @@
 -- What bytes begin, by what is spelled there.
-use Rattle.std.proofs.Common.{◌≡◌, ◌≤◌, ◌<◌, ℕ, ◌+◌, ◌-◌, ◌^◌, ◌⊎◌, ℤ, Bool, true, false, not, cond, ltb, List, [], ◌∷◌, ◌++◌, length, take, drop, Option, Some, None, Result, Ok, Err, refl, sym, ap, subst, ◌∙◌, arith, append_assoc, length-append, inl, inr}
+use Rattle.std.proofs.Common.{◌≡◌, ◌≤◌, ◌<◌, ℕ, ◌+◌, ◌-◌, ◌^◌, ◌⊎◌, ℤ, Bool, true, false, not, cond, ltb, List, ◌++◌, length, take, drop, Option, Some, None, Result, Ok, Err, refl, sym, ap, subst, ◌∙◌, arith, append_assoc, length-append, inl, inr}
 use Rattle.std.proofs.Math.Seq.{take-add}
 use Rattle.std.proofs.lemmas.Bool.{ltb-true, ltb-false, lt-ltb, le-ltb}
-use Rattle.std.proofs.lemmas.List.{take_at, drop_at, take-append-drop, length-take, length-drop, drop-drop}
+use Rattle.std.proofs.lemmas.List.{take_at, drop_at, take-append-drop, length-take, length-drop}
 use Rattle.ipdl_base.specs.declared.message.Body.{Body}
 use Rattle.ipdl_base.specs.declared.message.Message.{Message}
 use Rattle.ipdl_base.specs.declared.schema.Schema.{Schema}
 use Rattle.ipdl_base.specs.Plain.{plain_body, plain_message}
 use Rattle.ipdl_base.specs.Sound.{IsSound, message_of}
 use Rattle.value_types.specs.declared.layout.Layout.{Layout}
-use Rattle.value_types.specs.Sizes.{payload_size}
+use Rattle.value_types.proofs.Boxes.{fits as fits-plain}
 use Rattle.value_codec.specs.declared.decoding.Decoded.{Decoded}
 use Rattle.value_codec.specs.declared.decoding.Decoded.TheVariants.{Frame, Short, Bad, NoMemory}
 use Rattle.value_codec.specs.declared.fault.Fault.{Fault}
 use Rattle.value_codec.specs.declared.header.Header.{Header}
 use Rattle.value_codec.specs.declared.rules.TheConstants.{BAD_MARK, PAYLOAD_TOO_LARGE, BAD_FLAGS, BAD_FIELD}
-use Rattle.value_codec.specs.Decoding.{whole_size, payload_in, contents_of_type, contents_behind, contents, message_from, with_contents, behind_sound_header, behind_header, begins, Yields, IsShort, PayloadFault, FrameFault, FrameBegins, IsTrueOf, IsFrame, IsShortBy, IsBadAt}
-use Rattle.value_codec.specs.Frames.{FrameType, header_size, header_in, header_of, has_mark, type_of, are_flags, is_route, is_seq, is_transaction, type_fault, fault_of_type, fields_fault, behind_mark, header_fault, contents_at}
-use Rattle.value_codec.specs.Spelling.{mark_of, fields_bytes, message_header, payload_bytes, body_bytes, body_flags, frame_bytes, FrameOf}
+use Rattle.value_codec.specs.Decoding.{whole_size, payload_in, contents_of_type, contents_behind, contents, message_from, with_contents, behind_sound_header, behind_header, begins, Yields, IsShort, FrameFault, FrameBegins, IsTrueOf, HasFitting, IsFrame, IsShortBy, IsBadAt}
+use Rattle.value_codec.specs.Frames.{FrameType, header_size, header_in, header_of, has_mark, type_of, are_flags, is_route, is_seq, is_transaction, type_fault, fault_of_type, fields_fault, behind_mark, header_fault}
+use Rattle.value_codec.specs.Spelling.{mark_of, fields_bytes, payload_bytes, body_flags, frame_bytes, FrameOf}
 use Rattle.value_codec.proofs.Fielded.{HasFieldsOf, fields_there, fields_fit, header_again, mark_there, mark_again}
 use Rattle.value_codec.proofs.Lengths.{payload_length}
 use Rattle.value_codec.proofs.LittleEndian.{IsBytes}
@@ -116,11 +116,11 @@ short_or false k d e p = inr (refl, p)
 -- What was decoded is true of the bytes, and what is true of them was decoded.
 module _ (layout : Layout) (schema : Schema) (bytes : List ℕ) (fits : IsBytes bytes) where
   -- the same of what the bytes begin, where boxes lie at one place
-  abbrev IsTold : Decoded → Type 0
+  abbrev pub IsTold : Decoded → Type 0
   IsTold (Frame m n) = FrameBegins layout schema bytes m n
   IsTold (Short n) = IsShort layout schema bytes n
   IsTold (Bad offset rule) = FrameFault layout schema bytes offset rule
-  IsTold NoMemory = Unit {0}
+  IsTold NoMemory = ⊥
 
   contents_told : (o : Result (ℤ × Body) Fault) → contents layout schema bytes ≡ o → header_size layout ≤ length bytes → header_fault layout schema bytes ≡ None → whole_size layout (header_of layout bytes) ≤ length bytes → IsTold (with_contents layout (header_of layout bytes) o)
   contents_told (Ok (made, b)) is long none whole = let ok = unbroken layout schema bytes none in frame_found layout schema bytes ok.0 made b fits ok.1 whole long is
@@ -139,7 +139,7 @@ module _ (layout : Layout) (schema : Schema) (bytes : List ℕ) (fits : IsBytes 
   front_told true is = let less = ltb-true (length bytes) (header_size layout) is in inl (omega (arith, less), omega (arith, less))
   front_told false is = header_told (ltb-false (length bytes) (header_size layout) is) (header_fault layout schema bytes) refl
 
-  begins_told : IsTold (begins layout schema bytes)
+  pub begins_told : IsTold (begins layout schema bytes)
   unfolding begins
   begins_told = front_told (ltb (length bytes) (header_size layout)) refl
 
@@ -150,7 +150,7 @@ module _ (layout : Layout) (schema : Schema) (bytes : List ℕ) (fits : IsBytes 
   told (Bad offset rule) e = subst IsTold e begins_told
 
   -- short bytes
-  short_begins : (n : ℕ) → IsShort layout schema bytes n → begins layout schema bytes ≡ Short n
+  pub short_begins : (n : ℕ) → IsShort layout schema bytes n → begins layout schema bytes ≡ Short n
   unfolding begins
   short_begins n (inl h) =
       let less : ltb (length bytes) (header_size layout) ≡ true = lt-ltb (length bytes) (header_size layout) (omega (arith, h.0, h.1)) in
@@ -164,7 +164,7 @@ module _ (layout : Layout) (schema : Schema) (bytes : List ℕ) (fits : IsBytes 
       (λ i. cond (long i) (Short (header_size layout - length bytes)) (behind_header layout schema bytes (h.1 i)))
       ∙ (λ i. cond (less i) (Short (rest i)) (with_contents layout (header_of layout bytes) (contents layout schema bytes)))
 
-  bad_begins : (offset rule : ℕ) → FrameFault layout schema bytes offset rule → begins layout schema bytes ≡ Bad offset rule
+  pub bad_begins : (offset rule : ℕ) → FrameFault layout schema bytes offset rule → begins layout schema bytes ≡ Bad offset rule
   unfolding begins
   bad_begins offset rule (long, inl h) =
       let longer : ltb (length bytes) (header_size layout) ≡ false = le-ltb (length bytes) (header_size layout) long in
@@ -192,7 +192,7 @@ module _ (layout : Layout) (schema : Schema) (bytes : List ℕ) (fits : IsBytes 
 -- What is spelled is read
 
 -- a header with these fields breaks no rule where the message speaks
-frame_again : (layout : Layout) (schema : Schema) (m : Message) (rest : List ℕ) → IsSound schema → layout.most_payload < 2 ^ 32 → IsBytes (frame_bytes layout schema m) → FrameOf layout schema m (frame_bytes layout schema m)
+pub frame_again : (layout : Layout) (schema : Schema) (m : Message) (rest : List ℕ) → IsSound schema → layout.most_payload < 2 ^ 32 → IsBytes (frame_bytes layout schema m) → FrameOf layout schema m (frame_bytes layout schema m)
     → begins layout schema (frame_bytes layout schema m ++ rest) ≡ Frame (plain_message m) (length (frame_bytes layout schema m))
 unfolding begins
 frame_again layout schema m rest sound small fits frame =
@@ -232,12 +232,21 @@ frame_decided layout schema bytes (Frame decoded size) e m n begun = (cc, cc)
 frame_decided layout schema bytes (Short k) e m n begun = cc
 frame_decided layout schema bytes (Bad offset rule) e m n begun = cc
 
-pub frame_told : (layout : Layout) (schema : Schema) (bytes : List ℕ) → IsSound schema → layout.most_payload < 2 ^ 32 → IsBytes bytes → (d : Decoded) → Yields d (begins layout schema bytes) → (m : Message) (n : ℕ) → FrameBegins layout schema bytes m n → IsFrame d m n
-frame_told layout schema bytes sound small fits d e m n h =
+pub frame_begins : (layout : Layout) (schema : Schema) (bytes : List ℕ) → IsSound schema → layout.most_payload < 2 ^ 32 → IsBytes bytes → (m : Message) (n : ℕ) → FrameBegins layout schema bytes m n → begins layout schema bytes ≡ Frame (plain_message m) n
+frame_begins layout schema bytes sound small fits m n h =
     let is : take n bytes ≡ frame_bytes layout schema m = h.frame.spelled in
     let own : FrameOf layout schema m (frame_bytes layout schema m) = record { fits = h.frame.fits; small = h.frame.small; spelled = refl } in
     let again = frame_again layout schema m (drop n bytes) sound small (subst IsBytes is (IsBytes-take n bytes fits)) own in
     let back : frame_bytes layout schema m ++ drop n bytes ≡ bytes = ap (λ (xs : List ℕ). xs ++ drop n bytes) (sym is) ∙ take-append-drop n bytes in
     let size : length (frame_bytes layout schema m) ≡ n = ap length (sym is) ∙ omega (arith, length-take n bytes, h.within) in
-    let begun : begins layout schema bytes ≡ Frame (plain_message m) n = ap (begins layout schema) (sym back) ∙ again ∙ ap (Frame (plain_message m)) size in
-    frame_decided layout schema bytes d e m n begun
+    ap (begins layout schema) (sym back) ∙ again ∙ ap (Frame (plain_message m)) size
+
+pub frame_told : (layout : Layout) (schema : Schema) (bytes : List ℕ) → IsSound schema → layout.most_payload < 2 ^ 32 → IsBytes bytes → (d : Decoded) → Yields d (begins layout schema bytes) → (m : Message) (n : ℕ) → FrameBegins layout schema bytes m n → IsFrame d m n
+frame_told layout schema bytes sound small fits d e m n h = frame_decided layout schema bytes d e m n (frame_begins layout schema bytes sound small fits m n h)
+
+-- what is true of the bytes holds a message that fits, wherever its boxes lie
+pub has_fitting : (layout : Layout) (schema : Schema) (bytes : List ℕ) (d : Decoded) → IsTrueOf layout schema bytes d → HasFitting schema d
+has_fitting layout schema bytes NoMemory h = tt
+has_fitting layout schema bytes (Frame m n) h = (fits-plain schema m).0 h.frame.fits
+has_fitting layout schema bytes (Short n) h = tt
+has_fitting layout schema bytes (Bad offset rule) h = tt

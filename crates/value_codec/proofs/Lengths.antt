@@ -1,8 +1,8 @@
 -- A payload has as many bytes as its size says.
-use Rattle.std.proofs.Common.{◌≡◌, ℕ, ℤ, ◌+◌, ◌^◌, true, false, cond, ltb, List, [], ◌∷◌, ◌++◌, length, replicate, Option, Some, None, refl, sym, ap, ◌∙◌, arith, length-append, unwrap_or}
+use Rattle.std.proofs.Common.{◌≡◌, ℕ, ℤ, ◌+◌, ◌^◌, true, false, cond, ltb, List, [], ◌∷◌, ◌++◌, length, replicate, Option, Some, None, refl, ap, ◌∙◌, arith, length-append, unwrap_or}
 use Rattle.std.proofs.lemmas.List.{length-replicate}
 use Rattle.std.specs.Option.{option_map_or}
-use Rattle.std.specs.Int.{w32, w128, cast_unsigned}
+use Rattle.std.specs.Int.{w128, cast_unsigned}
 use Rattle.byteorder.specs.Endian.{little_bytes}
 use Rattle.byteorder.specs.Numbers.{length-bytes_low_first}
 use Rattle.ipdl_base.specs.declared.message.Body.{Body}
@@ -22,7 +22,7 @@ use Rattle.ipdl_base.specs.Sound.{message_of}
 use Rattle.value_types.specs.declared.layout.Layout.{Layout}
 use Rattle.value_types.specs.Shapes.{element_of, held_by, fields_of, component_of}
 use Rattle.value_types.specs.Sizes.{padding, padded, value_size, held_size, elements_size, values_size, made_size, body_size, payload_size}
-use Rattle.value_codec.specs.Spelling.{part, word, signed_word, counted, index_bytes, count, width, struct_byte, truth_byte, reason_byte, made_bytes, value_bytes, held_bytes, elements_bytes, values_bytes, body_bytes, payload_bytes}
+use Rattle.value_codec.specs.Spelling.{part, word, counted, index_bytes, count, width, struct_byte, truth_byte, reason_byte, made_bytes, value_bytes, held_bytes, elements_bytes, values_bytes, body_bytes, payload_bytes}
 
 pub part_length : (layout : Layout) (bytes : List ℕ) → length (part layout bytes) ≡ padded layout (length bytes)
 part_length layout bytes = length-append bytes (replicate (padding layout (length bytes)) 0) ∙ ap (λ n. length bytes + n) (length-replicate {A = ℕ} (padding layout (length bytes)) 0)

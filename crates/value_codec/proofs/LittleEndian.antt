@@ -1,11 +1,11 @@
 -- Numbers in little-endian bytes.
-use Rattle.std.proofs.Common.{◌≡◌, ◌≤◌, ◌<◌, ℕ, zero, suc, ◌+◌, ◌*◌, ◌/◌, ◌%◌, ◌^◌, List, [], ◌∷◌, ◌++◌, length, take, drop, get_or, refl, sym, ap, ◌∙◌, arith}
+use Rattle.std.proofs.Common.{◌≡◌, ◌≤◌, ◌<◌, ℕ, zero, suc, ◌+◌, ◌*◌, ◌/◌, ◌%◌, ◌^◌, List, [], ◌∷◌, ◌++◌, length, take, get_or, refl, sym, ap, ◌∙◌, arith}
 use Rattle.std.proofs.lemmas.List.{take-append-le, take_all, append-nil}
 use Rattle.std.proofs.Math.Nat.{div-div-eq-div-mul, div-one, pow-succ'}
 use Rattle.std.specs.Int.{byte_at, bytes_low_first}
 use Rattle.byteorder.proofs.Bytes.{take-bytes_low_first}
 use Rattle.byteorder.specs.Endian.{little_bytes, little_number, little_from}
-use Rattle.byteorder.specs.Numbers.{length-bytes_low_first, little_from-cons, little_from-bytes, little_from-lt, little_from-append}
+use Rattle.byteorder.specs.Numbers.{length-bytes_low_first, little_from-cons, little_from-bytes}
 
 -- each is a byte
 abbrev pub IsBytes : List ℕ → Type 0

@@ -1,6 +1,6 @@
 -- What a payload says is what is spelled there, and what is spelled is read again.
-use Rattle.std.proofs.Common.{◌≡◌, ◌≢◌, ◌≤◌, ◌<◌, ℕ, zero, suc, ◌+◌, ◌^◌, ℤ, pos, negsuc, ◌≤ℤ◌, Bool, true, false, cond, ltb, eqb, List, [], ◌∷◌, ◌++◌, length, replicate, Option, Some, None, Result, Ok, Err, refl, sym, ap, subst, ◌∙◌, arith, append_assoc, length-append, unwrap_or, inl, inr}
-use Rattle.std.proofs.lemmas.Bool.{eqb-true, ne_eqb, cases_Bool}
+use Rattle.std.proofs.Common.{◌≡◌, ℕ, zero, suc, ℤ, pos, negsuc, Bool, true, false, cond, eqb, List, [], ◌∷◌, ◌++◌, replicate, Option, Some, None, Result, Ok, refl, sym, ap, subst, ◌∙◌, arith, unwrap_or}
+use Rattle.std.proofs.lemmas.Bool.{eqb-true}
 use Rattle.std.proofs.lemmas.Int.{ints}
 use Rattle.std.proofs.lemmas.List.{append-nil}
 use Rattle.std.specs.Int.{w32}
@@ -24,9 +24,8 @@ use Rattle.value_types.specs.Fits.{all_actor_ids, IsCarriedId, IsLivingId, IsMad
 use Rattle.value_types.specs.HasType.{HaveTypes}
 use Rattle.value_types.specs.Sizes.{padding}
 use Rattle.value_codec.specs.declared.fault.Fault.{Fault}
-use Rattle.value_codec.specs.declared.rules.TheConstants.{BAD_VALUE}
 use Rattle.value_codec.specs.Frames.{made_at, ended, reason_of, resolver_reason, reason_in, reason_at, request_at, returns_at, fault_at}
-use Rattle.value_codec.specs.Reading.{◌>>=◌, at, zeros, is_id, id_at, Inside, values_at, value_at}
+use Rattle.value_codec.specs.Reading.{◌>>=◌, zeros, is_id, Inside, values_at, value_at}
 use Rattle.value_codec.specs.Spelling.{part, reason_byte, made_bytes, request_bytes, reply_bytes, values_bytes}
 use Rattle.value_codec.proofs.LittleEndian.{IsBytes}
 use Rattle.value_codec.proofs.Signed.{fits_word, greatest_word}

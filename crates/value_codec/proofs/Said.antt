@@ -1,11 +1,10 @@
 -- A payload behind a header that breaks no rule says a message that fits, and what a message says is read.
-use Rattle.std.proofs.Common.{◌≡◌, ◌≢◌, ◌≤◌, ◌<◌, ℕ, ◌+◌, ◌^◌, ℤ, pos, Bool, true, false, not, cond, eqb, List, [], ◌∷◌, length, Option, Some, None, Result, Ok, Err, refl, sym, ap, subst, ◌∙◌, arith, unwrap_or, inl, inr}
-use Rattle.std.proofs.lemmas.Bool.{eqb-true, cases_Bool}
+use Rattle.std.proofs.Common.{◌≡◌, ◌<◌, ℕ, ◌+◌, ◌^◌, ℤ, pos, Bool, true, false, cond, eqb, List, [], ◌∷◌, length, Option, Some, Ok, refl, sym, ap, subst, ◌∙◌, arith}
+use Rattle.std.proofs.lemmas.Bool.{eqb-true}
 use Rattle.std.proofs.lemmas.Int.{ints}
 use Rattle.std.proofs.lemmas.List.Elements.{All-from_recursion, recursion_from_All}
 use Rattle.std.specs.Int.{w32}
 use Rattle.std.specs.Int.RustNames.{FitsSigned}
-use Rattle.std.specs.List.{AllByRecursion}
 use Rattle.std.specs.Option.{option_map_or}
 use Rattle.ipdl_base.specs.declared.message.Body.{Body}
 use Rattle.ipdl_base.specs.declared.message.Body.TheVariants as body
@@ -18,8 +17,8 @@ use Rattle.value_types.specs.declared.layout.Layout.{Layout}
 use Rattle.value_types.specs.Fits.{all_actor_ids, IsCarriedId, HasFields, FitsBody, Fits}
 use Rattle.value_codec.specs.declared.header.Header.{Header}
 use Rattle.value_codec.specs.Decoding.{message_from}
-use Rattle.value_codec.specs.Frames.{FrameType, goodbye, request, reply, goodbye_number, type_of, are_flags, is_route, is_seq, is_transaction, ended, contents_at, contents_by, returns_at, fault_at}
-use Rattle.value_codec.specs.Reading.{Inside, value_at}
+use Rattle.value_codec.specs.Frames.{FrameType, goodbye, request, reply, type_of, are_flags, is_route, is_seq, is_transaction, ended, contents_at, contents_by, returns_at, fault_at}
+use Rattle.value_codec.specs.Reading.{value_at}
 use Rattle.value_codec.specs.Spelling.{part, reason_byte, body_bytes, body_flags, request_bytes, reply_bytes, request_flags, reply_flags, fault_flags}
 use Rattle.value_codec.proofs.Fielded.{HasFieldsOf}
 use Rattle.value_codec.proofs.LittleEndian.{IsBytes}

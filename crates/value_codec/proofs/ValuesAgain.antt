@@ -1,5 +1,5 @@
 -- A value is read again of its bytes, whatever follows them.
-use Rattle.std.proofs.Common.{◌≡◌, ◌≤◌, ◌<◌, ℕ, zero, suc, ◌+◌, ◌^◌, ℤ, Bool, true, false, cond, ltb, List, [], ◌∷◌, ◌++◌, length, replicate, Option, Some, None, Result, Ok, Err, refl, sym, ap, subst, ◌∙◌, arith, append_assoc, length-append, unwrap_or, inl, inr}
+use Rattle.std.proofs.Common.{◌≡◌, ◌≤◌, ◌<◌, ℕ, zero, suc, ◌^◌, ℤ, Bool, true, false, cond, ltb, List, [], ◌∷◌, ◌++◌, length, replicate, Option, Some, None, Result, Ok, refl, ap, subst, ◌∙◌, arith, append_assoc, length-append, unwrap_or, inl, inr}
 use Rattle.std.proofs.lemmas.Bool.{cases_lt, le-ltb}
 use Rattle.std.specs.Prelude.{IsSomeAnd, slice_get, option_and_then}
 use Rattle.std.specs.Int.{w128, cast_unsigned}
@@ -24,8 +24,8 @@ use Rattle.value_types.specs.Fits.{actor_ids, held_actor_ids, all_actor_ids, IsC
 use Rattle.value_types.specs.HasType.{HasType, HeldHasType, AllHaveType, HaveTypes, IsInRange, IsWithinBits}
 use Rattle.value_types.specs.Shapes.{builtin_of, fields_in, component_in}
 use Rattle.value_codec.specs.declared.fault.Fault.{Fault}
-use Rattle.value_codec.specs.Reading.{◌>>=◌, word_at, flag_at, struct_at, Inside, elements_at, values_at, array_at, held_at, maybe_at, fields_at, component_at, union_at, row_at, shape_at, value_at}
-use Rattle.value_codec.specs.Spelling.{part, word, index_bytes, counted, struct_byte, truth_byte, count, width, value_bytes, held_bytes, elements_bytes, values_bytes}
+use Rattle.value_codec.specs.Reading.{◌>>=◌, Inside, elements_at, values_at, array_at, held_at, maybe_at, fields_at, component_at, union_at, row_at, value_at}
+use Rattle.value_codec.specs.Spelling.{part, word, index_bytes, counted, struct_byte, count, width, value_bytes, held_bytes, elements_bytes, values_bytes}
 use Rattle.value_codec.proofs.LittleEndian.{IsBytes, length-little}
 use Rattle.value_codec.proofs.Lengths.{part_length, counted_length}
 use Rattle.value_codec.proofs.Taken.{word_again, flag_again, struct_again}

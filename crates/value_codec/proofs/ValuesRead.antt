@@ -1,5 +1,5 @@
 -- What is read of a type is a value of it, as it is spelled.
-use Rattle.std.proofs.Common.{◌≡◌, ℕ, zero, suc, ◌+◌, ◌<◌, ◌^◌, ℤ, Bool, true, false, cond, ltb, replicate, List, [], ◌∷◌, ◌++◌, Option, Some, None, Result, Ok, Err, refl, sym, ap, subst, ◌∙◌, arith, unwrap_or}
+use Rattle.std.proofs.Common.{◌≡◌, ℕ, zero, suc, ◌<◌, ◌^◌, ℤ, Bool, true, false, cond, ltb, replicate, List, [], ◌∷◌, ◌++◌, Option, Some, None, Ok, refl, sym, ap, subst, arith, unwrap_or}
 use Rattle.std.proofs.lemmas.Bool.{lt-ltb}
 use Rattle.std.specs.Prelude.{IsSomeAnd, slice_get, option_and_then}
 use Rattle.std.specs.List.{AllByRecursion}
@@ -19,7 +19,6 @@ use Rattle.value_types.specs.declared.layout.Layout.{Layout}
 use Rattle.value_types.specs.Fits.{actor_ids, held_actor_ids, all_actor_ids, IsCarriedId}
 use Rattle.value_types.specs.HasType.{HasType, HeldHasType, AllHaveType, HaveTypes}
 use Rattle.value_types.specs.Shapes.{fields_in, component_in, fields_of, component_of}
-use Rattle.value_codec.specs.declared.fault.Fault.{Fault}
 use Rattle.value_codec.specs.Reading.{◌>>=◌, word_at, flag_at, struct_at, Inside, elements_at, values_at, array_at, held_at, maybe_at, fields_at, component_at, union_at, row_at, shape_at, value_at}
 use Rattle.value_codec.specs.Spelling.{part, word, index_bytes, struct_byte, truth_byte, count, value_bytes, held_bytes, elements_bytes, values_bytes}
 use Rattle.value_codec.proofs.LittleEndian.{IsBytes}

@@ -5,6 +5,7 @@ use Rattle.ipdl_base.specs.declared.message.Message.{Message}
 use Rattle.ipdl_base.specs.declared.schema.Schema.{Schema}
 use Rattle.ipdl_base.specs.Plain.{plain_message}
 use Rattle.value_types.specs.declared.layout.Layout.{Layout}
+use Rattle.value_types.specs.Fits.{Fits}
 use Rattle.value_codec.specs.declared.decoding.Decoded.{Decoded}
 use Rattle.value_codec.specs.declared.decoding.Decoded.TheVariants.{Frame, Short, Bad, NoMemory}
 use Rattle.value_codec.specs.declared.fault.Fault.{Fault}
@@ -87,6 +88,11 @@ IsTrueOf layout schema bytes NoMemory = Unit {0}
 IsTrueOf layout schema bytes (Frame message n) = FrameBegins layout schema bytes (plain_message message) n
 IsTrueOf layout schema bytes (Short n) = IsShort layout schema bytes n
 IsTrueOf layout schema bytes (Bad offset rule) = FrameFault layout schema bytes offset rule
+
+-- a message that was decoded fits the schema
+abbrev pub HasFitting : Schema → Decoded → Type 0
+HasFitting schema (Frame message n) = Fits schema message
+HasFitting schema _ = Unit {0}
 
 -- a frame of the message, and of so many bytes, was decoded, unless memory ran out
 abbrev pub IsFrame : Decoded → Message → ℕ → Type 0

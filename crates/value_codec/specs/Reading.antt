@@ -17,7 +17,7 @@ use Rattle.ipdl_base.specs.declared.value.Values.{Values, First'}
 use Rattle.ipdl_base.specs.declared.value.Values.TheVariants as values
 use Rattle.ipdl_base.specs.Plain.{one_box}
 use Rattle.value_types.specs.declared.layout.Layout.{Layout}
-use Rattle.value_types.specs.Sizes.{padding, number_bytes}
+use Rattle.value_types.specs.Sizes.{padding}
 use Rattle.value_codec.specs.declared.fault.Fault.{Fault}
 use Rattle.value_codec.specs.declared.fault.Refusal.{Refusal}
 use Rattle.value_codec.specs.declared.fault.Refusal.TheVariants as refusal

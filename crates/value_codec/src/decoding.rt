@@ -4,7 +4,7 @@ ghost use Rattle.ipdl_base.specs.Plain.{plain_body};
 ghost use Rattle.ipdl_base.specs.Sound.{IsSound};
 ghost use Rattle.value_types.specs.declared.layout.TheConstants.{NEW, OLD};
 ghost use Rattle.value_codec.specs.Decoding as decoding;
-ghost use Rattle.value_codec.specs.Decoding.{begins, with_contents, whole_size, Yields, IsTrueOf, FrameBegins, IsFrame, IsShort, IsShortBy, FrameFault, IsBadAt};
+ghost use Rattle.value_codec.specs.Decoding.{begins, with_contents, whole_size, Yields, IsTrueOf, HasFitting, FrameBegins, IsFrame, IsShort, IsShortBy, FrameFault, IsBadAt};
 ghost use Rattle.value_codec.specs.Frames as frames;
 ghost use Rattle.value_codec.specs.Reading.{Gives};
 
@@ -147,6 +147,7 @@ pub fn decode(alloc: Global, schema: &Schema, bytes: &[u8]) -> Decoded
     requires { IsSound schema.now }
     // What is answered is true of the bytes, and no message but this one has its frame there.
     ensures told { IsTrueOf NEW schema.now bytes.now result }
+    ensures fits { HasFitting schema.now result }
     ensures frame { (message : Message) (n : ℕ) → FrameBegins NEW schema.now bytes.now message n → IsFrame result message n }
     ensures short { (n : ℕ) → IsShort NEW schema.now bytes.now n → IsShortBy result n }
     ensures bad { (offset rule : ℕ) → FrameFault NEW schema.now bytes.now offset rule → IsBadAt result offset rule }
@@ -160,6 +161,7 @@ pub fn decode_old(alloc: Global, schema: &Schema, bytes: &[u8]) -> Decoded
     requires { IsSound schema.now }
     // What is answered is true of the bytes, and no message but this one has its frame there.
     ensures told { IsTrueOf OLD schema.now bytes.now result }
+    ensures fits { HasFitting schema.now result }
     ensures frame { (message : Message) (n : ℕ) → FrameBegins OLD schema.now bytes.now message n → IsFrame result message n }
     ensures short { (n : ℕ) → IsShort OLD schema.now bytes.now n → IsShortBy result n }
     ensures bad { (offset rule : ℕ) → FrameFault OLD schema.now bytes.now offset rule → IsBadAt result offset rule }

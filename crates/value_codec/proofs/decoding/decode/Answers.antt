@@ -1,6 +1,6 @@
 use Rattle.std.proofs.Common.{arith}
 use Rattle.value_types.specs.declared.layout.TheConstants.{NEW}
-use Rattle.value_codec.proofs.Framed.{told, frame_told, short_told, bad_told}
+use Rattle.value_codec.proofs.Framed.{told, has_fitting, frame_told, short_told, bad_told}
 use Rattle.value_codec.proofs.decoding.decode.Goals as goal
 
 pub returns-clause-told : goal.returns-clause-told
@@ -14,3 +14,6 @@ returns-clause-short c = short_told NEW c.args.schema.now c.args.bytes.now (λ i
 
 pub returns-clause-bad : goal.returns-clause-bad
 returns-clause-bad c = bad_told NEW c.args.schema.now c.args.bytes.now (λ i. omega (arith, c.type_inv.bytes i)) c.begun.result c.begun.ensures
+
+pub returns-clause-fits : goal.returns-clause-fits
+returns-clause-fits c = has_fitting NEW c.args.schema.now c.args.bytes.now c.begun.result (told NEW c.args.schema.now c.args.bytes.now (λ i. omega (arith, c.type_inv.bytes i)) c.begun.result c.begun.ensures)
