@@ -2,7 +2,9 @@
 #![tactic(auto)]
 
 mod answer;
+mod checked;
 mod compile;
+mod frames;
 mod laws;
 mod list;
 mod program;

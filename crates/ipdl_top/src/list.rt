@@ -66,6 +66,7 @@ fn read_named<F: Files>(
     number: u32,
 ) -> Result<Listed, Failure>
     ensures listed { ForMap (F.told files.old) (λ lists. IfOk result (IsFound (lists name.now) number)) }
+    ensures told { F.told files.new ≡ F.told files.old }
     ensures read_fault { result ≡ Err Failure.ReadFault → Rose (F.faults files.old) (F.faults files.new) }
 {
     match files.read(alloc, name, MOST_BYTES) {
@@ -85,6 +86,7 @@ pub fn read_listed<F: Files>(
     number: u32,
 ) -> Result<Listed, Failure>
     ensures listed { ForMap (F.told files.old) (λ lists. IfOk result (IsListed lists (option_map string_bytes list.now) number)) }
+    ensures told { F.told files.new ≡ F.told files.old }
     ensures read_fault { result ≡ Err Failure.ReadFault → Rose (F.faults files.old) (F.faults files.new) }
 {
     match list {
