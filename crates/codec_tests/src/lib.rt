@@ -4,6 +4,8 @@
 #[cfg(test)]
 mod encodes;
 #[cfg(test)]
+mod limits;
+#[cfg(test)]
 mod rows;
 #[cfg(test)]
 mod schemas;
