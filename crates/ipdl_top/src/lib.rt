@@ -4,6 +4,8 @@
 mod answer;
 mod checked;
 mod compile;
+#[cfg(test)]
+mod frame_rows;
 mod frames;
 mod laws;
 mod list;
