@@ -107,12 +107,6 @@ frame_found layout schema bytes type made b fits ok whole long e =
     (λ i. (mark_of layout ++ fields_bytes (size_is i) h.route h.number (s.flags i) h.seq h.transaction) ++ s.bytes i) in
     record { within = whole; frame = record { fits = s.fits; small = omega (arith, ok.small, size_is, payload_length layout schema m); spelled = there ∙ spelled } }
 
--- Cases of what bytes begin
-
-short_or : (b : Bool) (k : ℕ) (d : Decoded) (e : Decoded) → cond b (Short k) d ≡ e → ((b ≡ true) × (Short k ≡ e)) ⊎ ((b ≡ false) × (d ≡ e))
-short_or true k d e p = inl (refl, p)
-short_or false k d e p = inr (refl, p)
-
 -- What was decoded is true of the bytes, and what is true of them was decoded.
 module _ (layout : Layout) (schema : Schema) (bytes : List ℕ) (fits : IsBytes bytes) where
   -- the same of what the bytes begin, where boxes lie at one place

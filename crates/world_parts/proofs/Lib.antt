@@ -1,0 +1,14 @@
+pub mod Provided
+pub mod Adds
+pub mod Effects
+pub mod Begins
+pub mod Events
+pub mod Follow
+pub mod Leaves
+pub mod Sublists
+pub mod Known
+pub mod KnownSteps
+pub mod InState
+pub mod StateSteps
+pub mod Numbered
+pub mod RunsKeep

@@ -1,0 +1,5 @@
+pub mod EventLines
+pub mod Laws
+pub mod Actors
+pub mod States
+pub mod Requests
