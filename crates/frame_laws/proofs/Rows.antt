@@ -6,7 +6,7 @@ use Rattle.std.specs.Option.{option_map_or}
 use Rattle.std.proofs.lemmas.List.{map-append}
 use Rattle.std.proofs.lemmas.Option.{slice_get-map}
 use Rattle.ipdl_base.specs.Plain.{plain_shape}
-use Rattle.ipdl_base.specs.Sound.{has_number, is_sync, message_of}
+use Rattle.ipdl_base.specs.Sound.{has_number, has_reply, is_sync, message_of}
 use Rattle.ipdl_base.specs.declared.schema.MessageRow.{MessageRow}
 use Rattle.ipdl_base.specs.declared.schema.ParamRow.{ParamRow}
 use Rattle.ipdl_base.specs.declared.schema.ProtocolRow.{ProtocolRow}
@@ -39,8 +39,11 @@ still_there : {X Y : Type 0} (f : X → Y) (o : Option X) → is_some (option_ma
 still_there f None = refl
 still_there f (Some x) = refl
 
+pub same_reply : (row : MessageRow) → has_reply (plain_message_row row) ≡ has_reply row
+same_reply row = ap (λ (there : Bool). is_sync row.semantics || there) (still_there (map plain_param_row) row.returns)
+
 has_number_alike : (n : ℕ) (row : MessageRow) → has_number n (plain_message_row row) ≡ has_number n row
-has_number_alike n row = ap (λ (there : Bool). (row.number == n) || ((is_sync row.semantics || there) && (row.number + 1 == n))) (still_there (map plain_param_row) row.returns)
+has_number_alike n row = ap (λ (replies : Bool). (row.number == n) || (replies && (row.number + 1 == n))) (same_reply row)
 
 either : {X : Type 0} (look : X → X) (x : X) (o : Option X) (b : Bool) → cond b (Some (look x)) (option_map look o) ≡ option_map look (cond b (Some x) o)
 either look x o true = refl
