@@ -1,0 +1,9 @@
+pub mod Rows
+pub mod Spelled
+pub mod Typed
+pub mod ReadAlike
+pub mod Begun
+pub mod HeldAlike
+pub mod LinesAlike
+pub mod Alike
+pub mod OneList

@@ -1,0 +1,13 @@
+ghost use Rattle.frame_laws.specs.Laws.{FramesAlike, OneListOfFrames};
+
+/// The law of boxes: under schemas that are the same up to where their boxes lie, bytes hold the same
+/// frames, and frames have the same lines and the same new frames.
+pub fn frames_alike()
+    ensures { FramesAlike }
+{}
+
+/// The law of the one list: under a sound schema bytes hold at most one list of frames, up to where
+/// the boxes of messages lie, and it ends in one way.
+pub fn one_list_of_frames()
+    ensures { OneListOfFrames }
+{}
