@@ -7,3 +7,4 @@ mod HeldAlike
 mod LinesAlike
 pub mod Alike
 pub mod OneList
+pub mod OneText
