@@ -1,5 +1,5 @@
 -- Neither lists of frames nor their lines look at where the boxes of a schema lie.
-use Rattle.std.proofs.Common.{◌∙◌, sym, ap}
+use Rattle.std.proofs.Common.{◌∙◌, sym}
 use Rattle.frame_list.specs.Converted.{new_frames}
 use Rattle.frame_list.specs.Lines.{frames_lines}
 use Rattle.frame_laws.specs.Laws.{FramesAlike}

@@ -1,21 +1,19 @@
 -- What bytes begin does not depend on where the boxes of a schema lie.
-use Rattle.std.proofs.Common.{◌≡◌, ◌∙◌, ◌⊎◌, inl, inr, ℕ, ◌+◌, ◌-◌, ◌==◌, ◌<◌, ◌≤◌, ℤ, Bool, true, false, cond, List, [], length, map, Option, Some, None, refl, sym, ap, subst}
-use Rattle.std.specs.Prelude.{option_map, if◌then◌else◌, nat_lt, take, Result, Ok, Err}
-use Rattle.std.proofs.Math.Path.{transport, transport⁻¹}
-use Rattle.ipdl_base.specs.declared.message.Body.{Body}
+use Rattle.std.proofs.Common.{◌≡◌, ◌∙◌, ◌⊎◌, inl, inr, ℕ, ◌+◌, ◌==◌, ◌<◌, ◌≤◌, cond, List, length, Option, Some, None, refl, sym, ap, subst}
+use Rattle.std.specs.Prelude.{option_map, if◌then◌else◌, nat_lt}
 use Rattle.ipdl_base.specs.declared.message.Message.{Message}
 use Rattle.ipdl_base.specs.declared.schema.MessageRow.{MessageRow}
 use Rattle.ipdl_base.specs.declared.schema.Schema.{Schema}
 use Rattle.ipdl_base.specs.Sound.{message_of}
 use Rattle.value_types.specs.declared.layout.Layout.{Layout}
 use Rattle.value_codec.specs.declared.rules.TheConstants.{BAD_MARK, PAYLOAD_TOO_LARGE}
-use Rattle.value_codec.specs.Decoding.{whole_size, payload_in, contents_of_type, contents_behind, contents, FrameBegins, IsShort, PayloadFault, FrameFault}
-use Rattle.value_codec.specs.Frames.{FrameType, goodbye, request, reply, header_size, header_of, header_fault, has_mark, behind_mark, fields_fault, fault_of_type, type_fault, goodbye_number, request_or_reply, carried_type, type_of, contents_by, contents_at}
+use Rattle.value_codec.specs.Decoding.{whole_size, payload_in, contents_of_type, contents, FrameBegins, IsShort, FrameFault}
+use Rattle.value_codec.specs.Frames.{FrameType, goodbye, request, reply, header_size, header_of, header_fault, has_mark, behind_mark, fields_fault, fault_of_type, goodbye_number, request_or_reply, carried_type, type_of, contents_at}
 use Rattle.value_codec.specs.Reading.{value_at}
-use Rattle.value_codec.specs.Spelling.{FrameOf, frame_bytes, reply_flags}
+use Rattle.value_codec.specs.Spelling.{reply_flags}
 use Rattle.schema_laws.specs.Laws.{plain_message_row, plain_schema}
 use Rattle.frame_laws.proofs.ReadAlike.{request_read, returns_read, fault_read, value_read}
-use Rattle.frame_laws.proofs.Rows.{message_alike}
+use Rattle.frame_laws.proofs.Rows.{either, message_alike}
 use Rattle.frame_laws.proofs.Spelled.{frame_alike, size_alike}
 use Rattle.frame_laws.proofs.Typed.{fits_from, fits_to}
 
@@ -25,10 +23,6 @@ plain_type : FrameType → FrameType
 plain_type goodbye = goodbye
 plain_type (request row) = request (plain_message_row row)
 plain_type (reply row) = reply (plain_message_row row)
-
-either : {X Y : Type 0} (f : X → Y) (x y : X) (b : Bool) → cond b (f x) (f y) ≡ f (cond b x y)
-either f x y true = refl
-either f x y false = refl
 
 one_of_two : (n : ℕ) (row : MessageRow) → request_or_reply n (plain_message_row row) ≡ plain_type (request_or_reply n row)
 unfolding plain_type

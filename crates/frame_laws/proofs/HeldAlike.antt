@@ -1,5 +1,5 @@
 -- Which frames bytes hold does not depend on where the boxes of a schema lie.
-use Rattle.std.proofs.Common.{◌≡◌, ◌∙◌, ℕ, ◌+◌, List, drop, Option, refl, sym, subst}
+use Rattle.std.proofs.Common.{◌≡◌, ℕ, ◌+◌, List, drop, Option, subst}
 use Rattle.std.proofs.Math.Path.{transport, transport⁻¹}
 use Rattle.ipdl_base.specs.declared.schema.Schema.{Schema}
 use Rattle.frame_list.specs.declared.list.ListFault.{ListFault}

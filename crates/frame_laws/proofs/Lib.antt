@@ -1,9 +1,10 @@
-pub mod Rows
-pub mod Spelled
-pub mod Typed
-pub mod ReadAlike
-pub mod Begun
-pub mod HeldAlike
-pub mod LinesAlike
+mod Rows
+mod Spelled
+mod Typed
+mod ReadAlike
+mod Begun
+mod HeldAlike
+mod LinesAlike
 pub mod Alike
 pub mod OneList
+pub mod OneText

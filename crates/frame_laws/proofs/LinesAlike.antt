@@ -1,18 +1,16 @@
 -- The lines of frames do not look at where the boxes of a schema lie.
-use Rattle.std.proofs.Common.{◌≡◌, ◌∙◌, ℕ, ◌/◌, List, [], ◌∷◌, ◌++◌, map, Option, Some, None, refl, sym, ap, codes, unwrap_or}
+use Rattle.std.proofs.Common.{◌≡◌, ◌∙◌, ℕ, ◌/◌, List, [], ◌∷◌, ◌++◌, map, Option, Some, None, refl, codes, unwrap_or}
 use Rattle.std.specs.Prelude.{option_map, slice_get}
 use Rattle.std.specs.Fmt.{decimal}
 use Rattle.std.specs.Option.{option_map_or}
 use Rattle.std.proofs.lemmas.Option.{slice_get-map}
 use Rattle.history.specs.Text.{listed_values, message_text, numbered, params_of, protocol_text, returns_of_row}
 use Rattle.history.specs.Words.{reason_word}
-use Rattle.ipdl_base.specs.declared.builtin.Builtin.{Builtin as BuiltinType}
 use Rattle.ipdl_base.specs.declared.message.Body.{Body}
 use Rattle.ipdl_base.specs.declared.message.Body.TheVariants as body
 use Rattle.ipdl_base.specs.declared.message.Message.{Message}
 use Rattle.ipdl_base.specs.declared.schema.MessageRow.{MessageRow}
 use Rattle.ipdl_base.specs.declared.schema.ParamRow.{ParamRow}
-use Rattle.ipdl_base.specs.declared.schema.ProtocolRow.{ProtocolRow}
 use Rattle.ipdl_base.specs.declared.schema.Schema.{Schema}
 use Rattle.ipdl_base.specs.declared.schema.Shape.{Shape}
 use Rattle.ipdl_base.specs.declared.value.Value.{Value, Union', Maybe', Held-Value-Maybe-0, None', Some'}
@@ -22,10 +20,10 @@ use Rattle.ipdl_base.specs.declared.value.Values.TheVariants as values
 use Rattle.ipdl_base.specs.Plain.{plain_shape}
 use Rattle.ipdl_base.specs.Sound.{message_of}
 use Rattle.ipdl_base.specs.Words.{short_name}
-use Rattle.value_types.specs.Shapes.{builtin_of, component_of, element_of, fields_of, held_by}
+use Rattle.value_types.specs.Shapes.{component_of, element_of, fields_of, held_by}
 use Rattle.value_types.specs.ValueText.{bits_text, digit_count_of, hex_digits, value_text, held_text, elements_text, parts_text}
 use Rattle.frame_list.specs.declared.list.Placed.{Placed}
-use Rattle.frame_list.specs.Lines.{addressed, frame_line, frames_lines, made_text, receiver_text, said_text}
+use Rattle.frame_list.specs.Lines.{addressed, frame_line, frames_lines, made_text, said_text}
 use Rattle.schema_laws.specs.Laws.{plain_param_row, plain_message_row, plain_protocol_row, plain_schema}
 use Rattle.frame_laws.proofs.Rows.{option_alike, listed_alike, builtin_alike, message_alike, fields_alike, component_alike, element_alike, held_by_alike}
 

@@ -1,15 +1,14 @@
 -- Bytes hold one list of frames.
-use Rattle.std.proofs.Common.{◌≡◌, ◌≢◌, ◌∙◌, ℕ, zero, suc, ◌+◌, ◌<◌, ◌≤◌, Bool, true, false, List, [], ◌∷◌, length, drop, take, Option, Some, None, inl, inr, refl, sym, ap, subst, arith}
+use Rattle.std.proofs.Common.{◌≡◌, ◌∙◌, ℕ, zero, suc, ◌+◌, Bool, true, false, List, [], ◌∷◌, drop, take, Option, Some, inl, refl, sym, ap, subst, arith}
 use Rattle.std.specs.Prelude.{if◌then◌else◌}
 use Rattle.std.specs.Str.{bytes_eq}
 use Rattle.ipdl_base.specs.declared.message.Message.{Message}
 use Rattle.ipdl_base.specs.declared.schema.Schema.{Schema}
-use Rattle.ipdl_base.specs.Plain.{plain_message}
 use Rattle.ipdl_base.specs.Sound.{IsSound}
 use Rattle.value_types.specs.declared.layout.TheConstants.{MARK, NEW, OLD}
 use Rattle.value_codec.specs.Decoding.{FrameBegins}
 use Rattle.value_codec.specs.Frames.{header_size}
-use Rattle.codec_laws.specs.Laws.{AreBytes, HasLengths, ThreeCases, OneOfThreeBegins}
+use Rattle.codec_laws.specs.Laws.{AreBytes, HasLengths, ThreeCases}
 use Rattle.codec_laws.proofs.Cases.{three_cases}
 use Rattle.frame_list.specs.declared.list.ListFault.{ListFault}
 use Rattle.frame_list.specs.declared.list.ListFault.TheVariants.{Short, Broken}

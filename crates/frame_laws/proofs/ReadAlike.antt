@@ -1,8 +1,7 @@
 -- Reading values and payloads does not look at where the boxes of a schema lie.
-use Rattle.std.proofs.Common.{◌≡◌, ◌∙◌, ℕ, zero, suc, ◌+◌, ◌==◌, ℤ, pos, Bool, true, false, List, [], ◌∷◌, length, map, Option, Some, None, refl, unwrap_or}
-use Rattle.std.specs.Prelude.{slice_get, option_map, if◌then◌else◌, Result, Ok, Err}
+use Rattle.std.proofs.Common.{◌≡◌, ◌∙◌, ℕ, zero, suc, pos, Bool, true, false, List, [], ◌∷◌, map, Option, Some, None, refl, unwrap_or}
+use Rattle.std.specs.Prelude.{slice_get, option_map, Ok}
 use Rattle.std.proofs.lemmas.Option.{slice_get-map}
-use Rattle.ipdl_base.specs.declared.message.Body.{Body}
 use Rattle.ipdl_base.specs.declared.message.Body.TheVariants as body
 use Rattle.ipdl_base.specs.declared.schema.MessageRow.{MessageRow}
 use Rattle.ipdl_base.specs.declared.schema.ParamRow.{ParamRow}
@@ -13,7 +12,7 @@ use Rattle.ipdl_base.specs.declared.schema.TypeRow.TheVariants.{Struct, Union}
 use Rattle.ipdl_base.specs.declared.value.Value.{Value}
 use Rattle.ipdl_base.specs.declared.value.Value as boxed
 use Rattle.ipdl_base.specs.declared.value.Value.TheVariants as value
-use Rattle.ipdl_base.specs.declared.value.Values.{Values, First'}
+use Rattle.ipdl_base.specs.declared.value.Values.{First'}
 use Rattle.ipdl_base.specs.Plain.{one_box, plain_shape}
 use Rattle.value_types.specs.declared.layout.Layout.{Layout}
 use Rattle.value_codec.specs.Frames.{ended, made_at, request_at, returns_at, fault_at}

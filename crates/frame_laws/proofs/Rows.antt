@@ -8,7 +8,6 @@ use Rattle.std.proofs.lemmas.Option.{slice_get-map}
 use Rattle.ipdl_base.specs.Plain.{plain_shape}
 use Rattle.ipdl_base.specs.Sound.{has_number, has_reply, is_sync, message_of}
 use Rattle.ipdl_base.specs.declared.schema.MessageRow.{MessageRow}
-use Rattle.ipdl_base.specs.declared.schema.ParamRow.{ParamRow}
 use Rattle.ipdl_base.specs.declared.schema.ProtocolRow.{ProtocolRow}
 use Rattle.ipdl_base.specs.declared.schema.Schema.{Schema}
 use Rattle.ipdl_base.specs.declared.schema.Shape.{Shape, Builtin, Using, Actor, Named, Array', Maybe', Unique', Endpoint}
@@ -45,16 +44,16 @@ same_reply row = ap (λ (there : Bool). is_sync row.semantics || there) (still_t
 has_number_alike : (n : ℕ) (row : MessageRow) → has_number n (plain_message_row row) ≡ has_number n row
 has_number_alike n row = ap (λ (replies : Bool). (row.number == n) || (replies && (row.number + 1 == n))) (same_reply row)
 
-either : {X : Type 0} (look : X → X) (x : X) (o : Option X) (b : Bool) → cond b (Some (look x)) (option_map look o) ≡ option_map look (cond b (Some x) o)
-either look x o true = refl
-either look x o false = refl
+pub either : {X Y : Type 0} (f : X → Y) (x y : X) (b : Bool) → cond b (f x) (f y) ≡ f (cond b x y)
+either f x y true = refl
+either f x y false = refl
 
 found : {X : Type 0} (look : X → X) (test : X → Bool) → ((x : X) → test (look x) ≡ test x) → (xs : List X) → find test (map look xs) ≡ option_map look (find test xs)
 found look test same [] = refl
 found look test same (x ∷ xs) =
     ap (λ b. cond b (Some (look x)) (find test (map look xs))) (same x)
     ∙ ap (λ o. cond (test x) (Some (look x)) o) (found look test same xs)
-    ∙ either look x (find test xs) (test x)
+    ∙ either (option_map look) (Some x) (find test xs) (test x)
 
 messages_alike : (rows : List ProtocolRow) → flat_map (λ p. p.messages) (map plain_protocol_row rows) ≡ map plain_message_row (flat_map (λ p. p.messages) rows)
 messages_alike [] = refl

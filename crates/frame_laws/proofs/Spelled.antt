@@ -1,7 +1,6 @@
 -- The spelling of messages does not look at where the boxes of a schema lie.
-use Rattle.std.proofs.Common.{◌≡◌, ◌∙◌, ℕ, ℤ, List, [], ◌∷◌, ◌++◌, length, map, Option, Some, None, refl, sym, ap}
+use Rattle.std.proofs.Common.{◌≡◌, ◌∙◌, ℕ, ℤ, List, [], ◌∷◌, ◌++◌, length, map, Option, refl, sym, ap}
 use Rattle.std.specs.Prelude.{option_map, unwrap_or}
-use Rattle.std.specs.List.{flat_map}
 use Rattle.std.specs.Option.{option_map_or}
 use Rattle.ipdl_base.specs.declared.builtin.Builtin.{Builtin as BuiltinType}
 use Rattle.ipdl_base.specs.declared.message.Body.{Body}
@@ -19,7 +18,7 @@ use Rattle.ipdl_base.specs.Plain.{plain_shape}
 use Rattle.ipdl_base.specs.Sound.{message_of}
 use Rattle.value_types.specs.declared.layout.Layout.{Layout}
 use Rattle.value_types.specs.declared.layout.TheConstants.{NEW}
-use Rattle.value_types.specs.Shapes.{builtin_of, component_of, element_of, fields_of, held_by}
+use Rattle.value_types.specs.Shapes.{component_of, element_of, fields_of, held_by}
 use Rattle.value_types.specs.Sizes.{number_bytes, payload_size}
 use Rattle.value_codec.specs.Spelling.{value_bytes, held_bytes, elements_bytes, values_bytes, request_bytes, reply_bytes, body_bytes, body_flags, request_flags, reply_flags, fault_flags, frame_bytes, header_bytes, payload_bytes, count, index_bytes, made_bytes, part, struct_byte, word, width}
 use Rattle.value_codec.proofs.Lengths.{payload_length}

@@ -18,10 +18,10 @@ use Rattle.ipdl_base.specs.declared.value.Value.TheVariants as value
 use Rattle.ipdl_base.specs.declared.value.Values.{Values, First'}
 use Rattle.ipdl_base.specs.declared.value.Values.TheVariants as values
 use Rattle.ipdl_base.specs.Plain.{plain_shape}
-use Rattle.ipdl_base.specs.Sound.{message_of, has_reply}
+use Rattle.ipdl_base.specs.Sound.{message_of}
 use Rattle.value_types.specs.Fits.{Fits, FitsBody, HasFields, IsRequestOf, IsReplyTo, GivesReturns, IsFaultOf}
 use Rattle.value_types.specs.HasType.{HasType, HeldHasType, AllHaveType, HaveTypes, IsActorOf}
-use Rattle.value_types.specs.Shapes.{range_of, float_bits, builtin_of, component_of, element_of, fields_of, held_by}
+use Rattle.value_types.specs.Shapes.{range_of, float_bits, component_of, element_of, fields_of, held_by}
 use Rattle.schema_laws.specs.Laws.{plain_param_row, plain_message_row, plain_schema}
 use Rattle.frame_laws.proofs.Rows.{builtin_alike, are_bytes_alike, message_alike, fields_alike, component_alike, element_alike, held_by_alike, listed_alike, same_reply}
 

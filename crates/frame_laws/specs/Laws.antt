@@ -25,3 +25,10 @@ abbrev pub OneListOfFrames : Type 0
 OneListOfFrames =
     (schema : Schema) → IsSound schema → (offset : ℕ) (bytes : List ℕ) → AreBytes bytes → (frames others : List Placed) (fault other : Option ListFault)
     → Holds schema offset bytes frames fault → Holds schema offset bytes others other → (all_plain frames ≡ all_plain others) × (fault ≡ other)
+
+-- Whichever of two such schemas and whichever list of frames they are told by, bytes have the same lines, the same new frames and the same fault.
+abbrev pub OneText : Type 0
+OneText =
+    (a b : Schema) → AreAlike a b → IsSound a → (offset : ℕ) (bytes : List ℕ) → AreBytes bytes → (frames others : List Placed) (fault other : Option ListFault)
+    → Holds a offset bytes frames fault → Holds b offset bytes others other
+    → (frames_lines a frames ≡ frames_lines b others) × (new_frames a frames ≡ new_frames b others) × (fault ≡ other)
