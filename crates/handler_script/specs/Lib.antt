@@ -1,0 +1,11 @@
+pub mod Blocks
+pub mod Broken
+pub mod Faults
+pub mod Mentions
+pub mod Messages
+pub mod Plain
+pub mod ScriptOf
+pub mod Served
+pub mod Terms
+pub mod Valid
+pub mod ValueOf

@@ -1,0 +1,67 @@
+-- Whom a statement and its values speak of.
+use Rattle.std.specs.Prelude.{ℕ, Bool, true, false, ◌||◌, List, Option, Some, None, is_some, not}
+use Rattle.ipdl_base.specs.declared.schema.ParamRow.{ParamRow}
+use Rattle.script_reader.specs.declared.statement.Statement.{Statement}
+use Rattle.script_reader.specs.declared.statement.Statement.TheVariants as forms
+use Rattle.script_reader.specs.declared.statement.MessageName.{MessageName}
+use Rattle.script_reader.specs.declared.written.Atom.{Atom}
+use Rattle.script_reader.specs.declared.written.Atom.TheVariants as atom
+use Rattle.script_reader.specs.declared.written.Who.{Who}
+use Rattle.script_reader.specs.declared.written.Written.{Written, Union', Held'}
+use Rattle.script_reader.specs.declared.written.Written.TheVariants as written
+use Rattle.script_reader.specs.declared.written.WrittenValues.{WrittenValues, First'}
+use Rattle.script_reader.specs.declared.written.WrittenValues.TheVariants as written_values
+
+abbrev pub atom_mentions : (Who → Bool) → Atom → Bool
+atom_mentions test (atom.Who w) = test w
+atom_mentions test _ = false
+
+-- whether a value speaks of one who passes the test
+abbrev mutual
+  pub mentions : (Who → Bool) → Written → Bool
+  mentions test (written.Atom a) = atom_mentions test a
+  mentions test (written.Struct vs) = any_mentions test vs
+  mentions test (written.Array vs) = any_mentions test vs
+  mentions test (Union' index _ v) = mentions test v
+  mentions test (Held' _ v) = mentions test v
+
+  pub any_mentions : (Who → Bool) → WrittenValues → Bool
+  any_mentions test written_values.Nothing = false
+  any_mentions test (First' _ v _ vs) = mentions test v || any_mentions test vs
+
+-- the values of a statement
+abbrev pub values_of : Statement → Option WrittenValues
+values_of (forms.Send w c) = Some c.values
+values_of (forms.New n w c) = Some c.values
+values_of (forms.Resolve vs) = Some vs
+values_of (forms.ResolveKept n c) = Some c.values
+values_of (forms.Return vs) = Some vs
+values_of _ = None
+
+-- to whom a statement goes, or whom it names
+abbrev pub who_of : Statement → Option Who
+who_of (forms.Send w c) = Some w
+who_of (forms.New n w c) = Some w
+who_of (forms.Let n w) = Some w
+who_of _ = None
+
+-- the message that a statement names
+abbrev pub message_of : Statement → Option MessageName
+message_of (forms.On s m) = Some m
+message_of (forms.Send w c) = Some c.message
+message_of (forms.New n w c) = Some c.message
+message_of (forms.ResolveKept n c) = Some c.message
+message_of (forms.RejectKept n m) = Some m
+message_of _ = None
+
+abbrev pub some_mentions : (Who → Bool) → Option WrittenValues → Bool
+some_mentions test None = false
+some_mentions test (Some vs) = any_mentions test vs
+
+abbrev pub some_passes : (Who → Bool) → Option Who → Bool
+some_passes test None = false
+some_passes test (Some w) = test w
+
+-- whether a statement speaks of one who passes the test
+abbrev pub speaks_of : (Who → Bool) → Statement → Bool
+speaks_of test s = some_passes test (who_of s) || some_mentions test (values_of s)

@@ -1,0 +1,18 @@
+//! Handler scripts: what each side does by itself and when it handles messages (docs/scripts.md).
+//! The rules that a script can break, the script of a text that breaks none, and its actions one by one.
+#![tactic(auto)]
+
+mod action;
+mod fits;
+mod messages;
+mod read;
+mod script;
+mod shapes;
+mod term;
+mod typed;
+
+pub use action::{Action, Actions, Block, Blocks};
+pub use read::read_script;
+pub use script::{Point, Script, ScriptFault};
+pub use script_reader::Who;
+pub use term::{Term, Terms};

@@ -1,0 +1,10 @@
+pub mod Asking
+pub mod Chain
+pub mod Deferrals
+pub mod Fallen
+pub mod Holds
+pub mod Living
+pub mod Prefix
+pub mod Settled
+pub mod Still
+pub mod Waits

@@ -1,0 +1,55 @@
+ghost use Rattle.std.specs.Prelude.{◌≡◌, ◌∷◌, ◌++◌, [], OnOk};
+ghost use Rattle.history_reading.specs.Numbers.{has};
+
+use std::alloc::{AllocError, Global};
+use std::collections::HashSet;
+use std::marker::Model;
+
+/// Numbers in their order, which contracts see as a list, with a quick test of whether one is there.
+#[derive(Debug, Drop)]
+pub struct NumberList {
+    list: Vec<i32>,
+    members: HashSet<i32>,
+}
+
+impl Model for NumberList {
+    ghost use Rattle.std.specs.Prelude.{List, ℤ};
+    ghost use Rattle.history_reading.specs.Kept.{AreMembers};
+
+    ghost Value = { List ℤ };
+
+    ghost view = { λ a. a.list.items };
+
+    ghost invariant = { λ a. AreMembers a.list.items a.members };
+}
+
+impl NumberList {
+    /// No numbers. Takes no memory.
+    pub fn new(alloc: Global) -> NumberList
+        ensures { result ≡ [] }
+    {
+        NumberList {
+            list: Vec::new(alloc),
+            members: HashSet::new(alloc),
+        }
+    }
+
+    /// Puts a number last.
+    pub fn push(&mut self, n: i32) -> Result<(), AllocError>
+        ensures { OnOk result (self.new ≡ self.old ++ n ∷ []) }
+    {
+        self.list.reserve(1)?;
+        self.members.insert(n)?;
+        if self.list.push(n).is_err() {
+            unreachable!();
+        }
+        Ok(())
+    }
+
+    /// Whether a number is there.
+    pub fn has(&self, n: i32) -> bool
+        ensures { result ≡ has self.now n }
+    {
+        self.members.contains(&n)
+    }
+}

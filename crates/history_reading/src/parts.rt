@@ -1,0 +1,80 @@
+use ipdl_base::Destroy;
+
+/// The state of an end.
+#[derive(Clone, Copy, Debug, PartialEq, Eq)]
+pub enum State {
+    Open,
+    Draining,
+    Closed,
+    Dead,
+}
+
+/// What a line of a delivery shows of a packet: its kind, with the number of its request.
+#[derive(Clone, Copy, Debug, PartialEq, Eq)]
+pub enum Seen {
+    Request(i32),
+    Reply(i32),
+    Goodbye,
+    Broken,
+}
+
+/// An actor that was built at an end, with the actor under which it was.
+#[derive(Clone, Copy, Debug, PartialEq, Eq)]
+pub struct Actor {
+    pub id: i32,
+    pub manager: i32,
+}
+
+/// Where an actor stands among those that were built, and the actor that manages it.
+#[derive(Clone, Copy, Debug, PartialEq, Eq)]
+pub struct Standing {
+    pub place: usize,
+    pub manager: i32,
+}
+
+/// A request that is handled: its number, its actor and its message.
+#[derive(Clone, Copy, Debug, PartialEq, Eq)]
+pub struct Handled {
+    pub seq: i32,
+    pub route: i32,
+    pub number: u32,
+}
+
+/// A call: its number, its transaction, its message, and the place of its line in the history.
+#[derive(Clone, Copy, Debug, PartialEq, Eq)]
+pub struct Call {
+    pub seq: i32,
+    pub transaction: i32,
+    pub number: u32,
+    pub place: usize,
+}
+
+/// A frame of the stack of an end.
+#[derive(Clone, Copy, Debug, PartialEq, Eq)]
+pub enum Frame {
+    Dispatch(Handled),
+    Unanswered(Call),
+    Answered(Call),
+}
+
+/// What the laws look at of an event of an end.
+#[derive(Clone, Copy, Debug, PartialEq, Eq)]
+pub enum Event {
+    /// A request of this number is sent to this actor.
+    Sends(i32, i32),
+    /// The other end's request of this number is handled at this actor.
+    Takes(i32, i32),
+    /// The end of the other end is delivered.
+    Ends,
+    /// The end closes.
+    Closes,
+    Other,
+}
+
+/// Why actors fall in an event: none does, that of a destructor does with all below it, or all do.
+#[derive(Clone, Copy, Debug, PartialEq, Eq)]
+pub enum Cause {
+    Nobody,
+    Delete(i32),
+    Closing(Destroy),
+}

@@ -1,0 +1,102 @@
+ghost use Rattle.std.specs.Prelude.{◌≡◌, OnOk, IfOk};
+ghost use Rattle.ipdl_base.specs.Sound.{IsSound};
+ghost use Rattle.history.specs.Text.{is_effect};
+ghost use Rattle.history_reading.specs.Halves.{half_view};
+ghost use Rattle.history_reading.specs.Reading as read;
+ghost use Rattle.history_reading.specs.Readings.{reading_view};
+
+use crate::half::Half;
+use history::{Line, What};
+use ipdl_base::{Schema, Side};
+use std::alloc::{AllocError, Global};
+
+/// What is read from the lines of a history: a half for each end, the end of the last event, and how
+/// many lines there were.
+#[derive(Drop)]
+pub struct Reading<'h> {
+    pub parent: Half<'h>,
+    pub child: Half<'h>,
+    pub last: Option<Side>,
+    pub lines: usize,
+}
+
+impl<'h> Reading<'h> {
+    /// The reading of no lines.
+    pub fn new(alloc: Global) -> Result<Reading<'h>, AllocError>
+        ensures { IfOk result (λ reading. reading_view reading ≡ read.opening_reading) }
+    {
+        Ok(Reading {
+            parent: Half::new(alloc)?,
+            child: Half::new(alloc)?,
+            last: None,
+            lines: 0,
+        })
+    }
+
+    /// The half of an end.
+    pub fn half(&self, side: Side) -> &Half<'h>
+        ensures { half_view result.now ≡ read.half_of side (reading_view self.now) }
+    {
+        match side {
+            Side::Parent => &self.parent,
+            Side::Child => &self.child,
+        }
+    }
+
+    /// The half of the other end.
+    pub fn other(&self, side: Side) -> &Half<'h>
+        ensures { half_view result.now ≡ read.other_of side (reading_view self.now) }
+    {
+        match side {
+            Side::Parent => &self.child,
+            Side::Child => &self.parent,
+        }
+    }
+
+    /// What a line at an end says is read.
+    fn note_at(&mut self, schema: &Schema, side: Side, what: &'h What) -> Result<(), AllocError>
+        requires { IsSound schema.now }
+        ensures { OnOk result (reading_view self.new ≡ read.after_at schema.now side what.now (reading_view self.old)) }
+    {
+        let more = self.lines.checked_add(1).ok_or(AllocError)?;
+        match side {
+            Side::Parent => self.parent.note(schema, self.lines, what)?,
+            Side::Child => self.child.note(schema, self.lines, what)?,
+        }
+        self.last = last_after(what, side, self.last);
+        self.lines = more;
+        Ok(())
+    }
+
+    /// One more line is read.
+    pub fn note(&mut self, schema: &Schema, line: &'h Line) -> Result<(), AllocError>
+        requires { IsSound schema.now }
+        ensures { OnOk result (reading_view self.new ≡ read.after schema.now (reading_view self.old) line.now) }
+    {
+        self.note_at(schema, line.side, &line.what)
+    }
+}
+
+/// Whether a line is an effect of the event before it.
+pub fn is_effect(what: &What) -> bool
+    ensures { result ≡ is_effect what.now }
+{
+    matches!(
+        what,
+        What::Built(..)
+            | What::Replaced(..)
+            | What::AnswerOk(..)
+            | What::AnswerFault(..)
+            | What::Fails(..)
+            | What::Resolved(..)
+            | What::Rejected(..)
+            | What::Fall(..)
+    )
+}
+
+/// The end of the last event behind a line of an end.
+fn last_after(what: &What, side: Side, before: Option<Side>) -> Option<Side>
+    ensures { result ≡ read.last_after what.now side before }
+{
+    if is_effect(what) { before } else { Some(side) }
+}

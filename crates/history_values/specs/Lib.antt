@@ -1,0 +1,2 @@
+pub mod Nulled
+pub mod Wanted

@@ -1,0 +1,11 @@
+pub mod Balanced
+pub mod Begins
+pub mod Heads
+pub mod NoValues
+pub mod Refused
+pub mod Sequences
+pub mod StatementForms
+pub mod TokenLists
+pub mod Turns
+pub mod Unique
+pub mod ValueForms

@@ -1,0 +1,26 @@
+-- What a value is by its first token, which the reader tells it by.
+use Rattle.std.specs.Prelude.{ℕ, Bool, false, ◌==◌, ◌||◌, if◌then◌else◌, List, [], ◌∷◌, codes}
+use Rattle.std.specs.Str.{bytes_eq}
+use Rattle.script_reader.specs.declared.reader.Begin.{Begin}
+use Rattle.script_reader.specs.declared.reader.Begin.TheVariants as begin
+use Rattle.script_reader.specs.declared.token.Token.{Token}
+use Rattle.script_reader.specs.declared.token.Token.TheVariants as token
+
+abbrev pub begin_with : Token → Begin
+begin_with (token.Mark b) = if b == 123 then begin.Struct else (if b == 91 then begin.Array else begin.Atom)
+begin_with (token.Index n) = begin.Union n
+begin_with (token.Word word) = if bytes_eq word (codes "some") then begin.Held else begin.Atom
+begin_with _ = begin.Atom
+
+abbrev pub begin_of : List Token → Begin
+begin_of [] = begin.Atom
+begin_of (t ∷ rest) = begin_with t
+
+-- the marks that open and that close values
+abbrev pub is_opening : Token → Bool
+is_opening (token.Mark b) = b == 40 || b == 91 || b == 123
+is_opening _ = false
+
+abbrev pub is_closing : Token → Bool
+is_closing (token.Mark b) = b == 41 || b == 93 || b == 125
+is_closing _ = false

@@ -1,0 +1,26 @@
+//! The lines of a handler script: the tokens of a line, the statement that they are, and what each
+//! line of a text says (docs/scripts.md).
+#![tactic(auto)]
+
+mod cursor;
+mod laws;
+mod line;
+mod parts;
+mod pieces;
+mod reader;
+mod statement;
+mod statements;
+mod stop;
+mod token;
+mod tokens;
+mod values;
+mod words;
+mod written;
+
+pub use laws::one_reading;
+pub use line::{LineReading, LineReadings, MAX_LINE_LEN, read_lines};
+pub use statement::{Call, MessageName, Statement};
+pub use written::{Atom, Who, Written, WrittenValues};
+
+#[cfg(test)]
+mod tests;

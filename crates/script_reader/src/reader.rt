@@ -1,0 +1,220 @@
+ghost use Rattle.std.specs.Prelude.{◌≡◌, ◌≢◌, ◌<◌, ◌≤◌, ℕ, List, [], ◌∷◌, drop, length, true, false, IfOk, IfErr, OnOk, IfSome, IfNone};
+ghost use Rattle.script_reader.specs.declared.parts.Keyword.{Keyword as KeywordType};
+ghost use Rattle.script_reader.specs.declared.token.Token.{Token as TokenType};
+ghost use Rattle.script_reader.specs.declared.written.Atom.{Atom as AtomType};
+ghost use Rattle.script_reader.specs.declared.written.Who.{Who as WhoType};
+ghost use Rattle.script_reader.specs.Grammar.{name_of, who_of, atom_of, keyword_of, name, who};
+ghost use Rattle.script_reader.specs.Heads.{begin_with, begin_of};
+ghost use Rattle.script_reader.specs.Parts.{mark, word, single};
+ghost use Rattle.script_reader.specs.Reading.{Refuses};
+
+use crate::parts::Keyword;
+use crate::stop::Stop;
+use crate::token::Token;
+use crate::words::{atom_of, keyword_of, name_of, who_of};
+use crate::written::{Atom, Who};
+use ipdl_base::Name;
+use std::alloc::Global;
+use std::marker::Model;
+
+/// What a value is, by its first token.
+#[derive(Clone, Copy)]
+pub enum Begin {
+    Struct,
+    Array,
+    /// A union, by the index of its component.
+    Union(u32),
+    /// What a maybe or a `UniquePtr` holds.
+    Held,
+    /// One token.
+    Atom,
+}
+
+/// The tokens of a line that are left.
+#[derive(Drop)]
+pub struct Reader<'a> {
+    rest: &'a [Token],
+}
+
+impl<'a> Model for Reader<'a> {
+    ghost use Rattle.std.specs.Prelude.{List};
+    ghost use Rattle.script_reader.specs.declared.token.Token.{Token};
+
+    ghost Value = { List Token };
+
+    ghost view = { λ r. r.rest.now };
+}
+
+/// What a value is that begins with the token.
+fn begin_with(token: &Token) -> Begin
+    ensures { result ≡ begin_with token.now }
+{
+    match token {
+        Token::Mark(b'{') => Begin::Struct,
+        Token::Mark(b'[') => Begin::Array,
+        Token::Index(index) => Begin::Union(*index),
+        Token::Word(word) if word.as_slice() == b"some".as_slice() => Begin::Held,
+        _ => Begin::Atom,
+    }
+}
+
+impl<'a> Reader<'a> {
+    /// The tokens of a line.
+    pub fn new(tokens: &'a [Token]) -> Reader<'a>
+        ensures { result ≡ tokens.now }
+    {
+        Reader { rest: tokens }
+    }
+
+    /// Whether no token is left.
+    pub fn is_empty(&self) -> bool
+        ensures yes { result ≡ true → self.now ≡ [] }
+        ensures not { result ≡ false → self.now ≢ [] }
+    {
+        self.rest.is_empty()
+    }
+
+    /// That no token is left.
+    pub fn end(&self) -> Result<(), Stop>
+        ensures read { OnOk result (self.now ≡ []) }
+        ensures stops { IfErr result (Refuses (self.now ≢ [])) }
+    {
+        if self.is_empty() {
+            Ok(())
+        } else {
+            Err(Stop::NoReading)
+        }
+    }
+
+    /// What a value is that begins here.
+    pub fn begin(&self) -> Begin
+        ensures { result ≡ begin_of self.now }
+    {
+        match self.rest.first() {
+            Some(token) => begin_with(token),
+            None => Begin::Atom,
+        }
+    }
+
+    /// Passes the next token, if there is one.
+    pub fn pass(&mut self)
+        ensures { self.new ≡ drop 1 self.old }
+    {
+        if let Some((_, rest)) = self.rest.split_first() {
+            self.rest = rest;
+        }
+    }
+
+    /// Takes the next token.
+    fn next(&mut self) -> Option<&'a Token>
+        ensures some { IfSome result (λ token. self.old ≡ token.now ∷ self.new) }
+        ensures none { IfNone result (self.old ≡ []) }
+    {
+        let (first, rest) = self.rest.split_first()?;
+        self.rest = rest;
+        Some(first)
+    }
+
+    /// Whether the next token is this mark.
+    pub fn is_at(&self, b: u8) -> bool
+        ensures yes { result ≡ true → mark b self.now (drop 1 self.now) }
+        ensures not { result ≡ false → (to : List TokenType) → ¬ mark b self.now to }
+    {
+        match self.rest.first() {
+            Some(Token::Mark(c)) => *c == b,
+            _ => false,
+        }
+    }
+
+    /// Passes the next token if it is this mark, and says whether it was.
+    pub fn skips(&mut self, b: u8) -> bool
+        ensures yes { result ≡ true → mark b self.old self.new }
+        ensures not { result ≡ false → (to : List TokenType) → ¬ mark b self.old to }
+        ensures kept { result ≡ false → self.new ≡ self.old }
+    {
+        let is_at = self.is_at(b);
+        if is_at {
+            self.pass();
+        }
+        is_at
+    }
+
+    /// Takes this mark.
+    pub fn mark(&mut self, b: u8) -> Result<(), Stop>
+        ensures read { OnOk result (mark b self.old self.new) }
+        ensures stops { IfErr result (Refuses ((to : List TokenType) → ¬ mark b self.old to)) }
+    {
+        if self.skips(b) {
+            Ok(())
+        } else {
+            Err(Stop::NoReading)
+        }
+    }
+
+    /// Takes a word.
+    pub fn word(&mut self, alloc: Global) -> Result<Name, Stop>
+        ensures read { IfOk result (λ w. word w self.old self.new) }
+        ensures stops { IfErr result (Refuses ((w : List ℕ) (to : List TokenType) → ¬ word w self.old to)) }
+    {
+        match self.next() {
+            Some(Token::Word(word)) => Ok(word.copy(alloc)?),
+            _ => Err(Stop::NoReading),
+        }
+    }
+
+    /// Takes a keyword.
+    pub fn keyword(&mut self) -> Result<Keyword, Stop>
+        ensures read { IfOk result (λ k. single keyword_of k self.old self.new) }
+        ensures stops { IfErr result (Refuses ((k : KeywordType) (to : List TokenType) → ¬ single keyword_of k self.old to)) }
+    {
+        let Some(token) = self.next() else {
+            return Err(Stop::NoReading);
+        };
+        match keyword_of(token) {
+            Some(keyword) => Ok(keyword),
+            None => Err(Stop::NoReading),
+        }
+    }
+
+    /// Takes a name.
+    pub fn name(&mut self, alloc: Global) -> Result<Name, Stop>
+        ensures read { IfOk result (λ n. name n self.old self.new) }
+        ensures stops { IfErr result (Refuses ((n : List ℕ) (to : List TokenType) → ¬ name n self.old to)) }
+    {
+        let Some(token) = self.next() else {
+            return Err(Stop::NoReading);
+        };
+        match name_of(alloc, token)? {
+            Some(name) => Ok(name),
+            None => Err(Stop::NoReading),
+        }
+    }
+
+    /// Takes one who is spoken of.
+    pub fn who(&mut self, alloc: Global) -> Result<Who, Stop>
+        ensures read { IfOk result (λ w. who w self.old self.new) }
+        ensures stops { IfErr result (Refuses ((w : WhoType) (to : List TokenType) → ¬ who w self.old to)) }
+    {
+        let Some(token) = self.next() else {
+            return Err(Stop::NoReading);
+        };
+        match who_of(alloc, token)? {
+            Some(who) => Ok(who),
+            None => Err(Stop::NoReading),
+        }
+    }
+
+    /// Takes a value of one token.
+    pub fn atom(&mut self, alloc: Global) -> Result<Atom, Stop>
+        ensures read { IfOk result (λ a. single atom_of a self.old self.new) }
+        ensures stops { IfErr result (Refuses ((a : AtomType) (to : List TokenType) → ¬ single atom_of a self.old to)) }
+    {
+        let Some(token) = self.next() else {
+            return Err(Stop::NoReading);
+        };
+        match atom_of(alloc, token)? {
+            Some(atom) => Ok(atom),
+            None => Err(Stop::NoReading),
+        }
+    }
+}

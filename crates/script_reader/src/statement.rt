@@ -1,0 +1,49 @@
+use crate::written::{Who, WrittenValues};
+use ipdl_base::{Name, Side};
+
+/// A message by the short name of its protocol and its own, as `P.M`.
+#[derive(Debug, Drop, PartialEq)]
+pub struct MessageName {
+    pub protocol: Name,
+    pub message: Name,
+}
+
+/// A message with values, as `P.M(VALUES)`.
+#[derive(Debug, Drop, PartialEq)]
+pub struct Call {
+    pub message: MessageName,
+    pub values: WrittenValues,
+}
+
+/// What a line of a script says.
+#[derive(Debug, Drop, PartialEq)]
+pub enum Statement {
+    /// `SIDE main`: opens the block of what the side does by itself.
+    Main(Side),
+    /// `SIDE on P.M`: opens a block of what the side does when it handles the message.
+    On(Side, MessageName),
+    /// `end`: closes the block.
+    End,
+    /// `send WHO P.M(VALUES)`: sends a message.
+    Send(Who, Call),
+    /// `new NAME WHO P.M(VALUES)`: sends a constructor, and names the new actor.
+    New(Name, Who, Call),
+    /// `let NAME WHO`: names an actor.
+    Let(Name, Who),
+    /// `resolve (VALUES)`: answers the handled message.
+    Resolve(WrittenValues),
+    /// `reject`: answers that the handled message is rejected.
+    Reject,
+    /// `keep NAME`: keeps the resolver of the handled message under a name.
+    Keep(Name),
+    /// `resolve NAME P.M (VALUES)`: answers with a resolver that was kept.
+    ResolveKept(Name, Call),
+    /// `reject NAME P.M`: rejects with a resolver that was kept.
+    RejectKept(Name, MessageName),
+    /// `close`: closes the end.
+    Close,
+    /// `die`: ends the end.
+    Die,
+    /// `return (VALUES)`: gives the values of a sync message.
+    Return(WrittenValues),
+}

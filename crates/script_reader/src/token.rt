@@ -1,0 +1,34 @@
+use ipdl_base::Name;
+
+/// A token of a line of a script.
+#[derive(Debug, Drop, PartialEq)]
+pub enum Token {
+    Word(Name),
+    /// `$n`, the number of a parameter.
+    Param(u32),
+    /// `@n`, the index of a component.
+    Index(u32),
+    /// A whole number, perhaps with `-`.
+    Number(i128),
+    /// A text in quotes, without its escapes.
+    Text(Name),
+    /// The bytes that hexadecimal digits in quotes spell.
+    Bytes(Name),
+    Mark(u8),
+}
+
+/// What a token is, by its first bytes.
+#[derive(Clone, Copy)]
+pub enum Class {
+    Word,
+    Param,
+    Index,
+    /// A number with `-`.
+    Negative,
+    Number,
+    Text,
+    Bytes,
+    Mark,
+    /// No token begins so.
+    Other,
+}

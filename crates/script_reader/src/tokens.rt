@@ -1,0 +1,150 @@
+ghost use Rattle.std.specs.Prelude.{◌≡◌, ◌↔◌, ◌<◌, ◌≤◌, IsTrue, OnOk, ℕ, pos, ◌-ℤ◌, List, drop, length, IfOk, IfErr};
+ghost use Rattle.std.specs.Str.{IsUtf8};
+ghost use Rattle.script_reader.specs.Reading.{Refuses};
+ghost use Rattle.script_reader.specs.Tokens as tokens;
+ghost use Rattle.script_reader.specs.Tokens.{IsToken, AreTokens, IsNumber, InQuotes, character_at, max_count, beyond};
+ghost use Rattle.script_reader.specs.declared.token.Token.{Token};
+
+use crate::cursor::Cursor;
+use crate::pieces::{is_digit, is_mark, is_word_start};
+use crate::stop::Stop;
+use crate::token::{Class, Token};
+use ipdl_base::{Items, Name};
+use std::alloc::{AllocError, Global};
+
+/// The greatest number of a parameter, and the greatest index of a component.
+const MAX_COUNT: u128 = 0xffff_ffff;
+
+/// The size of a number from which on it is in no type.
+const BEYOND: u128 = 0x1_0000_0000_0000_0000;
+
+/// What a token is that begins with these bytes.
+fn class_of(bytes: &[u8]) -> Class
+    ensures { result ≡ tokens.class_of bytes.now }
+{
+    match bytes {
+        [] => Class::Other,
+        [b'h', b'"', ..] => Class::Bytes,
+        [b, ..] => {
+            let b = *b;
+            if is_word_start(b) {
+                Class::Word
+            } else if b == b'$' {
+                Class::Param
+            } else if b == b'@' {
+                Class::Index
+            } else if b == b'-' {
+                Class::Negative
+            } else if is_digit(b) {
+                Class::Number
+            } else if b == b'"' {
+                Class::Text
+            } else if is_mark(b) {
+                Class::Mark
+            } else {
+                Class::Other
+            }
+        }
+    }
+}
+
+/// A name of these bytes.
+fn name(alloc: Global, bytes: &[u8]) -> Result<Name, AllocError>
+    ensures { IfOk result (λ name. name ≡ bytes.now) }
+{
+    Ok(Items::from_vec(Vec::from_slice(alloc, bytes)?))
+}
+
+/// Takes the number of a parameter or a component, behind its first byte.
+fn count(cursor: &mut Cursor) -> Result<u32, Stop>
+    requires { 0 < length cursor.old }
+    ensures read { IfOk result (λ n. IsNumber max_count n (drop 1 cursor.old) cursor.new) }
+    ensures stops { IfErr result (Refuses ((n : ℕ) (to : List ℕ) → ¬ IsNumber max_count n (drop 1 cursor.old) to)) }
+    ensures less { OnOk result (length cursor.new < length cursor.old) }
+{
+    cursor.pass(1);
+    Ok(cursor.number(MAX_COUNT)? as u32)
+}
+
+/// Takes a number.
+fn number(cursor: &mut Cursor) -> Result<i128, Stop>
+    ensures read { IfOk result (λ z. (n : ℕ) × (z ≡ pos n) × IsNumber beyond n cursor.old cursor.new) }
+    ensures stops { IfErr result (Refuses ((n : ℕ) (to : List ℕ) → ¬ IsNumber beyond n cursor.old to)) }
+    ensures less { OnOk result (length cursor.new < length cursor.old) }
+{
+    Ok(cursor.number(BEYOND)? as i128)
+}
+
+/// Takes a number behind its `-`.
+fn negative(cursor: &mut Cursor) -> Result<i128, Stop>
+    requires { 0 < length cursor.old }
+    ensures read { IfOk result (λ z. (n : ℕ) × (z ≡ pos 0 -ℤ pos n) × IsNumber beyond n (drop 1 cursor.old) cursor.new) }
+    ensures stops { IfErr result (Refuses ((n : ℕ) (to : List ℕ) → ¬ IsNumber beyond n (drop 1 cursor.old) to)) }
+    ensures less { OnOk result (length cursor.new < length cursor.old) }
+{
+    cursor.pass(1);
+    Ok(-number(cursor)?)
+}
+
+/// Whether the bytes are UTF-8.
+fn is_utf8(bytes: &[u8]) -> bool
+    ensures { IsTrue result ↔ IsUtf8 bytes.now }
+{
+    std::str::from_utf8(bytes).is_ok()
+}
+
+/// Takes a text behind its first quote.
+fn text(alloc: Global, cursor: &mut Cursor) -> Result<Name, Stop>
+    requires { 0 < length cursor.old }
+    ensures read { IfOk result (λ text. IsUtf8 text × InQuotes character_at text (drop 1 cursor.old) cursor.new) }
+    ensures stops { IfErr result (Refuses ((text to : List ℕ) → IsUtf8 text → ¬ InQuotes character_at text (drop 1 cursor.old) to)) }
+    ensures less { OnOk result (length cursor.new < length cursor.old) }
+{
+    cursor.pass(1);
+    let text = cursor.text(alloc)?;
+    if is_utf8(text.as_slice()) {
+        Ok(text)
+    } else {
+        Err(Stop::NoReading)
+    }
+}
+
+/// Takes a token.
+fn token(alloc: Global, cursor: &mut Cursor) -> Result<Token, Stop>
+    ensures read { IfOk result (λ t. IsToken t cursor.old cursor.new) }
+    ensures stops { IfErr result (Refuses ((t : Token) (to : List ℕ) → ¬ IsToken t cursor.old to)) }
+    ensures less { OnOk result (length cursor.new < length cursor.old) }
+{
+    match class_of(cursor.rest()) {
+        Class::Word => Ok(Token::Word(name(alloc, cursor.word())?)),
+        Class::Param => Ok(Token::Param(count(cursor)?)),
+        Class::Index => Ok(Token::Index(count(cursor)?)),
+        Class::Negative => Ok(Token::Number(negative(cursor)?)),
+        Class::Number => Ok(Token::Number(number(cursor)?)),
+        Class::Text => Ok(Token::Text(text(alloc, cursor)?)),
+        Class::Bytes => {
+            cursor.pass(2);
+            Ok(Token::Bytes(cursor.bytes(alloc)?))
+        }
+        Class::Mark => {
+            let mark = cursor.rest()[0];
+            cursor.pass(1);
+            Ok(Token::Mark(mark))
+        }
+        Class::Other => Err(Stop::NoReading),
+    }
+}
+
+/// The tokens of a line.
+pub fn tokens_of(alloc: Global, line: &[u8]) -> Result<Vec<Token>, Stop>
+    ensures read { IfOk result (λ tokens. AreTokens tokens.items line.now) }
+    ensures stops { IfErr result (Refuses ((tokens : List Token) → ¬ AreTokens tokens line.now)) }
+{
+    let mut cursor = Cursor::new(line);
+    let mut tokens = Vec::new(alloc);
+    'tokens: while !cursor.is_blank() {
+        cursor.pass_blanks();
+        tokens.push(token(alloc, &mut cursor)?)?;
+    }
+    Ok(tokens)
+}

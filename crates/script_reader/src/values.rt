@@ -1,0 +1,110 @@
+ghost use Rattle.std.specs.Prelude.{◌≡◌, ◌<◌, length, List, IfOk, IfErr, OnOk};
+ghost use Rattle.script_reader.specs.declared.token.Token.{Token as TokenType};
+ghost use Rattle.script_reader.specs.declared.written.Atom.{Atom as AtomType};
+ghost use Rattle.script_reader.specs.declared.written.Written.{Written as WrittenType};
+ghost use Rattle.script_reader.specs.declared.stop.Stop.TheVariants.{NoMemory};
+ghost use Rattle.script_reader.specs.Parts.{single};
+ghost use Rattle.script_reader.specs.declared.written.WrittenValues.{WrittenValues as ValuesType};
+ghost use Rattle.script_reader.specs.Grammar as grammar;
+ghost use Rattle.script_reader.specs.Reading.{Refuses};
+
+use crate::parts::Bracket;
+use crate::reader::{Begin, Reader};
+use crate::stop::Stop;
+use crate::written::{Written, WrittenValues};
+use std::alloc::Global;
+
+/// The mark that closes values.
+fn closing(bracket: Bracket) -> u8
+    ensures { result ≡ grammar.closing bracket }
+{
+    match bracket {
+        Bracket::Round => b')',
+        Bracket::Square => b']',
+        Bracket::Curly => b'}',
+    }
+}
+
+/// A box of a value. It is no part of the functions that call themselves, so that these need
+/// little room on the stack.
+#[inline(never)]
+fn boxed(alloc: Global, value: Written) -> Result<Box<Written>, Stop>
+    ensures ok { IfOk result (λ b. b.value ≡ value) }
+    ensures memory { IfErr result (λ e. e ≡ NoMemory) }
+{
+    Ok(Box::new(alloc, value)?)
+}
+
+/// Takes a value of one token, apart from the functions that call themselves.
+#[inline(never)]
+fn atom(alloc: Global, reader: &mut Reader) -> Result<Box<Written>, Stop>
+    ensures read { IfOk result (λ v. grammar.value v.value reader.old reader.new) }
+    ensures stops { IfErr result (Refuses ((a : AtomType) (to : List TokenType) → ¬ single grammar.atom_of a reader.old to)) }
+    ensures less { OnOk result (length reader.new < length reader.old) }
+{
+    let atom = reader.atom(alloc)?;
+    boxed(alloc, Written::Atom(atom))
+}
+
+/// Takes a value.
+#[cycle(values)]
+fn value(alloc: Global, reader: &mut Reader) -> Result<Box<Written>, Stop>
+    ensures read { IfOk result (λ v. grammar.value v.value reader.old reader.new) }
+    ensures stops { IfErr result (Refuses ((v : WrittenType) (to : List TokenType) → ¬ grammar.value v reader.old to)) }
+    ensures less { OnOk result (length reader.new < length reader.old) }
+{
+    match reader.begin() {
+        Begin::Struct => {
+            reader.pass();
+            let fields = listed(alloc, reader, Bracket::Curly)?;
+            boxed(alloc, Written::Struct(fields))
+        }
+        Begin::Array => {
+            reader.pass();
+            let elements = listed(alloc, reader, Bracket::Square)?;
+            boxed(alloc, Written::Array(elements))
+        }
+        Begin::Union(index) => {
+            reader.pass();
+            let held = value(alloc, reader)?;
+            boxed(alloc, Written::Union(index, held))
+        }
+        Begin::Held => {
+            reader.pass();
+            let held = value(alloc, reader)?;
+            boxed(alloc, Written::Held(held))
+        }
+        Begin::Atom => atom(alloc, reader),
+    }
+}
+
+/// Takes values, and the mark that closes them.
+#[cycle(values)]
+pub fn listed(alloc: Global, reader: &mut Reader, close: Bracket) -> Result<WrittenValues, Stop>
+    ensures read { IfOk result (λ vs. grammar.listed close vs reader.old reader.new) }
+    ensures stops { IfErr result (Refuses ((vs : ValuesType) (to : List TokenType) → ¬ grammar.listed close vs reader.old to)) }
+    ensures less { OnOk result (length reader.new < length reader.old) }
+{
+    if reader.skips(closing(close)) {
+        return Ok(WrittenValues::Nothing);
+    }
+    let first = value(alloc, reader)?;
+    let rest = more(alloc, reader, close)?;
+    Ok(WrittenValues::First(first, Box::new(alloc, rest)?))
+}
+
+/// Takes the values behind the first one, and the mark that closes them.
+#[cycle(values)]
+fn more(alloc: Global, reader: &mut Reader, close: Bracket) -> Result<WrittenValues, Stop>
+    ensures read { IfOk result (λ vs. grammar.more close vs reader.old reader.new) }
+    ensures stops { IfErr result (Refuses ((vs : ValuesType) (to : List TokenType) → ¬ grammar.more close vs reader.old to)) }
+    ensures less { OnOk result (length reader.new < length reader.old) }
+{
+    if reader.skips(closing(close)) {
+        return Ok(WrittenValues::Nothing);
+    }
+    reader.mark(b',')?;
+    let first = value(alloc, reader)?;
+    let rest = more(alloc, reader, close)?;
+    Ok(WrittenValues::First(first, Box::new(alloc, rest)?))
+}

@@ -1,0 +1,154 @@
+ghost use Rattle.std.specs.Prelude.{◌≡◌, ◌↔◌, ◌⊎◌, IsTrue, IfOk};
+ghost use Rattle.script_reader.specs.Grammar as grammar;
+
+use crate::parts::Keyword;
+use crate::token::Token;
+use crate::written::{Atom, Who};
+use ipdl_base::{Name, Side};
+use std::alloc::{AllocError, Global};
+
+/// Whether a word is no name.
+fn is_no_name(word: &[u8]) -> bool
+    ensures { result ≡ grammar.is_no_name word.now }
+{
+    word == b"top".as_slice()
+        || word == b"this".as_slice()
+        || word == b"made".as_slice()
+        || word == b"null".as_slice()
+        || word == b"none".as_slice()
+        || word == b"some".as_slice()
+        || word == b"true".as_slice()
+        || word == b"false".as_slice()
+}
+
+/// The name that a word is.
+fn named(alloc: Global, word: &Name) -> Result<Option<Name>, AllocError>
+    ensures { IfOk result (λ found. found ≡ grammar.named word.now) }
+{
+    if is_no_name(word.as_slice()) {
+        Ok(None)
+    } else {
+        Ok(Some(word.copy(alloc)?))
+    }
+}
+
+/// The name that a token is.
+pub fn name_of(alloc: Global, token: &Token) -> Result<Option<Name>, AllocError>
+    ensures { IfOk result (λ found. found ≡ grammar.name_of token.now) }
+{
+    match token {
+        Token::Word(word) => named(alloc, word),
+        _ => Ok(None),
+    }
+}
+
+/// Who a word stands for.
+fn who_named(alloc: Global, word: &Name) -> Result<Option<Who>, AllocError>
+    ensures { IfOk result (λ found. found ≡ grammar.who_named word.now) }
+{
+    let bytes = word.as_slice();
+    if bytes == b"top".as_slice() {
+        return Ok(Some(Who::Top));
+    }
+    if bytes == b"this".as_slice() {
+        return Ok(Some(Who::This));
+    }
+    if bytes == b"made".as_slice() {
+        return Ok(Some(Who::Made));
+    }
+    match named(alloc, word)? {
+        Some(name) => Ok(Some(Who::Name(name))),
+        None => Ok(None),
+    }
+}
+
+/// Who a token stands for.
+pub fn who_of(alloc: Global, token: &Token) -> Result<Option<Who>, AllocError>
+    ensures { IfOk result (λ found. found ≡ grammar.who_of token.now) }
+{
+    match token {
+        Token::Word(word) => who_named(alloc, word),
+        Token::Param(n) => Ok(Some(Who::Param(*n))),
+        _ => Ok(None),
+    }
+}
+
+/// The value that a word is.
+fn atom_named(alloc: Global, word: &Name) -> Result<Option<Atom>, AllocError>
+    ensures { IfOk result (λ found. found ≡ grammar.atom_named word.now) }
+{
+    let bytes = word.as_slice();
+    if bytes == b"true".as_slice() {
+        return Ok(Some(Atom::Bool(true)));
+    }
+    if bytes == b"false".as_slice() {
+        return Ok(Some(Atom::Bool(false)));
+    }
+    if bytes == b"none".as_slice() {
+        return Ok(Some(Atom::Nothing));
+    }
+    if bytes == b"null".as_slice() {
+        return Ok(Some(Atom::Null));
+    }
+    match who_named(alloc, word)? {
+        Some(who) => Ok(Some(Atom::Who(who))),
+        None => Ok(None),
+    }
+}
+
+/// The value that a token is.
+pub fn atom_of(alloc: Global, token: &Token) -> Result<Option<Atom>, AllocError>
+    ensures { IfOk result (λ found. found ≡ grammar.atom_of token.now) }
+{
+    match token {
+        Token::Word(word) => atom_named(alloc, word),
+        Token::Param(n) => Ok(Some(Atom::Who(Who::Param(*n)))),
+        Token::Number(n) => Ok(Some(Atom::Number(*n))),
+        Token::Text(text) => Ok(Some(Atom::Text(text.copy(alloc)?))),
+        Token::Bytes(bytes) => Ok(Some(Atom::Bytes(bytes.copy(alloc)?))),
+        Token::Index(_) | Token::Mark(_) => Ok(None),
+    }
+}
+
+/// The keyword that a word is.
+fn keyword_named(word: &[u8]) -> Option<Keyword>
+    ensures { result ≡ grammar.keyword_named word.now }
+{
+    if word == b"parent".as_slice() {
+        Some(Keyword::Side(Side::Parent))
+    } else if word == b"child".as_slice() {
+        Some(Keyword::Side(Side::Child))
+    } else if word == b"end".as_slice() {
+        Some(Keyword::End)
+    } else if word == b"send".as_slice() {
+        Some(Keyword::Send)
+    } else if word == b"new".as_slice() {
+        Some(Keyword::New)
+    } else if word == b"let".as_slice() {
+        Some(Keyword::Let)
+    } else if word == b"resolve".as_slice() {
+        Some(Keyword::Resolve)
+    } else if word == b"reject".as_slice() {
+        Some(Keyword::Reject)
+    } else if word == b"keep".as_slice() {
+        Some(Keyword::Keep)
+    } else if word == b"close".as_slice() {
+        Some(Keyword::Close)
+    } else if word == b"die".as_slice() {
+        Some(Keyword::Die)
+    } else if word == b"return".as_slice() {
+        Some(Keyword::Return)
+    } else {
+        None
+    }
+}
+
+/// The keyword that a token is.
+pub fn keyword_of(token: &Token) -> Option<Keyword>
+    ensures { result ≡ grammar.keyword_of token.now }
+{
+    match token {
+        Token::Word(word) => keyword_named(word.as_slice()),
+        _ => None,
+    }
+}
