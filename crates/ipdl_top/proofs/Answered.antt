@@ -1,5 +1,5 @@
 -- What follows of an answer to words.
-use Rattle.std.proofs.Common.{◌≡◌, ◌≢◌, ◌⊎◌, ℕ, Bool, List, [], ◌∷◌, ap, ◌∙◌, sym, inl, inr}
+use Rattle.std.proofs.Common.{◌≡◌, ◌≢◌, ℕ, Bool, List, [], ◌∷◌, ap, ◌∙◌, sym, inl, inr}
 use Rattle.std.specs.Prelude.{Option, Some, None}
 use Rattle.ipdl_base.specs.Outside.{FileMap}
 use Rattle.command_words.specs.Command.{IsNoCommand}
@@ -20,7 +20,7 @@ abbrev IsNoUsage : Answer → Type 0
 IsNoUsage answer = answer.status ≢ Usage
 
 not_usage : (a b : Answer) → a ≡ b → IsNoUsage b → IsNoUsage a
-not_usage a b e no usage = no (sym (status_of a b e) ∙ usage)
+not_usage a b e other usage = other (sym (status_of a b e) ∙ usage)
 
 tables : (schema : Schema) (answer : Answer) → SaysTables schema answer → IsNoUsage answer
 tables schema answer says = not_usage _ _ says (λ e. cc)

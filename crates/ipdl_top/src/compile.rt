@@ -104,6 +104,7 @@ fn files_answer<F: Files>(
     requires { length texts.now ≤ 4096 }
     ensures answer { load.ForMap (F.told files.old) (λ lists. IfOk result (IsFilesAnswer lists (option_map string_bytes list.now) findings texts.now)) }
     ensures told { F.told files.new ≡ F.told files.old }
+    ensures count { F.faults files.old ≤ F.faults files.new }
     ensures read_fault { result ≡ Err Failure.ReadFault → Rose (F.faults files.old) (F.faults files.new) }
 {
     let listed = read_listed(alloc, files, list, texts.len() as u32)?;
@@ -158,6 +159,7 @@ fn program_checked<F: Files>(
     requires named { BearTheirNames program.now }
     ensures found { load.ForMap (F.told files.old) (λ lists. IfOk result (IsProgramChecked lists (option_map string_bytes list.now) program.now)) }
     ensures told { F.told files.new ≡ F.told files.old }
+    ensures count { F.faults files.old ≤ F.faults files.new }
     ensures read_fault { result ≡ Err Failure.ReadFault → Rose (F.faults files.old) (F.faults files.new) }
 {
     let listed = read_listed(alloc, files, list, program.len() as u32)?;
@@ -177,13 +179,16 @@ pub fn checked<F: Files>(
     ensures found { ForMap (F.told files.old) (λ seen. IfOk result
         (IsChecked (given_by seen.files (map string_bytes path.now) (map string_bytes names.now)) seen.list (option_map string_bytes list.now))) }
     ensures told { F.told files.new ≡ F.told files.old }
+    ensures count { F.faults files.old ≤ F.faults files.new }
     ensures read_fault { result ≡ Err Failure.ReadFault → Rose (F.faults files.old) (F.faults files.new) }
 {
     match load(alloc, files, names, path) {
         Ok(program) => program_checked(alloc, files, list, &program),
         Err(LoadFault::Broken(findings, texts)) => {
-            let report = files_answer(alloc, files, list, findings, texts.as_slice())?;
-            Ok(Checked::Report(report))
+            match files_answer(alloc, files, list, findings, texts.as_slice()) {
+                Ok(report) => Ok(Checked::Report(report)),
+                Err(failure) => Err(failure),
+            }
         }
         Err(LoadFault::ReadFault) => Err(Failure::ReadFault),
         Err(LoadFault::NoMemory) => Err(Failure::NoMemory),

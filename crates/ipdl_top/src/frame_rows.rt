@@ -12,7 +12,10 @@ fn frames(rt: HostRuntime) -> Result<(), Fail> {
             // frames-absent
             Row {
                 words: &["frames", "PF.ipdl", "f.bin"],
-                files: &[("PF.ipdl", b"protocol PF {\nparent:\n  async Flag(bool b);\n};\n")],
+                files: &[(
+                    "PF.ipdl",
+                    b"protocol PF {\nparent:\n  async Flag(bool b);\n};\n",
+                )],
                 status: Status::BadFrames,
                 out: b"",
                 err: b"f.bin:0: absent\n",
@@ -20,7 +23,16 @@ fn frames(rt: HostRuntime) -> Result<(), Fail> {
             // frames-bad-padding
             Row {
                 words: &["frames", "PF.ipdl", "f.bin"],
-                files: &[("PF.ipdl", b"protocol PF {\nparent:\n  async Flag(bool b);\n};\n"), ("f.bin", b"\x49\x50\x44\x32\x04\x00\x00\x00\xff\xff\xff\x7f\x00\x00\x00\x00\x00\x00\x00\x00\xff\xff\xff\xff\x00\x00\x00\x00\x01\x00\x00\x01")],
+                files: &[
+                    (
+                        "PF.ipdl",
+                        b"protocol PF {\nparent:\n  async Flag(bool b);\n};\n",
+                    ),
+                    (
+                        "f.bin",
+                        b"\x49\x50\x44\x32\x04\x00\x00\x00\xff\xff\xff\x7f\x00\x00\x00\x00\x00\x00\x00\x00\xff\xff\xff\xff\x00\x00\x00\x00\x01\x00\x00\x01",
+                    ),
+                ],
                 status: Status::BadFrames,
                 out: b"",
                 err: b"f.bin:31: F14 bad padding\n",
@@ -28,7 +40,16 @@ fn frames(rt: HostRuntime) -> Result<(), Fail> {
             // frames-bad-tag
             Row {
                 words: &["frames", "PF.ipdl", "f.bin"],
-                files: &[("PF.ipdl", b"protocol PF {\nparent:\n  async Flag(bool b);\n};\n"), ("f.bin", b"\x01\x00\x00\x00\xff\xff\xff\x7f\x00\x00\x00\x00\x00\x00\x00\x00\xff\xff\xff\xff\x00\x00\x00\x00\x02")],
+                files: &[
+                    (
+                        "PF.ipdl",
+                        b"protocol PF {\nparent:\n  async Flag(bool b);\n};\n",
+                    ),
+                    (
+                        "f.bin",
+                        b"\x01\x00\x00\x00\xff\xff\xff\x7f\x00\x00\x00\x00\x00\x00\x00\x00\xff\xff\xff\xff\x00\x00\x00\x00\x02",
+                    ),
+                ],
                 status: Status::BadFrames,
                 out: b"",
                 err: b"f.bin:24: F5 bad tag\n",
@@ -36,7 +57,16 @@ fn frames(rt: HostRuntime) -> Result<(), Fail> {
             // frames-convert
             Row {
                 words: &["frames", "--to", "2", "PF.ipdl", "f.bin"],
-                files: &[("PF.ipdl", b"protocol PF {\nparent:\n  async Flag(bool b);\n};\n"), ("f.bin", b"\x01\x00\x00\x00\xff\xff\xff\x7f\x00\x00\x00\x00\x00\x00\x00\x00\xff\xff\xff\xff\x00\x00\x00\x00\x01")],
+                files: &[
+                    (
+                        "PF.ipdl",
+                        b"protocol PF {\nparent:\n  async Flag(bool b);\n};\n",
+                    ),
+                    (
+                        "f.bin",
+                        b"\x01\x00\x00\x00\xff\xff\xff\x7f\x00\x00\x00\x00\x00\x00\x00\x00\xff\xff\xff\xff\x00\x00\x00\x00\x01",
+                    ),
+                ],
                 status: Status::Done,
                 out: b"\x49\x50\x44\x32\x04\x00\x00\x00\xff\xff\xff\x7f\x00\x00\x00\x00\x00\x00\x00\x00\xff\xff\xff\xff\x00\x00\x00\x00\x01\x00\x00\x00",
                 err: b"",
@@ -44,7 +74,13 @@ fn frames(rt: HostRuntime) -> Result<(), Fail> {
             // frames-empty
             Row {
                 words: &["frames", "PF.ipdl", "f.bin"],
-                files: &[("PF.ipdl", b"protocol PF {\nparent:\n  async Flag(bool b);\n};\n"), ("f.bin", b"")],
+                files: &[
+                    (
+                        "PF.ipdl",
+                        b"protocol PF {\nparent:\n  async Flag(bool b);\n};\n",
+                    ),
+                    ("f.bin", b""),
+                ],
                 status: Status::Done,
                 out: b"",
                 err: b"",
@@ -52,7 +88,16 @@ fn frames(rt: HostRuntime) -> Result<(), Fail> {
             // frames-new
             Row {
                 words: &["frames", "PF.ipdl", "f.bin"],
-                files: &[("PF.ipdl", b"protocol PF {\nparent:\n  async Flag(bool b);\n};\n"), ("f.bin", b"\x49\x50\x44\x32\x04\x00\x00\x00\xff\xff\xff\x7f\x00\x00\x00\x00\x00\x00\x00\x00\xff\xff\xff\xff\x00\x00\x00\x00\x01\x00\x00\x00")],
+                files: &[
+                    (
+                        "PF.ipdl",
+                        b"protocol PF {\nparent:\n  async Flag(bool b);\n};\n",
+                    ),
+                    (
+                        "f.bin",
+                        b"\x49\x50\x44\x32\x04\x00\x00\x00\xff\xff\xff\x7f\x00\x00\x00\x00\x00\x00\x00\x00\xff\xff\xff\xff\x00\x00\x00\x00\x01\x00\x00\x00",
+                    ),
+                ],
                 status: Status::Done,
                 out: b"0 request -1/0 to 2147483647 PF.Flag(true)\n",
                 err: b"",
@@ -60,7 +105,16 @@ fn frames(rt: HostRuntime) -> Result<(), Fail> {
             // frames-short
             Row {
                 words: &["frames", "PF.ipdl", "f.bin"],
-                files: &[("PF.ipdl", b"protocol PF {\nparent:\n  async Flag(bool b);\n};\n"), ("f.bin", b"\x01\x00\x00\x00\xff\xff\xff\x7f\x00\x00\x00\x00\x00\x00\x00\x00\xff\xff\xff\xff\x00\x00\x00\x00\x01\x01\x00\x00\x00\xff\xff\xff\x7f\x00\x00\x00\x00\x00\x00\x00\x00\xff\xff\xff\xff\x00\x00\x00\x00\x01\x01\x00\x00\x00\xff\xff\xff\x7f\x00\x00")],
+                files: &[
+                    (
+                        "PF.ipdl",
+                        b"protocol PF {\nparent:\n  async Flag(bool b);\n};\n",
+                    ),
+                    (
+                        "f.bin",
+                        b"\x01\x00\x00\x00\xff\xff\xff\x7f\x00\x00\x00\x00\x00\x00\x00\x00\xff\xff\xff\xff\x00\x00\x00\x00\x01\x01\x00\x00\x00\xff\xff\xff\x7f\x00\x00\x00\x00\x00\x00\x00\x00\xff\xff\xff\xff\x00\x00\x00\x00\x01\x01\x00\x00\x00\xff\xff\xff\x7f\x00\x00",
+                    ),
+                ],
                 status: Status::BadFrames,
                 out: b"0 request -1/0 to 2147483647 PF.Flag(true)\n25 request -1/0 to 2147483647 PF.Flag(true)\n",
                 err: b"f.bin:50: short 14\n",
@@ -68,7 +122,16 @@ fn frames(rt: HostRuntime) -> Result<(), Fail> {
             // frames-struct
             Row {
                 words: &["frames", "PV.ipdl", "v.bin"],
-                files: &[("PV.ipdl", b"struct S { int16_t a; bool? b; }; protocol PV { parent: async M(S s); };\n"), ("v.bin", b"\x05\x00\x00\x00\xff\xff\xff\x7f\x00\x00\x00\x00\x00\x00\x00\x00\xff\xff\xff\xff\x00\x00\x00\x00\x53\xfe\xff\x01\x01")],
+                files: &[
+                    (
+                        "PV.ipdl",
+                        b"struct S { int16_t a; bool? b; }; protocol PV { parent: async M(S s); };\n",
+                    ),
+                    (
+                        "v.bin",
+                        b"\x05\x00\x00\x00\xff\xff\xff\x7f\x00\x00\x00\x00\x00\x00\x00\x00\xff\xff\xff\xff\x00\x00\x00\x00\x53\xfe\xff\x01\x01",
+                    ),
+                ],
                 status: Status::Done,
                 out: b"0 request -1/0 to 2147483647 PV.M({-2, some true})\n",
                 err: b"",
@@ -76,7 +139,16 @@ fn frames(rt: HostRuntime) -> Result<(), Fail> {
             // frames-struct-bad
             Row {
                 words: &["frames", "PV.ipdl", "v.bin"],
-                files: &[("PV.ipdl", b"struct S { int16_t a; bool? b; }; protocol PV { parent: async M(S s); };\n"), ("v.bin", b"\x05\x00\x00\x00\xff\xff\xff\x7f\x00\x00\x00\x00\x00\x00\x00\x00\xff\xff\xff\xff\x00\x00\x00\x00\x54\xfe\xff\x01\x01")],
+                files: &[
+                    (
+                        "PV.ipdl",
+                        b"struct S { int16_t a; bool? b; }; protocol PV { parent: async M(S s); };\n",
+                    ),
+                    (
+                        "v.bin",
+                        b"\x05\x00\x00\x00\xff\xff\xff\x7f\x00\x00\x00\x00\x00\x00\x00\x00\xff\xff\xff\xff\x00\x00\x00\x00\x54\xfe\xff\x01\x01",
+                    ),
+                ],
                 status: Status::BadFrames,
                 out: b"",
                 err: b"v.bin:24: F5 bad tag\n",
@@ -84,7 +156,16 @@ fn frames(rt: HostRuntime) -> Result<(), Fail> {
             // an old frame behind a new one, and the other way round
             Row {
                 words: &["frames", "PF.ipdl", "f.bin"],
-                files: &[("PF.ipdl", b"protocol PF {\nparent:\n  async Flag(bool b);\n};\n"), ("f.bin", b"\x49\x50\x44\x32\x04\x00\x00\x00\xff\xff\xff\x7f\x00\x00\x00\x00\x00\x00\x00\x00\xff\xff\xff\xff\x00\x00\x00\x00\x01\x00\x00\x00\x01\x00\x00\x00\xff\xff\xff\x7f\x00\x00\x00\x00\x00\x00\x00\x00\xff\xff\xff\xff\x00\x00\x00\x00\x01\x49\x50\x44\x32\x04\x00\x00\x00\xff\xff\xff\x7f\x00\x00\x00\x00\x00\x00\x00\x00\xff\xff\xff\xff\x00\x00\x00\x00\x01\x00\x00\x00")],
+                files: &[
+                    (
+                        "PF.ipdl",
+                        b"protocol PF {\nparent:\n  async Flag(bool b);\n};\n",
+                    ),
+                    (
+                        "f.bin",
+                        b"\x49\x50\x44\x32\x04\x00\x00\x00\xff\xff\xff\x7f\x00\x00\x00\x00\x00\x00\x00\x00\xff\xff\xff\xff\x00\x00\x00\x00\x01\x00\x00\x00\x01\x00\x00\x00\xff\xff\xff\x7f\x00\x00\x00\x00\x00\x00\x00\x00\xff\xff\xff\xff\x00\x00\x00\x00\x01\x49\x50\x44\x32\x04\x00\x00\x00\xff\xff\xff\x7f\x00\x00\x00\x00\x00\x00\x00\x00\xff\xff\xff\xff\x00\x00\x00\x00\x01\x00\x00\x00",
+                    ),
+                ],
                 status: Status::Done,
                 out: b"0 request -1/0 to 2147483647 PF.Flag(true)\n32 request -1/0 to 2147483647 PF.Flag(true)\n57 request -1/0 to 2147483647 PF.Flag(true)\n",
                 err: b"",
@@ -92,7 +173,16 @@ fn frames(rt: HostRuntime) -> Result<(), Fail> {
             // what stands before a fault is converted
             Row {
                 words: &["frames", "PF.ipdl", "--to=02", "f.bin"],
-                files: &[("PF.ipdl", b"protocol PF {\nparent:\n  async Flag(bool b);\n};\n"), ("f.bin", b"\x01\x00\x00\x00\xff\xff\xff\x7f\x00\x00\x00\x00\x00\x00\x00\x00\xff\xff\xff\xff\x00\x00\x00\x00\x01\x49\x50\x44\x32\x04\x00\x00\x00\xff\xff\xff\x7f\x00\x00\x00\x00\x00\x00\x00\x00\xff\xff\xff\xff\x00\x00\x00\x00\x01\x00\x00\x00\x01\x00\x00\x00\xff\xff\xff\x7f\x00\x00\x00\x00\x00\x00\x00\x00\xff\xff\xff\xff\x00\x00\x00\x00\x02")],
+                files: &[
+                    (
+                        "PF.ipdl",
+                        b"protocol PF {\nparent:\n  async Flag(bool b);\n};\n",
+                    ),
+                    (
+                        "f.bin",
+                        b"\x01\x00\x00\x00\xff\xff\xff\x7f\x00\x00\x00\x00\x00\x00\x00\x00\xff\xff\xff\xff\x00\x00\x00\x00\x01\x49\x50\x44\x32\x04\x00\x00\x00\xff\xff\xff\x7f\x00\x00\x00\x00\x00\x00\x00\x00\xff\xff\xff\xff\x00\x00\x00\x00\x01\x00\x00\x00\x01\x00\x00\x00\xff\xff\xff\x7f\x00\x00\x00\x00\x00\x00\x00\x00\xff\xff\xff\xff\x00\x00\x00\x00\x02",
+                    ),
+                ],
                 status: Status::BadFrames,
                 out: b"\x49\x50\x44\x32\x04\x00\x00\x00\xff\xff\xff\x7f\x00\x00\x00\x00\x00\x00\x00\x00\xff\xff\xff\xff\x00\x00\x00\x00\x01\x00\x00\x00\x49\x50\x44\x32\x04\x00\x00\x00\xff\xff\xff\x7f\x00\x00\x00\x00\x00\x00\x00\x00\xff\xff\xff\xff\x00\x00\x00\x00\x01\x00\x00\x00",
                 err: b"f.bin:81: F5 bad tag\n",
@@ -100,7 +190,13 @@ fn frames(rt: HostRuntime) -> Result<(), Fail> {
             // fewer bytes than a mark are those of an old frame
             Row {
                 words: &["frames", "PF.ipdl", "f.bin"],
-                files: &[("PF.ipdl", b"protocol PF {\nparent:\n  async Flag(bool b);\n};\n"), ("f.bin", b"\x49\x50\x44")],
+                files: &[
+                    (
+                        "PF.ipdl",
+                        b"protocol PF {\nparent:\n  async Flag(bool b);\n};\n",
+                    ),
+                    ("f.bin", b"\x49\x50\x44"),
+                ],
                 status: Status::BadFrames,
                 out: b"",
                 err: b"f.bin:0: short 21\n",
@@ -108,7 +204,16 @@ fn frames(rt: HostRuntime) -> Result<(), Fail> {
             // a mark alone
             Row {
                 words: &["frames", "PF.ipdl", "f.bin"],
-                files: &[("PF.ipdl", b"protocol PF {\nparent:\n  async Flag(bool b);\n};\n"), ("f.bin", b"\x49\x50\x44\x32\x04\x00\x00\x00\xff\xff\xff\x7f\x00\x00\x00\x00\x00\x00\x00\x00\xff\xff\xff\xff\x00\x00\x00\x00\x01\x00\x00\x00\x49\x50\x44\x32")],
+                files: &[
+                    (
+                        "PF.ipdl",
+                        b"protocol PF {\nparent:\n  async Flag(bool b);\n};\n",
+                    ),
+                    (
+                        "f.bin",
+                        b"\x49\x50\x44\x32\x04\x00\x00\x00\xff\xff\xff\x7f\x00\x00\x00\x00\x00\x00\x00\x00\xff\xff\xff\xff\x00\x00\x00\x00\x01\x00\x00\x00\x49\x50\x44\x32",
+                    ),
+                ],
                 status: Status::BadFrames,
                 out: b"0 request -1/0 to 2147483647 PF.Flag(true)\n",
                 err: b"f.bin:32: short 24\n",
@@ -116,7 +221,16 @@ fn frames(rt: HostRuntime) -> Result<(), Fail> {
             // a goodbye, and one with a payload
             Row {
                 words: &["frames", "PF.ipdl", "f.bin"],
-                files: &[("PF.ipdl", b"protocol PF {\nparent:\n  async Flag(bool b);\n};\n"), ("f.bin", b"\x00\x00\x00\x00\x00\x00\x00\x00\x00\x00\xff\xff\x00\x00\x00\x00\x00\x00\x00\x00\x00\x00\x00\x00\x01\x00\x00\x00\x00\x00\x00\x00\x00\x00\xff\xff\x00\x00\x00\x00\x00\x00\x00\x00\x00\x00\x00\x00\x00")],
+                files: &[
+                    (
+                        "PF.ipdl",
+                        b"protocol PF {\nparent:\n  async Flag(bool b);\n};\n",
+                    ),
+                    (
+                        "f.bin",
+                        b"\x00\x00\x00\x00\x00\x00\x00\x00\x00\x00\xff\xff\x00\x00\x00\x00\x00\x00\x00\x00\x00\x00\x00\x00\x01\x00\x00\x00\x00\x00\x00\x00\x00\x00\xff\xff\x00\x00\x00\x00\x00\x00\x00\x00\x00\x00\x00\x00\x00",
+                    ),
+                ],
                 status: Status::BadFrames,
                 out: b"0 goodbye\n",
                 err: b"f.bin:48: F8 payload too long\n",
@@ -124,7 +238,16 @@ fn frames(rt: HostRuntime) -> Result<(), Fail> {
             // the report comes first, whatever the frames are
             Row {
                 words: &["frames", "PF.ipdl", "f.bin"],
-                files: &[("PF.ipdl", b"protocol PF {\nparent:\n  async Flag(Bool b);\n};\n"), ("f.bin", b"\x01\x00\x00\x00\xff\xff\xff\x7f\x00\x00\x00\x00\x00\x00\x00\x00\xff\xff\xff\xff\x00\x00\x00\x00\x02")],
+                files: &[
+                    (
+                        "PF.ipdl",
+                        b"protocol PF {\nparent:\n  async Flag(Bool b);\n};\n",
+                    ),
+                    (
+                        "f.bin",
+                        b"\x01\x00\x00\x00\xff\xff\xff\x7f\x00\x00\x00\x00\x00\x00\x00\x00\xff\xff\xff\xff\x00\x00\x00\x00\x02",
+                    ),
+                ],
                 status: Status::Broken,
                 out: b"",
                 err: b"PF.ipdl:3:14: B1 unknown type\n",
@@ -132,7 +255,20 @@ fn frames(rt: HostRuntime) -> Result<(), Fail> {
             // a constructor, replies, a fault and a destructor
             Row {
                 words: &["frames", "PM.ipdl", "m.bin"],
-                files: &[("PM.ipdl", b"include protocol PN;\nsync protocol PM {\n  manages PN;\nparent:\n  sync Ask(nullable PN p) returns (nsCString s);\nchild:\n  async PN(int8_t n);\n};\n"), ("PN.ipdl", b"include protocol PM;\nprotocol PN {\n  manager PM;\nparent:\n  async __delete__();\n};\n"), ("m.bin", b"\x05\x00\x00\x00\xff\xff\xff\x7f\x02\x00\x00\x00\x00\x00\x00\x00\x01\x00\x00\x00\x00\x00\x00\x00\x06\x00\x00\x00\xfe\x04\x00\x00\x00\xff\xff\xff\x7f\x00\x00\x00\x00\x01\x00\x00\x00\xff\xff\xff\xff\xff\xff\xff\xff\x00\x00\x00\x00\x06\x00\x00\x00\xff\xff\xff\x7f\x01\x00\x00\x00\x09\x00\x00\x00\xff\xff\xff\xff\xff\xff\xff\xff\x02\x00\x00\x00\x0a\xff\x01\x00\x00\x00\xff\xff\xff\x7f\x01\x00\x00\x00\x19\x00\x00\x00\xff\xff\xff\xff\xff\xff\xff\xff\x03\x00\x00\x00\x00\x06\x00\x00\x00\x00\x00\x01\x00\x00\x00\x00\x00\xfe\xff\xff\xff\x00\x00\x00\x00")],
+                files: &[
+                    (
+                        "PM.ipdl",
+                        b"include protocol PN;\nsync protocol PM {\n  manages PN;\nparent:\n  sync Ask(nullable PN p) returns (nsCString s);\nchild:\n  async PN(int8_t n);\n};\n",
+                    ),
+                    (
+                        "PN.ipdl",
+                        b"include protocol PM;\nprotocol PN {\n  manager PM;\nparent:\n  async __delete__();\n};\n",
+                    ),
+                    (
+                        "m.bin",
+                        b"\x05\x00\x00\x00\xff\xff\xff\x7f\x02\x00\x00\x00\x00\x00\x00\x00\x01\x00\x00\x00\x00\x00\x00\x00\x06\x00\x00\x00\xfe\x04\x00\x00\x00\xff\xff\xff\x7f\x00\x00\x00\x00\x01\x00\x00\x00\xff\xff\xff\xff\xff\xff\xff\xff\x00\x00\x00\x00\x06\x00\x00\x00\xff\xff\xff\x7f\x01\x00\x00\x00\x09\x00\x00\x00\xff\xff\xff\xff\xff\xff\xff\xff\x02\x00\x00\x00\x0a\xff\x01\x00\x00\x00\xff\xff\xff\x7f\x01\x00\x00\x00\x19\x00\x00\x00\xff\xff\xff\xff\xff\xff\xff\xff\x03\x00\x00\x00\x00\x06\x00\x00\x00\x00\x00\x01\x00\x00\x00\x00\x00\xfe\xff\xff\xff\x00\x00\x00\x00",
+                    ),
+                ],
                 status: Status::Done,
                 out: b"0 request 1/0 to 2147483647 PM.PN(-2) made 6\n29 request -1/-1 to 2147483647 PM.Ask(null)\n57 reply -1/-1 to 2147483647 PM.Ask ok (h\"0aff\")\n87 reply -1/-1 to 2147483647 PM.Ask fault HandlerRejected\n112 request -2/0 to 6 PN.__delete__()\n",
                 err: b"",

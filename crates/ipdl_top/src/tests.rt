@@ -171,7 +171,10 @@ fn outsides(rt: HostRuntime) -> Result<(), Fail> {
 #[test]
 fn failing_frames(rt: HostRuntime) -> Result<(), Fail> {
     let broken: Sources = &[
-        ("PF.ipdl", b"protocol PF {\nparent:\n  async Flag(Bool b);\n};\n"),
+        (
+            "PF.ipdl",
+            b"protocol PF {\nparent:\n  async Flag(Bool b);\n};\n",
+        ),
         ("list.ini", b""),
         ("f.bin", b""),
     ];
@@ -183,9 +186,19 @@ fn failing_frames(rt: HostRuntime) -> Result<(), Fail> {
         };
         let left = call(rt.alloc(), &words, &outside)?;
         if failing_read < 4 {
-            assert!(rt; leaves(&left, Status::ReadFault, b"", b""), "{failing_read}");
+            assert!(rt;
+                leaves(&left, Status::ReadFault, b"", b""),
+                "{failing_read}"
+            );
         } else {
-            assert!(rt; leaves(&left, Status::Broken, b"", b"PF.ipdl:3:14: B1 unknown type\n"));
+            assert!(rt;
+                leaves(
+                    &left,
+                    Status::Broken,
+                    b"",
+                    b"PF.ipdl:3:14: B1 unknown type\n"
+                )
+            );
         }
     }
     Ok(())
@@ -197,7 +210,10 @@ fn large_frames(rt: HostRuntime) -> Result<(), Fail> {
     let alloc = rt.alloc();
     let mut names = Vec::new(alloc);
     let text = b"protocol PF {\n};\n";
-    names.push((String::from_str(alloc, "PF.ipdl")?, Vec::from_slice(alloc, text)?))?;
+    names.push((
+        String::from_str(alloc, "PF.ipdl")?,
+        Vec::from_slice(alloc, text)?,
+    ))?;
     let frames = vec![in alloc; 0u8; 1_048_577]?;
     names.push((String::from_str(alloc, "f.bin")?, frames))?;
     let mut files = MemoryFiles::new(names, Vec::new(alloc));
