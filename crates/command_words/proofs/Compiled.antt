@@ -8,7 +8,7 @@ use Rattle.command_words.specs.Options.{Choice, EachOnce, Reads, Said, own_words
 use Rattle.command_words.specs.Forms.{own_id}
 use Rattle.command_words.specs.Tables.{IsTable, by_letter}
 use Rattle.command_words.specs.Found.{IsFound, some_of}
-use Rattle.command_words.specs.Compile.{AreFiles, IsCompile, IsForCompile, IsNoCommand, IsPath, compile_options, firsts, path_option}
+use Rattle.command_words.specs.Compile.{AreFiles, IsCompile, IsForCompile, IsNoCompile, IsPath, compile_options, firsts, path_option}
 use Rattle.command_words.proofs.Lookups.{some_none}
 use Rattle.command_words.proofs.Parsed.{said_found}
 use Rattle.command_words.proofs.Pieces.{dirs_are}
@@ -22,19 +22,19 @@ some_is [] (v ∷ vs) e = absurd (some_none (v ∷ vs) (sym e))
 some_is (w ∷ ws) [] e = absurd (some_none (w ∷ ws) e)
 some_is (w ∷ ws) (v ∷ vs) e = same_Some (w ∷ ws) (v ∷ vs) e
 
-some_list : (ws : List Text) → unwrap_or (some_of ws) [] ≡ ws
+pub some_list : (ws : List Text) → unwrap_or (some_of ws) [] ≡ ws
 some_list [] = refl
 some_list (w ∷ ws) = refl
 
 -- words say one thing: the values of options, and the other words
-same_value : (options : List Choice) (words : List Text) (said other : List Said) → IsTable options → Reads options words said → EachOnce said → Reads options words other → EachOnce other
+pub same_value : (options : List Choice) (words : List Text) (said other : List Said) → IsTable options → Reads options words said → EachOnce said → Reads options words other → EachOnce other
     → (name : Text) → name ≢ own_id → value_of name said ≡ value_of name other
 same_value options words said other t reads once reads' once' name ne = sym ((said_found options words said t reads once).0 name ne) ∙ (said_found options words other t reads' once').0 name ne
 
-same_words : (options : List Choice) (words : List Text) (said other : List Said) → IsTable options → Reads options words said → EachOnce said → Reads options words other → EachOnce other → own_words said ≡ own_words other
+pub same_words : (options : List Choice) (words : List Text) (said other : List Said) → IsTable options → Reads options words said → EachOnce said → Reads options words other → EachOnce other → own_words said ≡ own_words other
 same_words options words said other t reads once reads' once' = some_is (own_words said) (own_words other) (sym (said_found options words said t reads once).1 ∙ (said_found options words other t reads' once').1)
 
-no_letter : (l : ℕ) → None ≡ Some l → (l < 128) × (l ≢ 45) × (by_letter [] l ≡ None)
+pub no_letter : (l : ℕ) → None ≡ Some l → (l < 128) × (l ≢ 45) × (by_letter [] l ≡ None)
 no_letter l e = absurd (some_none l (sym e))
 
 list_letter : (l : ℕ) → Some 115 ≡ Some l → (l < 128) × (l ≢ 45) × (by_letter (path_option ∷ []) l ≡ None)
@@ -44,10 +44,10 @@ list_letter l e = let is : 115 ≡ l = same_Some 115 l e in (omega arith, λ f. 
 pub table : IsTable compile_options
 table = (λ e. cc, refl, refl, refl, list_letter, (λ e. cc, refl, refl, refl, no_letter, tt))
 
-list_ne : codes "sync-msg-list" ≢ own_id
+pub list_ne : codes "sync-msg-list" ≢ own_id
 list_ne e = cc
 
-path_ne : codes "path" ≢ own_id
+pub path_ne : codes "path" ≢ own_id
 path_ne e = cc
 
 -- what is found makes the command
@@ -65,18 +65,18 @@ command_found words found list path files is chosen list_is path_is files_are = 
 }
 
 -- a path that is none makes the words none, and so do files that are none
-pub no_path_found : (words : List Text) (found : ArgMatches) → IsFound compile_options words found → ((path : List Text) → ¬ IsPath (first_of (codes "path") (rows_of (found_of found))) path) → IsNoCommand words
+pub no_path_found : (words : List Text) (found : ArgMatches) → IsFound compile_options words found → ((path : List Text) → ¬ IsPath (first_of (codes "path") (rows_of (found_of found))) path) → IsNoCompile words
 no_path_found words found is none list path files command =
     none path (subst (λ (v : Option Text). IsPath v path) (same_value compile_options words command.said is.said table command.reads command.once is.reads is.once (codes "path") path_ne ∙ sym (is.values (codes "path") path_ne)) command.path_is)
 
-pub no_files_found : (words : List Text) (found : ArgMatches) → IsFound compile_options words found → ((files : List Text) → ¬ AreFiles (unwrap_or (all_of own_id (rows_of (found_of found))) []) files) → IsNoCommand words
+pub no_files_found : (words : List Text) (found : ArgMatches) → IsFound compile_options words found → ((files : List Text) → ¬ AreFiles (unwrap_or (all_of own_id (rows_of (found_of found))) []) files) → IsNoCompile words
 no_files_found words found is none list path files command =
     none files (subst (λ (ws : List Text). AreFiles ws files)
     (same_words compile_options words command.said is.said table command.reads command.once is.reads is.once ∙ sym (ap (λ (o : Option (List Text)). unwrap_or o []) is.others ∙ some_list (own_words is.said))) command.files_are)
 
 -- ---- one command
 
-one_path : (value : Option Text) (path other : List Text) → IsPath value path → IsPath value other → path ≡ other
+pub one_path : (value : Option Text) (path other : List Text) → IsPath value path → IsPath value other → path ≡ other
 one_path None path other p q = p ∙ sym q
 one_path (Some text) path other p q = dirs_are text path p ∙ sym (dirs_are text other q)
 

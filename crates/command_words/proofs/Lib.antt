@@ -12,4 +12,6 @@ pub mod Pieces
 pub mod FileLists
 pub mod Noting
 pub mod Errors
+pub mod Twos
 pub mod Compiled
+pub mod FramesFound

@@ -10,9 +10,13 @@ abbrev pub HasWord : List (List ℕ) → List ℕ → Type 0
 HasWord [] word = ⊥
 HasWord (w ∷ ws) word = (w ≡ word) ⊎ HasWord ws word
 
--- the first words that choose a command of their own; none of these commands is built yet
+-- the first words that will choose a command of their own which is not built yet
+abbrev pub unbuilt_commands : List (List ℕ)
+unbuilt_commands = codes "run" ∷ codes "gen" ∷ codes "feed" ∷ codes "relay" ∷ codes "audit" ∷ codes "waits" ∷ []
+
+-- the first words that choose another command
 abbrev pub other_commands : List (List ℕ)
-other_commands = codes "run" ∷ codes "frames" ∷ codes "gen" ∷ codes "feed" ∷ codes "relay" ∷ codes "audit" ∷ codes "waits" ∷ []
+other_commands = codes "frames" ∷ unbuilt_commands
 
 -- the words choose the compile command: the first of them chooses no other one
 abbrev pub IsForCompile : List (List ℕ) → Type 0
@@ -79,15 +83,6 @@ pub record IsCompile (words : List (List ℕ)) (list : Option (List ℕ)) (path 
   pub path_is : IsPath (value_of (codes "path") said) path
   pub files_are : AreFiles (own_words said) files
 
--- the words are no command
-abbrev pub IsNoCommand : List (List ℕ) → Type 0
-IsNoCommand words = (list : Option (List ℕ)) (path files : List (List ℕ)) → ¬ IsCompile words list path files
-
--- the words are one command at most
-abbrev pub OneCommand : Type 0
-OneCommand = (words : List (List ℕ)) (list other_list : Option (List ℕ)) (path other_path files other_files : List (List ℕ))
-    → IsCompile words list path files → IsCompile words other_list other_path other_files → (list ≡ other_list) × (path ≡ other_path) × (files ≡ other_files)
-
--- a first word that chooses another command makes the words none, as yet
-abbrev pub OthersAreNone : Type 0
-OthersAreNone = (word : List ℕ) (words : List (List ℕ)) → HasWord other_commands word → IsNoCommand (word ∷ words)
+-- the words are no such command
+abbrev pub IsNoCompile : List (List ℕ) → Type 0
+IsNoCompile words = (list : Option (List ℕ)) (path files : List (List ℕ)) → ¬ IsCompile words list path files

@@ -4,5 +4,6 @@ pub mod Tables
 pub mod Found
 pub mod Keys
 pub mod Compile
+pub mod Frames
 pub mod Command
 pub mod Listed

@@ -1,11 +1,12 @@
 ghost use Rattle.std.specs.Prelude.{◌≡◌, ◌↔◌, IfErr, IfOk, IsTrue, map, string_bytes};
 ghost use Rattle.std.specs.List.{list_any};
 ghost use Rattle.std.specs.Str.{bytes_eq};
-ghost use Rattle.command_words.specs.Command.{CommandOf};
-ghost use Rattle.command_words.specs.Compile.{HasWord, IsNoCommand, other_commands};
+ghost use Rattle.command_words.specs.Command.{CommandOf, IsNoCommand};
+ghost use Rattle.command_words.specs.Compile.{HasWord, unbuilt_commands};
 
 use crate::WordsFault;
 use crate::compile::compile;
+use crate::frames::frames;
 use std::alloc::Global;
 
 /// A command, with what its words say. docs/command_line.md states the forms of words.
@@ -20,10 +21,23 @@ pub enum Command {
         /// The names of the files, in the order of their first words, none of them twice.
         files: Vec<String>,
     },
+    /// Print the frames that a file holds, or write them anew in the second layout.
+    Frames {
+        /// The name of the sync list, where one is given.
+        list: Option<String>,
+        /// The folders in which files are looked for, in order.
+        path: Vec<String>,
+        /// The name of the protocol file.
+        file: String,
+        /// The name of the file of frames.
+        frames: String,
+        /// Whether the frames are written anew.
+        convert: bool,
+    },
 }
 
-/// The first words that choose a command of their own; none of these commands is built yet.
-const OTHER_COMMANDS: [&str; 7] = ["run", "frames", "gen", "feed", "relay", "audit", "waits"];
+/// The first words that will choose a command of their own which is not built yet.
+const UNBUILT_COMMANDS: [&str; 6] = ["run", "gen", "feed", "relay", "audit", "waits"];
 
 /// Whether the word is one of these.
 fn has_word(words: &[&str], word: &str) -> bool
@@ -32,11 +46,11 @@ fn has_word(words: &[&str], word: &str) -> bool
     words.iter().any(|other| *other == word)
 }
 
-/// Whether a first word chooses a command of its own.
-fn is_other_command(word: &str) -> bool
-    ensures { IsTrue result ↔ HasWord other_commands word.now }
+/// Whether a first word will choose a command that is not built yet.
+fn is_unbuilt_command(word: &str) -> bool
+    ensures { IsTrue result ↔ HasWord unbuilt_commands word.now }
 {
-    has_word(&OTHER_COMMANDS, word)
+    has_word(&UNBUILT_COMMANDS, word)
 }
 
 /// The command that the words are; the name of the program is not among them. The fault is `Usage`
@@ -45,8 +59,11 @@ pub fn read_words(alloc: Global, words: &[String]) -> Result<Command, WordsFault
     ensures command { IfOk result (λ command. CommandOf (map string_bytes words.now) command) }
     ensures usage { IfErr result (λ fault. fault ≡ WordsFault.Usage → IsNoCommand (map string_bytes words.now)) }
 {
-    if let Some(first) = words.first() {
-        if is_other_command(first.as_str()) {
+    if let Some((first, rest)) = words.split_first() {
+        if first.as_str() == "frames" {
+            return frames(alloc, rest);
+        }
+        if is_unbuilt_command(first.as_str()) {
             return Err(WordsFault::Usage);
         }
     }

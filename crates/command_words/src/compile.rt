@@ -1,6 +1,6 @@
 ghost use Rattle.std.specs.Prelude.{◌≡◌, IfErr, IfOk, map, string_bytes};
 ghost use Rattle.command_words.specs.Command.{CommandOf};
-ghost use Rattle.command_words.specs.Compile.{IsForCompile, IsNoCommand};
+ghost use Rattle.command_words.specs.Compile.{IsForCompile, IsNoCompile};
 
 use crate::WordsFault;
 use crate::command::Command;
@@ -26,7 +26,7 @@ const COMPILE_OPTIONS: [Choice; 2] = [
 pub fn compile(alloc: Global, words: &[String]) -> Result<Command, WordsFault>
     requires { IsForCompile (map string_bytes words.now) }
     ensures command { IfOk result (λ command. CommandOf (map string_bytes words.now) command) }
-    ensures usage { IfErr result (λ fault. fault ≡ WordsFault.Usage → IsNoCommand (map string_bytes words.now)) }
+    ensures usage { IfErr result (λ fault. fault ≡ WordsFault.Usage → IsNoCompile (map string_bytes words.now)) }
 {
     let found = read_options(alloc, &COMPILE_OPTIONS, words)?;
     let path = folders_of(alloc, found.get_str("path"))?;

@@ -7,6 +7,7 @@ mod compile;
 mod fault;
 mod files;
 mod folders;
+mod frames;
 mod keys;
 mod laws;
 mod options;

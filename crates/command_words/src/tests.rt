@@ -3,8 +3,9 @@ use std::alloc::{AllocError, Global};
 use std::test::Fail;
 
 /// Lists of words, and behind `=>` what each is: the sync list behind `=`, or `none`; the folders,
-/// with `:` between them; and the files. Nothing stands where the words are no command. An empty word
-/// is written as two single quotes.
+/// with `:` between them; and the files. Behind these stands `<-` and the file of frames where the
+/// command is the one that prints frames, or `<2` where it converts them. Nothing stands where the
+/// words are no command. An empty word is written as two single quotes.
 const ROWS: &str = "x.ipdl => none . x.ipdl
 x.ipdlh => none . x.ipdlh
 a.ipdl b.ipdlh c.ipdl => none . a.ipdl b.ipdlh c.ipdl
@@ -84,13 +85,55 @@ help =>
 run a =>
 run x.ipdl =>
 frames x.ipdl =>
+frames =>
+frames x.ipdl f => none . x.ipdl <- f
+frames -s l x.ipdl f => =l . x.ipdl <- f
+frames x.ipdl -sl --path d:e f => =l d:e x.ipdl <- f
+frames x.ipdl f --to 2 => none . x.ipdl <2 f
+frames --to=2 x.ipdl f => none . x.ipdl <2 f
+frames --to 02 x.ipdl f => none . x.ipdl <2 f
+frames --to=0002 x.ipdl f => none . x.ipdl <2 f
+frames --to 1 x.ipdl f =>
+frames --to 3 x.ipdl f =>
+frames --to 20 x.ipdl f =>
+frames --to 22 x.ipdl f =>
+frames --to 12 x.ipdl f =>
+frames --to +2 x.ipdl f =>
+frames --to= x.ipdl f =>
+frames --to '' x.ipdl f =>
+frames --to two x.ipdl f =>
+frames --to=-2 x.ipdl f =>
+frames --to 2 --to 2 x.ipdl f =>
+frames --to x.ipdl f =>
+frames x.ipdl f --to =>
+frames x.ipdl f g =>
+frames x.ipdlh f =>
+frames f x.ipdl =>
+frames f.ipdl x.ipdl => none . f.ipdl <- x.ipdl
+frames x.ipdl x.ipdl => none . x.ipdl <- x.ipdl
+frames x.ipdl '' => none . x.ipdl <- 
+frames '' f =>
+frames -- x.ipdl -f => none . x.ipdl <- -f
+frames x.ipdl -- --to => none . x.ipdl <- --to
+frames x.ipdl -f =>
+frames x.ipdl - => none . x.ipdl <- -
+frames frames frames =>
+frames frames.ipdl frames => none . frames.ipdl <- frames
+frames --limit 3 x.ipdl f =>
+frames --path a::b x.ipdl f =>
+frames -t 2 x.ipdl f =>
+-s l frames x.ipdl f =>
+--to 2 frames x.ipdl f =>
+--to 2 x.ipdl =>
+x.ipdl --to 2 =>
+-s l frames x.ipdl =>
 gen x.ipdl =>
 feed x.ipdl =>
 relay x.ipdl =>
 audit x.ipdl =>
 waits x.ipdl =>
 run script.ids PA.ipdl =>
-frames PA.ipdl f.bin =>
+frames PA.ipdl f.bin => none . PA.ipdl <- f.bin
 a/PX.ipdl b/PX.ipdl =>
 PX.ipdl ./PX.ipdl =>
 PD.ipdl PD.ipdl => none . PD.ipdl
@@ -119,6 +162,24 @@ fn push_joined(line: &mut String, words: &[String], mark: &str) -> Result<(), Al
     Ok(())
 }
 
+/// Appends a sync list and folders, in the form of the rows.
+fn push_shared(
+    line: &mut String,
+    list: &Option<String>,
+    path: &[String],
+) -> Result<(), AllocError> {
+    match list {
+        Some(list) => {
+            line.push_str("=")?;
+            line.push_str(list.as_str())?;
+        }
+        None => line.push_str("none")?,
+    }
+    line.push_str(" ")?;
+    push_joined(line, path, ":")?;
+    line.push_str(" ")
+}
+
 /// What the words are, in the form of the rows.
 fn shown(alloc: Global, words: &[String]) -> Result<String, WordsFault> {
     let mut line = String::new(alloc);
@@ -126,17 +187,22 @@ fn shown(alloc: Global, words: &[String]) -> Result<String, WordsFault> {
         Err(WordsFault::Usage) => {}
         Err(WordsFault::NoMemory) => return Err(WordsFault::NoMemory),
         Ok(Command::Compile { list, path, files }) => {
-            match list {
-                Some(list) => {
-                    line.push_str("=")?;
-                    line.push_str(list.as_str())?;
-                }
-                None => line.push_str("none")?,
-            }
-            line.push_str(" ")?;
-            push_joined(&mut line, path.as_slice(), ":")?;
-            line.push_str(" ")?;
+            push_shared(&mut line, &list, path.as_slice())?;
             push_joined(&mut line, files.as_slice(), " ")?;
+        }
+        Ok(
+            Command::Frames {
+                list,
+                path,
+                file,
+                frames,
+                convert,
+            },
+        ) => {
+            push_shared(&mut line, &list, path.as_slice())?;
+            line.push_str(file.as_str())?;
+            line.push_str(if convert { " <2 " } else { " <- " })?;
+            line.push_str(frames.as_str())?;
         }
     }
     Ok(line)
@@ -162,10 +228,10 @@ fn lists_of_words(rt: HostRuntime) -> Result<(), Fail> {
         let (words, expected) = row.split_once("=>").ok_or("a row")?;
         let words = words_of(rt.alloc(), words)?;
         let line = shown(rt.alloc(), words.as_slice())?;
-        assert_eq!(rt; line.as_str(), expected.trim_start(), "{row}");
+        assert_eq!(rt; line.as_str().trim_end(), expected.trim(), "{row}");
         count = count.wrapping_add(1);
     }
-    assert_eq!(rt; count, 101);
+    assert_eq!(rt; count, 143);
     Ok(())
 }
 
@@ -202,6 +268,7 @@ fn file_count(alloc: Global, words: &[String]) -> Result<Option<usize>, WordsFau
                 files,
             },
         ) => Ok(Some(files.len())),
+        Ok(Command::Frames { .. }) => Ok(None),
         Err(WordsFault::Usage) => Ok(None),
         Err(WordsFault::NoMemory) => Err(WordsFault::NoMemory),
     }

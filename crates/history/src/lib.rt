@@ -10,7 +10,10 @@ mod words;
 
 pub use history::History;
 pub use line::{Line, What};
-pub use text::history_text;
+pub use text::{
+    history_text, params_of, push_listed, push_message, push_numbered, returns_of_number,
+};
+pub use words::reason_word;
 
 #[cfg(test)]
 mod tests;

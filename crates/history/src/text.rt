@@ -35,8 +35,9 @@ fn message_name(schema: &Schema, number: u32) -> &[u8]
     }
 }
 
-/// The parameters of a message, or none where there is no such message.
-fn params_of(schema: &Schema, number: u32) -> &[ParamRow]
+/// The parameters of a message by the number of its request or reply, or none where there is no such
+/// message. Takes no memory.
+pub fn params_of(schema: &Schema, number: u32) -> &[ParamRow]
     requires { IsSound schema.now }
     ensures { result.now ≡ text.params_of schema.now number }
 {
@@ -56,8 +57,9 @@ fn returns_of_row(message: &MessageRow) -> &[ParamRow]
     }
 }
 
-/// The returns of the message with this number.
-fn returns_of_number(schema: &Schema, number: u32) -> &[ParamRow]
+/// The returns of a message by the number of its request or reply, or none where it has none. Takes no
+/// memory.
+pub fn returns_of_number(schema: &Schema, number: u32) -> &[ParamRow]
     requires { IsSound schema.now }
     ensures { result.now ≡ option_map_or text.returns_of_row (message_of schema.now number) [] }
 {
@@ -78,8 +80,8 @@ fn returns_of(schema: &Schema, named: Option<u32>) -> &[ParamRow]
     }
 }
 
-/// Appends a text and a number.
-fn push_numbered(
+/// Appends a text and a number behind it, in decimal digits.
+pub fn push_numbered(
     out: &mut Vec<u8>,
     alloc: Global,
     before: &[u8],
@@ -92,8 +94,9 @@ fn push_numbered(
     out.extend_from_slice(digits.as_bytes())
 }
 
-/// Appends a message with its protocol.
-fn push_message(out: &mut Vec<u8>, schema: &Schema, number: u32) -> Result<(), AllocError>
+/// Appends a message with its protocol, as `P.M`, by the number of its request or reply
+/// (docs/transcripts.md).
+pub fn push_message(out: &mut Vec<u8>, schema: &Schema, number: u32) -> Result<(), AllocError>
     requires { IsSound schema.now }
     ensures { OnOk result (out.new.items ≡ out.old.items ++ text.message_text schema.now number) }
 {
@@ -102,8 +105,8 @@ fn push_message(out: &mut Vec<u8>, schema: &Schema, number: u32) -> Result<(), A
     out.extend_from_slice(message_name(schema, number))
 }
 
-/// Appends values between brackets.
-fn push_listed(
+/// Appends values between brackets, by their types (docs/values.md).
+pub fn push_listed(
     out: &mut Vec<u8>,
     alloc: Global,
     schema: &Schema,

@@ -1,42 +1,58 @@
 -- What follows of an answer to words.
-use Rattle.std.proofs.Common.{◌≡◌, ◌⊎◌, ℕ, List, ap, ◌∙◌, sym, inl, inr}
+use Rattle.std.proofs.Common.{◌≡◌, ◌≢◌, ℕ, Bool, List, [], ◌∷◌, ap, ◌∙◌, sym, inl, inr}
 use Rattle.std.specs.Prelude.{Option, Some, None}
 use Rattle.ipdl_base.specs.Outside.{FileMap}
-use Rattle.command_words.specs.Compile.{IsNoCommand}
+use Rattle.command_words.specs.Command.{IsNoCommand}
+use Rattle.frame_list.specs.declared.list.ListFault.{ListFault}
+use Rattle.ipdl_base.specs.declared.schema.Schema.{Schema}
 use Rattle.ipdl_top.specs.declared.answer.Answer.{Answer}
-use Rattle.ipdl_top.specs.declared.status.Status.TheVariants.{Done, Broken, Usage}
-use Rattle.ipdl_top.specs.Answer.{IsAnswer, IsCompilation, given_by, usage_answer}
+use Rattle.ipdl_top.specs.declared.status.Status.TheVariants.{Usage}
+use Rattle.ipdl_top.specs.Answer.{IsAnswer, IsCompilation, SaysTables, given_by, usage_answer}
+use Rattle.ipdl_top.specs.Frames.{SaysFrames, frames_answer, frames_out}
 use Rattle.ipdl_top.specs.Seen.{Seen, ForMap, steady}
 use Rattle.include_graph.specs.Sources.{Given}
 
 status_of : (a b : Answer) → a ≡ b → a.status ≡ b.status
 status_of a b e = ap (λ (x : Answer). x.status) e
 
--- a compilation ends in one of two ways
-compiled : (given : Given) (lists : FileMap) (list : Option (List ℕ)) (answer : Answer) → IsCompilation given lists list answer → (answer.status ≡ Done) ⊎ (answer.status ≡ Broken)
-compiled given lists list answer (inl h) = inr (status_of _ _ h.says)
-compiled given lists list answer (inr (inl h)) = inr (status_of _ _ h.says)
-compiled given lists list answer (inr (inr h)) = inl (status_of _ _ h.says)
+-- an answer is none to words that are no command
+abbrev IsNoUsage : Answer → Type 0
+IsNoUsage answer = answer.status ≢ Usage
+
+not_usage : (a b : Answer) → a ≡ b → IsNoUsage b → IsNoUsage a
+not_usage a b e other usage = other (sym (status_of a b e) ∙ usage)
+
+tables : (schema : Schema) (answer : Answer) → SaysTables schema answer → IsNoUsage answer
+tables schema answer says = not_usage _ _ says (λ e. cc)
+
+listed : (name out : List ℕ) (fault : Option ListFault) → IsNoUsage (frames_answer name out fault)
+listed name out None e = cc
+listed name out (Some fault) e = cc
+
+frames : (name : List ℕ) (convert : Bool) (held : Option (List ℕ)) (schema : Schema) (answer : Answer) → SaysFrames name convert held schema answer → IsNoUsage answer
+frames name convert None schema answer says = not_usage _ _ says (λ e. cc)
+frames name convert (Some bytes) schema answer (inl larger) = not_usage _ _ larger.1 (λ e. cc)
+frames name convert (Some bytes) schema answer (inr told) = not_usage _ _ told.1.says (listed name (frames_out convert schema told.1.frames) told.1.fault)
+
+-- nor is that of a compilation
+compiled : (Says : Schema → Answer → Type 0) → ((schema : Schema) (answer : Answer) → Says schema answer → IsNoUsage answer)
+    → (given : Given) (lists : FileMap) (list : Option (List ℕ)) (answer : Answer) → IsCompilation Says given lists list answer → IsNoUsage answer
+compiled Says none given lists list answer (inl h) = not_usage _ _ h.says (λ e. cc)
+compiled Says none given lists list answer (inr (inl h)) = not_usage _ _ h.says (λ e. cc)
+compiled Says none given lists list answer (inr (inr h)) = none h.schema answer h.says
 
 -- words that are no command have the usage answer
 pub of_no_command : (seen : Seen) (words : List (List ℕ)) (answer : Answer) → IsNoCommand words → IsAnswer seen words answer → answer ≡ usage_answer
-of_no_command seen words answer none (inl h) = absurd (none h.list h.path h.names h.command)
-of_no_command seen words answer none (inr h) = h.1
+of_no_command seen words answer none (inl h) = absurd (none.0 h.list h.path h.names h.command)
+of_no_command seen words answer none (inr (inl h)) = absurd (none.1 h.list h.path h.file h.frames h.convert h.command)
+of_no_command seen words answer none (inr (inr h)) = h.1
 
 -- and no others have it
 pub no_command_of : (seen : Seen) (words : List (List ℕ)) (answer : Answer) → answer.status ≡ Usage → IsAnswer seen words answer → IsNoCommand words
-no_command_of seen words answer usage (inl h) =
-    elim (compiled (given_by seen.files h.path h.names) seen.list h.list answer h.compilation) [
-      | inl e ↦ absurd (let done : Done ≡ Usage = sym e ∙ usage in let no : ⊥ = cc in no)
-      | inr e ↦ absurd (let broken : Broken ≡ Usage = sym e ∙ usage in let no : ⊥ = cc in no)
-    ]
-no_command_of seen words answer usage (inr h) = h.0
-
--- an answer ends in one of three ways
-pub ends : (seen : Seen) (words : List (List ℕ)) (answer : Answer) → IsAnswer seen words answer → (answer.status ≡ Done) ⊎ ((answer.status ≡ Broken) ⊎ (answer.status ≡ Usage))
-ends seen words answer (inl h) =
-    elim (compiled (given_by seen.files h.path h.names) seen.list h.list answer h.compilation) [ inl e ↦ inl e | inr e ↦ inr (inl e) ]
-ends seen words answer (inr h) = inr (inr (status_of _ _ h.1))
+no_command_of seen words answer usage (inl h) = absurd (compiled SaysTables tables (given_by seen.files h.path h.names) seen.list h.list answer h.compilation usage)
+no_command_of seen words answer usage (inr (inl h)) =
+    absurd (compiled (SaysFrames h.frames h.convert (seen.frames h.frames)) (frames h.frames h.convert (seen.frames h.frames)) (given_by seen.files h.path (h.file ∷ [])) seen.list h.list answer h.compilation usage)
+no_command_of seen words answer usage (inr (inr h)) = h.0
 
 -- what follows whatever is seen, and does not speak of it
 pub for_any : (told : Option FileMap) (P : Seen → Type 0) (Q : Type 0) → ((seen : Seen) → P seen → Q) → ForMap told P → Q

@@ -1,11 +1,11 @@
 -- Words have at most one answer with some files.
-use Rattle.std.proofs.Common.{◌≡◌, ℕ, zero, List, [], ◌∷◌, ◌++◌, map, length, refl, sym, ◌∙◌, ap, subst, inl, inr, arith}
+use Rattle.std.proofs.Common.{◌≡◌, ℕ, zero, Bool, true, false, List, [], ◌∷◌, ◌++◌, map, length, refl, sym, ◌∙◌, ap, subst, inl, inr, arith}
 use Rattle.std.specs.Prelude.{Option, Some, None}
 use Rattle.std.proofs.lemmas.Option.{same_Some}
 use Rattle.ipdl_base.specs.Outside.{FileMap}
 use Rattle.ipdl_base.specs.declared.finding.Finding.{Finding}
 use Rattle.ipdl_syntax.specs.declared.program.Entry.{Entry}
-use Rattle.command_words.specs.Compile.{OneCommand}
+use Rattle.command_words.specs.Command.{OneCommand}
 use Rattle.findings.specs.Report.{IsReport}
 use Rattle.findings.proofs.Reports.{same_report}
 use Rattle.include_graph.specs.Load.{keys_of}
@@ -14,11 +14,21 @@ use Rattle.include_graph.proofs.OneReach.{one_reach}
 use Rattle.include_graph.proofs.OneUnit.{AtMostOne}
 use Rattle.program_laws.specs.Laws.{BreakAlike, AreListedAlike, HaveSchemasAlike, AreAlike}
 use Rattle.schema_laws.specs.Laws.{OneSchema, plain_schema}
+use Rattle.frame_laws.specs.Laws.{FramesAlike, OneListOfFrames}
+use Rattle.frame_list.specs.declared.list.Placed.{Placed}
+use Rattle.frame_list.specs.Converted.{new_frames}
+use Rattle.frame_list.specs.Frames.{Holds, all_plain}
+use Rattle.frame_list.specs.Lines.{frames_lines}
+use Rattle.frame_list.proofs.PlainFrames.{new_plain}
+use Rattle.frame_list.proofs.PlainLines.{plain_lines}
+use Rattle.ipdl_base.specs.declared.schema.Schema.{Schema}
+use Rattle.value_types.specs.Laws.{BoxesSayNothing}
 use Rattle.sync_list.specs.declared.list.Section.{Section}
 use Rattle.sync_list.specs.Lists.{IsListOf}
 use Rattle.sync_list.specs.Laws.{OneList}
 use Rattle.ipdl_top.specs.declared.answer.Answer.{Answer}
-use Rattle.ipdl_top.specs.Answer.{IsBrokenFile, BreaksRules, IsFileReport, IsReading, IsRuleReport, IsTable, IsCompilation, IsCommandAnswer, given_by, report_answer, table_answer}
+use Rattle.ipdl_top.specs.Answer.{IsBrokenFile, BreaksRules, IsFileReport, IsReading, IsRuleReport, IsSaidOf, IsCompilation, IsCommandAnswer, IsFramesAnswer, SaysTables, given_by, report_answer, table_answer}
+use Rattle.ipdl_top.specs.Frames.{SaysBytes, SaysFrames, frames_answer, frames_out}
 use Rattle.ipdl_top.specs.Laws.{OneAnswer}
 use Rattle.ipdl_top.specs.Lists.{AreSections, list_names}
 use Rattle.ipdl_top.specs.Seen.{Seen}
@@ -35,6 +45,9 @@ pub record TheLaws : Type 0 where
   pub listed : AreListedAlike
   pub schemas : HaveSchemasAlike
   pub schema : OneSchema
+  pub boxes : BoxesSayNothing
+  pub frames_alike : FramesAlike
+  pub frames : OneListOfFrames
 
 -- Lists
 
@@ -105,45 +118,93 @@ rule_reports laws given lists list one other x y =
     x.says ∙ ap (λ (r : List Finding). report_answer (map (λ (e : Entry). e.name) x.program ++ list_names list) r) report
     ∙ ap (λ (ns : List (List ℕ)). report_answer (ns ++ list_names list) y.report) names ∙ sym y.says
 
--- a program that has a table breaks no rule
-not_table : TheLaws → (given : Given) (lists : FileMap) (list : Option (List ℕ)) (one other : Answer) → IsRuleReport given lists list one → IsTable given lists list other → ⊥
-not_table laws given lists list one other x y =
-    let to = read_alike laws given lists list x.program y.program x.sections y.sections x.reading y.reading in
-    x.some (empty x.report (λ f h. y.clean f (to f h)) x.is_report)
+-- a program of whose schema something is said breaks no rule
+not_said : TheLaws → (Says : Schema → Answer → Type 0) (given : Given) (lists : FileMap) (list : Option (List ℕ)) (one other : Answer) → IsRuleReport given lists list one → IsSaidOf Says given lists list other → ⊥
+not_said laws Says given lists list one other x y =
+    let read = y.read in
+    let to = read_alike laws given lists list x.program read.program x.sections read.sections x.reading read.reading in
+    x.some (empty x.report (λ f h. read.clean f (to f h)) x.is_report)
 
--- and has one
-tables : TheLaws → (given : Given) (lists : FileMap) (list : Option (List ℕ)) (one other : Answer) → IsTable given lists list one → IsTable given lists list other → one ≡ other
-tables laws given lists list one other x y =
-    let same = alike laws.texts given y.program x.program y.reading.is_program x.reading.is_program y.reading.whole x.reading.whole in
-    let schema : plain_schema x.schema ≡ plain_schema y.schema = laws.schema x.program x.schema y.schema x.schema_of (laws.schemas y.program x.program y.schema same y.schema_of) in
-    x.says ∙ ap table_answer (one_text x.schema y.schema schema) ∙ sym y.says
+-- one thing is said of schemas that are the same up to boxes
+abbrev SaysOne : (Schema → Answer → Type 0) → Type 0
+SaysOne Says = (a b : Schema) → plain_schema a ≡ plain_schema b → (one other : Answer) → Says a one → Says b other → one ≡ other
+
+tables_one : SaysOne SaysTables
+tables_one a b same one other x y = x ∙ ap table_answer (one_text a b same) ∙ sym y
+
+-- the text for frames
+out_one : TheLaws → (convert : Bool) (a b : Schema) → plain_schema a ≡ plain_schema b → (frames others : List Placed) → all_plain frames ≡ all_plain others → frames_out convert a frames ≡ frames_out convert b others
+out_one laws true a b same frames others e = new_plain a frames ∙ ap (new_frames a) e ∙ sym (new_plain a others) ∙ laws.frames_alike.anew a b same others
+out_one laws false a b same frames others e =
+    plain_lines laws.boxes a frames ∙ ap (frames_lines a) e ∙ sym (plain_lines laws.boxes a others) ∙ laws.frames_alike.lines a b same others
+
+bytes_one : TheLaws → (name : List ℕ) (convert : Bool) (bytes : List ℕ) → SaysOne (SaysBytes name convert bytes)
+bytes_one laws name convert bytes a b same one other x y =
+    let moved : Holds a 0 bytes y.frames y.fault = laws.frames_alike.held b a (sym same) 0 bytes y.frames y.fault y.holds in
+    let list = laws.frames a x.sound 0 bytes x.are_bytes x.frames y.frames x.fault y.fault x.holds moved in
+    x.says ∙ ap (λ (out : List ℕ). frames_answer name out x.fault) (out_one laws convert a b same x.frames y.frames list.0)
+    ∙ ap (frames_answer name (frames_out convert b y.frames)) list.1 ∙ sym y.says
+
+frames_one : TheLaws → (name : List ℕ) (convert : Bool) (held : Option (List ℕ)) → SaysOne (SaysFrames name convert held)
+frames_one laws name convert None a b same one other x y = x ∙ sym y
+frames_one laws name convert (Some bytes) a b same one other (inl x) (inl y) = x.1 ∙ sym y.1
+frames_one laws name convert (Some bytes) a b same one other (inl x) (inr y) = absurd (omega (arith, x.0, y.0))
+frames_one laws name convert (Some bytes) a b same one other (inr x) (inl y) = absurd (omega (arith, x.0, y.0))
+frames_one laws name convert (Some bytes) a b same one other (inr x) (inr y) = bytes_one laws name convert bytes a b same one other x.1 y.1
+
+-- and so of a program
+said : TheLaws → (Says : Schema → Answer → Type 0) → SaysOne Says → (given : Given) (lists : FileMap) (list : Option (List ℕ)) (one other : Answer) → IsSaidOf Says given lists list one → IsSaidOf Says given lists list other → one ≡ other
+said laws Says unique given lists list one other x y =
+    let p = x.read in
+    let q = y.read in
+    let same = alike laws.texts given q.program p.program q.reading.is_program p.reading.is_program q.reading.whole p.reading.whole in
+    let schema : plain_schema x.schema ≡ plain_schema y.schema = laws.schema p.program x.schema y.schema p.schema_of (laws.schemas q.program p.program y.schema same q.schema_of) in
+    unique x.schema y.schema schema one other x.says y.says
 
 -- Answers
 
 -- a compilation has one answer
-compilations : TheLaws → (given : Given) (lists : FileMap) (list : Option (List ℕ)) (one other : Answer) → IsCompilation given lists list one → IsCompilation given lists list other → one ≡ other
-compilations laws given lists list one other (inl x) (inl y) = file_reports laws given lists list one other x y
-compilations laws given lists list one other (inl x) (inr (inl y)) = absurd (not_read laws given lists list one y.program y.sections x y.reading)
-compilations laws given lists list one other (inl x) (inr (inr y)) = absurd (not_read laws given lists list one y.program y.sections x y.reading)
-compilations laws given lists list one other (inr (inl x)) (inl y) = absurd (not_read laws given lists list other x.program x.sections y x.reading)
-compilations laws given lists list one other (inr (inr x)) (inl y) = absurd (not_read laws given lists list other x.program x.sections y x.reading)
-compilations laws given lists list one other (inr (inl x)) (inr (inl y)) = rule_reports laws given lists list one other x y
-compilations laws given lists list one other (inr (inl x)) (inr (inr y)) = absurd (not_table laws given lists list one other x y)
-compilations laws given lists list one other (inr (inr x)) (inr (inl y)) = absurd (not_table laws given lists list other one y x)
-compilations laws given lists list one other (inr (inr x)) (inr (inr y)) = tables laws given lists list one other x y
+compilations : TheLaws → (Says : Schema → Answer → Type 0) → SaysOne Says → (given : Given) (lists : FileMap) (list : Option (List ℕ)) (one other : Answer) → IsCompilation Says given lists list one → IsCompilation Says given lists list other → one ≡ other
+compilations laws Says unique given lists list one other (inl x) (inl y) = file_reports laws given lists list one other x y
+compilations laws Says unique given lists list one other (inl x) (inr (inl y)) = absurd (not_read laws given lists list one y.program y.sections x y.reading)
+compilations laws Says unique given lists list one other (inl x) (inr (inr y)) = absurd (not_read laws given lists list one y.read.program y.read.sections x y.read.reading)
+compilations laws Says unique given lists list one other (inr (inl x)) (inl y) = absurd (not_read laws given lists list other x.program x.sections y x.reading)
+compilations laws Says unique given lists list one other (inr (inr x)) (inl y) = absurd (not_read laws given lists list other x.read.program x.read.sections y x.read.reading)
+compilations laws Says unique given lists list one other (inr (inl x)) (inr (inl y)) = rule_reports laws given lists list one other x y
+compilations laws Says unique given lists list one other (inr (inl x)) (inr (inr y)) = absurd (not_said laws Says given lists list one other x y)
+compilations laws Says unique given lists list one other (inr (inr x)) (inr (inl y)) = absurd (not_said laws Says given lists list other one y x)
+compilations laws Says unique given lists list one other (inr (inr x)) (inr (inr y)) = said laws Says unique given lists list one other x y
 
--- so has a command
+-- so has the command that compiles
 commands : TheLaws → (seen : Seen) (words : List (List ℕ)) (one other : Answer) → IsCommandAnswer seen words one → IsCommandAnswer seen words other → one ≡ other
 commands laws seen words one other x y =
-    let same = laws.command words y.list x.list y.path x.path y.names x.names y.command x.command in
-    let listed : IsCompilation (given_by seen.files y.path y.names) seen.list x.list other = subst (λ (l : Option (List ℕ)). IsCompilation (given_by seen.files y.path y.names) seen.list l other) same.0 y.compilation in
-    let found : IsCompilation (given_by seen.files x.path y.names) seen.list x.list other = subst (λ (p : List (List ℕ)). IsCompilation (given_by seen.files p y.names) seen.list x.list other) same.1 listed in
-    let named : IsCompilation (given_by seen.files x.path x.names) seen.list x.list other = subst (λ (n : List (List ℕ)). IsCompilation (given_by seen.files x.path n) seen.list x.list other) same.2 found in
-    compilations laws (given_by seen.files x.path x.names) seen.list x.list one other x.compilation named
+    let same = (laws.command words).compile y.list x.list y.path x.path y.names x.names y.command x.command in
+    let listed : IsCompilation SaysTables (given_by seen.files y.path y.names) seen.list x.list other = subst (λ (l : Option (List ℕ)). IsCompilation SaysTables (given_by seen.files y.path y.names) seen.list l other) same.0 y.compilation in
+    let found : IsCompilation SaysTables (given_by seen.files x.path y.names) seen.list x.list other = subst (λ (p : List (List ℕ)). IsCompilation SaysTables (given_by seen.files p y.names) seen.list x.list other) same.1 listed in
+    let named : IsCompilation SaysTables (given_by seen.files x.path x.names) seen.list x.list other = subst (λ (n : List (List ℕ)). IsCompilation SaysTables (given_by seen.files x.path n) seen.list x.list other) same.2 found in
+    compilations laws SaysTables tables_one (given_by seen.files x.path x.names) seen.list x.list one other x.compilation named
 
--- words are a command or none
+-- and the one that prints frames
+frames_commands : TheLaws → (seen : Seen) (words : List (List ℕ)) (one other : Answer) → IsFramesAnswer seen words one → IsFramesAnswer seen words other → one ≡ other
+frames_commands laws seen words one other x y =
+    let same = (laws.command words).frames y.list x.list y.path x.path y.file x.file y.frames x.frames y.convert x.convert y.command x.command in
+    let Of : Option (List ℕ) → List (List ℕ) → List ℕ → List ℕ → Bool → Type 0 =
+    λ list path file frames convert. IsCompilation (SaysFrames frames convert (seen.frames frames)) (given_by seen.files path (file ∷ [])) seen.list list other in
+    let listed : Of x.list y.path y.file y.frames y.convert = subst (λ (l : Option (List ℕ)). Of l y.path y.file y.frames y.convert) same.0 y.compilation in
+    let found : Of x.list x.path y.file y.frames y.convert = subst (λ (p : List (List ℕ)). Of x.list p y.file y.frames y.convert) same.1 listed in
+    let named : Of x.list x.path x.file y.frames y.convert = subst (λ (f : List ℕ). Of x.list x.path f y.frames y.convert) same.2 found in
+    let framed : Of x.list x.path x.file x.frames y.convert = subst (λ (f : List ℕ). Of x.list x.path x.file f y.convert) same.3 named in
+    let whole : Of x.list x.path x.file x.frames x.convert = subst (λ (c : Bool). Of x.list x.path x.file x.frames c) same.4 framed in
+    compilations laws (SaysFrames x.frames x.convert (seen.frames x.frames)) (frames_one laws x.frames x.convert (seen.frames x.frames)) (given_by seen.files x.path (x.file ∷ [])) seen.list x.list one other x.compilation whole
+
+-- words are one command or none
 pub determined : TheLaws → OneAnswer
 determined laws seen words one other (inl x) (inl y) = commands laws seen words one other x y
-determined laws seen words one other (inl x) (inr y) = absurd (y.0 x.list x.path x.names x.command)
-determined laws seen words one other (inr x) (inl y) = absurd (x.0 y.list y.path y.names y.command)
-determined laws seen words one other (inr x) (inr y) = x.1 ∙ sym y.1
+determined laws seen words one other (inl x) (inr (inl y)) = absurd ((laws.command words).apart x.list y.list x.path y.path x.names y.file y.frames y.convert x.command y.command)
+determined laws seen words one other (inl x) (inr (inr y)) = absurd (y.0.0 x.list x.path x.names x.command)
+determined laws seen words one other (inr (inl x)) (inl y) = absurd ((laws.command words).apart y.list x.list y.path x.path y.names x.file x.frames x.convert y.command x.command)
+determined laws seen words one other (inr (inl x)) (inr (inl y)) = frames_commands laws seen words one other x y
+determined laws seen words one other (inr (inl x)) (inr (inr y)) = absurd (y.0.1 x.list x.path x.file x.frames x.convert x.command)
+determined laws seen words one other (inr (inr x)) (inl y) = absurd (x.0.0 y.list y.path y.names y.command)
+determined laws seen words one other (inr (inr x)) (inr (inl y)) = absurd (x.0.1 y.list y.path y.file y.frames y.convert y.command)
+determined laws seen words one other (inr (inr x)) (inr (inr y)) = x.1 ∙ sym y.1

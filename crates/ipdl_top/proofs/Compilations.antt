@@ -7,6 +7,7 @@ use Rattle.std.proofs.lemmas.List.Elements.{Contains-push, Contains-push_cases}
 use Rattle.std.proofs.lemmas.Option.{same_Some}
 use Rattle.ipdl_base.specs.Outside.{FileMap}
 use Rattle.ipdl_base.specs.declared.finding.Finding.{Finding}
+use Rattle.ipdl_base.specs.declared.schema.Schema.{Schema}
 use Rattle.ipdl_syntax.specs.declared.program.Entry.{Entry}
 use Rattle.ipdl_syntax.specs.Programs.{IsProgram}
 use Rattle.findings.specs.Order.{IsIncreasing}
@@ -20,9 +21,11 @@ use Rattle.sync_list.proofs.Unique.{one_fault, never_both}
 use Rattle.ipdl_top.specs.declared.answer.Answer.{Answer}
 use Rattle.ipdl_top.specs.declared.list.Listed.{Listed}
 use Rattle.ipdl_top.specs.declared.list.Listed.TheVariants.{Sections, Broken}
-use Rattle.ipdl_top.specs.Answer.{IsCompilation, report_answer}
+use Rattle.ipdl_top.specs.declared.checked.Checked.{Checked}
+use Rattle.ipdl_top.specs.declared.checked.Checked.TheVariants.{Report, Clean}
+use Rattle.ipdl_top.specs.Answer.{IsCompilation, IsFileReport, IsRuleReport, report_answer}
 use Rattle.ipdl_top.specs.Lists.{IsListFault, IsFaultOfList, AreSections, list_names}
-use Rattle.ipdl_top.specs.Steps.{IsListed, IsRuleAnswer, IsListedAnswer, IsProgramAnswer, IsFilesAnswer, names_of}
+use Rattle.ipdl_top.specs.Steps.{IsChecked, IsFilesAnswer, IsListed, IsListedChecked, IsProgramChecked, IsRuleChecked, IsSoundChecked, IsToldOf, names_of}
 
 -- Lists
 
@@ -98,14 +101,14 @@ names_called given (entry ∷ program) h =
 -- Answers
 
 -- the answer for the program of the reach, where the list breaks a rule
-of_broken : (given : Given) (lists : FileMap) (list : Option (List ℕ)) (program : List Entry) (finding : Finding) (answer : Answer) → IsProgramOf given program → IsFaultOfList lists list (length program) finding → answer ≡ report_answer (names_of program list) (finding ∷ []) → IsCompilation given lists list answer
+of_broken : (given : Given) (lists : FileMap) (list : Option (List ℕ)) (program : List Entry) (finding : Finding) (answer : Answer) → IsProgramOf given program → IsFaultOfList lists list (length program) finding → answer ≡ report_answer (names_of program list) (finding ∷ []) → IsFileReport given lists list answer
 of_broken given lists list program finding answer p broken says =
     let keys = keys_of program in
     let long : length keys ≡ length program = length-map program (λ (e : Entry). e.key) in
     let fault : IsFaultOfList lists list (length keys) finding = subst (λ n. IsFaultOfList lists list n finding) (sym long) broken in
     let one = one_finding finding in
     let names = names_called given program (λ number entry at. (p.entries number entry at).name) in
-    inl (record {
+    record {
       keys = keys;
       reach = p.reach;
       report = finding ∷ [];
@@ -121,11 +124,11 @@ of_broken given lists list program finding answer p broken says =
       };
       some = some_element (finding ∷ []) finding (Contains-push [] finding);
       says = says ∙ ap (λ (ns : List (List ℕ)). report_answer (ns ++ list_names list) (finding ∷ [])) (sym names);
-    })
+    }
 
 -- and where it has sections
-of_sections : (given : Given) (lists : FileMap) (list : Option (List ℕ)) (program : List Entry) (sections : Option (List Section)) (answer : Answer) → IsProgramOf given program → IsProgram program → AreSections lists list sections → IsRuleAnswer program sections (names_of program list) answer → IsCompilation given lists list answer
-of_sections given lists list program sections answer p whole are (inl r) = inr (inl (record {
+of_sections : (given : Given) (lists : FileMap) (list : Option (List ℕ)) (program : List Entry) (sections : Option (List Section)) (checked : Checked) → IsProgramOf given program → IsProgram program → AreSections lists list sections → IsRuleChecked program sections (names_of program list) checked → IsChecked given lists list checked
+of_sections given lists list program sections (Report answer) p whole are r = inr (record {
   program = program;
   sections = sections;
   reading = record { is_program = p; whole = whole; are_sections = are };
@@ -133,24 +136,37 @@ of_sections given lists list program sections answer p whole are (inl r) = inr (
   is_report = r.is_report;
   some = r.some;
   says = r.says;
-}))
-of_sections given lists list program sections answer p whole are (inr t) = inr (inr (record {
-  program = program;
-  sections = sections;
-  reading = record { is_program = p; whole = whole; are_sections = are };
-  clean = t.clean;
-  schema = t.schema;
-  schema_of = t.schema_of;
-  says = t.says;
-}))
+})
+of_sections given lists list program sections (Clean schema) p whole are t = (
+  record {
+    program = program;
+    sections = sections;
+    reading = record { is_program = p; whole = whole; are_sections = are };
+    clean = t.clean;
+    schema_of = t.schema_of;
+  },
+  t.sound,
+)
 
-of_listed : (given : Given) (lists : FileMap) (list : Option (List ℕ)) (program : List Entry) (listed : Listed) (answer : Answer) → IsProgramOf given program → IsProgram program → IsListed lists list (length program) listed → IsListedAnswer program listed (names_of program list) answer → IsCompilation given lists list answer
-of_listed given lists list program (Sections sections) answer p whole h answered = of_sections given lists list program sections answer p whole h answered
-of_listed given lists list program (Broken finding) answer p whole h answered = of_broken given lists list program finding answer p h answered
+of_listed : (given : Given) (lists : FileMap) (list : Option (List ℕ)) (program : List Entry) (listed : Listed) (checked : Checked) → IsProgramOf given program → IsProgram program → IsListed lists list (length program) listed → IsListedChecked program listed (names_of program list) checked → IsChecked given lists list checked
+of_listed given lists list program (Sections sections) checked p whole h found = of_sections given lists list program sections checked p whole h found
+of_listed given lists list program (Broken finding) (Report answer) p whole h found = inl (of_broken given lists list program finding answer p h found)
+of_listed given lists list program (Broken finding) (Clean schema) p whole h found = absurd found
 
--- so the answer for the program of the reach is that of the compilation
-pub of_program : (given : Given) (lists : FileMap) (list : Option (List ℕ)) (program : List Entry) (answer : Answer) → IsProgramOf given program → IsProgram program → IsProgramAnswer lists list program answer → IsCompilation given lists list answer
-of_program given lists list program answer p whole h = of_listed given lists list program h.listed answer p whole h.is_listed h.answered
+-- so what is found of the program of the reach is found of the files
+pub of_program : (given : Given) (lists : FileMap) (list : Option (List ℕ)) (program : List Entry) (checked : Checked) → IsProgramOf given program → IsProgram program → IsProgramChecked lists list program checked → IsChecked given lists list checked
+of_program given lists list program checked p whole h = of_listed given lists list program h.listed checked p whole h.is_listed h.found
+
+-- an answer by what was found is that of the compilation
+pub of_told : (Says : Schema → Answer → Type 0) (given : Given) (lists : FileMap) (list : Option (List ℕ)) (checked : Checked) (answer : Answer) → IsChecked given lists list checked → IsToldOf Says checked answer → IsCompilation Says given lists list answer
+of_told Says given lists list (Report report) answer (inl h) e = inl (subst (IsFileReport given lists list) (sym e) h)
+of_told Says given lists list (Report report) answer (inr h) e = inr (inl (subst (IsRuleReport given lists list) (sym e) h))
+of_told Says given lists list (Clean schema) answer h says = inr (inr (record { schema = schema; read = h.0; says = says }))
+
+-- a schema that was found is sound
+pub sound_of : (given : Given) (lists : FileMap) (list : Option (List ℕ)) (checked : Checked) → IsChecked given lists list checked → IsSoundChecked checked
+sound_of given lists list (Report report) h = tt
+sound_of given lists list (Clean schema) h = h.1
 
 -- what was found of the list is what the list breaks
 listed_fault : (lists : FileMap) (list : Option (List ℕ)) (number : ℕ) (listed : Listed) (f : Finding) → IsListed lists list number listed → IsFaultOfList lists list number f ↔ (listed ≡ Broken f)
@@ -165,12 +181,12 @@ some_of : (findings report : List Finding) → findings ≢ [] → ((f : Finding
 some_of [] report some to = absurd (some refl)
 some_of (f ∷ findings) report some to = some_element report f (to f (zero, omega arith, refl))
 
--- the answer for the files of the reach, where they break rules, is that of the compilation
-pub of_files : (given : Given) (lists : FileMap) (list : Option (List ℕ)) (findings : List Finding) (texts : List (List ℕ)) (answer : Answer) → IsReportOf given findings texts → IsFilesAnswer lists list findings texts answer → IsCompilation given lists list answer
+-- the answer for the files of the reach, where they break rules, is the report on them
+pub of_files : (given : Given) (lists : FileMap) (list : Option (List ℕ)) (findings : List Finding) (texts : List (List ℕ)) (answer : Answer) → IsReportOf given findings texts → IsFilesAnswer lists list findings texts answer → IsFileReport given lists list answer
 of_files given lists list findings texts answer r h =
     let long : length texts ≡ length r.keys = ap length r.called ∙ length-map r.keys (text_of given) in
     let listed : IsListed lists list (length r.keys) h.listed = subst (λ n. IsListed lists list n h.listed) long h.is_listed in
-    inl (record {
+    record {
       keys = r.keys;
       reach = r.reach;
       report = h.reported.report;
@@ -189,4 +205,4 @@ of_files given lists list findings texts answer r h =
       };
       some = some_of findings h.reported.report r.some (λ f c. (h.reported.is_report.exact f).1 (inl c));
       says = h.reported.says ∙ ap (λ (ns : List (List ℕ)). report_answer (ns ++ list_names list) h.reported.report) r.called;
-    })
+    }

@@ -1,11 +1,13 @@
 -- What the program answers.
-use Rattle.std.specs.Prelude.{◌≡◌, ◌≢◌, ◌⊎◌, ℕ, List, [], ◌++◌, map, length, Option, IsSomeAnd}
+use Rattle.std.specs.Prelude.{◌≡◌, ◌≢◌, ◌⊎◌, ℕ, Bool, List, [], ◌∷◌, ◌++◌, map, length, Option, IsSomeAnd}
 use Rattle.ipdl_base.specs.Outside.{FileMap}
 use Rattle.ipdl_base.specs.declared.finding.Finding.{Finding}
 use Rattle.ipdl_base.specs.declared.schema.Schema.{Schema}
 use Rattle.ipdl_syntax.specs.declared.program.Entry.{Entry}
 use Rattle.ipdl_syntax.specs.Programs.{IsProgram}
-use Rattle.command_words.specs.Compile.{IsCompile, IsNoCommand}
+use Rattle.command_words.specs.Command.{IsNoCommand}
+use Rattle.command_words.specs.Compile.{IsCompile}
+use Rattle.command_words.specs.Frames.{IsFrames}
 use Rattle.findings.specs.Report.{IsReport}
 use Rattle.include_graph.specs.Load.{IsProgramOf}
 use Rattle.include_graph.specs.Reach.{IsReach}
@@ -20,6 +22,7 @@ use Rattle.actor_tables.specs.TableText.{table_text}
 use Rattle.ipdl_top.specs.declared.answer.Answer.{Answer}
 use Rattle.ipdl_top.specs.declared.status.Status.TheVariants.{Done, Broken, Usage}
 use Rattle.ipdl_top.specs.Command.{usage_text}
+use Rattle.ipdl_top.specs.Frames.{SaysFrames}
 use Rattle.ipdl_top.specs.Lists.{IsFaultOfList, AreSections, list_names}
 use Rattle.ipdl_top.specs.Report.{report_text}
 use Rattle.ipdl_top.specs.Seen.{Seen}
@@ -74,32 +77,51 @@ pub record IsRuleReport (given : Given) (lists : FileMap) (list : Option (List �
   pub some : report ≢ []
   pub says : answer ≡ report_answer (map (λ e. e.name) program ++ list_names list) report
 
--- The answer is the table of the program, which breaks no rule.
-pub record IsTable (given : Given) (lists : FileMap) (list : Option (List ℕ)) (answer : Answer) : Type 0 where
+-- No rule is broken: this is the schema of the program that is read.
+pub record IsSchemaRead (given : Given) (lists : FileMap) (list : Option (List ℕ)) (schema : Schema) : Type 0 where
   pub program : List Entry
   pub sections : Option (List Section)
   pub reading : IsReading given lists list program sections
   pub clean : (f : Finding) → ¬ BreaksRules program sections f
-  pub schema : Schema
   pub schema_of : IsSchemaOf program schema
-  pub says : answer ≡ table_answer (table_text schema)
 
--- The answer of the command that compiles files: the report on them, or else the report on their program, or else its table.
-abbrev pub IsCompilation : Given → FileMap → Option (List ℕ) → Answer → Type 0
-IsCompilation given lists list answer = IsFileReport given lists list answer ⊎ (IsRuleReport given lists list answer ⊎ IsTable given lists list answer)
+-- The answer is what is said of the schema of a program that breaks no rule.
+pub record IsSaidOf (Says : Schema → Answer → Type 0) (given : Given) (lists : FileMap) (list : Option (List ℕ)) (answer : Answer) : Type 0 where
+  pub schema : Schema
+  pub read : IsSchemaRead given lists list schema
+  pub says : Says schema answer
+
+-- The answer of a command that compiles files: the report on them, or else the report on their program, or else what the
+-- command says of its schema.
+abbrev pub IsCompilation : (Schema → Answer → Type 0) → Given → FileMap → Option (List ℕ) → Answer → Type 0
+IsCompilation Says given lists list answer = IsFileReport given lists list answer ⊎ (IsRuleReport given lists list answer ⊎ IsSaidOf Says given lists list answer)
+
+-- what the command that compiles says of a schema: its tables
+abbrev pub SaysTables : Schema → Answer → Type 0
+SaysTables schema answer = answer ≡ table_answer (table_text schema)
 
 -- what words of files and a path give, with these files
 abbrev pub given_by : FileMap → List (List ℕ) → List (List ℕ) → Given
 given_by files path names = record { files = files; words = names; path = path }
 
--- the answer of the command that the words are
+-- the answer of the command that compiles, where the words are it
 pub record IsCommandAnswer (seen : Seen) (words : List (List ℕ)) (answer : Answer) : Type 0 where
   pub list : Option (List ℕ)
   pub path : List (List ℕ)
   pub names : List (List ℕ)
   pub command : IsCompile words list path names
-  pub compilation : IsCompilation (given_by seen.files path names) seen.list list answer
+  pub compilation : IsCompilation SaysTables (given_by seen.files path names) seen.list list answer
+
+-- the answer of the command that prints frames, where the words are it
+pub record IsFramesAnswer (seen : Seen) (words : List (List ℕ)) (answer : Answer) : Type 0 where
+  pub list : Option (List ℕ)
+  pub path : List (List ℕ)
+  pub file : List ℕ
+  pub frames : List ℕ
+  pub convert : Bool
+  pub command : IsFrames words list path file frames convert
+  pub compilation : IsCompilation (SaysFrames frames convert (seen.frames frames)) (given_by seen.files path (file ∷ [])) seen.list list answer
 
 -- The answer to words, with these files: that of the command that they are, or how the program is called where they are none.
 abbrev pub IsAnswer : Seen → List (List ℕ) → Answer → Type 0
-IsAnswer seen words answer = IsCommandAnswer seen words answer ⊎ (IsNoCommand words × (answer ≡ usage_answer))
+IsAnswer seen words answer = IsCommandAnswer seen words answer ⊎ (IsFramesAnswer seen words answer ⊎ (IsNoCommand words × (answer ≡ usage_answer)))

@@ -1,5 +1,6 @@
 pub mod Answer
 pub mod Codes
+pub mod Frames
 pub mod Command
 pub mod Laws
 pub mod Lists

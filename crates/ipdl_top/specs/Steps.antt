@@ -1,19 +1,24 @@
 -- What the steps of a compilation make.
-use Rattle.std.specs.Prelude.{◌≡◌, ◌≢◌, ℕ, ◌⊎◌, List, [], ◌∷◌, ◌++◌, length, map, Option, Some, None}
+use Rattle.std.specs.Prelude.{◌≡◌, ◌≢◌, ℕ, ◌≤◌, ◌⊎◌, List, [], ◌∷◌, ◌++◌, length, map, Option, Some, None}
 use Rattle.ipdl_base.specs.Outside.{FileMap}
 use Rattle.ipdl_base.specs.declared.finding.Finding.{Finding}
 use Rattle.ipdl_base.specs.declared.schema.Schema.{Schema}
+use Rattle.ipdl_base.specs.Sound.{IsSound}
+use Rattle.include_graph.specs.Sources.{Given}
 use Rattle.ipdl_syntax.specs.declared.program.Entry.{Entry}
 use Rattle.findings.specs.Report.{IsReport}
 use Rattle.std.specs.List.{Contains}
 use Rattle.sync_list.specs.declared.list.Section.{Section}
 use Rattle.schema_laws.specs.SchemaOf.{IsSchemaOf}
-use Rattle.actor_tables.specs.TableText.{table_text}
 use Rattle.ipdl_top.specs.declared.answer.Answer.{Answer}
 use Rattle.ipdl_top.specs.declared.list.Listed.{Listed}
 use Rattle.ipdl_top.specs.declared.list.Listed.TheVariants.{Sections, Broken}
-use Rattle.ipdl_top.specs.Answer.{BreaksRules, table_answer, report_answer}
-use Rattle.ipdl_top.specs.Lists.{AreSections, IsFaultOfList, IsListFault, SpellsList, list_names}
+use Rattle.ipdl_top.specs.declared.checked.Checked.{Checked}
+use Rattle.ipdl_top.specs.declared.checked.Checked.TheVariants.{Report, Clean}
+use Rattle.ipdl_top.specs.declared.frames.Held.{Held}
+use Rattle.ipdl_top.specs.declared.frames.Held.TheVariants.{Absent, Larger, Bytes}
+use Rattle.ipdl_top.specs.Answer.{BreaksRules, IsFileReport, IsRuleReport, IsSchemaRead, report_answer}
+use Rattle.ipdl_top.specs.Lists.{AreSections, IsFaultOfList, IsLargeList, IsListFault, SpellsList, list_names}
 
 -- what a list that holds this was found to be, as the file of this number
 abbrev pub IsFound : Option (List ℕ) → ℕ → Listed → Type 0
@@ -37,27 +42,50 @@ pub record AreRulesReported (program : List Entry) (sections : Option (List Sect
   pub some : report ≢ []
   pub says : answer ≡ report_answer names report
 
--- the answer is the table of a program that breaks no rule
-pub record IsTableOf (program : List Entry) (sections : Option (List Section)) (answer : Answer) : Type 0 where
+-- the schema of a program that breaks no rule
+pub record IsCleanSchema (program : List Entry) (sections : Option (List Section)) (schema : Schema) : Type 0 where
   pub clean : (f : Finding) → ¬ BreaksRules program sections f
-  pub schema : Schema
   pub schema_of : IsSchemaOf program schema
-  pub says : answer ≡ table_answer (table_text schema)
+  pub sound : IsSound schema
 
--- the answer for a program and the sections of its list
-abbrev pub IsRuleAnswer : List Entry → Option (List Section) → List (List ℕ) → Answer → Type 0
-IsRuleAnswer program sections names answer = AreRulesReported program sections names answer ⊎ IsTableOf program sections answer
+-- what was found of a program and the sections of its list
+abbrev pub IsRuleChecked : List Entry → Option (List Section) → List (List ℕ) → Checked → Type 0
+IsRuleChecked program sections names (Report answer) = AreRulesReported program sections names answer
+IsRuleChecked program sections names (Clean schema) = IsCleanSchema program sections schema
 
--- the answer for a program by what was found of its list
-abbrev pub IsListedAnswer : List Entry → Listed → List (List ℕ) → Answer → Type 0
-IsListedAnswer program (Sections sections) names answer = IsRuleAnswer program sections names answer
-IsListedAnswer program (Broken finding) names answer = answer ≡ report_answer names (finding ∷ [])
+-- what was found of a program by what was found of its list
+abbrev pub IsListedChecked : List Entry → Listed → List (List ℕ) → Checked → Type 0
+IsListedChecked program (Sections sections) names checked = IsRuleChecked program sections names checked
+IsListedChecked program (Broken finding) names (Report answer) = answer ≡ report_answer names (finding ∷ [])
+IsListedChecked program (Broken finding) names (Clean schema) = ⊥
 
--- the answer for a program and a list
-pub record IsProgramAnswer (lists : FileMap) (list : Option (List ℕ)) (program : List Entry) (answer : Answer) : Type 0 where
+-- what was found of a program and a list
+pub record IsProgramChecked (lists : FileMap) (list : Option (List ℕ)) (program : List Entry) (checked : Checked) : Type 0 where
   pub listed : Listed
   pub is_listed : IsListed lists list (length program) listed
-  pub answered : IsListedAnswer program listed (names_of program list) answer
+  pub found : IsListedChecked program listed (names_of program list) checked
+
+-- what was found of the files of a command: a report on them or on their program, or the sound schema of a program that
+-- breaks no rule
+abbrev pub IsChecked : Given → FileMap → Option (List ℕ) → Checked → Type 0
+IsChecked given lists list (Report answer) = IsFileReport given lists list answer ⊎ IsRuleReport given lists list answer
+IsChecked given lists list (Clean schema) = IsSchemaRead given lists list schema × IsSound schema
+
+-- an answer by what was found: the report, or what is said of the schema
+abbrev pub IsToldOf : (Schema → Answer → Type 0) → Checked → Answer → Type 0
+IsToldOf Says (Report report) answer = answer ≡ report
+IsToldOf Says (Clean schema) answer = Says schema answer
+
+-- a schema that was found is sound
+abbrev pub IsSoundChecked : Checked → Type 0
+IsSoundChecked (Report report) = Unit {0}
+IsSoundChecked (Clean schema) = IsSound schema
+
+-- what a file of frames was found to be
+abbrev pub IsHeld : Option (List ℕ) → Held → Type 0
+IsHeld held Absent = held ≡ None
+IsHeld held Larger = IsLargeList held
+IsHeld held (Bytes bytes) = (held ≡ Some bytes.items) × (length bytes.items ≤ 1048576)
 
 -- the answer is the report of these findings and of what the list breaks
 pub record AreFilesReported (findings : List Finding) (listed : Listed) (names : List (List ℕ)) (answer : Answer) : Type 0 where

@@ -7,7 +7,7 @@ use std::alloc::{AllocError, AllocFailed, Global};
 
 /// The text that says how the program is called.
 const USAGE: &[u8] =
-    b"usage: ipdl [-s LIST] [--path DIRS] FILES\n       ipdl run [-s LIST] [--path DIRS] [--schedule WORD] [--limit N] SCRIPT FILE\n       ipdl frames [-s LIST] [--path DIRS] FILE FRAMES\n";
+    b"usage: ipdl [-s LIST] [--path DIRS] FILES\n       ipdl run [-s LIST] [--path DIRS] [--schedule WORD] [--limit N] SCRIPT FILE\n       ipdl frames [-s LIST] [--path DIRS] [--to 2] FILE FRAMES\n";
 
 /// What the program answers: how it ends, and the texts that it writes.
 #[derive(Debug, Drop)]
@@ -50,6 +50,7 @@ impl<T: Drop> From<AllocFailed<T>> for Failure {
 
 impl Answer {
     ghost use Rattle.ipdl_top.specs.Answer.{table_answer, report_answer, usage_answer};
+    ghost use Rattle.ipdl_top.specs.Frames.{bad_frames_answer};
 
     /// The answer of a command that did its work: this text.
     pub fn of_table(alloc: Global, text: Vec<u8>) -> Answer
@@ -59,6 +60,17 @@ impl Answer {
             status: Status::Done,
             out: Items::from_vec(text),
             err: Items::from_vec(Vec::new(alloc)),
+        }
+    }
+
+    /// The answer that a file is no list of frames: what stands before the fault, and the line that says why.
+    pub fn of_bad_frames(before: Vec<u8>, line: Vec<u8>) -> Answer
+        ensures { result ≡ bad_frames_answer before.items line.items }
+    {
+        Answer {
+            status: Status::BadFrames,
+            out: Items::from_vec(before),
+            err: Items::from_vec(line),
         }
     }
 

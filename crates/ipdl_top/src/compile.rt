@@ -5,14 +5,16 @@ ghost use Rattle.findings.specs.Report.{IsReport};
 ghost use Rattle.ipdl_syntax.specs.Programs.{IsProgram, BearTheirNames};
 ghost use Rattle.include_graph.specs.Keys.{AreFileWords};
 ghost use Rattle.include_graph.specs.Load as load;
-ghost use Rattle.ipdl_top.specs.Answer.{IsCompilation, given_by};
+ghost use Rattle.ipdl_top.specs.Answer.{IsCompilation, SaysTables, given_by};
 ghost use Rattle.ipdl_top.specs.Lists.{list_names};
 ghost use Rattle.ipdl_top.specs.Seen.{ForMap};
-ghost use Rattle.ipdl_top.specs.Steps.{AreFilesReported, IsProgramAnswer, IsFilesAnswer, IsListedAnswer, names_of};
+ghost use Rattle.ipdl_top.specs.Steps.{AreFilesReported, IsChecked, IsFilesAnswer, IsListedChecked, IsProgramChecked, IsToldOf, names_of};
 
 use crate::answer::{Answer, Failure};
+use crate::checked::Checked;
 use crate::list::{Listed, read_listed};
-use crate::rules::rule_answer;
+use crate::rules::rule_checked;
+use actor_tables::table_text;
 use findings::sorted;
 use include_graph::{LoadFault, load};
 use ipdl_base::{Files, Findings, Name};
@@ -101,64 +103,111 @@ fn files_answer<F: Files>(
 ) -> Result<Answer, Failure>
     requires { length texts.now ≤ 4096 }
     ensures answer { load.ForMap (F.told files.old) (λ lists. IfOk result (IsFilesAnswer lists (option_map string_bytes list.now) findings texts.now)) }
+    ensures told { F.told files.new ≡ F.told files.old }
+    ensures count { F.faults files.old ≤ F.faults files.new }
     ensures read_fault { result ≡ Err Failure.ReadFault → Rose (F.faults files.old) (F.faults files.new) }
 {
     let listed = read_listed(alloc, files, list, texts.len() as u32)?;
     texts_answer(alloc, findings, texts, list, listed)
 }
 
-/// The answer for a program whose files have these names, by what was found of its list.
-fn named_answer(
+/// What is found of a program whose files have these names, by what was found of its list.
+fn named_checked(
     alloc: Global,
     program: &Program,
     listed: Listed,
     names: &[&[u8]],
-) -> Result<Answer, Failure>
+) -> Result<Checked, Failure>
     requires program { IsProgram program.now }
     requires named { BearTheirNames program.now }
-    ensures answer { IfOk result (IsListedAnswer program.now listed (map (λ n. n.now) names.now)) }
+    ensures found { IfOk result (IsListedChecked program.now listed (map (λ n. n.now) names.now)) }
     ensures memory { IsOkUnless result Failure.NoMemory }
 {
     match listed {
-        Listed::Sections(sections) => rule_answer(alloc, program, &sections, names),
-        Listed::Broken(finding) => Answer::of_report(alloc, names, &[finding]),
+        Listed::Sections(sections) => rule_checked(alloc, program, &sections, names),
+        Listed::Broken(finding) => {
+            let report = Answer::of_report(alloc, names, &[finding])?;
+            Ok(Checked::Report(report))
+        }
     }
 }
 
-/// The answer for a program, by what was found of its list.
-fn listed_answer(
+/// What is found of a program, by what was found of its list.
+fn listed_checked(
     alloc: Global,
     program: &Program,
     list: &Option<String>,
     listed: Listed,
-) -> Result<Answer, Failure>
+) -> Result<Checked, Failure>
     requires program { IsProgram program.now }
     requires named { BearTheirNames program.now }
-    ensures answer { IfOk result (IsListedAnswer program.now listed (names_of program.now (option_map string_bytes list.now))) }
+    ensures found { IfOk result (IsListedChecked program.now listed (names_of program.now (option_map string_bytes list.now))) }
     ensures memory { IsOkUnless result Failure.NoMemory }
 {
     let names = entry_names(alloc, program.as_slice(), list)?;
-    named_answer(alloc, program, listed, names.as_slice())
+    named_checked(alloc, program, listed, names.as_slice())
 }
 
-/// The answer for a program, and for the list behind its files.
-fn program_answer<F: Files>(
+/// What is found of a program, and of the list behind its files.
+fn program_checked<F: Files>(
     alloc: Global,
     files: &mut F,
     list: &Option<String>,
     program: &Program,
-) -> Result<Answer, Failure>
+) -> Result<Checked, Failure>
     requires program { IsProgram program.now }
     requires named { BearTheirNames program.now }
-    ensures answer { load.ForMap (F.told files.old) (λ lists. IfOk result (IsProgramAnswer lists (option_map string_bytes list.now) program.now)) }
+    ensures found { load.ForMap (F.told files.old) (λ lists. IfOk result (IsProgramChecked lists (option_map string_bytes list.now) program.now)) }
+    ensures told { F.told files.new ≡ F.told files.old }
+    ensures count { F.faults files.old ≤ F.faults files.new }
     ensures read_fault { result ≡ Err Failure.ReadFault → Rose (F.faults files.old) (F.faults files.new) }
 {
     let listed = read_listed(alloc, files, list, program.len() as u32)?;
-    listed_answer(alloc, program, list, listed)
+    listed_checked(alloc, program, list, listed)
+}
+
+/// Reads the files of these names, what they include by the path, and this sync list: the report on
+/// them, or the schema of a program that breaks no rule.
+pub fn checked<F: Files>(
+    alloc: Global,
+    files: &mut F,
+    list: &Option<String>,
+    path: &[String],
+    names: &[String],
+) -> Result<Checked, Failure>
+    requires { AreFileWords (map string_bytes names.now) }
+    ensures found { ForMap (F.told files.old) (λ seen. IfOk result
+        (IsChecked (given_by seen.files (map string_bytes path.now) (map string_bytes names.now)) seen.list (option_map string_bytes list.now))) }
+    ensures told { F.told files.new ≡ F.told files.old }
+    ensures count { F.faults files.old ≤ F.faults files.new }
+    ensures read_fault { result ≡ Err Failure.ReadFault → Rose (F.faults files.old) (F.faults files.new) }
+{
+    match load(alloc, files, names, path) {
+        Ok(program) => program_checked(alloc, files, list, &program),
+        Err(LoadFault::Broken(findings, texts)) => {
+            match files_answer(alloc, files, list, findings, texts.as_slice()) {
+                Ok(report) => Ok(Checked::Report(report)),
+                Err(failure) => Err(failure),
+            }
+        }
+        Err(LoadFault::ReadFault) => Err(Failure::ReadFault),
+        Err(LoadFault::NoMemory) => Err(Failure::NoMemory),
+    }
+}
+
+/// The answer of the command that compiles: the report, or the tables of the schema.
+fn tables_of(alloc: Global, checked: Checked) -> Result<Answer, Failure>
+    ensures answer { IfOk result (IsToldOf SaysTables checked) }
+    ensures memory { IsOkUnless result Failure.NoMemory }
+{
+    match checked {
+        Checked::Report(report) => Ok(report),
+        Checked::Clean(schema) => Ok(Answer::of_table(alloc, table_text(alloc, &schema)?)),
+    }
 }
 
 /// The command that compiles the files of these names, which include what is on the path, with this
-/// sync list: the report on them, or their table.
+/// sync list: the report on them, or their tables.
 pub fn compile<F: Files>(
     alloc: Global,
     files: &mut F,
@@ -168,15 +217,11 @@ pub fn compile<F: Files>(
 ) -> Result<Answer, Failure>
     requires { AreFileWords (map string_bytes names.now) }
     ensures answer { ForMap (F.told files.old) (λ seen. IfOk result
-        (IsCompilation (given_by seen.files (map string_bytes path.now) (map string_bytes names.now)) seen.list (option_map string_bytes list.now))) }
+        (IsCompilation SaysTables (given_by seen.files (map string_bytes path.now) (map string_bytes names.now)) seen.list (option_map string_bytes list.now))) }
     ensures read_fault { result ≡ Err Failure.ReadFault → Rose (F.faults files.old) (F.faults files.new) }
 {
-    match load(alloc, files, names, path) {
-        Ok(program) => program_answer(alloc, files, list, &program),
-        Err(LoadFault::Broken(findings, texts)) => {
-            files_answer(alloc, files, list, findings, texts.as_slice())
-        }
-        Err(LoadFault::ReadFault) => Err(Failure::ReadFault),
-        Err(LoadFault::NoMemory) => Err(Failure::NoMemory),
+    match checked(alloc, files, list, path, names) {
+        Ok(checked) => tables_of(alloc, checked),
+        Err(failure) => Err(failure),
     }
 }

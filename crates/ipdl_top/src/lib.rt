@@ -2,7 +2,11 @@
 #![tactic(auto)]
 
 mod answer;
+mod checked;
 mod compile;
+#[cfg(test)]
+mod frame_rows;
+mod frames;
 mod laws;
 mod list;
 mod program;

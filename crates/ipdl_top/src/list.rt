@@ -1,4 +1,4 @@
-ghost use Rattle.std.specs.Prelude.{◌≡◌, IfOk, IfErr, Some, Option, List, ℕ, option_map, string_bytes};
+ghost use Rattle.std.specs.Prelude.{◌≡◌, ◌≤◌, IfOk, IfErr, Some, Option, List, ℕ, option_map, string_bytes};
 ghost use Rattle.ipdl_base.specs.Outside.{Rose};
 ghost use Rattle.include_graph.specs.Load.{ForMap};
 ghost use Rattle.ipdl_top.specs.Lists.{IsListFault, SpellsList};
@@ -66,6 +66,8 @@ fn read_named<F: Files>(
     number: u32,
 ) -> Result<Listed, Failure>
     ensures listed { ForMap (F.told files.old) (λ lists. IfOk result (IsFound (lists name.now) number)) }
+    ensures told { F.told files.new ≡ F.told files.old }
+    ensures count { F.faults files.old ≤ F.faults files.new }
     ensures read_fault { result ≡ Err Failure.ReadFault → Rose (F.faults files.old) (F.faults files.new) }
 {
     match files.read(alloc, name, MOST_BYTES) {
@@ -85,6 +87,8 @@ pub fn read_listed<F: Files>(
     number: u32,
 ) -> Result<Listed, Failure>
     ensures listed { ForMap (F.told files.old) (λ lists. IfOk result (IsListed lists (option_map string_bytes list.now) number)) }
+    ensures told { F.told files.new ≡ F.told files.old }
+    ensures count { F.faults files.old ≤ F.faults files.new }
     ensures read_fault { result ≡ Err Failure.ReadFault → Rose (F.faults files.old) (F.faults files.new) }
 {
     match list {

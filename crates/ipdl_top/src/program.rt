@@ -1,13 +1,14 @@
 ghost use Rattle.std.specs.Prelude.{◌≡◌, ◌≢◌, ◌⊎◌, IfOk, map, string_bytes};
 ghost use Rattle.ipdl_base.specs.Outside.{Rose};
 ghost use Rattle.ipdl_top.specs.Answer.{IsAnswer, usage_answer};
-ghost use Rattle.command_words.specs.Compile.{IsNoCommand};
+ghost use Rattle.command_words.specs.Command.{IsNoCommand};
 ghost use Rattle.ipdl_top.specs.Outcome.{IsOutcome};
 ghost use Rattle.ipdl_top.specs.Seen.{ForMap};
 ghost use Rattle.ipdl_top.specs.Written.{WritesAll};
 
 use crate::answer::{Answer, Failure};
 use crate::compile::compile;
+use crate::frames::{Wanted, frames};
 use crate::status::Status;
 use crate::write::write_answer;
 use command_words::{Command, WordsFault, read_words};
@@ -28,6 +29,21 @@ fn answer_to<F: Files>(alloc: Global, words: &[String], files: &mut F) -> Result
                 files: names,
             },
         ) => compile(alloc, files, &list, path.as_slice(), names.as_slice()),
+        Ok(
+            Command::Frames {
+                list,
+                path,
+                file,
+                frames: name,
+                convert,
+            },
+        ) => {
+            let wanted = Wanted {
+                name: name.as_str(),
+                convert,
+            };
+            frames(alloc, files, &list, path.as_slice(), &file, &wanted)
+        }
         Err(WordsFault::Usage) => Answer::of_no_command(alloc),
         Err(WordsFault::NoMemory) => Err(Failure::NoMemory),
     }

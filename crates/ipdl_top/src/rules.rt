@@ -4,10 +4,11 @@ ghost use Rattle.ipdl_base.specs.declared.finding.Finding.{Finding};
 ghost use Rattle.ipdl_syntax.specs.Programs.{IsProgram, BearTheirNames};
 ghost use Rattle.findings.specs.Report.{IsReport};
 ghost use Rattle.ipdl_top.specs.Answer.{BreaksRules};
-ghost use Rattle.ipdl_top.specs.Steps.{IsRuleAnswer};
+ghost use Rattle.ipdl_top.specs.Steps.{IsRuleChecked};
 
 use crate::answer::{Answer, Failure};
-use actor_tables::{schema, table_text};
+use crate::checked::Checked;
+use actor_tables::schema;
 use findings::sorted;
 use ipdl_base::{Finding, Findings};
 use ipdl_syntax::Program;
@@ -53,25 +54,25 @@ fn rule_findings(
     Ok(sorted(gathered(alloc, program, names, list)?))
 }
 
-/// The answer for a program with its sync list, where it has one: the report on them by these names,
-/// or the table of a program that breaks no rule.
-pub fn rule_answer(
+/// What is found of a program with its sync list, where it has one: the report on them by these
+/// names, or the schema of a program that breaks no rule.
+pub fn rule_checked(
     alloc: Global,
     program: &Program,
     list: &Option<SyncList>,
     files: &[&[u8]],
-) -> Result<Answer, Failure>
+) -> Result<Checked, Failure>
     requires program { IsProgram program.now }
     requires named { BearTheirNames program.now }
-    ensures answer { IfOk result (IsRuleAnswer program.now list.now (map (λ n. n.now) files.now)) }
+    ensures found { IfOk result (IsRuleChecked program.now list.now (map (λ n. n.now) files.now)) }
     ensures memory { IsOkUnless result Failure.NoMemory }
 {
     let names = Names::build(alloc, program)?;
     let report = rule_findings(alloc, program, &names, list)?;
     if report.is_empty() {
-        let schema = schema(alloc, program, &names)?;
-        Ok(Answer::of_table(alloc, table_text(alloc, &schema)?))
+        Ok(Checked::Clean(schema(alloc, program, &names)?))
     } else {
-        Answer::of_report(alloc, files, report.as_slice())
+        let report = Answer::of_report(alloc, files, report.as_slice())?;
+        Ok(Checked::Report(report))
     }
 }

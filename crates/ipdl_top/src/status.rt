@@ -13,6 +13,8 @@ pub enum Status {
     WriteFault,
     /// Memory ran out.
     NoMemory,
+    /// A file is absent, too large, or no list of frames.
+    BadFrames,
 }
 
 impl Status {
@@ -30,6 +32,7 @@ impl Status {
             Status::ReadFault => 3,
             Status::WriteFault => 4,
             Status::NoMemory => 6,
+            Status::BadFrames => 8,
         }
     }
 }

@@ -27,11 +27,11 @@ const HELLO_FILES: Sources = &[("PHello.ipdl", HELLO)];
 
 const USAGE: &[u8] = b"usage: ipdl [-s LIST] [--path DIRS] FILES
        ipdl run [-s LIST] [--path DIRS] [--schedule WORD] [--limit N] SCRIPT FILE
-       ipdl frames [-s LIST] [--path DIRS] FILE FRAMES
+       ipdl frames [-s LIST] [--path DIRS] [--to 2] FILE FRAMES
 ";
 
 /// Files by their names.
-type Sources = &'static [(&'static str, &'static [u8])];
+pub type Sources = &'static [(&'static str, &'static [u8])];
 
 /// The outside of a call. A read or a write with number 0 is none.
 #[derive(Clone, Copy)]
@@ -166,17 +166,77 @@ fn outsides(rt: HostRuntime) -> Result<(), Fail> {
     Ok(())
 }
 
-/// A call and what it leaves.
-#[derive(Clone, Copy)]
-struct Row {
-    words: &'static [&'static str],
-    files: Sources,
-    status: Status,
-    out: &'static [u8],
-    err: &'static [u8],
+/// Reads of a program, its list and a file of frames, each failing in its turn. The last one counts
+/// also where the program breaks a rule.
+#[test]
+fn failing_frames(rt: HostRuntime) -> Result<(), Fail> {
+    let broken: Sources = &[
+        (
+            "PF.ipdl",
+            b"protocol PF {\nparent:\n  async Flag(Bool b);\n};\n",
+        ),
+        ("list.ini", b""),
+        ("f.bin", b""),
+    ];
+    let words = ["frames", "-s", "list.ini", "PF.ipdl", "f.bin"];
+    for failing_read in 1..5 {
+        let outside = Outside {
+            failing_read,
+            ..whole(broken)
+        };
+        let left = call(rt.alloc(), &words, &outside)?;
+        if failing_read < 4 {
+            assert!(rt;
+                leaves(&left, Status::ReadFault, b"", b""),
+                "{failing_read}"
+            );
+        } else {
+            assert!(rt;
+                leaves(
+                    &left,
+                    Status::Broken,
+                    b"",
+                    b"PF.ipdl:3:14: B1 unknown type\n"
+                )
+            );
+        }
+    }
+    Ok(())
 }
 
-fn check_rows(alloc: Global, rt: &impl Abort, rows: &[Row]) -> Result<(), Fail> {
+/// A file of frames of one byte more than are read.
+#[test]
+fn large_frames(rt: HostRuntime) -> Result<(), Fail> {
+    let alloc = rt.alloc();
+    let mut names = Vec::new(alloc);
+    let text = b"protocol PF {\n};\n";
+    names.push((
+        String::from_str(alloc, "PF.ipdl")?,
+        Vec::from_slice(alloc, text)?,
+    ))?;
+    let frames = vec![in alloc; 0u8; 1_048_577]?;
+    names.push((String::from_str(alloc, "f.bin")?, frames))?;
+    let mut files = MemoryFiles::new(names, Vec::new(alloc));
+    let mut out = sink(alloc, 1000, 0)?;
+    let mut err = sink(alloc, 1000, 0)?;
+    let words = strings(alloc, &["frames", "PF.ipdl", "f.bin"])?;
+    let status = ipdl(alloc, words.as_slice(), &mut files, &mut out, &mut err);
+    let left = Left { status, out, err };
+    assert!(rt; leaves(&left, Status::BadFrames, b"", b"f.bin:0: larger\n"));
+    Ok(())
+}
+
+/// A call and what it leaves.
+#[derive(Clone, Copy)]
+pub struct Row {
+    pub words: &'static [&'static str],
+    pub files: Sources,
+    pub status: Status,
+    pub out: &'static [u8],
+    pub err: &'static [u8],
+}
+
+pub fn check_rows(alloc: Global, rt: &impl Abort, rows: &[Row]) -> Result<(), Fail> {
     for row in rows {
         let left = call(alloc, row.words, &whole(row.files))?;
         assert!(rt;

@@ -1,15 +1,11 @@
-use Rattle.std.proofs.Common.{ℕ, List, map, string_bytes, subst}
-use Rattle.std.specs.Prelude.{Err, IfOk, option_map}
+use Rattle.std.proofs.Common.{map, string_bytes}
+use Rattle.std.specs.Prelude.{IfOk, option_map}
 use Rattle.std.proofs.lemmas.Result.{IfOk-weaker}
-use Rattle.ipdl_base.specs.Outside.{FileMap}
-use Rattle.include_graph.specs.declared.loader.LoadFault.{LoadFault}
-use Rattle.include_graph.specs.Load as load
-use Rattle.ipdl_top.specs.declared.answer.Failure.TheVariants.{ReadFault, NoMemory}
-use Rattle.ipdl_top.specs.Answer.{IsCompilation, given_by}
+use Rattle.ipdl_top.specs.Answer.{IsCompilation, SaysTables, given_by}
 use Rattle.ipdl_top.specs.Seen.{Seen}
-use Rattle.ipdl_top.specs.Steps.{IsProgramAnswer, IsFilesAnswer}
-use Rattle.ipdl_top.proofs.Compilations.{of_program, of_files}
-use Rattle.ipdl_top.proofs.Maps.{for_both, for_all_seen}
+use Rattle.ipdl_top.specs.Steps.{IsChecked, IsToldOf}
+use Rattle.ipdl_top.proofs.Compilations.{of_told}
+use Rattle.ipdl_top.proofs.Maps.{for_each_seen}
 use Rattle.ipdl_top.proofs.compile.compile.Goals as goal
 
 pub returns-in-Ok-clause-answer : goal.returns-in-Ok-clause-answer
@@ -17,35 +13,10 @@ returns-in-Ok-clause-answer g c =
     let path = map string_bytes c.args.path.now in
     let names = map string_bytes c.args.names.now in
     let list = option_map string_bytes c.args.list.now in
-    let told = g.F.Files.told c.args.files.now in
-    let program = c.in-Ok.program in
-    let R : Seen → Type 0 = λ seen. IfOk c.program_answer.result (IsCompilation (given_by seen.files path names) seen.list list) in
-    for_both told _ (λ files. load.IsProgramOf (given_by files path names) program) (λ lists. IfOk c.program_answer.result (IsProgramAnswer lists list program)) R c.in-Ok.ensures.told
-    (λ files lists p a. IfOk-weaker c.program_answer.result (IsProgramAnswer lists list program) (IsCompilation (given_by files path names) lists list) (λ answer h. of_program (given_by files path names) lists list program answer p c.in-Ok.ensures.program h) a)
-    c.in-Ok.ensures.answer c.program_answer.ensures.answer
-
-pub returns-in-Err-Broken-clause-answer : goal.returns-in-Err-Broken-clause-answer
-returns-in-Err-Broken-clause-answer g c =
-    let path = map string_bytes c.args.path.now in
-    let names = map string_bytes c.args.names.now in
-    let list = option_map string_bytes c.args.list.now in
-    let told = g.F.Files.told c.args.files.now in
-    let findings = c.in-Err-Broken.findings in
-    let texts = c.in-Err-Broken.texts in
-    let P : LoadFault → Type 0 = λ fault. load.ForMap told (λ files. load.IsFaultOf (given_by files path names) fault) in
-    let Q : List (List ℕ) → FileMap → Type 0 = λ called lists. IfOk c.files_answer.result (IsFilesAnswer lists list findings called) in
-    let A : List (List ℕ) → Type 0 = λ called. load.ForMap (g.F.Files.told c.load.new.files) (Q called) in
-    let R : Seen → Type 0 = λ seen. IfOk c.files_answer.result (IsCompilation (given_by seen.files path names) seen.list list) in
-    for_both told _ (λ files. load.IsReportOf (given_by files path names) findings texts) (Q texts) R c.in-Err-Broken.ensures.told
-    (λ files lists r a. IfOk-weaker c.files_answer.result (IsFilesAnswer lists list findings texts) (IsCompilation (given_by files path names) lists list) (λ answer h. of_files (given_by files path names) lists list findings texts answer r h) a)
-    (subst P c.in-Err-Broken.field-0-is c.in-Err-Broken.ensures.answer) (subst A c.as_slice.ensures c.files_answer.ensures.answer)
-
-pub returns-in-Err-ReadFault-clause-answer : goal.returns-in-Err-ReadFault-clause-answer
-returns-in-Err-ReadFault-clause-answer g c =
-    let R : Seen → Type 0 = λ seen. IfOk (Err ReadFault) (IsCompilation (given_by seen.files (map string_bytes c.args.path.now) (map string_bytes c.args.names.now)) seen.list (option_map string_bytes c.args.list.now)) in
-    for_all_seen (g.F.Files.told c.args.files.now) R (λ seen. tt)
-
-pub returns-in-Err-NoMemory-clause-answer : goal.returns-in-Err-NoMemory-clause-answer
-returns-in-Err-NoMemory-clause-answer g c =
-    let R : Seen → Type 0 = λ seen. IfOk (Err NoMemory) (IsCompilation (given_by seen.files (map string_bytes c.args.path.now) (map string_bytes c.args.names.now)) seen.list (option_map string_bytes c.args.list.now)) in
-    for_all_seen (g.F.Files.told c.args.files.now) R (λ seen. tt)
+    let checked = c.in-Ok.checked in
+    let P : Seen → Type 0 = λ seen. IsChecked (given_by seen.files path names) seen.list list checked in
+    let R : Seen → Type 0 = λ seen. IfOk c.tables_of.result (IsCompilation SaysTables (given_by seen.files path names) seen.list list) in
+    for_each_seen (g.F.Files.told c.args.files.now) P R
+    (λ seen h. IfOk-weaker c.tables_of.result (IsToldOf SaysTables checked) (IsCompilation SaysTables (given_by seen.files path names) seen.list list)
+    (λ answer told. of_told SaysTables (given_by seen.files path names) seen.list list checked answer h told) c.tables_of.ensures.answer)
+    c.in-Ok.ensures.found

@@ -10,4 +10,7 @@ returns c = law.determined (record {
   listed = c.listed_alike.ensures;
   schemas = c.schemas_alike.ensures;
   schema = c.one_schema.ensures;
+  boxes = c.boxes_say_nothing.ensures;
+  frames_alike = c.frames_alike.ensures;
+  frames = c.one_list_of_frames.ensures;
 })

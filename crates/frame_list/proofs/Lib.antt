@@ -1,0 +1,4 @@
+pub mod Offsets
+pub mod Lists
+pub mod PlainLines
+pub mod PlainFrames

@@ -1,0 +1,74 @@
+-- Where a fault stands in bytes, and how long a frame is at least.
+use Rattle.std.proofs.Common.{◌≡◌, ℕ, zero, suc, ◌≤◌, ◌<◌, Bool, true, false, List, ◌++◌, length, Option, Some, None, arith, ap, subst, refl, inl, inr, lit≤}
+use Rattle.std.specs.Prelude.{if◌then◌else◌, nat_lt, not}
+use Rattle.std.proofs.lemmas.List.{length-append}
+use Rattle.ipdl_base.specs.declared.message.Message.{Message}
+use Rattle.ipdl_base.specs.declared.schema.Schema.{Schema}
+use Rattle.ipdl_base.specs.Sound.{message_of}
+use Rattle.value_types.specs.declared.layout.Layout.{Layout}
+use Rattle.value_codec.specs.declared.rules.TheConstants.{BAD_MARK, PAYLOAD_TOO_LARGE, UNKNOWN_TYPE, BAD_FLAGS, BAD_FIELD}
+use Rattle.value_codec.specs.Decoding.{FrameBegins, FrameFault}
+use Rattle.value_codec.specs.Frames.{FrameType, are_flags, is_route, is_seq, is_transaction, behind_mark, fault_of_type, fields_fault, has_mark, header_fault, header_of, header_size, type_of}
+use Rattle.value_codec.specs.Spelling.{frame_bytes, mark_of, order_bytes, payload_bytes, signed_word, word, body_flags}
+
+-- a fault, if there is one, stands at most so far behind
+abbrev IsWithin : ℕ → Option (ℕ × ℕ) → Type 0
+IsWithin most None = Unit {0}
+IsWithin most (Some fault) = fault.0 ≤ most
+
+either : (most : ℕ) (b : Bool) (x y : Option (ℕ × ℕ)) → IsWithin most x → IsWithin most y → IsWithin most (if b then x else y)
+either most true x y p q = p
+either most false x y p q = q
+
+small : (place rule : ℕ) → place ≤ 24 → IsWithin 24 (Some (place, rule))
+small place rule h = h
+
+by_type : (layout : Layout) (bytes : List ℕ) (type : Option FrameType) → IsWithin 24 (fault_of_type (header_of layout bytes) type)
+by_type layout bytes None = small 8 UNKNOWN_TYPE (lit≤ tt)
+by_type layout bytes (Some type) =
+    let header = header_of layout bytes in
+    let last : Option (ℕ × ℕ) = if not (is_transaction type header.transaction) then Some (20, BAD_FIELD) else None in
+    let third : Option (ℕ × ℕ) = if not (is_seq type header.seq) then Some (16, BAD_FIELD) else last in
+    let second : Option (ℕ × ℕ) = if not (is_route type header.route) then Some (4, BAD_FIELD) else third in
+    either 24 (not (are_flags type header.flags)) (Some (12, BAD_FLAGS)) second (small 12 BAD_FLAGS (lit≤ tt))
+    (either 24 (not (is_route type header.route)) (Some (4, BAD_FIELD)) third (small 4 BAD_FIELD (lit≤ tt))
+    (either 24 (not (is_seq type header.seq)) (Some (16, BAD_FIELD)) last (small 16 BAD_FIELD (lit≤ tt))
+    (either 24 (not (is_transaction type header.transaction)) (Some (20, BAD_FIELD)) None (small 20 BAD_FIELD (lit≤ tt)) tt)))
+
+in_fields : (layout : Layout) (schema : Schema) (bytes : List ℕ) → IsWithin 24 (fields_fault layout schema (header_of layout bytes))
+in_fields layout schema bytes =
+    let header = header_of layout bytes in
+    either 24 (nat_lt layout.most_payload header.size) (Some (0, PAYLOAD_TOO_LARGE)) (fault_of_type header (type_of schema header.number))
+    (small 0 PAYLOAD_TOO_LARGE (lit≤ tt)) (by_type layout bytes (type_of schema header.number))
+
+further : (layout : Layout) (fault : Option (ℕ × ℕ)) → IsWithin 24 fault → IsWithin (header_size layout) (behind_mark layout fault)
+further layout None h = tt
+further layout (Some fault) h = omega arith
+
+start : (most rule : ℕ) → IsWithin most (Some (0, rule))
+start most rule = omega arith
+
+in_header : (layout : Layout) (schema : Schema) (bytes : List ℕ) → IsWithin (header_size layout) (header_fault layout schema bytes)
+in_header layout schema bytes =
+    let fields = fields_fault layout schema (header_of layout bytes) in
+    either (header_size layout) (has_mark layout bytes) (behind_mark layout fields) (Some (0, BAD_MARK)) (further layout fields (in_fields layout schema bytes)) (start (header_size layout) BAD_MARK)
+
+-- a fault of a frame stands in its bytes or right behind them
+pub fault_within : (layout : Layout) (schema : Schema) (bytes : List ℕ) (offset rule : ℕ) → FrameFault layout schema bytes offset rule → offset ≤ length bytes
+fault_within layout schema bytes offset rule (whole, inl e) =
+    let here : IsWithin (header_size layout) (Some (offset, rule)) = subst (IsWithin (header_size layout)) e (in_header layout schema bytes) in omega arith
+fault_within layout schema bytes offset rule (whole, inr (none, fault)) = let a = fault.1 in let b = fault.3 in omega arith
+
+pieces : (mark front number order payload : List ℕ) → length number ≡ 4 → 4 ≤ length ((mark ++ ((front ++ number) ++ order)) ++ payload)
+pieces mark front number order payload four =
+    omega (arith, four, length-append (mark ++ ((front ++ number) ++ order)) payload, length-append mark ((front ++ number) ++ order), length-append (front ++ number) order, length-append front number)
+
+frame_length : (layout : Layout) (schema : Schema) (m : Message) → 4 ≤ length (frame_bytes layout schema m)
+frame_length layout schema m =
+    pieces (mark_of layout) (word (length (payload_bytes layout schema m)) ++ signed_word m.route) (word m.number)
+    (order_bytes (body_flags (message_of schema m.number) m.body) m.seq m.transaction) (payload_bytes layout schema m) refl
+
+-- a frame has some bytes
+pub frame_some : (layout : Layout) (schema : Schema) (bytes : List ℕ) (m : Message) (n : ℕ) → FrameBegins layout schema bytes m n → 0 < n
+frame_some layout schema bytes m zero begins = let long = frame_length layout schema m in absurd (omega (arith, long, ap length begins.frame.spelled))
+frame_some layout schema bytes m (suc n) begins = omega arith

@@ -1,0 +1,140 @@
+-- The frames of messages do not depend on where the boxes of their values lie.
+use Rattle.std.proofs.Common.{◌≡◌, ◌∙◌, ◌≤◌, ◌<◌, ℕ, zero, suc, ℤ, List, [], ◌∷◌, ◌++◌, ◌+◌, length, drop, Option, Some, None, Bool, true, false, refl, sym, ap, subst, arith, append-nil, append_assoc}
+use Rattle.std.specs.Prelude.{unwrap_or, if◌then◌else◌, slice_index_or}
+use Rattle.std.specs.List.{AllByRecursion}
+use Rattle.std.specs.Option.{option_map_or}
+use Rattle.ipdl_base.specs.declared.message.Body.{Body}
+use Rattle.ipdl_base.specs.declared.message.Body.TheVariants as body
+use Rattle.ipdl_base.specs.declared.message.Message.{Message}
+use Rattle.ipdl_base.specs.declared.schema.MessageRow.{MessageRow}
+use Rattle.ipdl_base.specs.declared.schema.ParamRow.{ParamRow}
+use Rattle.ipdl_base.specs.declared.schema.Schema.{Schema}
+use Rattle.ipdl_base.specs.declared.schema.Shape.{Shape}
+use Rattle.ipdl_base.specs.declared.value.Value.{Value, Union', Maybe', Held-Value-Maybe-0, None', Some'}
+use Rattle.ipdl_base.specs.declared.value.Value.TheVariants as value
+use Rattle.ipdl_base.specs.declared.value.Values.{Values, First'}
+use Rattle.ipdl_base.specs.declared.value.Values.TheVariants as values
+use Rattle.ipdl_base.specs.Plain.{plain, plain_held, plain_values, plain_body, plain_message}
+use Rattle.ipdl_base.specs.Sound.{message_of}
+use Rattle.value_types.specs.declared.layout.Layout.{Layout}
+use Rattle.value_types.specs.declared.layout.TheConstants.{NEW, OLD}
+use Rattle.value_types.specs.Laws.{BoxesSayNothing, NewIsAtMostFourTimes}
+use Rattle.value_types.specs.Shapes.{component_of, element_of, fields_of, held_by}
+use Rattle.value_types.specs.Sizes.{payload_size}
+use Rattle.value_codec.specs.Decoding.{FrameBegins}
+use Rattle.value_codec.specs.Spelling.{value_bytes, held_bytes, elements_bytes, values_bytes, body_bytes, body_flags, frame_bytes, header_bytes, payload_bytes, count, index_bytes, made_bytes, part, struct_byte, word}
+use Rattle.frame_list.specs.declared.list.ListFault.{ListFault}
+use Rattle.frame_list.specs.declared.list.Placed.{Placed}
+use Rattle.frame_list.specs.Converted.{new_frame, new_frames}
+use Rattle.frame_list.specs.Frames.{Holds, ends, faults, frame, all_plain, placed_at, layout_at, plain_placed}
+use Rattle.frame_list.specs.Steps.{AreHeld, HasNewFrame, HaveNewFrames}
+
+count_plain : (vs : Values) → count (plain_values vs) ≡ count vs
+count_plain values.Nothing = refl
+count_plain (First' _ v _ vs) = ap suc (count_plain vs)
+
+option_same : (shape : Option Shape) (f g : Shape → List ℕ) → ((s : Shape) → f s ≡ g s) → option_map_or f shape [] ≡ option_map_or g shape []
+option_same None f g same = refl
+option_same (Some s) f g same = same s
+
+mutual
+  value_plain : (layout : Layout) (schema : Schema) (shape : Shape) (v : Value) → value_bytes layout schema shape (plain v) ≡ value_bytes layout schema shape v
+  value_plain layout schema shape (value.Bool b) = refl
+  value_plain layout schema shape (value.Int n) = refl
+  value_plain layout schema shape (value.Text text) = refl
+  value_plain layout schema shape (value.Bytes bytes) = refl
+  value_plain layout schema shape (value.Bits bits) = refl
+  value_plain layout schema shape (value.Struct vs) = ap (λ bytes. part layout (struct_byte ∷ []) ++ bytes) (values_plain layout schema (unwrap_or (fields_of schema shape) []) vs)
+  value_plain layout schema shape (Union' index _ v) = ap (λ bytes. index_bytes index ++ bytes) (option_same (component_of schema shape index) _ _ (λ component. value_plain layout schema component v))
+  value_plain layout schema shape (value.Array vs) =
+      ap (λ n. word n ++ option_map_or (λ element. elements_bytes layout schema element (plain_values vs)) (element_of shape) []) (count_plain vs)
+      ∙ ap (λ bytes. word (count vs) ++ bytes) (option_same (element_of shape) _ _ (λ element. elements_plain layout schema element vs))
+  value_plain layout schema shape (Maybe' held) = held_plain layout schema (held_by shape) held
+  value_plain layout schema shape (value.Actor id) = refl
+
+  held_plain : (layout : Layout) (schema : Schema) (inner : Option Shape) (held : Held-Value-Maybe-0) → held_bytes layout schema inner (plain_held held) ≡ held_bytes layout schema inner held
+  held_plain layout schema inner None' = refl
+  held_plain layout schema inner (Some' _ v) = ap (λ bytes. part layout (1 ∷ []) ++ bytes) (option_same inner _ _ (λ shape. value_plain layout schema shape v))
+
+  elements_plain : (layout : Layout) (schema : Schema) (shape : Shape) (vs : Values) → elements_bytes layout schema shape (plain_values vs) ≡ elements_bytes layout schema shape vs
+  elements_plain layout schema shape values.Nothing = refl
+  elements_plain layout schema shape (First' _ v _ vs) =
+      ap (λ bytes. bytes ++ elements_bytes layout schema shape (plain_values vs)) (value_plain layout schema shape v)
+      ∙ ap (λ bytes. value_bytes layout schema shape v ++ bytes) (elements_plain layout schema shape vs)
+
+  values_plain : (layout : Layout) (schema : Schema) (fields : List ParamRow) (vs : Values) → values_bytes layout schema fields (plain_values vs) ≡ values_bytes layout schema fields vs
+  values_plain layout schema [] vs = refl
+  values_plain layout schema (field ∷ fields) values.Nothing = refl
+  values_plain layout schema (field ∷ fields) (First' _ v _ vs) =
+      ap (λ bytes. bytes ++ values_bytes layout schema fields (plain_values vs)) (value_plain layout schema field.shape v)
+      ∙ ap (λ bytes. value_bytes layout schema field.shape v ++ bytes) (values_plain layout schema fields vs)
+
+body_plain : (layout : Layout) (schema : Schema) (row : Option MessageRow) (made : ℤ) (b : Body) → body_bytes layout schema row made (plain_body b) ≡ body_bytes layout schema row made b
+body_plain layout schema None made (body.Request vs) = refl
+body_plain layout schema (Some row) made (body.Request vs) = ap (λ bytes. made_bytes row.kind made ++ bytes) (values_plain layout schema row.params vs)
+body_plain layout schema None made (body.Reply vs) = refl
+body_plain layout schema (Some row) made (body.Reply vs) = values_plain layout schema (unwrap_or row.returns []) vs
+body_plain layout schema row made (body.Fault reason) = refl
+body_plain layout schema row made body.Goodbye = refl
+
+flags_plain : (row : Option MessageRow) (b : Body) → body_flags row (plain_body b) ≡ body_flags row b
+flags_plain row (body.Request vs) = refl
+flags_plain row (body.Reply vs) = refl
+flags_plain row (body.Fault reason) = refl
+flags_plain row body.Goodbye = refl
+
+frame_plain : (layout : Layout) (schema : Schema) (m : Message) → frame_bytes layout schema (plain_message m) ≡ frame_bytes layout schema m
+frame_plain layout schema m =
+    let with : List ℕ → ℕ → List ℕ = λ payload flags. header_bytes layout (length payload) m.route m.number flags m.seq m.transaction ++ payload in
+    ap (λ payload. with payload (body_flags (message_of schema m.number) (plain_body m.body))) (body_plain layout schema (message_of schema m.number) m.made m.body)
+    ∙ ap (λ flags. with (payload_bytes layout schema m) flags) (flags_plain (message_of schema m.number) m.body)
+
+pub new_plain : (schema : Schema) (frames : List Placed) → new_frames schema frames ≡ new_frames schema (all_plain frames)
+new_plain schema [] = refl
+new_plain schema (f ∷ frames) =
+    ap (λ bytes. bytes ++ new_frames schema frames) (sym (frame_plain NEW schema f.message))
+    ∙ ap (λ bytes. new_frame schema (plain_placed f) ++ bytes) (new_plain schema frames)
+
+-- Every message that a file holds has a new frame
+
+at_most : NewIsAtMostFourTimes → (schema : Schema) (m : Message) (marked : Bool)
+    → payload_size (if marked then NEW else OLD) schema m ≤ (if marked then NEW else OLD).most_payload → payload_size NEW schema m ≤ 4096
+at_most four schema m true h = h
+at_most four schema m false h = let more = four schema m in omega arith
+
+first_has : BoxesSayNothing → NewIsAtMostFourTimes → (schema : Schema) (bytes : List ℕ) (m : Message) (n : ℕ) → FrameBegins (layout_at bytes) schema bytes (plain_message m) n → HasNewFrame schema m
+first_has boxes four schema bytes m n begins =
+    let small : payload_size (layout_at bytes) schema m ≤ (layout_at bytes).most_payload = subst (λ size. size ≤ (layout_at bytes).most_payload) (boxes.payload (layout_at bytes) schema m) begins.frame.small in
+    ((boxes.fits schema m).0 begins.frame.fits, at_most four schema m _ small)
+
+same_message : (p q : Placed) (ps qs : List Placed) → p ∷ ps ≡ q ∷ qs → p.message ≡ q.message
+same_message p q ps qs e = cc
+
+same_rest : (p q : Placed) (ps qs : List Placed) → p ∷ ps ≡ q ∷ qs → ps ≡ qs
+same_rest p q ps qs e = cc
+
+-- the messages of frames that some bytes hold have new frames
+each_has : BoxesSayNothing → NewIsAtMostFourTimes → (schema : Schema) (offset : ℕ) (bytes : List ℕ) (plain_frames : List Placed) (fault : Option ListFault) → Holds schema offset bytes plain_frames fault
+    → (fs : List Placed) → plain_frames ≡ all_plain fs → AllByRecursion (λ placed. HasNewFrame schema placed.message) fs
+each_has boxes four schema _ _ _ _ (ends offset) [] e = tt
+each_has boxes four schema _ _ _ _ (ends offset) (f ∷ fs) e = absurd (let x : ⊥ = cc in x)
+each_has boxes four schema _ _ _ _ (faults offset bytes fault some it) [] e = tt
+each_has boxes four schema _ _ _ _ (faults offset bytes fault some it) (f ∷ fs) e = absurd (let x : ⊥ = cc in x)
+each_has boxes four schema _ _ _ _ (frame offset n bytes m more fault begins rest) [] e = absurd (let x : ⊥ = cc in x)
+each_has boxes four schema _ _ _ _ (frame offset n bytes m more fault begins rest) (f ∷ fs) e = (
+  first_has boxes four schema bytes f.message n (subst (λ (x : Message). FrameBegins (layout_at bytes) schema bytes x n) (same_message (placed_at offset m) (plain_placed f) more (all_plain fs) e) begins),
+  each_has boxes four schema (offset + n) (drop n bytes) more fault rest fs (same_rest (placed_at offset m) (plain_placed f) more (all_plain fs) e),
+)
+
+by_place : (P : Placed → Type 0) (fs : List Placed) → AllByRecursion P fs → (k : ℕ) (d : Placed) → k < length fs → P (slice_index_or fs k d)
+by_place P [] all k d below = absurd (omega arith)
+by_place P (f ∷ fs) all zero d below = all.0
+by_place P (f ∷ fs) all (suc k) d below = by_place P fs all.1 k d (omega arith)
+
+pub all_have : BoxesSayNothing → NewIsAtMostFourTimes → (schema : Schema) (frames : List Placed) → AreHeld schema frames → HaveNewFrames schema frames
+all_have boxes four schema frames held = by_place (λ placed. HasNewFrame schema placed.message) frames (each_has boxes four schema held.offset held.bytes (all_plain frames) held.fault held.holds frames refl)
+
+-- one new frame more
+pub one_more : (schema : Schema) (frames : List Placed) (last : Placed) → new_frames schema (frames ++ last ∷ []) ≡ new_frames schema frames ++ new_frame schema last
+one_more schema [] last = append-nil (new_frame schema last)
+one_more schema (f ∷ frames) last = ap (λ bytes. new_frame schema f ++ bytes) (one_more schema frames last) ∙ sym (append_assoc (new_frame schema f) (new_frames schema frames) (new_frame schema last))

@@ -1,0 +1,4 @@
+pub mod Frames
+pub mod Lines
+pub mod Converted
+pub mod Steps

@@ -1,0 +1,34 @@
+-- What the code finds at an offset, on its way.
+use Rattle.std.specs.Prelude.{ℕ, ◌≤◌, List, Option}
+use Rattle.std.specs.List.{All}
+use Rattle.ipdl_base.specs.declared.message.Message.{Message}
+use Rattle.ipdl_base.specs.declared.schema.Schema.{Schema}
+use Rattle.ipdl_base.specs.Plain.{plain_message}
+use Rattle.value_types.specs.declared.layout.TheConstants.{NEW}
+use Rattle.value_types.specs.Fits.{Fits}
+use Rattle.value_types.specs.Sizes.{payload_size}
+use Rattle.value_codec.specs.Decoding.{FrameBegins}
+use Rattle.frame_list.specs.declared.list.Found.{Found}
+use Rattle.frame_list.specs.declared.list.Found.TheVariants.{Frame, Fault}
+use Rattle.frame_list.specs.declared.list.ListFault.{ListFault}
+use Rattle.frame_list.specs.declared.list.Placed.{Placed}
+use Rattle.frame_list.specs.Frames.{Holds, IsFault, all_plain, layout_at}
+
+abbrev pub IsFound : Schema → ℕ → List ℕ → Found → Type 0
+IsFound schema offset bytes (Frame message n) = FrameBegins (layout_at bytes) schema bytes (plain_message message) n
+IsFound schema offset bytes (Fault fault) = IsFault schema offset bytes fault
+
+-- a message has a new frame
+abbrev pub HasNewFrame : Schema → Message → Type 0
+HasNewFrame schema message = Fits schema message × (payload_size NEW schema message ≤ 4096)
+
+-- all of these messages have one
+abbrev pub HaveNewFrames : Schema → List Placed → Type 0
+HaveNewFrames schema frames = All (λ placed. HasNewFrame schema placed.message) frames
+
+-- some bytes of a file hold these frames
+pub record AreHeld (schema : Schema) (frames : List Placed) : Type 0 where
+  pub offset : ℕ
+  pub bytes : List ℕ
+  pub fault : Option ListFault
+  pub holds : Holds schema offset bytes (all_plain frames) fault

@@ -1,0 +1,196 @@
+ghost use Rattle.std.specs.Prelude.{◌≡◌, ◌≤◌, ◌∷◌, ◌++◌, [], IfOk, IsOkUnless, Option, Some, List, ℕ, length, map, option_map, string_bytes};
+ghost use Rattle.ipdl_base.specs.Outside.{Rose};
+ghost use Rattle.ipdl_base.specs.Sound.{IsSound};
+ghost use Rattle.include_graph.specs.Keys.{AreFileWords};
+ghost use Rattle.include_graph.specs.Load as load;
+ghost use Rattle.frame_list.specs.Frames.{all_plain};
+ghost use Rattle.frame_list.specs.Steps.{AreHeld};
+ghost use Rattle.ipdl_top.specs.Answer.{IsCompilation, given_by};
+ghost use Rattle.ipdl_top.specs.Frames.{SaysBytes, SaysFrames, bad_frames_answer, frames_answer, frames_out};
+ghost use Rattle.ipdl_top.specs.Seen.{ForMap};
+ghost use Rattle.ipdl_top.specs.Steps.{IsHeld, IsSoundChecked, IsToldOf};
+
+use crate::answer::{Answer, Failure};
+use crate::checked::Checked;
+use crate::compile::checked;
+use frame_list::{ListFault, Placed, converted, fault_text, frames_of, frames_text};
+use ipdl_base::{Files, ReadAnswer, Schema};
+use std::alloc::{AllocError, Global};
+use std::slice::from_ref;
+
+/// The most bytes of a file of frames that is read.
+const MOST_BYTES: usize = 1_048_576;
+
+/// What a file of frames was found to be.
+#[derive(Drop)]
+pub enum Held {
+    /// There is none.
+    Absent,
+    /// It has more bytes than are read.
+    Larger,
+    /// It has these bytes.
+    Bytes(Vec<u8>),
+}
+
+/// The file to print frames of, and how.
+#[derive(Drop)]
+pub struct Wanted<'w> {
+    /// The name of the file of frames.
+    pub name: &'w str,
+    /// Whether the frames are written anew.
+    pub convert: bool,
+}
+
+/// What a file of these bytes is.
+fn held_of_bytes(bytes: Vec<u8>) -> Held
+    ensures { IsHeld (Some bytes.items) result }
+{
+    if bytes.len() > MOST_BYTES {
+        Held::Larger
+    } else {
+        Held::Bytes(bytes)
+    }
+}
+
+/// Reads the file of frames of this name.
+fn read_held<F: Files>(alloc: Global, files: &mut F, name: &str) -> Result<Held, Failure>
+    ensures held { load.ForMap (F.told files.old) (λ frames. IfOk result (IsHeld (frames name.now))) }
+    ensures read_fault { result ≡ Err Failure.ReadFault → Rose (F.faults files.old) (F.faults files.new) }
+{
+    match files.read(alloc, name, MOST_BYTES) {
+        ReadAnswer::Bytes(bytes) => Ok(held_of_bytes(bytes)),
+        ReadAnswer::Absent => Ok(Held::Absent),
+        ReadAnswer::Larger => Ok(Held::Larger),
+        ReadAnswer::Failed => Err(Failure::ReadFault),
+        ReadAnswer::NoMemory => Err(Failure::NoMemory),
+    }
+}
+
+/// The text for frames: their lines, or the same messages in new frames.
+fn out_of(
+    alloc: Global,
+    schema: &Schema,
+    convert: bool,
+    frames: &[Placed],
+) -> Result<Vec<u8>, AllocError>
+    requires sound { IsSound schema.now }
+    requires held { AreHeld schema.now frames.now }
+    ensures { IfOk result (λ text. text.items ≡ frames_out convert schema.now (all_plain frames.now)) }
+{
+    if convert {
+        converted(alloc, schema, frames)
+    } else {
+        frames_text(alloc, schema, frames)
+    }
+}
+
+/// The answer for a file by the text for its frames and its fault, where it has one.
+fn answer_of(
+    alloc: Global,
+    name: &str,
+    out: Vec<u8>,
+    fault: &Option<ListFault>,
+) -> Result<Answer, AllocError>
+    ensures { IfOk result (λ answer. answer ≡ frames_answer name.now out.items fault.now) }
+{
+    match fault {
+        Some(fault) => {
+            let line = fault_text(alloc, name.as_bytes(), fault)?;
+            Ok(Answer::of_bad_frames(out, line))
+        }
+        None => Ok(Answer::of_table(alloc, out)),
+    }
+}
+
+/// The answer for a file of these bytes.
+fn bytes_answer(
+    alloc: Global,
+    schema: &Schema,
+    wanted: &Wanted<'_>,
+    bytes: &[u8],
+) -> Result<Answer, AllocError>
+    requires { IsSound schema.now }
+    ensures { IfOk result (SaysBytes wanted.now.name.now wanted.now.convert bytes.now schema.now) }
+{
+    let found = frames_of(alloc, schema, bytes)?;
+    let out = out_of(alloc, schema, wanted.convert, found.frames.as_slice())?;
+    answer_of(alloc, wanted.name, out, &found.fault)
+}
+
+/// The answer that there is no file of frames to read, with this word for it.
+fn unread_answer(alloc: Global, name: &str, word: &str) -> Result<Answer, AllocError>
+    ensures { IfOk result (λ answer. answer ≡ bad_frames_answer [] (name.now ++ word.now)) }
+{
+    let mut line = Vec::from_slice(alloc, name.as_bytes())?;
+    line.extend_from_slice(word.as_bytes())?;
+    Ok(Answer::of_bad_frames(Vec::new(alloc), line))
+}
+
+/// The answer for a file of frames by what was found of it.
+fn held_answer(
+    alloc: Global,
+    schema: &Schema,
+    wanted: &Wanted<'_>,
+    held: &Held,
+) -> Result<Answer, AllocError>
+    requires { IsSound schema.now }
+    ensures { IfOk result (λ answer. (file : Option (List ℕ)) → IsHeld file held.now → SaysFrames wanted.now.name.now wanted.now.convert file schema.now answer) }
+{
+    match held {
+        Held::Absent => unread_answer(alloc, wanted.name, ":0: absent\n"),
+        Held::Larger => unread_answer(alloc, wanted.name, ":0: larger\n"),
+        Held::Bytes(bytes) => bytes_answer(alloc, schema, wanted, bytes.as_slice()),
+    }
+}
+
+/// The answer by what was found of the files of a command and of the file of frames.
+fn checked_answer(
+    alloc: Global,
+    checked: Checked,
+    wanted: &Wanted<'_>,
+    held: &Held,
+) -> Result<Answer, AllocError>
+    requires { IsSoundChecked checked }
+    ensures { IfOk result (λ answer. (file : Option (List ℕ)) → IsHeld file held.now → IsToldOf (SaysFrames wanted.now.name.now wanted.now.convert file) checked answer) }
+{
+    match checked {
+        Checked::Report(report) => Ok(report),
+        Checked::Clean(schema) => held_answer(alloc, &schema, wanted, held),
+    }
+}
+
+/// Reads the file of frames, and answers by what was found of the files of a command.
+fn answer_with<F: Files>(
+    alloc: Global,
+    files: &mut F,
+    checked: Checked,
+    wanted: &Wanted<'_>,
+) -> Result<Answer, Failure>
+    requires { IsSoundChecked checked }
+    ensures answer { load.ForMap (F.told files.old) (λ frames. IfOk result (IsToldOf (SaysFrames wanted.now.name.now wanted.now.convert (frames wanted.now.name.now)) checked)) }
+    ensures read_fault { result ≡ Err Failure.ReadFault → Rose (F.faults files.old) (F.faults files.new) }
+{
+    let held = read_held(alloc, files, wanted.name)?;
+    Ok(checked_answer(alloc, checked, wanted, &held)?)
+}
+
+/// The command that prints the frames of a file: the report on the file and on what it includes by
+/// the path, with this sync list, or the lines of the frames, or the same messages in new frames.
+pub fn frames<F: Files>(
+    alloc: Global,
+    files: &mut F,
+    list: &Option<String>,
+    path: &[String],
+    file: &String,
+    wanted: &Wanted<'_>,
+) -> Result<Answer, Failure>
+    requires { AreFileWords (string_bytes file.now ∷ []) }
+    ensures answer { ForMap (F.told files.old) (λ seen. IfOk result
+        (IsCompilation (SaysFrames wanted.now.name.now wanted.now.convert (seen.frames wanted.now.name.now)) (given_by seen.files (map string_bytes path.now) (string_bytes file.now ∷ [])) seen.list (option_map string_bytes list.now))) }
+    ensures read_fault { result ≡ Err Failure.ReadFault → Rose (F.faults files.old) (F.faults files.new) }
+{
+    match checked(alloc, files, list, path, from_ref(file)) {
+        Ok(checked) => answer_with(alloc, files, checked, wanted),
+        Err(failure) => Err(failure),
+    }
+}
