@@ -5,14 +5,15 @@
 mod action;
 mod fits;
 mod messages;
-mod read;
 mod script;
 mod shapes;
 mod term;
 mod typed;
 
 pub use action::{Action, Actions, Block, Blocks};
-pub use read::read_script;
+pub use fits::each_fits;
+pub use messages::{message_named, receives, replies, resolves, sends};
 pub use script::{Point, Script, ScriptFault};
 pub use script_reader::Who;
 pub use term::{Term, Terms};
+pub use typed::terms_of;
