@@ -6,6 +6,10 @@ mod encodes;
 #[cfg(test)]
 mod limits;
 #[cfg(test)]
+mod new_rows;
+#[cfg(test)]
+mod old_rows;
+#[cfg(test)]
 mod rows;
 #[cfg(test)]
 mod schemas;

@@ -1,15 +1,11 @@
--- Where a fault stands in bytes, and how long a frame is at least.
-use Rattle.std.proofs.Common.{◌≡◌, ℕ, zero, suc, ◌≤◌, ◌<◌, Bool, true, false, List, ◌++◌, length, Option, Some, None, arith, ap, subst, refl, inl, inr, lit≤}
+-- Where a fault stands in bytes.
+use Rattle.std.proofs.Common.{ℕ, ◌≤◌, Bool, true, false, List, length, Option, Some, None, arith, subst, inl, inr, lit≤}
 use Rattle.std.specs.Prelude.{if◌then◌else◌, nat_lt, not}
-use Rattle.std.proofs.lemmas.List.{length-append}
-use Rattle.ipdl_base.specs.declared.message.Message.{Message}
 use Rattle.ipdl_base.specs.declared.schema.Schema.{Schema}
-use Rattle.ipdl_base.specs.Sound.{message_of}
 use Rattle.value_types.specs.declared.layout.Layout.{Layout}
 use Rattle.value_codec.specs.declared.rules.TheConstants.{BAD_MARK, PAYLOAD_TOO_LARGE, UNKNOWN_TYPE, BAD_FLAGS, BAD_FIELD}
-use Rattle.value_codec.specs.Decoding.{FrameBegins, FrameFault}
+use Rattle.value_codec.specs.Decoding.{FrameFault}
 use Rattle.value_codec.specs.Frames.{FrameType, are_flags, is_route, is_seq, is_transaction, behind_mark, fault_of_type, fields_fault, has_mark, header_fault, header_of, header_size, type_of}
-use Rattle.value_codec.specs.Spelling.{frame_bytes, mark_of, order_bytes, payload_bytes, signed_word, word, body_flags}
 
 -- a fault, if there is one, stands at most so far behind
 abbrev IsWithin : ℕ → Option (ℕ × ℕ) → Type 0
@@ -58,17 +54,3 @@ pub fault_within : (layout : Layout) (schema : Schema) (bytes : List ℕ) (offse
 fault_within layout schema bytes offset rule (whole, inl e) =
     let here : IsWithin (header_size layout) (Some (offset, rule)) = subst (IsWithin (header_size layout)) e (in_header layout schema bytes) in omega arith
 fault_within layout schema bytes offset rule (whole, inr (none, fault)) = let a = fault.1 in let b = fault.3 in omega arith
-
-pieces : (mark front number order payload : List ℕ) → length number ≡ 4 → 4 ≤ length ((mark ++ ((front ++ number) ++ order)) ++ payload)
-pieces mark front number order payload four =
-    omega (arith, four, length-append (mark ++ ((front ++ number) ++ order)) payload, length-append mark ((front ++ number) ++ order), length-append (front ++ number) order, length-append front number)
-
-frame_length : (layout : Layout) (schema : Schema) (m : Message) → 4 ≤ length (frame_bytes layout schema m)
-frame_length layout schema m =
-    pieces (mark_of layout) (word (length (payload_bytes layout schema m)) ++ signed_word m.route) (word m.number)
-    (order_bytes (body_flags (message_of schema m.number) m.body) m.seq m.transaction) (payload_bytes layout schema m) refl
-
--- a frame has some bytes
-pub frame_some : (layout : Layout) (schema : Schema) (bytes : List ℕ) (m : Message) (n : ℕ) → FrameBegins layout schema bytes m n → 0 < n
-frame_some layout schema bytes m zero begins = let long = frame_length layout schema m in absurd (omega (arith, long, ap length begins.frame.spelled))
-frame_some layout schema bytes m (suc n) begins = omega arith

@@ -5,7 +5,9 @@ ghost use Rattle.frame_list.specs.Frames.{all_plain};
 ghost use Rattle.frame_list.specs.Lines.{addressed, fault_line, frame_line, frames_lines, made_text, receiver_text, said_text};
 
 use crate::list::{ListFault, Placed};
-use history::{params_of, push_listed, push_message, push_numbered, reason_word, returns_of_number};
+use history::{
+    params_of, push_listed, push_message, push_numbered, reason_word, returns_of_number,
+};
 use ipdl_base::{Body, Message, Schema};
 use std::alloc::{AllocError, Global};
 use value_types::boxes_say_nothing;
