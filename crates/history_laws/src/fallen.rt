@@ -2,8 +2,8 @@ ghost use Rattle.std.specs.Prelude.{◌≡◌, ℤ, reverse};
 ghost use Rattle.history_laws.specs.Fallen as the;
 ghost use Rattle.history_reading.specs.Halves.{half_view};
 
-use history_reading::{Actor, Cause, Half, NumberList, Standing, standing_of};
 use history::What;
+use history_reading::{Actor, Cause, Half, NumberList, Standing, standing_of};
 use ipdl_base::Destroy;
 
 /// Whether a living actor has this manager.

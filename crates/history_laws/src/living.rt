@@ -5,9 +5,9 @@ ghost use Rattle.history_reading.specs.Kept.{request_view};
 ghost use Rattle.history_laws.specs.Living as the;
 ghost use Rattle.history_reading.specs.Numbers.{id_of};
 
+use history::What;
 use history_reading::{Event, Half, Request, params_of};
 use history_values::{all_live, missing};
-use history::What;
 use ipdl_base::{ParamRow, Schema, Side, Values};
 
 /// The other end.

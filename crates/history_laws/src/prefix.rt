@@ -6,9 +6,9 @@ ghost use Rattle.history_reading.specs.Numbers.{has_seen};
 ghost use Rattle.history_laws.specs.Prefix as the;
 ghost use Rattle.history_reading.specs.Told.{seen_of};
 
+use history::What;
 use history_reading::{Half, Request, Seen, Told, params_of};
 use history_values::is_nulled;
-use history::What;
 use ipdl_base::{Schema, Values};
 
 /// What a delivery shows of a packet.

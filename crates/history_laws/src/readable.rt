@@ -4,8 +4,8 @@ ghost use Rattle.history.specs.Messages.{same_side};
 ghost use Rattle.history_laws.specs.Holds as the;
 ghost use Rattle.history_reading.specs.Readings.{reading_view};
 
-use history_reading::{CallStack, Frame, Reading, is_effect, is_request_number};
 use history::{Line, What};
+use history_reading::{CallStack, Frame, Reading, is_effect, is_request_number};
 use ipdl_base::{Schema, Side};
 
 /// Whether the dispatch of a request is on top.

@@ -7,10 +7,10 @@ ghost use Rattle.history_reading.specs.Kept.{sent_view, told_view};
 ghost use Rattle.history_laws.specs.Settled as the;
 ghost use Rattle.history_laws.specs.Waits.{own_returns};
 
-use history_reading::{Event, Half, NumberList, Told, returns_of};
 use crate::readable::same_side;
 use crate::said::{Asked, says};
 use history::{Line, What};
+use history_reading::{Event, Half, NumberList, Told, returns_of};
 use ipdl_base::{ParamRow, Reason, Schema, Side, Values};
 
 /// The returns of an end's request of a number.

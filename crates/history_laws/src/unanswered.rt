@@ -7,10 +7,10 @@ ghost use Rattle.history_reading.specs.Reading.{read};
 ghost use Rattle.history_reading.specs.Readings.{reading_view};
 
 use crate::held::Held;
-use history_reading::{Frame, Reading};
 use crate::readable::is_readable;
 use crate::still::head_of;
 use history::{History, Line, What};
+use history_reading::{Frame, Reading};
 use ipdl_base::Schema;
 use nesting_core::Head;
 use std::alloc::{AllocError, Global};

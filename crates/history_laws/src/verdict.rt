@@ -9,10 +9,10 @@ use crate::law::Law;
 use crate::living::living_line;
 use crate::prefix::prefix_line;
 use crate::readable::is_readable;
-use history_reading::{Reading, is_effect};
 use crate::settled::{settled_line, settled_moment};
 use crate::waits::{waits_line, waits_moment};
 use history::{History, Line, What};
+use history_reading::{Reading, is_effect};
 use ipdl_base::Schema;
 use std::alloc::{AllocError, Global};
 

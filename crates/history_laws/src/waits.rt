@@ -4,11 +4,11 @@ ghost use Rattle.history_reading.specs.Halves.{half_view};
 ghost use Rattle.history_reading.specs.Readings.{reading_view};
 ghost use Rattle.history_laws.specs.Waits as the;
 
-use history_reading::{Event, Half, Reading};
 use crate::said::{Asked, says};
 use crate::settled::own_returns;
 use crate::still::{block_each_other, is_still};
 use history::What;
+use history_reading::{Event, Half, Reading};
 use ipdl_base::{Reason, Schema, Values};
 
 /// Whether the other end answered a call with these values.
