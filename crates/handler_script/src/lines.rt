@@ -95,7 +95,7 @@ impl<'a> Reached<'a> {
 
     /// What is known behind one more line.
     pub fn behind(self, line: &'a LineReading) -> Reached<'a>
-        ensures { (before : List LineReadingType) → Knows before self → Knows (before ++ line.now ∷ []) result }
+        ensures { (before : List LineReadingType) → Knows before self.entry → Knows (before ++ line.now ∷ []) result }
     {
         let LineReading::Statement(statement) = line else {
             return self;

@@ -19,7 +19,7 @@ pub enum Asked<'a> {
 
 /// Whether this is so of one.
 fn passes(asked: Asked<'_>, who: &Who) -> bool
-    ensures { result ≡ test_of asked who.now }
+    ensures { result ≡ test_of asked.entry who.now }
 {
     match asked {
         Asked::Absent(given) => match who {
@@ -40,7 +40,7 @@ fn passes(asked: Asked<'_>, who: &Who) -> bool
 /// Whether it is so of one whom a value speaks of.
 #[cycle(mentions)]
 fn value_mentions(value: &Written, asked: Asked<'_>) -> bool
-    ensures { result ≡ mentions.mentions (test_of asked) value.now }
+    ensures { result ≡ mentions.mentions (test_of asked.entry) value.now }
 {
     match value {
         Written::Atom(Atom::Who(who)) => passes(asked, who),
@@ -55,7 +55,7 @@ fn value_mentions(value: &Written, asked: Asked<'_>) -> bool
 /// Whether it is so of one whom values speak of.
 #[cycle(mentions)]
 pub fn any_mentions(values: &WrittenValues, asked: Asked<'_>) -> bool
-    ensures { result ≡ mentions.any_mentions (test_of asked) values.now }
+    ensures { result ≡ mentions.any_mentions (test_of asked.entry) values.now }
 {
     match values {
         WrittenValues::Nothing => false,
@@ -103,7 +103,7 @@ pub fn message_of(statement: &Statement) -> Option<&MessageName>
 
 /// Whether it is so of one whom a statement speaks of.
 pub fn speaks_of(statement: &Statement, asked: Asked<'_>) -> bool
-    ensures { result ≡ mentions.speaks_of (test_of asked) statement.now }
+    ensures { result ≡ mentions.speaks_of (test_of asked.entry) statement.now }
 {
     let who = match who_of(statement) {
         Some(who) => passes(asked, who),

@@ -1,8 +1,9 @@
 ghost use Rattle.std.specs.Prelude.{◌≡◌, option_map};
-ghost use Rattle.ipdl_base.specs.Words.{short_name};
 ghost use Rattle.handler_script.specs.Messages as messages;
 
-use ipdl_base::{Direction, Kind, MessageRow, ParamRow, ProtocolRow, Schema, Semantics, Side};
+use ipdl_base::{
+    Direction, Kind, MessageRow, ParamRow, ProtocolRow, Schema, Semantics, Side, short_name,
+};
 use script_reader::MessageName;
 
 /// The protocol with this short name.

@@ -43,7 +43,7 @@ fn add_if(
 
 /// The block in which a line is tested that stands behind lines of which this is known.
 fn context_behind<'a>(schema: &'a Schema, reached: Reached<'a>) -> Option<Context<'a>>
-    ensures { (before : List LineReadingType) → Knows before reached → option_map standing_in result ≡ standing_behind schema.now before }
+    ensures { (before : List LineReadingType) → Knows before reached.entry → option_map standing_in result ≡ standing_behind schema.now before }
 {
     context_of(schema, reached.opened?)
 }
@@ -58,7 +58,7 @@ fn add_known(
     place: Place,
     found: &mut Vec<Finding>,
 ) -> Result<(), AllocError>
-    ensures { OnOk result (Gains (λ f. (place ≡ f.place) × broken.KnownBreaks schema.now f.rule answered (option_map standing_in context) statement.now after.now) found.old.items found.new.items) }
+    ensures { OnOk result (Gains (λ f. (place ≡ f.place) × broken.KnownBreaks schema.now f.rule answered (option_map standing_in context.entry) statement.now after.now) found.old.items found.new.items) }
 {
     add_if(
         Rule::WRONG_DIRECTION,
@@ -95,7 +95,7 @@ fn add_statement(
     place: Place,
     found: &mut Vec<Finding>,
 ) -> Result<(), AllocError>
-    ensures { OnOk result ((before : List LineReadingType) → Knows before reached → Gains (λ f. (place ≡ f.place) × broken.StatementBreaks schema.now f.rule before statement.now after.now) found.old.items found.new.items) }
+    ensures { OnOk result ((before : List LineReadingType) → Knows before reached.entry → Gains (λ f. (place ≡ f.place) × broken.StatementBreaks schema.now f.rule before statement.now after.now) found.old.items found.new.items) }
 {
     let breaks = breaks_blocks(reached, statement, after);
     add_if(Rule::BLOCK_STRUCTURE, place, breaks, found)?;
@@ -123,7 +123,7 @@ fn add_line(
     place: Place,
     found: &mut Vec<Finding>,
 ) -> Result<(), AllocError>
-    ensures { OnOk result ((before : List LineReadingType) → Knows before reached → Gains (λ f. (place ≡ f.place) × broken.LineBreaks schema.now f.rule before reading.now after.now) found.old.items found.new.items) }
+    ensures { OnOk result ((before : List LineReadingType) → Knows before reached.entry → Gains (λ f. (place ≡ f.place) × broken.LineBreaks schema.now f.rule before reading.now after.now) found.old.items found.new.items) }
 {
     match reading {
         LineReading::Silent => Ok(()),

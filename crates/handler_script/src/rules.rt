@@ -36,7 +36,7 @@ pub fn context_of<'a>(schema: &'a Schema, statement: &Statement) -> Option<Conte
 
 /// The side of a block.
 fn side_of(context: Context<'_>) -> Side
-    ensures { result ≡ blocks.side_of (standing_in context) }
+    ensures { result ≡ blocks.side_of (standing_in context.entry) }
 {
     match context {
         Context::Main(side) => side,
@@ -46,7 +46,7 @@ fn side_of(context: Context<'_>) -> Side
 
 /// The parameters of the handled message.
 fn given_in<'a>(context: Context<'a>) -> &'a [ParamRow]
-    ensures { result.now ≡ blocks.given_in (standing_in context) }
+    ensures { result.now ≡ blocks.given_in (standing_in context.entry) }
 {
     match context {
         Context::Main(_) => &[],
@@ -56,7 +56,7 @@ fn given_in<'a>(context: Context<'a>) -> &'a [ParamRow]
 
 /// The handled message.
 fn handled_in<'a>(context: Context<'a>) -> Option<&'a MessageRow>
-    ensures { option_map (λ m. m.now) result ≡ blocks.handled_in (standing_in context) }
+    ensures { option_map (λ m. m.now) result ≡ blocks.handled_in (standing_in context.entry) }
 {
     match context {
         Context::Main(_) => None,
@@ -88,7 +88,7 @@ fn sent<'a>(schema: &'a Schema, statement: &Statement) -> Option<&'a MessageRow>
 
 /// Whether the side cannot receive the message whose block this is.
 fn is_misdirected(context: Context<'_>) -> bool
-    ensures { result ≡ broken.is_misdirected (standing_in context) }
+    ensures { result ≡ broken.is_misdirected (standing_in context.entry) }
 {
     match context {
         Context::Main(_) => false,
@@ -98,7 +98,7 @@ fn is_misdirected(context: Context<'_>) -> bool
 
 /// Whether no channel carries the message whose block this is.
 fn is_uncarried(context: Context<'_>) -> bool
-    ensures { result ≡ broken.is_uncarried (standing_in context) }
+    ensures { result ≡ broken.is_uncarried (standing_in context.entry) }
 {
     match context {
         Context::Main(_) => false,
@@ -112,7 +112,7 @@ pub fn breaks_direction(
     context: Option<Context<'_>>,
     statement: &Statement,
 ) -> bool
-    ensures { IsTrue result ↔ broken.BreaksDirection schema.now (option_map standing_in context) statement.now }
+    ensures { IsTrue result ↔ broken.BreaksDirection schema.now (option_map standing_in context.entry) statement.now }
 {
     let is_misdirected = match context_of(schema, statement) {
         Some(opened) => is_misdirected(opened),
@@ -130,7 +130,7 @@ pub fn breaks_direction(
 
 /// Whether no channel carries the message.
 pub fn breaks_carried(schema: &Schema, context: Option<Context<'_>>, statement: &Statement) -> bool
-    ensures { IsTrue result ↔ broken.BreaksCarried schema.now (option_map standing_in context) statement.now }
+    ensures { IsTrue result ↔ broken.BreaksCarried schema.now (option_map standing_in context.entry) statement.now }
 {
     let is_uncarried = match context_of(schema, statement) {
         Some(opened) => is_uncarried(opened),
@@ -165,7 +165,7 @@ fn types_of<'a>(
     context: Context<'a>,
     statement: &Statement,
 ) -> Option<&'a [ParamRow]>
-    ensures { option_map (λ ps. ps.now) result ≡ broken.types_of schema.now (standing_in context) statement.now }
+    ensures { option_map (λ ps. ps.now) result ≡ broken.types_of schema.now (standing_in context.entry) statement.now }
 {
     match statement {
         Statement::Send(_, call) | Statement::New(_, _, call) => {
@@ -187,7 +187,7 @@ fn are_unfit(
     types: Option<&[ParamRow]>,
     values: &WrittenValues,
 ) -> bool
-    ensures { IsTrue result ↔ broken.AreUnfit schema.now given.now (option_map (λ ps. ps.now) types) values.now }
+    ensures { IsTrue result ↔ broken.AreUnfit schema.now given.now (option_map (λ ps. ps.now) types.entry) values.now }
 {
     match types {
         Some(types) => !each_fits(values, schema, given, types),
@@ -197,7 +197,7 @@ fn are_unfit(
 
 /// Whether the values of a statement in a block do not fit.
 fn values_break(schema: &Schema, context: Context<'_>, statement: &Statement) -> bool
-    ensures { IsTrue result ↔ broken.ValuesBreak schema.now (standing_in context) statement.now }
+    ensures { IsTrue result ↔ broken.ValuesBreak schema.now (standing_in context.entry) statement.now }
 {
     let given = given_in(context);
     let is_no_actor = match who_of(statement) {
@@ -213,7 +213,7 @@ fn values_break(schema: &Schema, context: Context<'_>, statement: &Statement) ->
 
 /// Whether the values of a statement do not fit.
 pub fn breaks_values(schema: &Schema, context: Option<Context<'_>>, statement: &Statement) -> bool
-    ensures { IsTrue result ↔ broken.BreaksValues schema.now (option_map standing_in context) statement.now }
+    ensures { IsTrue result ↔ broken.BreaksValues schema.now (option_map standing_in context.entry) statement.now }
 {
     match context {
         Some(context) => values_break(schema, context, statement),
@@ -223,7 +223,7 @@ pub fn breaks_values(schema: &Schema, context: Option<Context<'_>>, statement: &
 
 /// Whether those of a handled message are spoken of in a main.
 fn speaks_in_main(context: Context<'_>, statement: &Statement) -> bool
-    ensures { result ≡ broken.speaks_in_main (standing_in context) statement.now }
+    ensures { result ≡ broken.speaks_in_main (standing_in context.entry) statement.now }
 {
     match context {
         Context::Main(_) => speaks_of(statement, Asked::OfHandler),
@@ -233,7 +233,7 @@ fn speaks_in_main(context: Context<'_>, statement: &Statement) -> bool
 
 /// Whether the actor that a constructor built is spoken of elsewhere.
 fn speaks_of_made(context: Context<'_>, statement: &Statement) -> bool
-    ensures { result ≡ broken.speaks_of_made (standing_in context) statement.now }
+    ensures { result ≡ broken.speaks_of_made (standing_in context.entry) statement.now }
 {
     let is_of_constructor = match context {
         Context::Main(_) => false,
@@ -244,7 +244,7 @@ fn speaks_of_made(context: Context<'_>, statement: &Statement) -> bool
 
 /// Whether a message is there, and is not answered by a resolver.
 fn is_unresolved(message: Option<&MessageRow>) -> bool
-    ensures { result ≡ broken.is_unresolved (option_map (λ m. m.now) message) }
+    ensures { result ≡ broken.is_unresolved (option_map (λ m. m.now) message.entry) }
 {
     match message {
         Some(message) => resolves(message).is_none(),
@@ -254,7 +254,7 @@ fn is_unresolved(message: Option<&MessageRow>) -> bool
 
 /// Whether the block handles no message that is answered by a resolver.
 fn has_no_resolver(context: Context<'_>) -> bool
-    ensures { result ≡ broken.has_no_resolver (standing_in context) }
+    ensures { result ≡ broken.has_no_resolver (standing_in context.entry) }
 {
     match handled_in(context) {
         Some(message) => resolves(message).is_none(),
@@ -264,7 +264,7 @@ fn has_no_resolver(context: Context<'_>) -> bool
 
 /// Whether the block handles no message to which values are returned.
 fn has_no_reply(context: Context<'_>) -> bool
-    ensures { result ≡ broken.has_no_reply (standing_in context) }
+    ensures { result ≡ broken.has_no_reply (standing_in context.entry) }
 {
     match handled_in(context) {
         Some(message) => replies(message).is_none(),
@@ -274,7 +274,7 @@ fn has_no_reply(context: Context<'_>) -> bool
 
 /// Whether a message is there, and makes no actor.
 fn is_other_constructor(message: Option<&MessageRow>) -> bool
-    ensures { result ≡ broken.is_other_constructor (option_map (λ m. m.now) message) }
+    ensures { result ≡ broken.is_other_constructor (option_map (λ m. m.now) message.entry) }
 {
     match message {
         Some(message) => !is_constructor(message.kind),
@@ -290,7 +290,7 @@ fn is_misplaced(
     statement: &Statement,
     after: &[LineReading],
 ) -> bool
-    ensures { result ≡ broken.is_misplaced schema.now answered (standing_in context) statement.now after.now }
+    ensures { result ≡ broken.is_misplaced schema.now answered (standing_in context.entry) statement.now after.now }
 {
     match statement {
         Statement::New(_, _, call) => is_other_constructor(message_named(schema, &call.message)),
@@ -309,7 +309,7 @@ pub fn breaks_allowed(
     statement: &Statement,
     after: &[LineReading],
 ) -> bool
-    ensures { IsTrue result ↔ broken.IsNotAllowed schema.now answered (option_map standing_in context) statement.now after.now }
+    ensures { IsTrue result ↔ broken.IsNotAllowed schema.now answered (option_map standing_in context.entry) statement.now after.now }
 {
     match context {
         Some(context) => {
@@ -323,7 +323,7 @@ pub fn breaks_allowed(
 
 /// Whether a statement is a second main of its side.
 fn is_second_main(reached: Reached<'_>, statement: &Statement) -> bool
-    ensures { (before : List LineReadingType) → Knows before reached → IsTrue result ↔ broken.IsSecondMain before statement.now }
+    ensures { (before : List LineReadingType) → Knows before reached.entry → IsTrue result ↔ broken.IsSecondMain before statement.now }
 {
     match statement {
         Statement::Main(Side::Parent) => reached.parent,
@@ -334,7 +334,7 @@ fn is_second_main(reached: Reached<'_>, statement: &Statement) -> bool
 
 /// Whether a statement breaks the structure of blocks.
 pub fn breaks_blocks(reached: Reached<'_>, statement: &Statement, after: &[LineReading]) -> bool
-    ensures { (before : List LineReadingType) → Knows before reached → IsTrue result ↔ broken.BreaksBlocks before statement.now after.now }
+    ensures { (before : List LineReadingType) → Knows before reached.entry → IsTrue result ↔ broken.BreaksBlocks before statement.now after.now }
 {
     let is_outside = reached.opened.is_none();
     if opens(statement) {
