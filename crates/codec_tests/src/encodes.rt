@@ -1,8 +1,9 @@
 ghost use Rattle.ipdl_base.specs.Sound.{IsSound};
+ghost use Rattle.value_types.specs.Fits.{Fits};
 
 use super::schemas::the_schema;
 use super::shown::{bytes_of, digits_of};
-use ipdl_base::Schema;
+use ipdl_base::{Message, Schema};
 use std::alloc::Global;
 use std::test::Fail;
 use value_codec::{Decoded, decode, decode_old, encode, frame_size};
@@ -30,6 +31,21 @@ const ENCODES: &str =
 /// How many rows stand there.
 const ENCODES_COUNT: u32 = 17;
 
+/// The new frame of a message, behind a byte that stands there before, and its size.
+pub fn framed(alloc: Global, schema: &Schema, message: &Message) -> Result<(String, usize), Fail>
+    requires sound { IsSound schema.now }
+    requires fits { Fits schema.now message.now }
+{
+    let mut out = vec![in alloc; 7]?;
+    if encode(alloc, schema, message, &mut out).is_err() {
+        return Err("no room".into());
+    }
+    Ok((
+        digits_of(alloc, out.as_slice())?,
+        frame_size(schema, message),
+    ))
+}
+
 /// The new frame of the message that bytes begin with, behind a byte, and its size.
 fn again(alloc: Global, schema: &Schema, old: bool, bytes: &[u8]) -> Result<(String, usize), Fail>
     requires { IsSound schema.now }
@@ -42,14 +58,7 @@ fn again(alloc: Global, schema: &Schema, old: bool, bytes: &[u8]) -> Result<(Str
     let Decoded::Frame(message, _) = decoded else {
         return Err("no frame".into());
     };
-    let mut out = vec![in alloc; 7]?;
-    if encode(alloc, schema, &message, &mut out).is_err() {
-        return Err("no room".into());
-    }
-    Ok((
-        digits_of(alloc, out.as_slice())?,
-        frame_size(schema, &message),
-    ))
+    framed(alloc, schema, &message)
 }
 
 #[test]
