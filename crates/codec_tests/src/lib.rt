@@ -1,0 +1,17 @@
+//! Tests of the codec over one program: bytes with what they begin, and messages with their frames.
+#![tactic(auto)]
+
+#[cfg(test)]
+mod encodes;
+#[cfg(test)]
+mod limits;
+#[cfg(test)]
+mod new_rows;
+#[cfg(test)]
+mod old_rows;
+#[cfg(test)]
+mod rows;
+#[cfg(test)]
+mod schemas;
+#[cfg(test)]
+mod shown;
