@@ -81,7 +81,11 @@ fn values_of(alloc: Global, count: usize) -> Result<Values, AllocError> {
 fn limits(rt: HostRuntime) -> Result<(), Fail> {
     let alloc = rt.alloc();
     let schema = the_schema(alloc)?;
-    for (count, size) in [(4080, 4096), (4081, 4100), (70000, 70016)] {
+    for (count, size, is_taken) in [
+        (4080, 4096, true),
+        (4081, 4100, false),
+        (70000, 70016, false),
+    ] {
         let Some(row) = schema.message(TEXTS) else {
             return Err("no such message".into());
         };
@@ -90,6 +94,7 @@ fn limits(rt: HostRuntime) -> Result<(), Fail> {
         let mut out = vec![in alloc; 1, 2]?;
         match encode(alloc, &schema, &message, &mut out) {
             Ok(()) => {
+                assert!(rt; is_taken);
                 assert_eq!(rt; out.len(), 4126);
                 match decode(alloc, &schema, &out[2..]) {
                     Decoded::Frame(read, n) => {
@@ -100,6 +105,7 @@ fn limits(rt: HostRuntime) -> Result<(), Fail> {
                 }
             }
             Err(fault) => {
+                assert!(rt; !is_taken);
                 assert_eq!(rt; fault, EncodeFault::TooLarge(size));
                 assert_eq!(rt; out.as_slice(), [1, 2].as_slice());
             }
