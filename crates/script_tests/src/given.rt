@@ -1,0 +1,265 @@
+ghost use Rattle.std.specs.Prelude.{IfOk};
+ghost use Rattle.ipdl_base.specs.Sound.{IsSound};
+ghost use Rattle.ipdl_syntax.specs.Programs.{IsProgram, BearTheirNames};
+
+use actor_tables::schema;
+use handler_script::{Script, ScriptFault, read_script};
+use include_graph::{are_file_words, load};
+use ipdl_base::{Findings, MemoryFiles, Schema, short_name};
+use ipdl_syntax::Program;
+use name_table::Names;
+use proto_rules::proto_findings;
+use std::alloc::{AllocError, Global};
+use std::test::Fail;
+use type_rules::type_findings;
+
+/// The files of the one program, in which the tables of rules have their messages. `PT` is its top.
+const FILES: &[(&str, &str)] = &[
+    (
+        "PT.ipdl",
+        "include protocol PD;
+include protocol PK;
+include protocol PS;
+include protocol PU;
+include protocol PX;
+using a::Handle from \"a.h\";
+using a::Other from \"a.h\";
+struct Pair { int16_t a; bool? b; };
+struct Bare { };
+struct Wrap { Endpoint<PK> e; };
+union Either { bool; nsString; Either[]; Pair; };
+[NestedUpTo=inside_cpow] sync protocol PT {
+  manages PK;
+  manages PS;
+  manages PU;
+parent:
+  async Flag(bool b);
+  async Small(char c, int8_t i, uint8_t u);
+  async Middle(short s, int16_t i, uint16_t u);
+  async Large(int i, int32_t j, uint32_t u, nsresult n);
+  async Huge(long l, int64_t i, intptr_t p, uint64_t u, uintptr_t v);
+  async Floats(float f, double d);
+  async Texts(nsString s, nsCString c, ByteBuf b, Handle h);
+  async Nested(Pair p, Either e, Bare n);
+  async Holds(bool? m, UniquePtr<int8_t> u, int8_t[] xs, bool?? d);
+  async Actors(PT t, nullable PK k, PK q);
+  async Lists(PK[] ks, nullable PK[] ns, PK? m);
+  async None();
+  async Many(int32_t a, int b, int16_t c, bool d, nsString e, nsCString f, ByteBuf g, Handle h, Other i, Pair j, PK k, nullable PK l, PS m, int32_t[] n, bool? o, PK[] p, nullable PK[] q);
+  async Shared(Shmem s);
+  async Shares(Shmem[] s);
+  async Wraps(Wrap[] w);
+  async Hand() returns (FileDescriptor f);
+  async Lent(Shmem s) returns (bool b);
+  sync Look(int32_t n) returns (bool found, nsString text);
+  sync Plain();
+  sync Blank() returns ();
+  async Get(int32_t n, PK k) returns (int32_t r);
+  async Done() returns ();
+  sync PS() returns (bool ok);
+  sync PU() returns (Shmem s);
+child:
+  [Nested=inside_sync] sync Call(int32_t n) returns (int32_t r);
+  async Want(int32_t n) returns (nullable PK r);
+  async Down(Shmem[] s);
+  async Tell(int32_t n);
+  async TellInt(int n);
+  async TellText(nsString s);
+  async TellBytes(nsCString c);
+  async TellBuffer(ByteBuf b);
+  async TellHandle(Handle h);
+  async TellPair(Pair p);
+  async TellEither(Either e);
+  async TellMaybe(bool? m);
+  async Give(PK k);
+  async May(nullable PK k);
+  async GiveAll(PK[] ks);
+  async MayAll(nullable PK[] ks);
+both:
+  async PK(int32_t n);
+  async Any(int32_t n);
+  async Ping() returns (bool b);
+  async top(bool true);
+};
+",
+    ),
+    (
+        "PK.ipdl",
+        "include protocol PT;
+protocol PK {
+  manager PT;
+both:
+  async Note(int32_t n);
+parent:
+  async __delete__();
+};
+",
+    ),
+    (
+        "PS.ipdl",
+        "include protocol PT;
+sync protocol PS {
+  manager PT;
+parent:
+  async Take(PS s);
+  async __delete__();
+};
+",
+    ),
+    (
+        "PU.ipdl",
+        "include protocol PT;
+sync protocol PU {
+  manager PT;
+parent:
+  async __delete__();
+};
+",
+    ),
+    (
+        "PD.ipdl",
+        "protocol PD {
+  manager PD;
+  manages PD;
+parent:
+  async PD();
+  async __delete__();
+};
+",
+    ),
+    (
+        "PX.ipdl",
+        "namespace x {
+namespace y {
+protocol PX {
+both:
+  async Hi();
+};
+}
+}
+",
+    ),
+];
+
+/// Files in memory with these names and texts.
+pub fn files(alloc: Global, texts: &[(&str, &str)]) -> Result<MemoryFiles, AllocError> {
+    let mut files = Vec::new(alloc);
+    for (name, text) in texts {
+        let name = String::from_str(alloc, name)?;
+        files.push((name, Vec::from_slice(alloc, text.as_bytes())?))?;
+    }
+    Ok(MemoryFiles::new(files, Vec::new(alloc)))
+}
+
+/// The program that a file of these reaches.
+fn program(alloc: Global, mut files: MemoryFiles, word: &str) -> Result<Program, Fail>
+    ensures program { IfOk result IsProgram }
+    ensures names { IfOk result BearTheirNames }
+{
+    let words = vec![in alloc; String::from_str(alloc, word)?]?;
+    let path = vec![in alloc; String::from_str(alloc, ".")?]?;
+    if !are_file_words(words.as_slice()) {
+        return Err("no words of files".into());
+    }
+    Ok(load(alloc, &mut files, words.as_slice(), path.as_slice())?)
+}
+
+/// The schema of a program, which breaks no rule.
+fn clean_schema(alloc: Global, program: &Program) -> Result<Schema, Fail>
+    requires program { IsProgram program.now }
+    requires names { BearTheirNames program.now }
+    ensures { IfOk result IsSound }
+{
+    let names = Names::build(alloc, program)?;
+    let types = type_findings(alloc, program, &names)?;
+    if !types.is_empty() {
+        return Err("a program that breaks rules on types".into());
+    }
+    let protocols = proto_findings(alloc, program, &names)?;
+    if !protocols.is_empty() {
+        return Err("a program that breaks rules on protocols".into());
+    }
+    Ok(schema(alloc, program, &names)?)
+}
+
+/// The schema of the program that a file of these reaches.
+pub fn schema_of(alloc: Global, files: MemoryFiles, word: &str) -> Result<Schema, Fail>
+    ensures { IfOk result IsSound }
+{
+    let program = program(alloc, files, word)?;
+    clean_schema(alloc, &program)
+}
+
+/// The schema of the one program.
+pub fn the_schema(alloc: Global) -> Result<Schema, Fail>
+    ensures { IfOk result IsSound }
+{
+    schema_of(alloc, files(alloc, FILES)?, "PT.ipdl")
+}
+
+/// The number of the protocol with this short name.
+pub fn number_of(schema: &Schema, name: &str) -> Result<u32, Fail> {
+    let mut number = 0u32;
+    for protocol in schema.protocols.as_slice() {
+        if short_name(protocol.name.as_slice()) == name.as_bytes() {
+            return Ok(number);
+        }
+        number = number.wrapping_add(1);
+    }
+    Err("no such protocol".into())
+}
+
+/// What a text is read as, where the top has this short name.
+pub fn read(
+    alloc: Global,
+    schema: &Schema,
+    top: &str,
+    text: &[u8],
+) -> Result<Result<Script, ScriptFault>, Fail>
+    requires { IsSound schema.now }
+{
+    let top = number_of(schema, top)?;
+    if top as usize >= schema.protocols.len() || text.len() > 1_048_576 {
+        return Err("no top, or a text that is too large".into());
+    }
+    Ok(read_script(alloc, text, schema, top))
+}
+
+/// The script of a text that breaks no rule.
+pub fn script(alloc: Global, schema: &Schema, top: &str, text: &[u8]) -> Result<Script, Fail>
+    requires { IsSound schema.now }
+{
+    Ok(read(alloc, schema, top, text)??)
+}
+
+/// Findings, each as `FILE:LINE:COLUMN RULE` and a blank.
+pub fn show(alloc: Global, findings: &Findings) -> Result<String, Fail> {
+    let mut shown = String::new(alloc);
+    for finding in findings.as_slice() {
+        let place = finding.place;
+        let letter = char::from(finding.rule.letter);
+        let number = finding.rule.number;
+        write!(
+            shown,
+            "{}:{}:{} {letter}{number} ",
+            place.file, place.line, place.column
+        )?;
+    }
+    Ok(shown)
+}
+
+/// What a text breaks, as `show` has it; nothing where it has a script.
+pub fn broken(alloc: Global, schema: &Schema, top: &str, text: &[u8]) -> Result<String, Fail>
+    requires { IsSound schema.now }
+{
+    match read(alloc, schema, top, text)? {
+        Ok(_) => Ok(String::new(alloc)),
+        Err(ScriptFault::Broken(findings)) => {
+            if findings.is_empty() {
+                return Err("a report of nothing".into());
+            }
+            show(alloc, &findings)
+        }
+        Err(ScriptFault::NoMemory) => Err("no memory".into()),
+    }
+}
