@@ -1,6 +1,9 @@
+pub mod Asked
 pub mod Blocks
 pub mod Broken
+pub mod Building
 pub mod Faults
+pub mod Knowing
 pub mod Mentions
 pub mod Messages
 pub mod Plain

@@ -3,17 +3,21 @@
 #![tactic(auto)]
 
 mod action;
+mod building;
 mod fits;
+mod lines;
+mod mentions;
 mod messages;
+mod read;
+mod report;
+mod rules;
 mod script;
 mod shapes;
 mod term;
 mod typed;
 
 pub use action::{Action, Actions, Block, Blocks};
-pub use fits::each_fits;
-pub use messages::{message_named, receives, replies, resolves, sends};
+pub use read::read_script;
 pub use script::{Point, Script, ScriptFault};
 pub use script_reader::Who;
 pub use term::{Term, Terms};
-pub use typed::terms_of;

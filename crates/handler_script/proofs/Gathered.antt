@@ -1,0 +1,46 @@
+-- How the findings of a line are gathered.
+use Rattle.std.proofs.Common.{◌≡◌, true, false, Bool, List, [], ◌∷◌, ◌++◌, ◌⊎◌, inl, inr, refl, sym, subst, ◌∙◌}
+use Rattle.std.specs.Prelude.{◌↔◌, IsTrue}
+use Rattle.std.proofs.lemmas.Bool.{true≢false}
+use Rattle.ipdl_base.specs.declared.finding.Finding.{Finding}
+use Rattle.ipdl_base.specs.declared.finding.Place.{Place}
+use Rattle.ipdl_base.specs.declared.finding.Rule.{Rule}
+use Rattle.findings.specs.Gains.{Gains}
+use Rattle.findings.proofs.Gathers.{Gains-none, Gains-like, Gains-push, Gains-then}
+
+-- a finding where the test passes
+pub gains_found : (rule : Rule) (place : Place) (b : Bool) (old new : List Finding) → b ≡ true → new ≡ old ++ record { place = place; rule = rule } ∷ [] → Gains (λ f. (place ≡ f.place) × ((f.rule ≡ rule) × IsTrue b)) old new
+gains_found rule place b old new is e =
+    Gains-like (λ f. (f.rule ≡ rule) × (place ≡ f.place)) (λ f. (place ≡ f.place) × ((f.rule ≡ rule) × IsTrue b)) old new (Gains-push rule place old new e) (λ f h. (h.1, (h.0, is))) (λ f h. (h.1.0, h.0))
+
+-- and none where it does not
+pub gains_quiet : (rule : Rule) (place : Place) (b : Bool) (old new : List Finding) → b ≡ false → new ≡ old → Gains (λ f. (place ≡ f.place) × ((f.rule ≡ rule) × IsTrue b)) old new
+gains_quiet rule place b old new is e = Gains-none (λ f. (place ≡ f.place) × ((f.rule ≡ rule) × IsTrue b)) old new (λ f h. true≢false (sym h.1.1 ∙ is)) e
+
+-- a test says that a rule is broken
+pub gains_if : (rule : Rule) (place : Place) (b : Bool) (P : Type 0) (old new : List Finding) → Gains (λ f. (place ≡ f.place) × ((f.rule ≡ rule) × IsTrue b)) old new → IsTrue b ↔ P → Gains (λ f. (place ≡ f.place) × ((f.rule ≡ rule) × P)) old new
+gains_if rule place b P old new gains iff =
+    Gains-like (λ f. (place ≡ f.place) × ((f.rule ≡ rule) × IsTrue b)) (λ f. (place ≡ f.place) × ((f.rule ≡ rule) × P)) old new gains
+    (λ f h. (h.0, (h.1.0, iff.0 h.1.1))) (λ f h. (h.0, (h.1.0, iff.1 h.1.1)))
+
+-- one rule's findings and those of others
+pub gains_or : (place : Place) (A B : Finding → Type 0) (a b c : List Finding) → Gains (λ f. (place ≡ f.place) × A f) a b → Gains (λ f. (place ≡ f.place) × B f) b c → Gains (λ f. (place ≡ f.place) × (A f ⊎ B f)) a c
+gains_or place A B a b c one two =
+    Gains-like (λ f. ((place ≡ f.place) × A f) ⊎ ((place ≡ f.place) × B f)) (λ f. (place ≡ f.place) × (A f ⊎ B f)) a c
+    (Gains-then (λ f. (place ≡ f.place) × A f) (λ f. (place ≡ f.place) × B f) a b c one two)
+    (λ f h. elim h [ inl x ↦ (x.0, inl x.1) | inr x ↦ (x.0, inr x.1) ])
+    (λ f h. elim h.1 [ inl x ↦ inl (h.0, x) | inr x ↦ inr (h.0, x) ])
+
+-- where a message is not there that alone is found
+pub gains_absent : (place : Place) (A K : Finding → Type 0) (N : Type 0) (a b : List Finding) → Gains (λ f. (place ≡ f.place) × (A f × N)) a b → N → Gains (λ f. (place ≡ f.place) × ((A f × N) ⊎ ((¬ N) × K f))) a b
+gains_absent place A K N a b gains is =
+    Gains-like (λ f. (place ≡ f.place) × (A f × N)) (λ f. (place ≡ f.place) × ((A f × N) ⊎ ((¬ N) × K f))) a b gains
+    (λ f h. (h.0, inl h.1))
+    (λ f h. elim h.1 [ inl x ↦ (h.0, x) | inr x ↦ absurd (x.0 is) ])
+
+-- and where it is there the others are
+pub gains_known : (place : Place) (A K : Finding → Type 0) (N : Type 0) (a b : List Finding) → Gains (λ f. (place ≡ f.place) × K f) a b → ¬ N → Gains (λ f. (place ≡ f.place) × ((A f × N) ⊎ ((¬ N) × K f))) a b
+gains_known place A K N a b gains none =
+    Gains-like (λ f. (place ≡ f.place) × K f) (λ f. (place ≡ f.place) × ((A f × N) ⊎ ((¬ N) × K f))) a b gains
+    (λ f h. (h.0, inr (none, h.1)))
+    (λ f h. elim h.1 [ inl x ↦ absurd (none x.1) | inr x ↦ (h.0, x.1) ])

@@ -1,0 +1,146 @@
+ghost use Rattle.std.specs.Prelude.{◌≡◌, option_map};
+ghost use Rattle.handler_script.specs.Blocks as blocks;
+
+use ipdl_base::Side;
+use script_reader::{LineReading, Statement};
+
+/// What is known behind lines.
+#[derive(Clone, Copy)]
+pub struct Reached<'a> {
+    /// The statement that opened the block which is open.
+    pub opened: Option<&'a Statement>,
+    /// Whether a line of that block answers the handled message, or keeps its resolver.
+    pub answered: bool,
+    /// Whether a main of the parent stood among them.
+    pub parent: bool,
+    /// Whether a main of the child did.
+    pub child: bool,
+}
+
+/// The statement of a line, if it is one.
+pub fn said(line: &LineReading) -> Option<&Statement>
+    ensures { option_map (λ s. s.now) result ≡ blocks.said line.now }
+{
+    match line {
+        LineReading::Statement(statement) => Some(statement),
+        _ => None,
+    }
+}
+
+/// Whether a statement opens a block.
+pub fn opens(statement: &Statement) -> bool
+    ensures { result ≡ blocks.opens statement.now }
+{
+    match statement {
+        Statement::Main(_) | Statement::On(_, _) => true,
+        _ => false,
+    }
+}
+
+/// Whether a statement closes the block that it stands in.
+pub fn closes(statement: &Statement) -> bool
+    ensures { result ≡ blocks.closes statement.now }
+{
+    match statement {
+        Statement::Main(_) | Statement::On(_, _) | Statement::End => true,
+        _ => false,
+    }
+}
+
+/// Whether a statement answers the handled message, or keeps its resolver.
+pub fn answers(statement: &Statement) -> bool
+    ensures { result ≡ blocks.answers statement.now }
+{
+    match statement {
+        Statement::Resolve(_) | Statement::Reject | Statement::Keep(_) => true,
+        _ => false,
+    }
+}
+
+/// Whether another action, or another `return`, of the same block follows in these lines.
+pub fn is_followed(lines: &[LineReading]) -> bool
+    ensures { result ≡ blocks.is_followed lines.now }
+{
+    for line in lines {
+        if let LineReading::Statement(statement) = line {
+            return !closes(statement);
+        }
+    }
+    false
+}
+
+/// Whether a line closes a block.
+fn closes_line(line: &LineReading) -> bool
+    ensures { result ≡ blocks.closes_line line.now }
+{
+    match line {
+        LineReading::Statement(statement) => closes(statement),
+        _ => false,
+    }
+}
+
+/// Whether a block that is open before these lines is closed in them.
+pub fn is_closed(lines: &[LineReading]) -> bool
+    ensures { result ≡ blocks.is_closed lines.now }
+{
+    lines.iter().any(|line| closes_line(line))
+}
+
+impl<'a> Reached<'a> {
+    ghost use Rattle.std.specs.Prelude.{List, [], ◌∷◌, ◌++◌};
+    ghost use Rattle.script_reader.specs.declared.line.LineReading.{LineReading as LineReadingType};
+    ghost use Rattle.handler_script.specs.Knowing.{Knows};
+
+    /// What is known behind no line.
+    pub fn new() -> Reached<'a>
+        ensures { Knows [] result }
+    {
+        Reached {
+            opened: None,
+            answered: false,
+            parent: false,
+            child: false,
+        }
+    }
+
+    /// What is known behind one more line.
+    pub fn behind(self, line: &'a LineReading) -> Reached<'a>
+        ensures { (before : List LineReadingType) → Knows before self.entry → Knows (before ++ line.now ∷ []) result }
+    {
+        let LineReading::Statement(statement) = line else {
+            return self;
+        };
+        match &**statement {
+            Statement::Main(Side::Parent) => Reached {
+                opened: Some(statement),
+                answered: false,
+                parent: true,
+                child: self.child,
+            },
+            Statement::Main(Side::Child) => Reached {
+                opened: Some(statement),
+                answered: false,
+                parent: self.parent,
+                child: true,
+            },
+            Statement::On(_, _) => Reached {
+                opened: Some(statement),
+                answered: false,
+                parent: self.parent,
+                child: self.child,
+            },
+            Statement::End => Reached {
+                opened: None,
+                answered: false,
+                parent: self.parent,
+                child: self.child,
+            },
+            _ => Reached {
+                opened: self.opened,
+                answered: self.answered || answers(statement),
+                parent: self.parent,
+                child: self.child,
+            },
+        }
+    }
+}

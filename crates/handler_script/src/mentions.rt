@@ -1,0 +1,117 @@
+ghost use Rattle.std.specs.Prelude.{◌≡◌, option_map};
+ghost use Rattle.handler_script.specs.Asked.{test_of};
+ghost use Rattle.handler_script.specs.Mentions as mentions;
+
+use crate::fits::param_at;
+use ipdl_base::ParamRow;
+use script_reader::{Atom, MessageName, Statement, Who, Written, WrittenValues};
+
+/// What is asked of those whom values speak of.
+#[derive(Clone, Copy)]
+pub enum Asked<'a> {
+    /// Whether it is a parameter that is not among these.
+    Absent(&'a [ParamRow]),
+    /// Whether it is of the handled message.
+    OfHandler,
+    /// Whether it is the actor that a constructor built.
+    Made,
+}
+
+/// Whether this is so of one.
+fn passes(asked: Asked<'_>, who: &Who) -> bool
+    ensures { result ≡ test_of asked.entry who.now }
+{
+    match asked {
+        Asked::Absent(given) => match who {
+            Who::Param(n) => param_at(given, *n).is_none(),
+            _ => false,
+        },
+        Asked::OfHandler => match who {
+            Who::This | Who::Param(_) => true,
+            _ => false,
+        },
+        Asked::Made => match who {
+            Who::Made => true,
+            _ => false,
+        },
+    }
+}
+
+/// Whether it is so of one whom a value speaks of.
+#[cycle(mentions)]
+fn value_mentions(value: &Written, asked: Asked<'_>) -> bool
+    ensures { result ≡ mentions.mentions (test_of asked.entry) value.now }
+{
+    match value {
+        Written::Atom(Atom::Who(who)) => passes(asked, who),
+        Written::Atom(_) => false,
+        Written::Struct(values) => any_mentions(values, asked),
+        Written::Array(values) => any_mentions(values, asked),
+        Written::Union(_, held) => value_mentions(held, asked),
+        Written::Held(held) => value_mentions(held, asked),
+    }
+}
+
+/// Whether it is so of one whom values speak of.
+#[cycle(mentions)]
+pub fn any_mentions(values: &WrittenValues, asked: Asked<'_>) -> bool
+    ensures { result ≡ mentions.any_mentions (test_of asked.entry) values.now }
+{
+    match values {
+        WrittenValues::Nothing => false,
+        WrittenValues::First(value, rest) => {
+            value_mentions(value, asked) || any_mentions(rest, asked)
+        }
+    }
+}
+
+/// The values of a statement.
+pub fn values_of(statement: &Statement) -> Option<&WrittenValues>
+    ensures { option_map (λ vs. vs.now) result ≡ mentions.values_of statement.now }
+{
+    match statement {
+        Statement::Send(_, call)
+        | Statement::New(_, _, call)
+        | Statement::ResolveKept(_, call) => Some(&call.values),
+        Statement::Resolve(values) | Statement::Return(values) => Some(values),
+        _ => None,
+    }
+}
+
+/// To whom a statement goes, or whom it names.
+pub fn who_of(statement: &Statement) -> Option<&Who>
+    ensures { option_map (λ w. w.now) result ≡ mentions.who_of statement.now }
+{
+    match statement {
+        Statement::Send(who, _) | Statement::New(_, who, _) | Statement::Let(_, who) => Some(who),
+        _ => None,
+    }
+}
+
+/// The message that a statement names.
+pub fn message_of(statement: &Statement) -> Option<&MessageName>
+    ensures { option_map (λ m. m.now) result ≡ mentions.message_of statement.now }
+{
+    match statement {
+        Statement::On(_, message) | Statement::RejectKept(_, message) => Some(message),
+        Statement::Send(_, call)
+        | Statement::New(_, _, call)
+        | Statement::ResolveKept(_, call) => Some(&call.message),
+        _ => None,
+    }
+}
+
+/// Whether it is so of one whom a statement speaks of.
+pub fn speaks_of(statement: &Statement, asked: Asked<'_>) -> bool
+    ensures { result ≡ mentions.speaks_of (test_of asked.entry) statement.now }
+{
+    let who = match who_of(statement) {
+        Some(who) => passes(asked, who),
+        None => false,
+    };
+    let values = match values_of(statement) {
+        Some(values) => any_mentions(values, asked),
+        None => false,
+    };
+    who || values
+}

@@ -1,0 +1,41 @@
+ghost use Rattle.std.specs.Prelude.{◌≡◌, ◌<◌, ◌≤◌, length, IfOk, IfErr};
+ghost use Rattle.ipdl_base.specs.Sound.{IsSound};
+ghost use Rattle.handler_script.specs.Faults.{IsFault};
+ghost use Rattle.handler_script.specs.ScriptOf.{IsScriptOf};
+
+use crate::building::blocks_of;
+use crate::report::report_of;
+use crate::script::{Script, ScriptFault};
+use ipdl_base::Schema;
+use script_reader::read_lines;
+use std::alloc::Global;
+
+/// The script of a text, for a schema and the number of its top protocol (docs/scripts.md). `Broken`
+/// gives the rules that the text breaks, in order, where it breaks any. Takes time in proportion to
+/// the text, but for the sort of the findings.
+pub fn read_script(
+    alloc: Global,
+    text: &[u8],
+    schema: &Schema,
+    top: u32,
+) -> Result<Script, ScriptFault>
+    requires small { length text.now ≤ 1048576 }
+    requires sound { IsSound schema.now }
+    requires protocol { top < length schema.now.protocols }
+    ensures script { IfOk result (IsScriptOf text.now schema.now top) }
+    ensures fault { IfErr result (IsFault text.now schema.now top) }
+{
+    let Ok(readings) = read_lines(alloc, text) else {
+        return Err(ScriptFault::NoMemory);
+    };
+    let Ok(findings) = report_of(alloc, schema, top, readings.as_slice()) else {
+        return Err(ScriptFault::NoMemory);
+    };
+    if !findings.as_slice().is_empty() {
+        return Err(ScriptFault::Broken(findings));
+    }
+    match blocks_of(alloc, schema, readings.as_slice()) {
+        Ok(blocks) => Ok(Script { top, blocks }),
+        Err(_) => Err(ScriptFault::NoMemory),
+    }
+}
