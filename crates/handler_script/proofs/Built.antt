@@ -1,5 +1,5 @@
 -- How a script is built from lines.
-use Rattle.std.proofs.Common.{◌≡◌, ℕ, ◌+◌, ◌<◌, true, false, List, [], ◌∷◌, ◌++◌, length, take, drop, get_or, Option, Some, None, refl, sym, ap, ◌∙◌, append_assoc}
+use Rattle.std.proofs.Common.{◌≡◌, ℕ, ◌+◌, ◌<◌, true, false, not, List, [], ◌∷◌, ◌++◌, length, take, drop, get_or, Option, Some, None, refl, sym, ap, ◌∙◌, append_assoc}
 use Rattle.std.specs.List.{filter_map, cons_option}
 use Rattle.std.proofs.lemmas.List.{drop_more}
 use Rattle.ipdl_base.specs.declared.schema.Schema.{Schema}
@@ -7,7 +7,7 @@ use Rattle.script_reader.specs.declared.line.LineReading.{LineReading}
 use Rattle.script_reader.specs.declared.line.LineReading.TheVariants as line
 use Rattle.script_reader.specs.declared.statement.Statement.{Statement}
 use Rattle.handler_script.specs.declared.action.Block.{Block}
-use Rattle.handler_script.specs.Blocks.{closes, said}
+use Rattle.handler_script.specs.Blocks.{closes, said, is_followed}
 use Rattle.handler_script.specs.Building.{listed, blocks_of_line}
 use Rattle.handler_script.specs.ScriptOf.{inside, blocks_at, blocks_of}
 
@@ -21,7 +21,7 @@ inside_none line.TooLong rest e = refl
 
 pub inside_some : (x : LineReading) (rest : List LineReading) (s : Statement) → said x ≡ Some s → closes s ≡ false → inside (x ∷ rest) ≡ s ∷ inside rest
 inside_some line.Silent rest s e f = cc
-inside_some (line.Statement held) rest s e f = let same : held.value ≡ s = cc in let open : closes held.value ≡ false = ap closes same ∙ f in rw open (ap (λ t. t ∷ inside rest) same)
+inside_some (line.Statement held) rest s e f = let same : held.value ≡ s = cc in let stays : closes held.value ≡ false = ap closes same ∙ f in rw stays (ap (λ t. t ∷ inside rest) same)
 inside_some line.NoStatement rest s e f = cc
 inside_some line.TooLong rest s e f = cc
 
@@ -30,6 +30,24 @@ inside_end line.Silent rest s e f = cc
 inside_end (line.Statement held) rest s e f = let same : held.value ≡ s = cc in let shut : closes held.value ≡ true = ap closes same ∙ f in rw shut refl
 inside_end line.NoStatement rest s e f = cc
 inside_end line.TooLong rest s e f = cc
+
+-- what is left at an index is the line there and those behind it
+pub drop_item : {X : Type 0} (xs : List X) (i : ℕ) (x : X) → i < length xs → x ≡ get_or xs i x → drop i xs ≡ x ∷ drop (i + 1) xs
+drop_item xs i x lt is = drop_more xs i x lt ∙ ap (λ y. y ∷ drop (i + 1) xs) (sym is)
+
+-- whether another action follows behind one more line
+
+pub followed_none : (x : LineReading) (rest : List LineReading) → said x ≡ None → is_followed (x ∷ rest) ≡ is_followed rest
+followed_none line.Silent rest e = refl
+followed_none (line.Statement held) rest e = cc
+followed_none line.NoStatement rest e = refl
+followed_none line.TooLong rest e = refl
+
+pub followed_some : (x : LineReading) (rest : List LineReading) (s : Statement) → said x ≡ Some s → is_followed (x ∷ rest) ≡ not (closes s)
+followed_some line.Silent rest s e = cc
+followed_some (line.Statement held) rest s e = let same : held.value ≡ s = cc in ap (λ t. not (closes t)) same
+followed_some line.NoStatement rest s e = cc
+followed_some line.TooLong rest s e = cc
 
 -- What a statement adds
 

@@ -44,3 +44,8 @@ gains_known place A K N a b gains none =
     Gains-like (λ f. (place ≡ f.place) × K f) (λ f. (place ≡ f.place) × ((A f × N) ⊎ ((¬ N) × K f))) a b gains
     (λ f h. (h.0, inr (none, h.1)))
     (λ f h. elim h.1 [ inl x ↦ absurd (none x.1) | inr x ↦ (h.0, x.1) ])
+
+-- a finding for certain
+pub gains_plain : (rule : Rule) (place : Place) (old new : List Finding) → Gains (λ f. (place ≡ f.place) × ((f.rule ≡ rule) × IsTrue true)) old new → Gains (λ f. (place ≡ f.place) × (f.rule ≡ rule)) old new
+gains_plain rule place old new gains =
+    Gains-like (λ f. (place ≡ f.place) × ((f.rule ≡ rule) × IsTrue true)) (λ f. (place ≡ f.place) × (f.rule ≡ rule)) old new gains (λ f h. (h.0, h.1.0)) (λ f h. (h.0, (h.1, refl)))

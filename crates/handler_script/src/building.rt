@@ -7,7 +7,7 @@ ghost use Rattle.handler_script.specs.Plain.{plain_terms, plain_action, plain_bl
 ghost use Rattle.handler_script.specs.ScriptOf as script_of;
 
 use crate::action::{Action, Actions, Block, Blocks};
-use crate::lines::{closes, said};
+use crate::lines::{closes, lines_behind, said};
 use crate::messages::message_named;
 use crate::rules::{Context, context_of, handled_in, side_of, types_of};
 use crate::term::Terms;
@@ -217,7 +217,8 @@ pub fn blocks_of(
 {
     let mut blocks = Vec::new(alloc);
     for (i, line) in readings.iter().enumerate() {
-        add_block(alloc, schema, line, &readings[i + 1..], &mut blocks)?;
+        let rest = lines_behind(readings, i);
+        add_block(alloc, schema, line, rest, &mut blocks)?;
     }
     Ok(Items::from_vec(blocks))
 }

@@ -1,4 +1,4 @@
-ghost use Rattle.std.specs.Prelude.{◌≡◌, option_map};
+ghost use Rattle.std.specs.Prelude.{◌≡◌, ◌+◌, ◌<◌, length, drop, option_map};
 ghost use Rattle.handler_script.specs.Blocks as blocks;
 
 use ipdl_base::Side;
@@ -25,6 +25,14 @@ pub fn said(line: &LineReading) -> Option<&Statement>
         LineReading::Statement(statement) => Some(statement),
         _ => None,
     }
+}
+
+/// The lines behind the one of this index.
+pub fn lines_behind(lines: &[LineReading], index: usize) -> &[LineReading]
+    requires { index < length lines.now }
+    ensures { result.now ≡ drop (index + 1) lines.now }
+{
+    &lines[index + 1..]
 }
 
 /// Whether a statement opens a block.
@@ -62,7 +70,7 @@ pub fn is_followed(lines: &[LineReading]) -> bool
     ensures { result ≡ blocks.is_followed lines.now }
 {
     for line in lines {
-        if let LineReading::Statement(statement) = line {
+        if let Some(statement) = said(line) {
             return !closes(statement);
         }
     }
@@ -89,17 +97,17 @@ pub fn is_closed(lines: &[LineReading]) -> bool
 impl<'a> Reached<'a> {
     ghost use Rattle.std.specs.Prelude.{List, [], ◌∷◌, ◌++◌};
     ghost use Rattle.script_reader.specs.declared.line.LineReading.{LineReading as LineReadingType};
+    ghost use Rattle.std.specs.List.{list_any};
+    ghost use Rattle.handler_script.specs.Broken.{is_main_line};
     ghost use Rattle.handler_script.specs.Knowing.{Knows};
 
-    /// What is known behind no line.
-    pub fn new() -> Reached<'a>
-        ensures { Knows [] result }
+    /// Whether a main of the side stood among the lines.
+    pub fn has_main(self, side: Side) -> bool
+        ensures { (before : List LineReadingType) → Knows before self.entry → result ≡ list_any (is_main_line side) before }
     {
-        Reached {
-            opened: None,
-            answered: false,
-            parent: false,
-            child: false,
+        match side {
+            Side::Parent => self.parent,
+            Side::Child => self.child,
         }
     }
 

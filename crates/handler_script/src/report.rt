@@ -8,7 +8,7 @@ ghost use Rattle.handler_script.specs.Blocks.{standing_behind};
 ghost use Rattle.handler_script.specs.Broken as broken;
 ghost use Rattle.handler_script.specs.Knowing.{Knows, standing_in};
 
-use crate::lines::Reached;
+use crate::lines::{Reached, lines_behind};
 use crate::rules::{
     Context, breaks_allowed, breaks_blocks, breaks_carried, breaks_direction, breaks_values,
     context_of, names_none,
@@ -135,11 +135,25 @@ fn add_lines(
     requires { length readings.now < 2 ^ 32 }
     ensures { OnOk result (Gains (broken.IsBrokenByLine schema.now readings.now) found.old.items found.new.items) }
 {
-    let mut reached = Reached::new();
+    let mut opened = None;
+    let mut answered = false;
+    let mut parent = false;
+    let mut child = false;
     for (i, reading) in readings.iter().enumerate() {
+        let reached = Reached {
+            opened,
+            answered,
+            parent,
+            child,
+        };
         let place = line_place(i as u32 + 1);
-        add_line(schema, reached, reading, &readings[i + 1..], place, found)?;
-        reached = reached.behind(reading);
+        let after = lines_behind(readings, i);
+        add_line(schema, reached, reading, after, place, found)?;
+        let behind = reached.behind(reading);
+        opened = behind.opened;
+        answered = behind.answered;
+        parent = behind.parent;
+        child = behind.child;
     }
     Ok(())
 }

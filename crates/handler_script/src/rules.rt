@@ -326,8 +326,7 @@ fn is_second_main(reached: Reached<'_>, statement: &Statement) -> bool
     ensures { (before : List LineReadingType) → Knows before reached.entry → IsTrue result ↔ broken.IsSecondMain before statement.now }
 {
     match statement {
-        Statement::Main(Side::Parent) => reached.parent,
-        Statement::Main(Side::Child) => reached.child,
+        Statement::Main(side) => reached.has_main(*side),
         _ => false,
     }
 }

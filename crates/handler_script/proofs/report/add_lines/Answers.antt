@@ -1,0 +1,30 @@
+use Rattle.std.proofs.Common.{◌≡◌, ◌+◌, List, [], ◌∷◌, ◌++◌, take, drop, sym, ap, ◌∙◌, subst}
+use Rattle.std.proofs.lemmas.List.{take_all, take_more}
+use Rattle.ipdl_base.specs.declared.finding.Finding.{Finding}
+use Rattle.ipdl_base.specs.declared.finding.Place.{Place}
+use Rattle.findings.specs.Gains.{Gains}
+use Rattle.findings.proofs.Gathers.{Gains-at_more}
+use Rattle.script_reader.specs.declared.line.LineReading.{LineReading}
+use Rattle.handler_script.specs.Broken.{line_place, LineBreaks, IsBrokenAt}
+use Rattle.handler_script.specs.Knowing.{Knows}
+use Rattle.handler_script.proofs.report.add_lines.Goals as goal
+
+pub loop-i-preserved : goal.loop-i-preserved
+loop-i-preserved c =
+    let schema = c.args.schema.now in
+    let readings = c.args.readings.now in
+    let i = c.loop-i.i in
+    let x = c.index-readings-i.result in
+    let P : List LineReading → Type 0 = λ ls. Knows ls c.behind-behind.result in
+    let QP : Place → Type 0 = λ p. Gains (λ f. (p ≡ f.place) × LineBreaks schema f.rule (take i readings) x (drop (i + 1) readings)) c.loop-i.found.items c.add_line.new.found.items in
+    let QX : LineReading → Type 0 = λ y. Gains (λ f. (line_place (i + 1) ≡ f.place) × LineBreaks schema f.rule (take i readings) y (drop (i + 1) readings)) c.loop-i.found.items c.add_line.new.found.items in
+    let QA : List LineReading → Type 0 = λ ls. Gains (λ f. (c.line_place-place.result ≡ f.place) × LineBreaks schema f.rule (take i readings) x ls) c.loop-i.found.items c.add_line.new.found.items in
+    let split : take (i + 1) readings ≡ take i readings ++ x ∷ [] = take_more readings i x c.loop-i-test.true ∙ ap (λ y. take i readings ++ y ∷ []) (sym c.index-readings-i.is) in
+    record {
+      knows = subst P (sym split) (c.behind-behind.ensures (take i readings) c.loop-i.invariant.knows);
+      gains = Gains-at_more (λ (f : Finding). IsBrokenAt schema readings f) readings i x _ _ _ c.loop-i-test.true c.loop-i.invariant.gains
+          (subst QX c.index-readings-i.is (subst QP c.line_place-place.ensures (subst QA c.lines_behind-after.ensures (c.in_ok-add_line.ensures (take i readings) c.loop-i.invariant.knows))));
+    }
+
+pub returns : goal.returns
+returns c = rw (take_all c.loop-i.i c.args.readings.now c.loop-i-test.false) at c.loop-i.invariant.gains

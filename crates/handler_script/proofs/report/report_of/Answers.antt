@@ -1,0 +1,5 @@
+use Rattle.findings.proofs.Reports.{report_of}
+use Rattle.handler_script.proofs.report.report_of.Goals as goal
+
+pub returns : goal.returns
+returns c = report_of c.in_ok-found.found.items c.sorted.result c.in_ok-found.ensures c.sorted.ensures
