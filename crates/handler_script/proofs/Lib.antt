@@ -1,7 +1,3 @@
 pub mod Built
 pub mod Gathered
-pub mod Names
-pub mod SameTypes
-pub mod TermFit
-pub mod Valid
-pub mod ValidBlocks
+pub mod Whole

@@ -70,9 +70,8 @@ pub fn values_of(statement: &Statement) -> Option<&WrittenValues>
     ensures { option_map (λ vs. vs.now) result ≡ mentions.values_of statement.now }
 {
     match statement {
-        Statement::Send(_, call)
-        | Statement::New(_, _, call)
-        | Statement::ResolveKept(_, call) => Some(&call.values),
+        Statement::Send(_, call) | Statement::New(_, _, call) | Statement::ResolveKept(_, call) =>
+            Some(&call.values),
         Statement::Resolve(values) | Statement::Return(values) => Some(values),
         _ => None,
     }
@@ -94,9 +93,8 @@ pub fn message_of(statement: &Statement) -> Option<&MessageName>
 {
     match statement {
         Statement::On(_, message) | Statement::RejectKept(_, message) => Some(message),
-        Statement::Send(_, call)
-        | Statement::New(_, _, call)
-        | Statement::ResolveKept(_, call) => Some(&call.message),
+        Statement::Send(_, call) | Statement::New(_, _, call) | Statement::ResolveKept(_, call) =>
+            Some(&call.message),
         _ => None,
     }
 }

@@ -42,7 +42,9 @@ fn script(alloc: Global, schema: &Schema) -> Result<Script, Fail>
 
 /// The numbers of the messages that the script handles.
 const GET: u32 = 65_544;
+
 const ASK: u32 = 65_540;
+
 const DOWN: u32 = 65_552;
 
 /// What the main does, one action after another.
@@ -141,7 +143,10 @@ fn blocks_and_replies(rt: HostRuntime) -> Result<(), Fail> {
         return Err("a reply is missing".into());
     };
     let shown = format!(in alloc; "{reply:?}")?;
-    assert_eq!(rt; shown.as_str(), "First(Int(5), First(Text([120]), Nothing))");
+    assert_eq!(rt;
+        shown.as_str(),
+        "First(Int(5), First(Text([120]), Nothing))"
+    );
     assert!(rt; script.reply(Side::Parent, GET, 1).is_none());
     assert!(rt; script.reply(Side::Child, GET, 0).is_none());
     assert!(rt; script.reply(Side::Parent, ASK, 0).is_none());

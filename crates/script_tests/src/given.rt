@@ -154,12 +154,7 @@ fn show(alloc: Global, findings: &Findings) -> Result<String, Fail> {
 }
 
 /// The findings of a text, each as `LINE:COLUMN RULE` and a blank.
-pub fn findings_of(
-    alloc: Global,
-    text: &[u8],
-    schema: &Schema,
-    top: &str,
-) -> Result<String, Fail>
+pub fn findings_of(alloc: Global, text: &[u8], schema: &Schema, top: &str) -> Result<String, Fail>
     requires { IsSound schema.now }
 {
     match read(alloc, text, schema, top)? {

@@ -46,10 +46,7 @@ const ROWS: &[Row] = &[
         "1:1 K9 2:1 K2 ",
     ),
     (&[("parent main", 1), (" ", 16_373), ("\nend", 1)], ""),
-    (
-        &[("parent main\nend", 1), (" ", 16_382)],
-        "1:1 K2 2:1 K9 ",
-    ),
+    (&[("parent main\nend", 1), (" ", 16_382)], "1:1 K2 2:1 K9 "),
     (
         &[
             ("parent on PT.Get\nreturn (1, \"\")\nclose", 1),
@@ -58,7 +55,10 @@ const ROWS: &[Row] = &[
         ],
         "3:1 K9 ",
     ),
-    (&[("parent main\n", 1), ("[", 16_384), ("\nend", 1)], "2:1 K1 "),
+    (
+        &[("parent main\n", 1), ("[", 16_384), ("\nend", 1)],
+        "2:1 K1 ",
+    ),
     (
         &[
             ("parent main\nsend top PT.Down(", 1),

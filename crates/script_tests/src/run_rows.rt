@@ -1,6 +1,7 @@
 /// The scripts of worked runs, with their findings: what each is for, the findings as `LINE:COLUMN RULE`,
 /// and the files, of which the first has the top protocol and the last is the script.
-pub const RUNS: &str = "audit-cut, audit-deferred-take, audit-empty, audit-legal, audit-wrong-value, both-call-at-once, limit-spent
+pub const RUNS: &str =
+    "audit-cut, audit-deferred-take, audit-empty, audit-legal, audit-wrong-value, both-call-at-once, limit-spent
 
 @ PW.ipdl
 [NestedUpTo=inside_cpow]

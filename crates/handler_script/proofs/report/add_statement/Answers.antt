@@ -35,7 +35,7 @@ returns c before k =
     let U : Finding → Type 0 = λ f. f.rule ≡ rule.UNKNOWN_MESSAGE in
     let K : Finding → Type 0 = λ f. KnownBreaks schema f.rule (answered_behind before) (standing_behind schema before) s after in
     let P : Bool → Type 0 =
-        λ a. Gains (λ f. (place ≡ f.place) × KnownBreaks schema f.rule a (option_map standing_in c.context_behind-context.result) s after) c.add_if.new.found.items c.add_known.new.found.items
+    λ a. Gains (λ f. (place ≡ f.place) × KnownBreaks schema f.rule a (option_map standing_in c.context_behind-context.result) s after) c.add_if.new.found.items c.add_known.new.found.items
     in
     let Q : Option Standing → Type 0 = λ o. Gains (λ f. (place ≡ f.place) × KnownBreaks schema f.rule (answered_behind before) o s after) c.add_if.new.found.items c.add_known.new.found.items in
     gains_or place B (λ f. (U f × N) ⊎ ((¬ N) × K f)) _ _ _ (gains_if rule.BLOCK_STRUCTURE place _ (BreaksBlocks before s after) _ _ c.in_ok-add_if.ensures (c.breaks_blocks-blocks.ensures before k))

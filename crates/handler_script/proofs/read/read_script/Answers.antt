@@ -1,0 +1,25 @@
+use Rattle.std.proofs.Common.{◌≡◌, ℕ, ◌+◌, ◌≤◌, List, length, sym, ap, ◌∙◌, subst, arith}
+use Rattle.std.proofs.lemmas.Bool.Decides.{Decides-eqb}
+use Rattle.findings.specs.Report as report
+use Rattle.script_reader.specs.declared.line.LineReading.{LineReading}
+use Rattle.handler_script.specs.Broken.{IsBroken}
+use Rattle.handler_script.specs.ScriptOf.{blocks_of}
+use Rattle.handler_script.proofs.Whole.{few_lines, none_broken, script_is}
+use Rattle.handler_script.proofs.read.read_script.Goals as goal
+
+pub report_of-requires : goal.report_of-requires
+report_of-requires c =
+    let few : length c.in-Ok.readings ≤ length c.args.text.now + 1 = few_lines c.args.text.now c.in-Ok.readings c.in-Ok.ensures in
+    let same : length c.as_slice.result.now ≡ length c.in-Ok.readings = ap length c.as_slice.ensures in
+    omega (arith, few, same, c.requires.small)
+
+pub returns-in-Ok-blocks_of-clause-script : goal.returns-in-Ok-blocks_of-clause-script
+returns-in-Ok-blocks_of-clause-script c =
+    let R : List LineReading → Type 0 = λ rs. report.IsReport (IsBroken c.args.schema.now c.args.top rs) c.in-Ok-report_of.findings in
+    let zero : length c.as_slice-2.result.now ≡ 0 = (Decides-eqb (length c.as_slice-2.result.now) 0).0 (sym c.is_empty.ensures ∙ c.if-not-is_empty.false) in
+    record {
+      readings = c.in-Ok.readings;
+      is_reading = c.in-Ok.ensures;
+      kept = none_broken c.in-Ok-report_of.findings (subst R c.as_slice.ensures c.in-Ok-report_of.ensures) (sym (ap length c.as_slice-2.ensures) ∙ zero);
+      is = script_is c.args.top c.in-Ok-blocks_of.blocks _ (c.in-Ok-blocks_of.ensures ∙ ap (blocks_of c.args.schema.now) c.as_slice-3.ensures);
+    }
