@@ -92,6 +92,38 @@ fn lengths(rt: HostRuntime) -> Result<(), Fail> {
     Ok(())
 }
 
+/// The findings of the parts, one after another.
+fn findings_in(alloc: Global, parts: &[(&str, usize)]) -> Result<String, Fail> {
+    let schema = schema_of(alloc, files_of(alloc, PROTOCOLS)?, "PT.ipdl")?;
+    let text = joined(alloc, parts)?;
+    findings_of(alloc, text.as_slice(), &schema, "PT")
+}
+
+#[test]
+fn deep_and_refused(rt: HostRuntime) -> Result<(), Fail> {
+    let parts = [
+        ("parent main\nsend top PT.Down(", 1),
+        ("[", 8_000),
+        ("]", 8_000),
+        (")\nend", 1),
+    ];
+    assert_eq!(rt; findings_in(rt.alloc(), &parts)?.as_str(), "2:1 K5 ");
+    Ok(())
+}
+
+#[test]
+fn deep_and_fitted(rt: HostRuntime) -> Result<(), Fail> {
+    let parts = [
+        ("parent main\nsend top PT.Grow(", 1),
+        ("@1[", 4_000),
+        ("@0 1", 1),
+        ("]", 4_000),
+        (")\nend", 1),
+    ];
+    assert_eq!(rt; findings_in(rt.alloc(), &parts)?.as_str(), "");
+    Ok(())
+}
+
 #[test]
 fn long_bytes(rt: HostRuntime) -> Result<(), Fail> {
     let alloc = rt.alloc();
