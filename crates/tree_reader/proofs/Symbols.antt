@@ -414,7 +414,3 @@ is_unique_ptr t h = word_of t (codes "UniquePtr") h
 pub is_using : (t : Token) → (t.kind ≡ kind.Reserved) × (t.text ≡ codes "using") → symbol t ≡ Using
 unfolding word_symbol
 is_using t h = word_of t (codes "using") h
-
--- the symbol of a text that is this key
-pub word_symbol-at : (text key : List ℕ) (s : Symbol) → text ≡ key → word_symbol key ≡ s → s ≡ word_symbol text
-word_symbol-at text key s is here = sym (ap word_symbol is ∙ here)

@@ -50,21 +50,21 @@ pub enum Symbol {
 fn mark_symbol(text: &[u8]) -> Symbol
     ensures { result ≡ mark_symbol text.now }
 {
-    match text {
-        b"::" => Symbol::Colons,
-        b"{" => Symbol::OpenBrace,
-        b"}" => Symbol::CloseBrace,
-        b"(" => Symbol::OpenParen,
-        b")" => Symbol::CloseParen,
-        b"[" => Symbol::OpenBracket,
-        b"]" => Symbol::CloseBracket,
-        b"<" => Symbol::Less,
-        b">" => Symbol::Greater,
-        b";" => Symbol::Semicolon,
-        b"," => Symbol::Comma,
-        b":" => Symbol::Colon,
-        b"=" => Symbol::Equals,
-        b"?" => Symbol::Question,
+    match text.first() {
+        Some(b':') if text == b"::".as_slice() => Symbol::Colons,
+        Some(b'{') if text == b"{".as_slice() => Symbol::OpenBrace,
+        Some(b'}') if text == b"}".as_slice() => Symbol::CloseBrace,
+        Some(b'(') if text == b"(".as_slice() => Symbol::OpenParen,
+        Some(b')') if text == b")".as_slice() => Symbol::CloseParen,
+        Some(b'[') if text == b"[".as_slice() => Symbol::OpenBracket,
+        Some(b']') if text == b"]".as_slice() => Symbol::CloseBracket,
+        Some(b'<') if text == b"<".as_slice() => Symbol::Less,
+        Some(b'>') if text == b">".as_slice() => Symbol::Greater,
+        Some(b';') if text == b";".as_slice() => Symbol::Semicolon,
+        Some(b',') if text == b",".as_slice() => Symbol::Comma,
+        Some(b':') if text == b":".as_slice() => Symbol::Colon,
+        Some(b'=') if text == b"=".as_slice() => Symbol::Equals,
+        Some(b'?') if text == b"?".as_slice() => Symbol::Question,
         _ => Symbol::OtherMark,
     }
 }
@@ -73,26 +73,26 @@ fn mark_symbol(text: &[u8]) -> Symbol
 fn word_symbol(text: &[u8]) -> Symbol
     ensures { result ≡ word_symbol text.now }
 {
-    match text {
-        b"async" => Symbol::Async,
-        b"both" => Symbol::Both,
-        b"child" => Symbol::Child,
-        b"class" => Symbol::Class,
-        b"from" => Symbol::From,
-        b"include" => Symbol::Include,
-        b"manager" => Symbol::Manager,
-        b"manages" => Symbol::Manages,
-        b"namespace" => Symbol::Namespace,
-        b"nullable" => Symbol::Nullable,
-        b"or" => Symbol::Or,
-        b"parent" => Symbol::Parent,
-        b"protocol" => Symbol::Protocol,
-        b"returns" => Symbol::Returns,
-        b"struct" => Symbol::Struct,
-        b"sync" => Symbol::Sync,
-        b"union" => Symbol::Union,
-        b"UniquePtr" => Symbol::UniquePtr,
-        b"using" => Symbol::Using,
+    match text.first() {
+        Some(b'a') if text == b"async".as_slice() => Symbol::Async,
+        Some(b'b') if text == b"both".as_slice() => Symbol::Both,
+        Some(b'c') if text == b"child".as_slice() => Symbol::Child,
+        Some(b'c') if text == b"class".as_slice() => Symbol::Class,
+        Some(b'f') if text == b"from".as_slice() => Symbol::From,
+        Some(b'i') if text == b"include".as_slice() => Symbol::Include,
+        Some(b'm') if text == b"manager".as_slice() => Symbol::Manager,
+        Some(b'm') if text == b"manages".as_slice() => Symbol::Manages,
+        Some(b'n') if text == b"namespace".as_slice() => Symbol::Namespace,
+        Some(b'n') if text == b"nullable".as_slice() => Symbol::Nullable,
+        Some(b'o') if text == b"or".as_slice() => Symbol::Or,
+        Some(b'p') if text == b"parent".as_slice() => Symbol::Parent,
+        Some(b'p') if text == b"protocol".as_slice() => Symbol::Protocol,
+        Some(b'r') if text == b"returns".as_slice() => Symbol::Returns,
+        Some(b's') if text == b"struct".as_slice() => Symbol::Struct,
+        Some(b's') if text == b"sync".as_slice() => Symbol::Sync,
+        Some(b'u') if text == b"union".as_slice() => Symbol::Union,
+        Some(b'u') if text == b"using".as_slice() => Symbol::Using,
+        Some(b'U') if text == b"UniquePtr".as_slice() => Symbol::UniquePtr,
         _ => Symbol::OtherWord,
     }
 }
