@@ -1,5 +1,4 @@
-ghost use Rattle.std.specs.Prelude.{◌↔◌, map, IsTrue, OnOk};
-ghost use Rattle.std.specs.List.{Contains};
+ghost use Rattle.std.specs.Prelude.{map, OnOk};
 ghost use Rattle.findings.specs.Adds.{Adds};
 ghost use Rattle.findings.specs.Repeats.{IsRepeatedAt};
 
@@ -9,56 +8,6 @@ use std::collections::HashSet;
 
 /// A name and its place.
 pub type NamePlace<'n> = (&'n [u8], Place);
-
-/// The most names of which each is compared with all before it; more than these go into a set.
-const FEW: usize = 8;
-
-/// Whether one of these names is the same as the other.
-fn is_among(names: &[NamePlace<'_>], other: &[u8]) -> bool
-    ensures { IsTrue result ↔ Contains (map (λ n. n.0.now) names.now) other.now }
-{
-    names.iter().any(|(name, _)| *name == other)
-}
-
-/// Adds the findings at names that stand earlier too, without taking memory but for these.
-fn add_repeated_few(
-    rule: Rule,
-    names: &[NamePlace<'_>],
-    found: &mut Vec<Finding>,
-) -> Result<(), AllocError>
-    ensures { OnOk result (Adds rule (IsRepeatedAt (map (λ n. (n.0.now, n.1)) names.now)) found.old.items found.new.items) }
-{
-    for (i, (name, place)) in names.iter().enumerate() {
-        if is_among(&names[..i], name) {
-            found.push(Finding {
-                place: *place,
-                rule,
-            })?;
-        }
-    }
-    Ok(())
-}
-
-/// The same by a set of the names so far.
-fn add_repeated_many(
-    alloc: Global,
-    rule: Rule,
-    names: &[NamePlace<'_>],
-    found: &mut Vec<Finding>,
-) -> Result<(), AllocError>
-    ensures { OnOk result (Adds rule (IsRepeatedAt (map (λ n. (n.0.now, n.1)) names.now)) found.old.items found.new.items) }
-{
-    let mut seen = HashSet::with_capacity(alloc, names.len())?;
-    for (name, place) in names {
-        if !seen.insert(*name)? {
-            found.push(Finding {
-                place: *place,
-                rule,
-            })?;
-        }
-    }
-    Ok(())
-}
 
 /// Adds a finding of this rule at each name that stands earlier in the list too. Takes time in
 /// proportion to the list. The only error is want of memory.
@@ -70,9 +19,14 @@ pub fn add_repeated(
 ) -> Result<(), AllocError>
     ensures { OnOk result (Adds rule (IsRepeatedAt (map (λ n. (n.0.now, n.1)) names.now)) found.old.items found.new.items) }
 {
-    if names.len() <= FEW {
-        add_repeated_few(rule, names, found)
-    } else {
-        add_repeated_many(alloc, rule, names, found)
+    let mut seen = HashSet::new(alloc);
+    for (name, place) in names {
+        if !seen.insert(*name)? {
+            found.push(Finding {
+                place: *place,
+                rule,
+            })?;
+        }
     }
+    Ok(())
 }
