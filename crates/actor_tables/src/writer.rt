@@ -9,6 +9,9 @@ use crate::words::{
 use ipdl_base::{MessageRow, ParamRow, ParamRows, ProtocolRow, Schema, Shape, TypeRow};
 use std::alloc::{AllocError, Global};
 
+/// How many bytes the line of a message takes, about: for so many there is room before the first.
+const MESSAGE_LEN: usize = 80;
+
 /// Appends a name with a text before it and one behind it.
 fn push_around(
     out: &mut Vec<u8>,
@@ -41,7 +44,8 @@ fn push_shape(out: &mut Vec<u8>, schema: &Schema, shape: &Shape) -> Result<(), A
         }
         Shape::Maybe(element) => {
             push_shape(out, schema, element)?;
-            out.extend_from_slice(b"?")
+            out.push(b'?')?;
+            Ok(())
         }
         Shape::Unique(element) => {
             out.extend_from_slice(b"UniquePtr<")?;
@@ -65,7 +69,7 @@ fn push_param(out: &mut Vec<u8>, schema: &Schema, param: &ParamRow) -> Result<()
     ensures { OnOk result (out.new.items ≡ out.old.items ++ text.param_text schema.now param.now) }
 {
     push_shape(out, schema, &param.shape)?;
-    out.extend_from_slice(b" ")?;
+    out.push(b' ')?;
     out.extend_from_slice(param.name.as_slice())
 }
 
@@ -103,9 +107,10 @@ fn push_listed_params(
 fn push_params(out: &mut Vec<u8>, schema: &Schema, params: &[ParamRow]) -> Result<(), AllocError>
     ensures { OnOk result (out.new.items ≡ out.old.items ++ text.params_text schema.now params.now) }
 {
-    out.extend_from_slice(b"(")?;
+    out.push(b'(')?;
     push_listed_params(out, schema, params)?;
-    out.extend_from_slice(b")")
+    out.push(b')')?;
+    Ok(())
 }
 
 /// Appends the returns of a message, where it has them.
@@ -130,7 +135,8 @@ fn push_word(out: &mut Vec<u8>, word: &[u8]) -> Result<(), AllocError>
     ensures { OnOk result (out.new.items ≡ out.old.items ++ (word.now ++ codes " ")) }
 {
     out.extend_from_slice(word)?;
-    out.extend_from_slice(b" ")
+    out.push(b' ')?;
+    Ok(())
 }
 
 /// Appends a number and a blank.
@@ -246,6 +252,7 @@ fn push_protocol(
     push_protocol_line(out, alloc, number, protocol)?;
     push_managers(out, schema, protocol.managers.as_slice())?;
     push_managed(out, schema, protocol.manages.as_slice())?;
+    out.reserve(MESSAGE_LEN.saturating_mul(protocol.messages.len()))?;
     push_messages(out, alloc, schema, protocol.messages.as_slice())
 }
 
