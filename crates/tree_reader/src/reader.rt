@@ -14,6 +14,13 @@ use ipdl_syntax::NameAt;
 use std::alloc::{AllocError, Global};
 use std::marker::Model;
 
+/// A name with the text of a token.
+fn name_of(alloc: Global, token: &Token) -> Result<Name, AllocError>
+    ensures { IfOk result (λ name. name ≡ token.now.text) }
+{
+    Ok(Items::from_vec(Vec::from_slice(alloc, token.text())?))
+}
+
 /// The tokens that are left.
 #[derive(Drop)]
 pub(crate) struct Reader<'a, 't> {
@@ -105,7 +112,7 @@ impl<'a, 't> Reader<'a, 't> {
     {
         let (first, rest) = self.rest.split_at(1);
         let token = &first[0];
-        let name = Items::from_vec(Vec::from_slice(alloc, token.text())?);
+        let name = name_of(alloc, token)?;
         let place = token.place();
         *self = Reader::new(rest);
         Ok(NameAt { name, place })
@@ -136,7 +143,7 @@ impl<'a, 't> Reader<'a, 't> {
                 if first.kind() == TokenKind::Mark {
                     return Err(self.refusal());
                 }
-                let name = Items::from_vec(Vec::from_slice(alloc, first.text())?);
+                let name = name_of(alloc, first)?;
                 *self = Reader::new(rest);
                 Ok(name)
             }
