@@ -5,5 +5,6 @@ pub mod Outside
 pub mod Plain
 pub mod Rules
 pub mod Sound
+pub mod TokenView
 pub mod Tokens
 pub mod Words

@@ -1,5 +1,8 @@
+ghost use Rattle.std.specs.Prelude.{◌≡◌};
+
 use crate::finding::Place;
-use crate::items::{Items, Name};
+use crate::items::Items;
+use std::marker::Model;
 
 /// What a token is (docs/tokens.md).
 #[derive(Clone, Copy, Debug, PartialEq, Eq)]
@@ -14,15 +17,53 @@ pub enum TokenKind {
     Mark,
 }
 
-/// A token of a text.
-#[derive(Debug, Drop, PartialEq)]
-pub struct Token {
-    pub kind: TokenKind,
-    /// The token's bytes as they stand in the text, a quoted text's quotes among them.
-    pub text: Name,
-    /// The place of its first byte.
-    pub place: Place,
+/// A token of a text, whose bytes it borrows. Contracts see its text as a list of bytes.
+#[derive(Debug, Drop)]
+pub struct Token<'t> {
+    text: &'t [u8],
+    place: Place,
+    kind: TokenKind,
 }
 
-/// A list of tokens.
-pub type Tokens = Items<Token>;
+impl<'t> Model for Token<'t> {
+    ghost use Rattle.ipdl_base.specs.TokenView.{TokenView};
+
+    ghost Value = { TokenView };
+
+    ghost view = { λ t. record { kind = t.kind; text = t.text.now; place = t.place } };
+}
+
+impl<'t> Token<'t> {
+    /// The token of this kind with these bytes at this place.
+    pub fn new(kind: TokenKind, text: &'t [u8], place: Place) -> Token<'t>
+        ensures kind { result.kind ≡ kind }
+        ensures text { result.text ≡ text.now }
+        ensures place { result.place ≡ place }
+    {
+        Token { text, place, kind }
+    }
+
+    /// What the token is.
+    pub fn kind(&self) -> TokenKind
+        ensures { result ≡ self.now.kind }
+    {
+        self.kind
+    }
+
+    /// The token's bytes as they stand in the text, a quoted text's quotes among them.
+    pub fn text(&self) -> &'t [u8]
+        ensures { result.now ≡ self.now.text }
+    {
+        self.text
+    }
+
+    /// The place of its first byte.
+    pub fn place(&self) -> Place
+        ensures { result ≡ self.now.place }
+    {
+        self.place
+    }
+}
+
+/// A list of tokens of a text.
+pub type Tokens<'t> = Items<Token<'t>>;

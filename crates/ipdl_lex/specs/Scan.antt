@@ -1,11 +1,13 @@
 -- What the functions of the scan find at the front of a text.
 use Rattle.std.specs.Prelude.{◌≡◌, ℕ, Bool, ◌==◌, ◌||◌, ◌+◌, ◌≤◌, if◌then◌else◌, List, length, take, drop, fold, Option, slice_index}
+use Rattle.std.specs.List.{list_any}
+use Rattle.std.specs.Str.{bytes_eq}
 use Rattle.ipdl_base.specs.declared.finding.Place.{Place}
 use Rattle.ipdl_base.specs.declared.token.TokenKind.{TokenKind}
 use Rattle.ipdl_lex.specs.declared.scan.Class.{Class}
 use Rattle.ipdl_lex.specs.declared.scan.Class.TheVariants as class
 use Rattle.ipdl_base.specs.Words.{is_word_start}
-use Rattle.ipdl_lex.specs.Pieces.{is_blank, is_line_feed, is_mark}
+use Rattle.ipdl_lex.specs.Pieces.{is_blank, is_line_feed, is_mark, reserved_words}
 use Rattle.ipdl_lex.specs.Tokens.{Begins}
 
 -- what a piece that begins with the byte may be
@@ -17,6 +19,10 @@ class_of b =
     else (if is_mark b then class.Mark
     else (if is_word_start b then class.Letter
     else class.Other))))
+
+-- whether a word is one that the language keeps for itself
+abbrev pub is_reserved : List ℕ → Bool
+is_reserved word = list_any (λ w. bytes_eq word w) reserved_words
 
 -- a quote or a line feed, which end a quoted text
 abbrev pub ends_quoted : ℕ → Bool

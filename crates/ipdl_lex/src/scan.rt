@@ -1,11 +1,11 @@
-ghost use Rattle.std.specs.Prelude.{◌≡◌, ◌↔◌, ℕ, ◌+◌, ◌<◌, ◌≤◌, ◌^◌, ◌-◌, ◌⊎◌, ◌++◌, Some, None, IsTrue, IfOk, IfErr, OnOk, IfSome, IfNone, Contains, not, length, position, List, Ok, Err, slice_index, take};
+ghost use Rattle.std.specs.Prelude.{◌≡◌, ℕ, ◌+◌, ◌<◌, ◌≤◌, ◌^◌, ◌-◌, ◌⊎◌, ◌++◌, Some, None, IfOk, IfErr, OnOk, IfSome, IfNone, not, length, position, List, Ok, Err, slice_index, take};
 ghost use Rattle.ipdl_base.specs.Words.{is_word_start, is_word_byte, IsWord};
-ghost use Rattle.ipdl_lex.specs.Pieces.{is_blank, is_line_feed, is_mark, reserved_words, Spells};
+ghost use Rattle.ipdl_lex.specs.Pieces.{is_blank, is_line_feed, is_mark, Spells};
 ghost use Rattle.ipdl_lex.specs.Tokens.{FailsAt, IsShortOf, IsTokens, IsFault, Gives, token_at};
 ghost use Rattle.ipdl_lex.specs.declared.token.Lexed.{Lexed};
 ghost use Rattle.ipdl_lex.specs.declared.token.LexFault.{LexFault};
 ghost use Rattle.ipdl_lex.specs.declared.token.LexFault.TheVariants.{NoMemory};
-ghost use Rattle.ipdl_lex.specs.Scan.{class_of, ends_quoted, ClosesAt, IsFront, behind_byte, behind_bytes};
+ghost use Rattle.ipdl_lex.specs.Scan.{is_reserved, class_of, ends_quoted, ClosesAt, IsFront, behind_byte, behind_bytes};
 
 use crate::token::{LexFault, Lexed};
 use ipdl_base::{Items, Place, Token, TokenKind};
@@ -36,33 +36,10 @@ const MAX_TOKEN_LEN: usize = 256;
 /// The number of the first line of a file, and of the first column of a line.
 const FIRST: u32 = 1;
 
-/// The words that the language keeps for itself.
-const RESERVED: [&[u8]; 19] = [
-    b"async",
-    b"both",
-    b"child",
-    b"class",
-    b"from",
-    b"include",
-    b"manager",
-    b"manages",
-    b"namespace",
-    b"nullable",
-    b"or",
-    b"parent",
-    b"protocol",
-    b"returns",
-    b"struct",
-    b"sync",
-    b"union",
-    b"UniquePtr",
-    b"using",
-];
-
 fn is_blank(b: u8) -> bool
     ensures { result ≡ is_blank b }
 {
-    b" \t\r\n".contains(&b)
+    matches!(b, b' ' | b'\t' | b'\r' | b'\n')
 }
 
 fn is_word_start(b: u8) -> bool
@@ -80,14 +57,32 @@ fn is_word_byte(b: u8) -> bool
 fn is_mark(b: u8) -> bool
     ensures { result ≡ is_mark b }
 {
-    b"{}()[]<>;,:=?".contains(&b)
+    matches!(
+        b,
+        b'{' | b'}' | b'(' | b')' | b'[' | b']' | b'<' | b'>' | b';' | b',' | b':' | b'=' | b'?'
+    )
 }
 
+/// Whether the language keeps the word for itself.
 fn is_reserved(word: &[u8]) -> bool
-    ensures { IsTrue result ↔ Contains reserved_words word.now }
+    ensures { result ≡ is_reserved word.now }
 {
-    let words = RESERVED;
-    words.as_slice().contains(&word)
+    match word.first() {
+        Some(b'a') => word == b"async".as_slice(),
+        Some(b'b') => word == b"both".as_slice(),
+        Some(b'c') => word == b"child".as_slice() || word == b"class".as_slice(),
+        Some(b'f') => word == b"from".as_slice(),
+        Some(b'i') => word == b"include".as_slice(),
+        Some(b'm') => word == b"manager".as_slice() || word == b"manages".as_slice(),
+        Some(b'n') => word == b"namespace".as_slice() || word == b"nullable".as_slice(),
+        Some(b'o') => word == b"or".as_slice(),
+        Some(b'p') => word == b"parent".as_slice() || word == b"protocol".as_slice(),
+        Some(b'r') => word == b"returns".as_slice(),
+        Some(b's') => word == b"struct".as_slice() || word == b"sync".as_slice(),
+        Some(b'u') => word == b"union".as_slice() || word == b"using".as_slice(),
+        Some(b'U') => word == b"UniquePtr".as_slice(),
+        _ => false,
+    }
 }
 
 fn class_of(b: u8) -> Class
@@ -144,6 +139,7 @@ fn close_at(text: &[u8]) -> Option<usize>
 }
 
 /// The kind of a word.
+#[tactic(auto, using(crate::proofs::Words::reserved_decided))]
 fn word_kind(word: &[u8]) -> TokenKind
     requires { IsWord word.now }
     ensures { Spells result word.now }
@@ -294,24 +290,22 @@ fn behind_bytes(here: Place, bytes: &[u8]) -> Place
 }
 
 /// Adds the token of a piece, if it is one.
-fn keep(
-    alloc: Global,
-    tokens: &mut Vec<Token>,
+fn keep<'t>(
+    tokens: &mut Vec<Token<'t>>,
     kind: Option<TokenKind>,
-    bytes: &[u8],
+    bytes: &'t [u8],
     place: Place,
 ) -> Result<(), AllocError>
     ensures { OnOk result (tokens.new.items ≡ tokens.old.items ++ token_at place kind bytes.now) }
 {
     if let Some(kind) = kind {
-        let text = Items::from_vec(Vec::from_slice(alloc, bytes)?);
-        tokens.push(Token { kind, text, place })?;
+        tokens.push(Token::new(kind, bytes, place))?;
     }
     Ok(())
 }
 
 /// The tokens of a text, or why it has none.
-fn scan(alloc: Global, text: &[u8], file: u32) -> Result<Lexed, LexFault>
+fn scan(alloc: Global, text: &[u8], file: u32) -> Result<Lexed<'_>, LexFault>
     requires { length text.now ≤ 1048576 }
     ensures tokens { IfOk result (IsTokens file text.now) }
     ensures fault { IfErr result (λ fault. (fault ≡ NoMemory) ⊎ IsFault file text.now fault) }
@@ -326,7 +320,7 @@ fn scan(alloc: Global, text: &[u8], file: u32) -> Result<Lexed, LexFault>
     while !rest.is_empty() {
         let found = short_front(rest, here)?;
         let (bytes, after) = rest.split_at(found.len);
-        keep(alloc, &mut tokens, found.kind, bytes, here)?;
+        keep(&mut tokens, found.kind, bytes, here)?;
         here = behind_bytes(here, bytes);
         rest = after;
     }
@@ -339,7 +333,7 @@ fn scan(alloc: Global, text: &[u8], file: u32) -> Result<Lexed, LexFault>
 /// The tokens of the text of the file with this number, and the place behind its last byte
 /// (docs/tokens.md). A fault is the first from the left: the place of the first byte at which
 /// neither a token nor a blank or a comment begins, or of the first token of more than 256 bytes.
-pub fn lex(alloc: Global, text: &[u8], file: u32) -> Result<Lexed, LexFault>
+pub fn lex(alloc: Global, text: &[u8], file: u32) -> Result<Lexed<'_>, LexFault>
     requires { length text.now ≤ 1048576 }
     ensures tokens { IfOk result (IsTokens file text.now) }
     ensures fault { IfErr result (λ fault. (fault ≡ NoMemory) ⊎ IsFault file text.now fault) }

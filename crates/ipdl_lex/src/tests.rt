@@ -12,13 +12,13 @@ fn shown(alloc: Global, text: &[u8]) -> Result<Vec<u8>, Fail> {
     match lex(alloc, text, 7) {
         Ok(lexed) => {
             for token in lexed.tokens.as_slice() {
-                let kind = token.kind;
-                let place = token.place;
+                let kind = token.kind();
+                let place = token.place();
                 let line = place.line;
                 let column = place.column;
                 let head = format!(in alloc; "{line}:{column} {kind:?} ")?;
                 out.extend_from_slice(head.as_bytes())?;
-                out.extend_from_slice(token.text.as_slice())?;
+                out.extend_from_slice(token.text())?;
                 out.push(b'\n')?;
             }
             let line = lexed.end.line;

@@ -4,11 +4,11 @@ ghost use Rattle.ipdl_lex.specs.declared.token.LexFault.TheVariants.{NoMemory};
 use ipdl_base::{Place, Tokens};
 use std::alloc::AllocError;
 
-/// What a text is read as.
-#[derive(Debug, Drop, PartialEq)]
-pub struct Lexed {
+/// What a text is read as, whose bytes the tokens borrow.
+#[derive(Debug, Drop)]
+pub struct Lexed<'t> {
     /// Its tokens in their order.
-    pub tokens: Tokens,
+    pub tokens: Tokens<'t>,
     /// The place behind its last byte.
     pub end: Place,
 }

@@ -52,7 +52,7 @@ fn fault(tokens: &[Token], end: Place, left: usize) -> SyntaxFault
     match tokens.get(index) {
         Some(token) => SyntaxFault::Fault {
             index,
-            place: token.place,
+            place: token.place(),
         },
         None => SyntaxFault::Fault { index, place: end },
     }

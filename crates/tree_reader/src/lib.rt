@@ -7,6 +7,7 @@ mod body;
 mod fields;
 mod file;
 mod heads;
+mod lists;
 mod messages;
 mod names;
 mod params;

@@ -5,6 +5,7 @@ ghost use Rattle.tree_reader.specs.Machine.{one_param, parameters, more_paramete
 ghost use Rattle.tree_reader.specs.Reading.{Turns, Stops};
 
 use crate::attributes::attributes;
+use crate::lists::fitted;
 use crate::reader::Reader;
 use crate::refusal::Refusal;
 use crate::symbol::Symbol;
@@ -44,7 +45,7 @@ fn some_params(alloc: Global, reader: &mut Reader) -> Result<Params, Refusal>
         all.push(param(alloc, reader)?)?;
     }
     reader.take(Symbol::CloseParen)?;
-    Ok(Items::from_vec(all))
+    Ok(fitted(all))
 }
 
 /// Takes parameters behind their `(`, perhaps none, to their `)`.

@@ -8,39 +8,54 @@ ghost use Rattle.tree_reader.specs.Spelling.{spelled};
 ghost use Rattle.tree_reader.specs.Symbols.{first_symbol};
 
 use crate::refusal::Refusal;
-use crate::symbol::{Symbol, first_symbol, token_symbol};
-use ipdl_base::{Name, Place, Token, TokenKind};
+use crate::symbol::{Symbol, first_symbol};
+use ipdl_base::{Items, Name, Place, Token, TokenKind};
 use ipdl_syntax::NameAt;
 use std::alloc::{AllocError, Global};
 use std::marker::Model;
 
-/// The tokens that are left.
-#[derive(Drop)]
-pub(crate) struct Reader<'a> {
-    rest: &'a [Token],
+/// A name with the text of a token.
+fn name_of(alloc: Global, token: &Token) -> Result<Name, AllocError>
+    ensures { IfOk result (λ name. name ≡ token.now.text) }
+{
+    Ok(Items::from_vec(Vec::from_slice(alloc, token.text())?))
 }
 
-impl<'a> Model for Reader<'a> {
-    ghost use Rattle.std.specs.Prelude.{List};
+/// The tokens that are left.
+#[derive(Drop)]
+pub(crate) struct Reader<'a, 't> {
+    rest: &'a [Token<'t>],
+    /// The symbol of the first of them, or that of the end.
+    next: Symbol,
+}
+
+impl<'a, 't> Model for Reader<'a, 't> {
+    ghost use Rattle.std.specs.Prelude.{◌≡◌, List};
     ghost use Rattle.ipdl_base.specs.declared.token.Token.{Token};
+    ghost use Rattle.tree_reader.specs.Symbols.{first_symbol};
 
     ghost Value = { List Token };
 
     ghost view = { λ r. r.rest.now };
+
+    ghost invariant = { λ r. r.next ≡ first_symbol r.rest.now };
 }
 
-impl<'a> Reader<'a> {
-    pub(crate) fn new(tokens: &'a [Token]) -> Reader<'a>
+impl<'a, 't> Reader<'a, 't> {
+    pub(crate) fn new(tokens: &'a [Token<'t>]) -> Reader<'a, 't>
         ensures { result ≡ tokens.now }
     {
-        Reader { rest: tokens }
+        Reader {
+            rest: tokens,
+            next: first_symbol(tokens),
+        }
     }
 
     /// The symbol of the next token, or that of the end.
     pub(crate) fn symbol(&self) -> Symbol
         ensures { result ≡ first_symbol self.now }
     {
-        first_symbol(self.rest)
+        self.next
     }
 
     /// That the next token, or the end, may not stand here.
@@ -56,8 +71,9 @@ impl<'a> Reader<'a> {
         ensures { IsNextAt (first_symbol self.old) result self.old self.new }
     {
         let (first, rest) = self.rest.split_at(1);
-        let place = first[0].place;
-        self.rest = rest;
+        let token = &first[0];
+        let place = token.place();
+        *self = Reader::new(rest);
         place
     }
 
@@ -95,9 +111,10 @@ impl<'a> Reader<'a> {
         ensures { IfOk result (λ n. IsNextText (first_symbol self.old) n.name n.place self.old self.new) }
     {
         let (first, rest) = self.rest.split_at(1);
-        let name = first[0].text.copy(alloc)?;
-        let place = first[0].place;
-        self.rest = rest;
+        let token = &first[0];
+        let name = name_of(alloc, token)?;
+        let place = token.place();
+        *self = Reader::new(rest);
         Ok(NameAt { name, place })
     }
 
@@ -123,11 +140,11 @@ impl<'a> Reader<'a> {
     {
         match self.rest.split_first() {
             Some((first, rest)) => {
-                if first.kind == TokenKind::Mark {
+                if first.kind() == TokenKind::Mark {
                     return Err(self.refusal());
                 }
-                let name = first.text.copy(alloc)?;
-                self.rest = rest;
+                let name = name_of(alloc, first)?;
+                *self = Reader::new(rest);
                 Ok(name)
             }
             None => Err(self.refusal()),

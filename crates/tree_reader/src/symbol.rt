@@ -50,36 +50,22 @@ pub enum Symbol {
 fn mark_symbol(text: &[u8]) -> Symbol
     ensures { result ≡ mark_symbol text.now }
 {
-    if text == b"::".as_slice() {
-        Symbol::Colons
-    } else if text == b"{".as_slice() {
-        Symbol::OpenBrace
-    } else if text == b"}".as_slice() {
-        Symbol::CloseBrace
-    } else if text == b"(".as_slice() {
-        Symbol::OpenParen
-    } else if text == b")".as_slice() {
-        Symbol::CloseParen
-    } else if text == b"[".as_slice() {
-        Symbol::OpenBracket
-    } else if text == b"]".as_slice() {
-        Symbol::CloseBracket
-    } else if text == b"<".as_slice() {
-        Symbol::Less
-    } else if text == b">".as_slice() {
-        Symbol::Greater
-    } else if text == b";".as_slice() {
-        Symbol::Semicolon
-    } else if text == b",".as_slice() {
-        Symbol::Comma
-    } else if text == b":".as_slice() {
-        Symbol::Colon
-    } else if text == b"=".as_slice() {
-        Symbol::Equals
-    } else if text == b"?".as_slice() {
-        Symbol::Question
-    } else {
-        Symbol::OtherMark
+    match text.first() {
+        Some(b':') if text == b"::".as_slice() => Symbol::Colons,
+        Some(b'{') if text == b"{".as_slice() => Symbol::OpenBrace,
+        Some(b'}') if text == b"}".as_slice() => Symbol::CloseBrace,
+        Some(b'(') if text == b"(".as_slice() => Symbol::OpenParen,
+        Some(b')') if text == b")".as_slice() => Symbol::CloseParen,
+        Some(b'[') if text == b"[".as_slice() => Symbol::OpenBracket,
+        Some(b']') if text == b"]".as_slice() => Symbol::CloseBracket,
+        Some(b'<') if text == b"<".as_slice() => Symbol::Less,
+        Some(b'>') if text == b">".as_slice() => Symbol::Greater,
+        Some(b';') if text == b";".as_slice() => Symbol::Semicolon,
+        Some(b',') if text == b",".as_slice() => Symbol::Comma,
+        Some(b':') if text == b":".as_slice() => Symbol::Colon,
+        Some(b'=') if text == b"=".as_slice() => Symbol::Equals,
+        Some(b'?') if text == b"?".as_slice() => Symbol::Question,
+        _ => Symbol::OtherMark,
     }
 }
 
@@ -87,57 +73,38 @@ fn mark_symbol(text: &[u8]) -> Symbol
 fn word_symbol(text: &[u8]) -> Symbol
     ensures { result ≡ word_symbol text.now }
 {
-    if text == b"async".as_slice() {
-        Symbol::Async
-    } else if text == b"both".as_slice() {
-        Symbol::Both
-    } else if text == b"child".as_slice() {
-        Symbol::Child
-    } else if text == b"class".as_slice() {
-        Symbol::Class
-    } else if text == b"from".as_slice() {
-        Symbol::From
-    } else if text == b"include".as_slice() {
-        Symbol::Include
-    } else if text == b"manager".as_slice() {
-        Symbol::Manager
-    } else if text == b"manages".as_slice() {
-        Symbol::Manages
-    } else if text == b"namespace".as_slice() {
-        Symbol::Namespace
-    } else if text == b"nullable".as_slice() {
-        Symbol::Nullable
-    } else if text == b"or".as_slice() {
-        Symbol::Or
-    } else if text == b"parent".as_slice() {
-        Symbol::Parent
-    } else if text == b"protocol".as_slice() {
-        Symbol::Protocol
-    } else if text == b"returns".as_slice() {
-        Symbol::Returns
-    } else if text == b"struct".as_slice() {
-        Symbol::Struct
-    } else if text == b"sync".as_slice() {
-        Symbol::Sync
-    } else if text == b"union".as_slice() {
-        Symbol::Union
-    } else if text == b"UniquePtr".as_slice() {
-        Symbol::UniquePtr
-    } else if text == b"using".as_slice() {
-        Symbol::Using
-    } else {
-        Symbol::OtherWord
+    match text.first() {
+        Some(b'a') if text == b"async".as_slice() => Symbol::Async,
+        Some(b'b') if text == b"both".as_slice() => Symbol::Both,
+        Some(b'c') if text == b"child".as_slice() => Symbol::Child,
+        Some(b'c') if text == b"class".as_slice() => Symbol::Class,
+        Some(b'f') if text == b"from".as_slice() => Symbol::From,
+        Some(b'i') if text == b"include".as_slice() => Symbol::Include,
+        Some(b'm') if text == b"manager".as_slice() => Symbol::Manager,
+        Some(b'm') if text == b"manages".as_slice() => Symbol::Manages,
+        Some(b'n') if text == b"namespace".as_slice() => Symbol::Namespace,
+        Some(b'n') if text == b"nullable".as_slice() => Symbol::Nullable,
+        Some(b'o') if text == b"or".as_slice() => Symbol::Or,
+        Some(b'p') if text == b"parent".as_slice() => Symbol::Parent,
+        Some(b'p') if text == b"protocol".as_slice() => Symbol::Protocol,
+        Some(b'r') if text == b"returns".as_slice() => Symbol::Returns,
+        Some(b's') if text == b"struct".as_slice() => Symbol::Struct,
+        Some(b's') if text == b"sync".as_slice() => Symbol::Sync,
+        Some(b'u') if text == b"union".as_slice() => Symbol::Union,
+        Some(b'u') if text == b"using".as_slice() => Symbol::Using,
+        Some(b'U') if text == b"UniquePtr".as_slice() => Symbol::UniquePtr,
+        _ => Symbol::OtherWord,
     }
 }
 
 pub(crate) fn token_symbol(token: &Token) -> Symbol
     ensures { result ≡ symbol token.now }
 {
-    match token.kind {
+    match token.kind() {
         TokenKind::Word => Symbol::Word,
         TokenKind::Quoted => Symbol::Quoted,
-        TokenKind::Reserved => word_symbol(token.text.as_slice()),
-        TokenKind::Mark => mark_symbol(token.text.as_slice()),
+        TokenKind::Reserved => word_symbol(token.text()),
+        TokenKind::Mark => mark_symbol(token.text()),
     }
 }
 

@@ -24,7 +24,7 @@ returns-in_err-take-clause-stops c =
 
 pub returns-clause-read : goal.returns-clause-read
 returns-clause-read c =
-    params_all c.from_vec.result c.params.all.items c.args.reader.now c.params.reader c.skips.new.self c.take.new.self c.from_vec.ensures c.params.invariant.read (c.skips.ensures.not c.params-test.false).1 c.in_ok-take.ensures.read
+    params_all c.fitted.result c.params.all.items c.args.reader.now c.params.reader c.skips.new.self c.take.new.self c.fitted.ensures c.params.invariant.read (c.skips.ensures.not c.params-test.false).1 c.in_ok-take.ensures.read
 
 pub returns-clause-turns : goal.returns-clause-turns
 returns-clause-turns c =
