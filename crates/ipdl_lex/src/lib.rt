@@ -7,7 +7,7 @@ mod token;
 
 pub use ipdl_base::{Token, TokenKind, Tokens};
 pub use laws::words_hold;
-pub use scan::{lex, one_answer};
+pub use scan::{is_reserved, lex, one_answer};
 pub use token::{LexFault, Lexed};
 
 #[cfg(test)]

@@ -1,6 +1,6 @@
-ghost use Rattle.std.specs.Prelude.{◌≡◌, ℕ, ◌+◌, ◌<◌, ◌≤◌, ◌^◌, ◌-◌, ◌⊎◌, ◌++◌, Some, None, IfOk, IfErr, OnOk, IfSome, IfNone, not, length, position, List, Ok, Err, slice_index, take};
+ghost use Rattle.std.specs.Prelude.{◌≡◌, ◌↔◌, ℕ, ◌+◌, ◌<◌, ◌≤◌, ◌^◌, ◌-◌, ◌⊎◌, ◌++◌, Some, None, IsTrue, IfOk, IfErr, OnOk, IfSome, IfNone, Contains, not, length, position, List, Ok, Err, slice_index, take};
 ghost use Rattle.ipdl_base.specs.Words.{is_word_start, is_word_byte, IsWord};
-ghost use Rattle.ipdl_lex.specs.Pieces.{is_blank, is_line_feed, is_mark, Spells};
+ghost use Rattle.ipdl_lex.specs.Pieces.{is_blank, is_line_feed, is_mark, reserved_words, Spells};
 ghost use Rattle.ipdl_lex.specs.Tokens.{FailsAt, IsShortOf, IsTokens, IsFault, Gives, token_at};
 ghost use Rattle.ipdl_lex.specs.declared.token.Lexed.{Lexed};
 ghost use Rattle.ipdl_lex.specs.declared.token.LexFault.{LexFault};
@@ -63,8 +63,8 @@ fn is_mark(b: u8) -> bool
     )
 }
 
-/// Whether the language keeps the word for itself.
-fn is_reserved(word: &[u8]) -> bool
+/// Whether the text is that of a reserved word, told by its first byte.
+fn has_reserved_text(word: &[u8]) -> bool
     ensures { result ≡ is_reserved word.now }
 {
     match word.first() {
@@ -83,6 +83,14 @@ fn is_reserved(word: &[u8]) -> bool
         Some(b'U') => word == b"UniquePtr".as_slice(),
         _ => false,
     }
+}
+
+/// Whether the language keeps the word for itself (docs/tokens.md).
+#[tactic(auto, using(crate::proofs::Words::reserved_decided))]
+pub fn is_reserved(word: &[u8]) -> bool
+    ensures { IsTrue result ↔ Contains reserved_words word.now }
+{
+    has_reserved_text(word)
 }
 
 fn class_of(b: u8) -> Class
@@ -139,7 +147,6 @@ fn close_at(text: &[u8]) -> Option<usize>
 }
 
 /// The kind of a word.
-#[tactic(auto, using(crate::proofs::Words::reserved_decided))]
 fn word_kind(word: &[u8]) -> TokenKind
     requires { IsWord word.now }
     ensures { Spells result word.now }

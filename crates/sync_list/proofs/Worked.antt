@@ -1,20 +1,18 @@
 -- Worked lists, and texts that are none.
 use Rattle.std.proofs.Common.{◌≡◌, ℕ, true, false, List, [], ◌∷◌, inl, inr, refl, arith}
 use Rattle.std.specs.Prelude.{codes}
-use Rattle.std.specs.List.{list_any}
-use Rattle.std.specs.Str.{bytes_eq}
 use Rattle.std.proofs.lemmas.Bool.Decides.{not_from_Decides}
 use Rattle.std.proofs.lemmas.List.Elements.{Contains-push}
 use Rattle.ipdl_base.specs.Words.{is_word}
-use Rattle.ipdl_lex.specs.Pieces.{reserved_words}
-use Rattle.ipdl_lex.proofs.Words.{Contains-test}
+use Rattle.ipdl_lex.specs.Scan.{is_reserved}
+use Rattle.ipdl_lex.proofs.Words.{reserved_decided}
 use Rattle.sync_list.specs.Lines.{IsIdentifier, IsSectionLine, IsValueLine, IsIndented}
 use Rattle.sync_list.specs.Forms.{blank, comment, section, value, more}
 use Rattle.sync_list.specs.Lists.{description, sections_from, IsListOf, IsFirstBad}
 use Rattle.sync_list.proofs.Refused.{bad_indented, bad_section}
 
-identifier : (bytes : List ℕ) → is_word bytes ≡ true → list_any (λ w. bytes_eq w bytes) reserved_words ≡ false → IsIdentifier bytes
-identifier bytes word free = (word, not_from_Decides (list_any (λ w. bytes_eq w bytes) reserved_words) (Contains-test bytes _ refl) free)
+identifier : (bytes : List ℕ) → is_word bytes ≡ true → is_reserved bytes ≡ false → IsIdentifier bytes
+identifier bytes word free = (word, not_from_Decides (is_reserved bytes) (reserved_decided bytes) free)
 
 -- a section line
 a_section : IsSectionLine (codes "[PL::B] \r") (codes "PL") (codes "B")

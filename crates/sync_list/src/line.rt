@@ -1,9 +1,11 @@
-ghost use Rattle.std.specs.Prelude.{◌≡◌, ◌↔◌, ◌⊎◌, ℕ, List, IsTrue, IfSome, IfNone, Contains, not, position};
+ghost use Rattle.std.specs.Prelude.{◌≡◌, ◌↔◌, ◌⊎◌, ℕ, List, IsTrue, IfSome, IfNone, not, position};
 ghost use Rattle.std.specs.List.{list_all};
 ghost use Rattle.ipdl_base.specs.Words.{is_word, is_word_start, is_word_byte};
-ghost use Rattle.ipdl_lex.specs.Pieces.{is_blank, reserved_words};
+ghost use Rattle.ipdl_lex.specs.Pieces.{is_blank};
 ghost use Rattle.sync_list.specs.Lines.{first_mark, IsIdentifier, IsSectionLine, IsValueLine};
 ghost use Rattle.sync_list.specs.Reading.{IsSplit, IsLine};
+
+use ipdl_lex::is_reserved;
 
 /// What a line is by itself.
 pub enum Line<'a> {
@@ -17,29 +19,6 @@ pub enum Line<'a> {
     Indented,
     Other,
 }
-
-/// The words that the language keeps for itself.
-const RESERVED: [&[u8]; 19] = [
-    b"async",
-    b"both",
-    b"child",
-    b"class",
-    b"from",
-    b"include",
-    b"manager",
-    b"manages",
-    b"namespace",
-    b"nullable",
-    b"or",
-    b"parent",
-    b"protocol",
-    b"returns",
-    b"struct",
-    b"sync",
-    b"union",
-    b"UniquePtr",
-    b"using",
-];
 
 fn is_blank(b: u8) -> bool
     ensures { result ≡ is_blank b }
@@ -80,13 +59,6 @@ fn is_word(bytes: &[u8]) -> bool
         Some((first, others)) => is_word_start(*first) && are_word_bytes(others),
         None => false,
     }
-}
-
-fn is_reserved(word: &[u8]) -> bool
-    ensures { IsTrue result ↔ Contains reserved_words word.now }
-{
-    let words = RESERVED;
-    words.as_slice().contains(&word)
 }
 
 fn is_identifier(bytes: &[u8]) -> bool

@@ -1,5 +1,0 @@
-use Rattle.ipdl_lex.proofs.Words.{Contains-test}
-use Rattle.sync_list.proofs.line.is_reserved.Goals as goal
-
-pub returns : goal.returns
-returns c = Contains-test c.args.word.now _ (rw c.as_slice.ensures at c.contains.ensures.value)
