@@ -7,15 +7,19 @@ use super::actor::Actor;
 use super::search::{actor_with, first_to_fall, remove_actor};
 use std::alloc::{AllocError, Global};
 use std::marker::Model;
+use thiserror::Error;
 
 /// The id of the top actor.
 const TOP: i32 = 2147483647;
 
 /// Why an actor is not made: its id lives, its manager does not, or memory ran out.
-#[derive(Clone, Copy, Debug, PartialEq, Eq)]
+#[derive(Clone, Copy, Debug, PartialEq, Eq, Error)]
 pub enum TreeFault {
+    #[error("the actor {0} lives already")]
     Present(i32),
+    #[error("no actor {0} lives that could manage it")]
     NoManager(i32),
+    #[error("no memory")]
     NoMemory,
 }
 

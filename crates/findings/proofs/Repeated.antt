@@ -39,11 +39,12 @@ texts-more : (names : List Given) (i : ℕ) (d : Given) → i < length names →
 texts-more names i d lt =
     rw (take_more names i d lt, map-append plain_name (take i names) (get_or names i d ∷ []), map-append (λ (n : List ℕ × Place). n.0) (map plain_name (take i names)) (plain_name (get_or names i d) ∷ [])) refl
 
-cond_true : (b x : Bool) → cond b true x ≡ true → (b ≡ true) ⊎ (x ≡ true)
+-- a test that answers true, or leaves it to what was answered before
+pub cond_true : (b x : Bool) → cond b true x ≡ true → (b ≡ true) ⊎ (x ≡ true)
 cond_true true x h = inl refl
 cond_true false x h = inr h
 
-true_cond : (b x : Bool) → x ≡ true → cond b true x ≡ true
+pub true_cond : (b x : Bool) → x ≡ true → cond b true x ≡ true
 true_cond true x h = refl
 true_cond false x h = h
 

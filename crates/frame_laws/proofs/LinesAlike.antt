@@ -25,12 +25,13 @@ use Rattle.value_types.specs.ValueText.{bits_text, digit_count_of, hex_digits, v
 use Rattle.frame_list.specs.declared.list.Placed.{Placed}
 use Rattle.frame_list.specs.Lines.{addressed, frame_line, frames_lines, made_text, said_text}
 use Rattle.schema_laws.specs.Laws.{plain_param_row, plain_message_row, plain_protocol_row, plain_schema}
-use Rattle.frame_laws.proofs.Rows.{option_alike, listed_alike, builtin_alike, message_alike, fields_alike, component_alike, element_alike, held_by_alike}
+use Rattle.value_types.proofs.PlainTypes.{builtin_of-plain, element_of-plain, held_by-plain}
+use Rattle.frame_laws.proofs.Rows.{option_alike, listed_alike, message_alike, fields_alike, component_alike}
 
 -- values
 
 bits_alike : (shape : Shape) (bits : ℕ) → bits_text (plain_shape shape) bits ≡ bits_text shape bits
-bits_alike shape bits = λ i. codes "h\"" ++ hex_digits (digit_count_of (builtin_alike shape i)) bits ++ codes "\""
+bits_alike shape bits = λ i. codes "h\"" ++ hex_digits (digit_count_of (builtin_of-plain shape i)) bits ++ codes "\""
 
 module _ (s : Schema) where
   mutual
@@ -48,9 +49,9 @@ module _ (s : Schema) where
         (λ i. codes "@" ++ decimal index ++ codes " " ++ option_map_or (λ component. value_text (plain_schema s) component v) (component_alike s shape index i) [])
         ∙ (λ i. codes "@" ++ decimal index ++ codes " " ++ option_alike plain_shape (λ component. value_text (plain_schema s) component v) (λ component. value_text s component v) (λ component. value_alike component v) [] (component_of s shape index) i)
     value_alike shape (value.Array vs) =
-        (λ i. codes "[" ++ option_map_or (λ element. elements_text [] (plain_schema s) element vs) (element_alike shape i) [] ++ codes "]")
+        (λ i. codes "[" ++ option_map_or (λ element. elements_text [] (plain_schema s) element vs) (element_of-plain shape i) [] ++ codes "]")
         ∙ (λ i. codes "[" ++ option_alike plain_shape (λ element. elements_text [] (plain_schema s) element vs) (λ element. elements_text [] s element vs) (λ element. elements_alike [] element vs) [] (element_of shape) i ++ codes "]")
-    value_alike shape (Maybe' held) = (λ i. held_text (plain_schema s) (held_by_alike shape i) held) ∙ held_alike (held_by shape) held
+    value_alike shape (Maybe' held) = (λ i. held_text (plain_schema s) (held_by-plain shape i) held) ∙ held_alike (held_by shape) held
     value_alike shape (value.Actor id) = refl
 
     held_alike : (inner : Option Shape) (held : Held-Value-Maybe-0) → held_text (plain_schema s) (option_map plain_shape inner) held ≡ held_text s inner held

@@ -13,7 +13,7 @@ use Rattle.ipdl_base.specs.declared.schema.Schema.{Schema}
 use Rattle.ipdl_base.specs.declared.schema.Shape.{Shape, Builtin, Using, Actor, Named, Array', Maybe', Unique', Endpoint}
 use Rattle.ipdl_base.specs.declared.schema.TypeRow.{TypeRow}
 use Rattle.ipdl_base.specs.declared.schema.TypeRow.TheVariants.{Struct, Union}
-use Rattle.value_types.specs.Shapes.{builtin_of, is_bytes, element_of, held_by, row_of, fields_in, fields_of, component_in, component_of}
+use Rattle.value_types.specs.Shapes.{row_of, fields_in, fields_of, component_in, component_of}
 use Rattle.schema_laws.specs.Laws.{plain_param_row, plain_message_row, plain_protocol_row, plain_type_row, plain_schema}
 
 -- Options whose values were changed by a look
@@ -92,43 +92,3 @@ fields_alike s shape = ap (option_and_then fields_in) (row_alike s shape) ∙ th
 
 pub component_alike : (s : Schema) (shape : Shape) (index : ℕ) → component_of (plain_schema s) (plain_shape shape) index ≡ option_map plain_shape (component_of s shape index)
 component_alike s shape index = ap (option_and_then (component_in index)) (row_alike s shape) ∙ then_alike plain_type_row plain_shape (component_in index) (component_in_alike index) (row_of s shape)
-
-pub builtin_alike : (shape : Shape) → builtin_of (plain_shape shape) ≡ builtin_of shape
-builtin_alike (Builtin b) = refl
-builtin_alike (Using name) = refl
-builtin_alike (Actor p nullable) = refl
-builtin_alike (Named t) = refl
-builtin_alike (Array' _ e) = refl
-builtin_alike (Maybe' _ e) = refl
-builtin_alike (Unique' _ e) = refl
-builtin_alike (Endpoint p managed) = refl
-
-pub are_bytes_alike : (shape : Shape) → is_bytes (plain_shape shape) ≡ is_bytes shape
-are_bytes_alike (Builtin b) = refl
-are_bytes_alike (Using name) = refl
-are_bytes_alike (Actor p nullable) = refl
-are_bytes_alike (Named t) = refl
-are_bytes_alike (Array' _ e) = refl
-are_bytes_alike (Maybe' _ e) = refl
-are_bytes_alike (Unique' _ e) = refl
-are_bytes_alike (Endpoint p managed) = refl
-
-pub element_alike : (shape : Shape) → element_of (plain_shape shape) ≡ option_map plain_shape (element_of shape)
-element_alike (Builtin b) = refl
-element_alike (Using name) = refl
-element_alike (Actor p nullable) = refl
-element_alike (Named t) = refl
-element_alike (Array' _ e) = refl
-element_alike (Maybe' _ e) = refl
-element_alike (Unique' _ e) = refl
-element_alike (Endpoint p managed) = refl
-
-pub held_by_alike : (shape : Shape) → held_by (plain_shape shape) ≡ option_map plain_shape (held_by shape)
-held_by_alike (Builtin b) = refl
-held_by_alike (Using name) = refl
-held_by_alike (Actor p nullable) = refl
-held_by_alike (Named t) = refl
-held_by_alike (Array' _ e) = refl
-held_by_alike (Maybe' _ e) = refl
-held_by_alike (Unique' _ e) = refl
-held_by_alike (Endpoint p managed) = refl

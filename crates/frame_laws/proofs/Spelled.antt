@@ -25,10 +25,11 @@ use Rattle.value_codec.proofs.Lengths.{payload_length}
 use Rattle.frame_list.specs.declared.list.Placed.{Placed}
 use Rattle.frame_list.specs.Converted.{new_frame, new_frames}
 use Rattle.schema_laws.specs.Laws.{plain_param_row, plain_message_row, plain_schema}
-use Rattle.frame_laws.proofs.Rows.{option_alike, builtin_alike, listed_alike, message_alike, fields_alike, component_alike, element_alike, held_by_alike}
+use Rattle.value_types.proofs.PlainTypes.{builtin_of-plain, element_of-plain, held_by-plain}
+use Rattle.frame_laws.proofs.Rows.{option_alike, listed_alike, message_alike, fields_alike, component_alike}
 
 width_alike : (shape : Shape) → width (plain_shape shape) ≡ width shape
-width_alike shape = ap (λ (b : Option BuiltinType). option_map_or number_bytes b 0) (builtin_alike shape)
+width_alike shape = ap (λ (b : Option BuiltinType). option_map_or number_bytes b 0) (builtin_of-plain shape)
 
 module _ (layout : Layout) (s : Schema) where
   mutual
@@ -45,9 +46,9 @@ module _ (layout : Layout) (s : Schema) where
         ap (λ (o : Option Shape). index_bytes index ++ option_map_or (λ component. value_bytes layout (plain_schema s) component v) o []) (component_alike s shape index)
         ∙ ap (λ bytes. index_bytes index ++ bytes) (option_alike plain_shape (λ component. value_bytes layout (plain_schema s) component v) (λ component. value_bytes layout s component v) (λ component. value_alike component v) [] (component_of s shape index))
     value_alike shape (value.Array vs) =
-        ap (λ (o : Option Shape). word (count vs) ++ option_map_or (λ element. elements_bytes layout (plain_schema s) element vs) o []) (element_alike shape)
+        ap (λ (o : Option Shape). word (count vs) ++ option_map_or (λ element. elements_bytes layout (plain_schema s) element vs) o []) (element_of-plain shape)
         ∙ ap (λ bytes. word (count vs) ++ bytes) (option_alike plain_shape (λ element. elements_bytes layout (plain_schema s) element vs) (λ element. elements_bytes layout s element vs) (λ element. elements_alike element vs) [] (element_of shape))
-    value_alike shape (Maybe' held) = ap (λ (o : Option Shape). held_bytes layout (plain_schema s) o held) (held_by_alike shape) ∙ held_alike (held_by shape) held
+    value_alike shape (Maybe' held) = ap (λ (o : Option Shape). held_bytes layout (plain_schema s) o held) (held_by-plain shape) ∙ held_alike (held_by shape) held
     value_alike shape (value.Actor id) = refl
 
     held_alike : (inner : Option Shape) (held : Held-Value-Maybe-0) → held_bytes layout (plain_schema s) (option_map plain_shape inner) held ≡ held_bytes layout s inner held

@@ -11,7 +11,7 @@ use Rattle.ipdl_base.specs.declared.message.Message.{Message}
 use Rattle.ipdl_base.specs.declared.schema.MessageRow.{MessageRow}
 use Rattle.ipdl_base.specs.declared.schema.ParamRow.{ParamRow}
 use Rattle.ipdl_base.specs.declared.schema.Schema.{Schema}
-use Rattle.ipdl_base.specs.declared.schema.Shape.{Shape, Builtin, Using, Actor, Named, Array', Unique', Endpoint}
+use Rattle.ipdl_base.specs.declared.schema.Shape.{Shape, Actor}
 use Rattle.ipdl_base.specs.declared.schema.Shape as shapes
 use Rattle.ipdl_base.specs.declared.value.Value.{Value, Union', Maybe', Held-Value-Maybe-0, None', Some'}
 use Rattle.ipdl_base.specs.declared.value.Value.TheVariants as value
@@ -20,33 +20,24 @@ use Rattle.ipdl_base.specs.declared.value.Values.TheVariants as values
 use Rattle.ipdl_base.specs.Plain.{plain_shape}
 use Rattle.ipdl_base.specs.Sound.{message_of}
 use Rattle.value_types.specs.Fits.{Fits, FitsBody, HasFields, IsRequestOf, IsReplyTo, GivesReturns, IsFaultOf}
-use Rattle.value_types.specs.HasType.{HasType, HeldHasType, AllHaveType, HaveTypes, IsActorOf}
+use Rattle.value_types.specs.HasType.{HasType, HeldHasType, AllHaveType, HaveTypes}
 use Rattle.value_types.specs.Shapes.{range_of, float_bits, component_of, element_of, fields_of, held_by}
 use Rattle.schema_laws.specs.Laws.{plain_param_row, plain_message_row, plain_schema}
-use Rattle.frame_laws.proofs.Rows.{builtin_alike, are_bytes_alike, message_alike, fields_alike, component_alike, element_alike, held_by_alike, listed_alike, same_reply}
+use Rattle.value_types.proofs.PlainTypes.{builtin_of-plain, is_bytes-plain, element_of-plain, held_by-plain, actor_of-plain}
+use Rattle.frame_laws.proofs.Rows.{message_alike, fields_alike, component_alike, listed_alike, same_reply}
 
 some_alike : {X : Type 0} (look : X → X) (P Q : X → Type 0) → ((x : X) → P (look x) ≡ Q x) → (o : Option X) → IsSomeAnd (option_map look o) P ≡ IsSomeAnd o Q
 some_alike look P Q same None = refl
 some_alike look P Q same (Some x) = same x
 
-actor_alike : (shape : Shape) (id : ℤ) → IsActorOf (plain_shape shape) id ≡ IsActorOf shape id
-actor_alike (Builtin b) id = refl
-actor_alike (Using name) id = refl
-actor_alike (Actor p nullable) id = refl
-actor_alike (Named t) id = refl
-actor_alike (Array' _ e) id = refl
-actor_alike (shapes.Maybe' _ e) id = refl
-actor_alike (Unique' _ e) id = refl
-actor_alike (Endpoint p managed) id = refl
-
 module _ (s : Schema) where
   mutual
     typed : (shape : Shape) (v : Value) → HasType (plain_schema s) (plain_shape shape) v ≡ HasType s shape v
-    typed shape (value.Bool b) = λ i. builtin_alike shape i ≡ Some builtin.Bool
-    typed shape (value.Int n) = λ i. IsSomeAnd (option_and_then range_of (builtin_alike shape i)) (λ range. (range.0 ≤ℤ n) × (n ≤ℤ range.1))
-    typed shape (value.Text text) = λ i. (builtin_alike shape i ≡ Some builtin.NsString) × IsUtf8 text
-    typed shape (value.Bytes bytes) = λ i. IsTrue (are_bytes_alike shape i)
-    typed shape (value.Bits bits) = λ i. IsSomeAnd (option_and_then float_bits (builtin_alike shape i)) (λ most. bits < 2 ^ most)
+    typed shape (value.Bool b) = λ i. builtin_of-plain shape i ≡ Some builtin.Bool
+    typed shape (value.Int n) = λ i. IsSomeAnd (option_and_then range_of (builtin_of-plain shape i)) (λ range. (range.0 ≤ℤ n) × (n ≤ℤ range.1))
+    typed shape (value.Text text) = λ i. (builtin_of-plain shape i ≡ Some builtin.NsString) × IsUtf8 text
+    typed shape (value.Bytes bytes) = λ i. IsTrue (is_bytes-plain shape i)
+    typed shape (value.Bits bits) = λ i. IsSomeAnd (option_and_then float_bits (builtin_of-plain shape i)) (λ most. bits < 2 ^ most)
     typed shape (value.Struct vs) =
         (λ i. IsSomeAnd (fields_alike s shape i) (λ fields. HaveTypes (plain_schema s) fields vs))
         ∙ some_alike (map plain_param_row) (λ fields. HaveTypes (plain_schema s) fields vs) (λ fields. HaveTypes s fields vs) (λ fields. all_typed fields vs) (fields_of s shape)
@@ -54,12 +45,12 @@ module _ (s : Schema) where
         (λ i. IsSomeAnd (component_alike s shape index i) (λ component. HasType (plain_schema s) component v))
         ∙ some_alike plain_shape (λ component. HasType (plain_schema s) component v) (λ component. HasType s component v) (λ component. typed component v) (component_of s shape index)
     typed shape (value.Array vs) =
-        (λ i. IsSomeAnd (element_alike shape i) (λ element. AllHaveType (plain_schema s) element vs))
+        (λ i. IsSomeAnd (element_of-plain shape i) (λ element. AllHaveType (plain_schema s) element vs))
         ∙ some_alike plain_shape (λ element. AllHaveType (plain_schema s) element vs) (λ element. AllHaveType s element vs) (λ element. elements_typed element vs) (element_of shape)
     typed shape (Maybe' held) =
-        (λ i. IsSomeAnd (held_by_alike shape i) (λ inner. HeldHasType (plain_schema s) inner held))
+        (λ i. IsSomeAnd (held_by-plain shape i) (λ inner. HeldHasType (plain_schema s) inner held))
         ∙ some_alike plain_shape (λ inner. HeldHasType (plain_schema s) inner held) (λ inner. HeldHasType s inner held) (λ inner. held_typed inner held) (held_by shape)
-    typed shape (value.Actor id) = actor_alike shape id
+    typed shape (value.Actor id) = actor_of-plain shape id
 
     held_typed : (shape : Shape) (held : Held-Value-Maybe-0) → HeldHasType (plain_schema s) (plain_shape shape) held ≡ HeldHasType s shape held
     held_typed shape None' = refl

@@ -11,7 +11,7 @@ mod words;
 pub use history::History;
 pub use line::{Line, What};
 pub use text::{
-    history_text, params_of, push_listed, push_message, push_numbered, returns_of_number,
+    history_text, is_effect, params_of, push_listed, push_message, push_numbered, returns_of_number,
 };
 pub use words::reason_word;
 

@@ -425,7 +425,7 @@ fn push_what(
 }
 
 /// Whether a line is an effect of the event before it.
-fn is_effect(what: &What) -> bool
+pub fn is_effect(what: &What) -> bool
     ensures { result ≡ text.is_effect what.now }
 {
     matches!(

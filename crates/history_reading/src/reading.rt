@@ -1,12 +1,11 @@
 ghost use Rattle.std.specs.Prelude.{◌≡◌, OnOk, IfOk};
 ghost use Rattle.ipdl_base.specs.Sound.{IsSound};
-ghost use Rattle.history.specs.Text.{is_effect};
 ghost use Rattle.history_reading.specs.Halves.{half_view};
 ghost use Rattle.history_reading.specs.Reading as read;
 ghost use Rattle.history_reading.specs.Readings.{reading_view};
 
 use crate::half::Half;
-use history::{Line, What};
+use history::{Line, What, is_effect};
 use ipdl_base::{Schema, Side};
 use std::alloc::{AllocError, Global};
 
@@ -75,23 +74,6 @@ impl<'h> Reading<'h> {
     {
         self.note_at(schema, line.side, &line.what)
     }
-}
-
-/// Whether a line is an effect of the event before it.
-pub fn is_effect(what: &What) -> bool
-    ensures { result ≡ is_effect what.now }
-{
-    matches!(
-        what,
-        What::Built(..)
-            | What::Replaced(..)
-            | What::AnswerOk(..)
-            | What::AnswerFault(..)
-            | What::Fails(..)
-            | What::Resolved(..)
-            | What::Rejected(..)
-            | What::Fall(..)
-    )
 }
 
 /// The end of the last event behind a line of an end.

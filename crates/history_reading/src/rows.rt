@@ -96,20 +96,7 @@ pub fn params_of(schema: &Schema, number: u32) -> &[ParamRow]
     requires { IsSound schema.now }
     ensures { result.now ≡ rows.params_of schema.now number }
 {
-    match schema.message(number) {
-        Some(row) => row.params.as_slice(),
-        None => &[],
-    }
-}
-
-/// The returns of a message, or none where it has none.
-fn returns_of_row(row: &MessageRow) -> &[ParamRow]
-    ensures { result.now ≡ rows.returns_of_row row.now }
-{
-    match &row.returns {
-        Some(returns) => returns.as_slice(),
-        None => &[],
-    }
+    history::params_of(schema, number)
 }
 
 /// The returns of the message of a number, or none where it has none.
@@ -117,8 +104,5 @@ pub fn returns_of(schema: &Schema, number: u32) -> &[ParamRow]
     requires { IsSound schema.now }
     ensures { result.now ≡ rows.returns_of schema.now number }
 {
-    match schema.message(number) {
-        Some(row) => returns_of_row(row),
-        None => &[],
-    }
+    history::returns_of_number(schema, number)
 }

@@ -4,8 +4,8 @@ use std::alloc::{AllocError, Global};
 use std::hash::{Hash, Hasher};
 use std::marker::Model;
 
-/// A list of values in order, which contracts see as a list. It is made from a `Vec` and gives it
-/// back without taking memory.
+/// Values in their order; in a contract it is a list. Going from a `Vec` to it and back moves the
+/// values, so neither asks for memory.
 #[derive(Debug, Drop)]
 pub struct Items<T> {
     items: Vec<T>,

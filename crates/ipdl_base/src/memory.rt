@@ -151,9 +151,10 @@ impl Model for MemorySink {
 }
 
 impl MemorySink {
-    /// A sink that has taken memory for `room` bytes. A write takes at most `piece` bytes, and at
-    /// most the room that is left; one of a piece that is not empty fails where no room is left. The
-    /// n-th write fails where n, from 1, is among `fails`.
+    /// An empty sink whose memory, for `room` bytes in all, is taken here. The writes whose numbers,
+    /// counted from 1, stand in `fails` fail, and so does each that finds the sink full and has bytes
+    /// to write. Every other write takes as many bytes as the sink still holds, and never more than
+    /// `piece`.
     pub fn new(
         alloc: Global,
         piece: usize,

@@ -1,21 +1,9 @@
 -- Lists that gather numbers, one element after another.
-use Rattle.std.proofs.Common.{◌≡◌, ℕ, ◌+◌, ◌<◌, List, [], ◌∷◌, ◌++◌, length, take, get_or, ◌⊎◌, inl, inr, subst, sym}
+use Rattle.std.proofs.Common.{◌≡◌, ℕ, ◌+◌, ◌<◌, List, [], ◌∷◌, ◌++◌, length, take, get_or, inl, inr, subst, sym}
 use Rattle.std.specs.Prelude.{◌↔◌}
 use Rattle.std.specs.List.{Any, Contains}
-use Rattle.std.proofs.lemmas.List.{take_more}
 use Rattle.std.proofs.lemmas.List.Elements.{Contains-push, Contains-push_cases, Contains-append_left}
-use Rattle.std.proofs.lemmas.List.Quantifiers.{Any-push}
-use Rattle.findings.proofs.Elements.{any_cases, any_left}
-
--- what holds of one of the first elements, of one more than these, or of the next
-pub any_more : {X : Type 0} (P : X → Type 0) (xs : List X) (i : ℕ) (d : X) → i < length xs → Any P (take (i + 1) xs) → Any P (take i xs) ⊎ P (get_or xs i d)
-any_more P xs i d lt h = any_cases P (take i xs) (get_or xs i d) (rw (take_more xs i d lt) at h)
-
-pub any_before : {X : Type 0} (P : X → Type 0) (xs : List X) (i : ℕ) (d : X) → i < length xs → Any P (take i xs) → Any P (take (i + 1) xs)
-any_before P xs i d lt h = rw (take_more xs i d lt) (any_left P (take i xs) (get_or xs i d ∷ []) h)
-
-pub any_here : {X : Type 0} (P : X → Type 0) (xs : List X) (i : ℕ) (d : X) → i < length xs → P (get_or xs i d) → Any P (take (i + 1) xs)
-any_here P xs i d lt h = rw (take_more xs i d lt) (Any-push P (take i xs) (get_or xs i d) h)
+use Rattle.findings.proofs.Elements.{any_more, any_before, any_here}
 
 -- the next element gives one number
 pub gathers_one : {X : Type 0} (Holds : X → ℕ → Type 0) (xs : List X) (i : ℕ) (x : X) (n : ℕ) (old new : List ℕ) → i < length xs → x ≡ get_or xs i x → Holds x n → ((m : ℕ) → Holds x m → n ≡ m) → new ≡ old ++ n ∷ [] → ((m : ℕ) → Contains old m ↔ Any (λ y. Holds y m) (take i xs)) → (m : ℕ) → Contains new m ↔ Any (λ y. Holds y m) (take (i + 1) xs)

@@ -1,5 +1,5 @@
 -- The names of what a protocol manages, as a set.
-use Rattle.std.proofs.Common.{◌≡◌, ℕ, ◌+◌, ◌<◌, Bool, true, false, cond, List, [], ◌∷◌, length, take, get_or, Bor, ◌⊎◌, inl, inr, refl, sym, ◌∙◌, ap, arith}
+use Rattle.std.proofs.Common.{◌≡◌, ℕ, ◌+◌, ◌<◌, Bool, true, false, cond, List, [], ◌∷◌, length, take, get_or, Bor, inl, inr, sym, ◌∙◌, ap, arith}
 use Rattle.std.specs.HashSet.{HashSet, contains}
 use Rattle.std.specs.List.{list_any}
 use Rattle.std.specs.Str.{bytes_eq}
@@ -10,6 +10,7 @@ use Rattle.std.proofs.lemmas.List.Quantifiers.{Any-push}
 use Rattle.std.proofs.lemmas.Slice.Eq.{bytes_eq-Decides}
 use Rattle.ipdl_syntax.specs.declared.tree.NameAt.{NameAt}
 use Rattle.findings.proofs.Elements.{any_cases, any_left}
+use Rattle.findings.proofs.Repeated.{cond_true, true_cond}
 use Rattle.message_rules.specs.Breaches.{same_name, HasNames}
 
 -- a set without keys has the names of nothing
@@ -17,14 +18,6 @@ pub HasNames-none : {S : Type 0} (set : HashSet (Bor (List ℕ)) S) → set.keys
 HasNames-none set none = record {
   exact = λ q. ((λ h. absurd (true≢false (sym h ∙ ap (list_any (same_name q)) none))), (λ h. let no : ⊥ = omega (arith, h.2) in absurd no));
 }
-
-cond_true : (b x : Bool) → cond b true x ≡ true → (b ≡ true) ⊎ (x ≡ true)
-cond_true true x h = inl refl
-cond_true false x h = inr h
-
-true_cond : (b x : Bool) → x ≡ true → cond b true x ≡ true
-true_cond true x h = refl
-true_cond false x h = h
 
 -- one name more
 pub HasNames-more : {S : Type 0} (old new : HashSet (Bor (List ℕ)) S) (names : List NameAt) (i : ℕ) (d : NameAt) (key : Bor (List ℕ)) → i < length names → key.now ≡ (get_or names i d).name

@@ -54,6 +54,6 @@ innermost_sync_dispatch frames = innermost is_sync_dispatch frames
 abbrev pub innermost_wait : List Frame → Option Head
 innermost_wait frames = innermost is_wait frames
 
--- whether a wait, answered or not, is on the stack
+-- whether any of the frames is a wait; one whose answer is there counts too
 abbrev pub has_wait : List Frame → Bool
 has_wait frames = list_any is_wait frames

@@ -82,7 +82,7 @@ impl Stack {
         top(self.outward())
     }
 
-    /// Whether a wait, answered or not, is on the stack.
+    /// Whether any call of this end is still under way, be its answer there or not.
     pub fn has_wait(&self) -> bool
         ensures { result ≡ has_wait self.now }
     {

@@ -2,6 +2,7 @@ ghost use Rattle.std.specs.Prelude.{◌≡◌};
 ghost use Rattle.pending_queue.specs.Compression.{is_request, is_request_of, are_alike};
 
 use ipdl_base::{Body, Level, Message};
+use thiserror::Error;
 
 /// What arrives at an end.
 #[derive(Debug, Drop, PartialEq)]
@@ -27,8 +28,9 @@ pub enum Pushed {
 }
 
 /// Why a push failed. It hands the item back.
-#[derive(Debug, Drop, PartialEq)]
+#[derive(Debug, Drop, PartialEq, Error)]
 pub enum PushFault {
+    #[error("no memory")]
     NoMemory(Item),
 }
 

@@ -78,8 +78,8 @@ impl Promises {
         settle_number(self.promises.as_mut_slice(), seq, outcome)
     }
 
-    /// Rejects the oldest pending promise of the actor, and gives its number; `None` exactly where
-    /// the actor has none.
+    /// One step of a rejection of the actor's promises: the oldest of them that pends is rejected and
+    /// its number is given. `None` says that none of them pends.
     pub fn reject_of(&mut self, actor: i32, reason: Reason) -> Option<i32>
         ensures oldest { result ≡ oldest (is_pending_of actor) self.old }
         ensures rejected { self.new ≡ with_rejected self.old result reason }
@@ -88,8 +88,8 @@ impl Promises {
         reject_oldest_of(self.promises.as_mut_slice(), actor, reason)
     }
 
-    /// Rejects the oldest pending promise, and gives its number; `None` exactly where there is
-    /// none.
+    /// One step of a rejection of all promises, of whatever actor: the oldest that pends is rejected
+    /// and its number is given. `None` says that nothing pends any more, so the rejection is over.
     pub fn reject_all(&mut self, reason: Reason) -> Option<i32>
         ensures oldest { result ≡ oldest is_pending self.old }
         ensures rejected { self.new ≡ with_rejected self.old result reason }

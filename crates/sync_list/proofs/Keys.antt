@@ -1,15 +1,13 @@
 -- Sets that grow.
-use Rattle.std.proofs.Common.{◌≡◌, ℕ, ◌+◌, ◌<◌, Bool, true, false, cond, List, [], ◌∷◌, length, take, get_or, Option, Some, None, Bor, subst, ◌⊎◌, inl, inr, refl, sym, ◌∙◌, ap, arith}
+use Rattle.std.proofs.Common.{◌≡◌, ℕ, ◌+◌, ◌<◌, Bool, true, false, cond, List, [], length, take, get_or, Option, Some, None, Bor, subst, ◌⊎◌, inl, inr, refl, sym, ◌∙◌, ap, arith}
 use Rattle.std.specs.Prelude.{IsSomeAnd}
 use Rattle.std.specs.Bool.{Decides}
 use Rattle.std.specs.HashSet.{HashSet, contains}
 use Rattle.std.specs.List.{Any, list_any}
 use Rattle.std.proofs.lemmas.Bool.{true≢false}
 use Rattle.std.proofs.lemmas.Bool.Decides.{Decides-and, Decides-like}
-use Rattle.std.proofs.lemmas.List.{take_more}
-use Rattle.std.proofs.lemmas.List.Quantifiers.{Any-push}
 use Rattle.std.proofs.lemmas.Slice.Eq.{bytes_eq-Decides}
-use Rattle.findings.proofs.Elements.{any_cases, any_left}
+use Rattle.findings.proofs.Elements.{any_more, any_before, any_here}
 use Rattle.sync_list.specs.Sets.{NamePair, same_name, same_pair, KeysAre, AddsKeys}
 
 -- pairs are the same where both names are
@@ -53,15 +51,6 @@ Adds-as eq old new P Q adds to back = record {
     λ h. (adds.exact q).1 (elim h [ inl x ↦ inl x | inr x ↦ inr (back q x) ]),
   );
 }
-
-any_more : {X : Type 0} (P : X → Type 0) (xs : List X) (i : ℕ) (d : X) → i < length xs → Any P (take (i + 1) xs) → Any P (take i xs) ⊎ P (get_or xs i d)
-any_more P xs i d lt h = any_cases P (take i xs) (get_or xs i d) (rw (take_more xs i d lt) at h)
-
-any_before : {X : Type 0} (P : X → Type 0) (xs : List X) (i : ℕ) (d : X) → i < length xs → Any P (take i xs) → Any P (take (i + 1) xs)
-any_before P xs i d lt h = rw (take_more xs i d lt) (any_left P (take i xs) (get_or xs i d ∷ []) h)
-
-any_here : {X : Type 0} (P : X → Type 0) (xs : List X) (i : ℕ) (d : X) → i < length xs → P (get_or xs i d) → Any P (take (i + 1) xs)
-any_here P xs i d lt h = rw (take_more xs i d lt) (Any-push P (take i xs) (get_or xs i d) h)
 
 -- the keys of one more element
 pub Adds-one_more : {K S X : Type 0} (eq : K → K → Bool) (P : K → X → Type 0) (xs : List X) (i : ℕ) (d : X) (a b c : HashSet K S) → i < length xs → AddsKeys eq a b (λ q. Any (P q) (take i xs)) → AddsKeys eq b c (λ q. P q (get_or xs i d)) → AddsKeys eq a c (λ q. Any (P q) (take (i + 1) xs))

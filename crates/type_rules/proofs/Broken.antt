@@ -7,7 +7,8 @@ use Rattle.ipdl_base.specs.declared.finding.Place.{Place}
 use Rattle.ipdl_base.specs.declared.finding.Rule.{Rule}
 use Rattle.findings.proofs.Same.{same_finding}
 use Rattle.findings.specs.Gains.{Gains}
-use Rattle.type_rules.proofs.Gains.{Gains-like, Gains-push, Gains-quiet}
+use Rattle.findings.proofs.Gathers.{Gains-like, Gains-none}
+use Rattle.type_rules.proofs.Gains.{Gains-push}
 
 -- the one rule that is broken at a place
 pub Gains-rule : (P : Rule → Type 0) (at : Place) (o : Option Rule) (r : Rule) (old new : List Finding) → ((rule : Rule) → (o ≡ Some rule) ↔ P rule) → o ≡ Some r → new ≡ old ++ record { place = at; rule = r } ∷ [] → Gains (λ f. P f.rule × (at ≡ f.place)) old new
@@ -19,4 +20,4 @@ Gains-rule P at o r old new told is e =
 
 -- or none
 pub Gains-no_rule : (P : Rule → Type 0) (at : Place) (o : Option Rule) (old new : List Finding) → ((rule : Rule) → (o ≡ Some rule) ↔ P rule) → o ≡ None → new ≡ old → Gains (λ f. P f.rule × (at ≡ f.place)) old new
-Gains-no_rule P at o old new told is e = Gains-quiet (λ f. P f.rule × (at ≡ f.place)) old new (λ f h. none-some f.rule (sym is ∙ (told f.rule).1 h.0)) e
+Gains-no_rule P at o old new told is e = Gains-none (λ f. P f.rule × (at ≡ f.place)) old new (λ f h. none-some f.rule (sym is ∙ (told f.rule).1 h.0)) e

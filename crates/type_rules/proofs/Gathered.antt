@@ -15,7 +15,7 @@ use Rattle.type_rules.specs.Broken.{BrokenAt}
 use Rattle.type_rules.specs.Declarations.{IsRepeatedDeclaration, IsRepeatedField}
 use Rattle.type_rules.specs.Defined.{IsUndefinedType}
 use Rattle.type_rules.specs.Written.{SomeType}
-use Rattle.type_rules.proofs.Gains.{Gains-then, Gains-like}
+use Rattle.findings.proofs.Gathers.{Gains-then, Gains-like}
 use Rattle.type_rules.proofs.Types.{types_break}
 
 gains_of_adds : (r : Rule) (P : Place → Type 0) (old new : List Finding) → Adds r P old new → Gains (λ f. (f.rule ≡ r) × P f.place) old new

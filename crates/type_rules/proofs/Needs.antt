@@ -21,7 +21,8 @@ use Rattle.type_rules.specs.Parts.{IsPart, IsFree, AddsPart, AreParts, IsNodeOf,
 use Rattle.type_rules.specs.declared.compounds.Compound.{Compound}
 use Rattle.type_rules.specs.declared.compounds.FileNumbers.{FileNumbers}
 use Rattle.type_rules.specs.declared.parts.Parts.{Parts}
-use Rattle.type_rules.proofs.Lists.{slice_get-left, slice_get-last, slice_get_last_cases}
+use Rattle.findings.proofs.Indexed.{slice_get-push, slice_get-last}
+use Rattle.type_rules.proofs.Lists.{slice_get-left}
 
 free_finds : (program : List Entry) (files : List FileNumbers) (file : ℕ) (name : List ℕ) (argument : Option (List ℕ)) (finds : Found) (d : DeclId) (n : ℕ) → Counts (Finds program file name argument) finds → number_found files finds ≡ None → FindsOne program file name argument d → number_of files d ≡ Some n → ⊥
 free_finds program files file name argument found.None d n counts none one at = counts d one.0
@@ -82,13 +83,13 @@ nodes_none program files = record { long = refl; each = λ k c h. absurd (none-s
 nodes_push : (program : List Entry) (files : List FileNumbers) (all : List Numbered) (c : Numbered) (nodes : List Node) (node : Node) → AreNodes program files all nodes → IsNodeOf program files c node → AreNodes program files (all ++ c ∷ []) (nodes ++ node ∷ [])
 nodes_push program files all c nodes node before is = record {
   long = length_push nodes node ∙ ap (λ n. n + 1) before.long ∙ sym (length_push all c);
-  each = λ k d h. elim (slice_get_last_cases all c k d h) [
+  each = λ k d h. elim (slice_get-push all c k d h) [
     | inl e ↦ (let o = before.each k d e in (o.0, slice_get-left nodes (node ∷ []) k o.0 o.1, o.2))
     | inr e ↦ (
         let here : length nodes ≡ k = before.long ∙ sym e.0 in
         let P : ℕ → Type 0 = λ k. slice_get (nodes ++ node ∷ []) k ≡ Some node in
         let Q : Numbered → Type 0 = λ z. IsNodeOf program files z node in
-        (node, subst P here (slice_get-last nodes node), subst Q (sym e.1) is)
+        (node, subst P here (slice_get-last nodes node), subst Q e.1 is)
         )
   ];
 }

@@ -12,7 +12,8 @@ use Rattle.name_table.specs.declared.decl.DeclId.TheVariants.{Struct, Union}
 use Rattle.name_table.specs.Decls.{struct_of, union_of}
 use Rattle.type_rules.specs.Compounds.{Numbered, struct, union, IsIn, AreNumbers, AreOfFile, number_of, AllNumbered}
 use Rattle.type_rules.specs.declared.compounds.FileNumbers.{FileNumbers}
-use Rattle.type_rules.proofs.Lists.{any_of_map, slice_get-left, slice_get-last, slice_get_last_cases}
+use Rattle.findings.proofs.Indexed.{slice_get-push, slice_get-last}
+use Rattle.type_rules.proofs.Lists.{any_of_map, slice_get-left}
 
 -- none of these yet
 pub numbers_none : {X : Type 0} (make : X → Numbered) (all : List Numbered) → AreNumbers make [] [] all all
@@ -22,13 +23,13 @@ numbers_push : {X : Type 0} (make : X → Numbered) (xs : List X) (x : X) (numbe
 numbers_push {X} make xs x numbers old mid before = record {
   long = length_push numbers (length mid) ∙ ap (λ n. n + 1) before.long ∙ sym (length_push xs x);
   grown = ap (λ l. l ++ make x ∷ []) before.grown ∙ append_assoc old (map make xs) (make x ∷ []) ∙ ap (λ l. old ++ l) (sym (map-append make xs (x ∷ [])));
-  each = λ place z h. elim (slice_get_last_cases xs x place z h) [
+  each = λ place z h. elim (slice_get-push xs x place z h) [
     | inl e ↦ (let o = before.each place z e in (o.0, slice_get-left numbers (length mid ∷ []) place o.0 o.1, slice_get-left mid (make x ∷ []) o.0 (make z) o.2))
     | inr e ↦ (
         let here : length numbers ≡ place = before.long ∙ sym e.0 in
         let P : ℕ → Type 0 = λ k. slice_get (numbers ++ length mid ∷ []) k ≡ Some (length mid) in
         let Q : X → Type 0 = λ y. slice_get (mid ++ make x ∷ []) (length mid) ≡ Some (make y) in
-        (length mid, subst P here (slice_get-last numbers (length mid)), subst Q (sym e.1) (slice_get-last mid (make x)))
+        (length mid, subst P here (slice_get-last numbers (length mid)), subst Q e.1 (slice_get-last mid (make x)))
         )
   ];
 }
@@ -60,14 +61,14 @@ numbered_struct : (es : List Entry) (e : Entry) (all new : List Numbered) (files
     → (file place : ℕ) (s : StructDecl) → struct_of (es ++ e ∷ []) file place ≡ Some s → (n : ℕ) × (number_of (files ++ f ∷ []) (Struct file place) ≡ Some n) × (slice_get new n ≡ Some (struct file s))
 numbered_struct es e all new files f before of file place s h = option_and_then_some (λ (e : Entry). slice_get e.unit.structs place) (slice_get (es ++ e ∷ []) file) s h (λ x here there.
     let G : FileNumbers → Option ℕ = λ f. slice_get f.structs.items place in
-    elim (slice_get_last_cases es e file x here) [
+    elim (slice_get-push es e file x here) [
       | inl old ↦ (
           let o = before.structs file place s (ap (option_and_then (λ (e : Entry). slice_get e.unit.structs place)) old ∙ there) in
           let kept_number = option_and_then_some G (slice_get files file) o.0 o.1 (λ y at is. ap (option_and_then G) (slice_get-left files (f ∷ []) file y at) ∙ is) in
           (o.0, kept_number, kept _ _ _ _ _ of.unions o.0 (struct file s) (kept _ _ _ _ _ of.structs o.0 (struct file s) o.2))
           )
       | inr last ↦ (
-          let o = of.structs.each place s (ap (λ (e : Entry). slice_get e.unit.structs place) (sym last.1) ∙ there) in
+          let o = of.structs.each place s (ap (λ (e : Entry). slice_get e.unit.structs place) last.1 ∙ there) in
           let at : slice_get (files ++ f ∷ []) file ≡ Some f = ap (slice_get (files ++ f ∷ [])) (last.0 ∙ sym before.long) ∙ slice_get-last files f in
           let P : ℕ → Type 0 = λ n. slice_get new o.0 ≡ Some (struct n s) in
           (o.0, ap (option_and_then G) at ∙ o.1, subst P (sym last.0) (kept _ _ _ _ _ of.unions o.0 (struct (length es) s) o.2))
@@ -78,14 +79,14 @@ numbered_union : (es : List Entry) (e : Entry) (all new : List Numbered) (files 
     → (file place : ℕ) (u : UnionDecl) → union_of (es ++ e ∷ []) file place ≡ Some u → (n : ℕ) × (number_of (files ++ f ∷ []) (Union file place) ≡ Some n) × (slice_get new n ≡ Some (union file u))
 numbered_union es e all new files f before of file place u h = option_and_then_some (λ (e : Entry). slice_get e.unit.unions place) (slice_get (es ++ e ∷ []) file) u h (λ x here there.
     let G : FileNumbers → Option ℕ = λ f. slice_get f.unions.items place in
-    elim (slice_get_last_cases es e file x here) [
+    elim (slice_get-push es e file x here) [
       | inl old ↦ (
           let o = before.unions file place u (ap (option_and_then (λ (e : Entry). slice_get e.unit.unions place)) old ∙ there) in
           let kept_number = option_and_then_some G (slice_get files file) o.0 o.1 (λ y at is. ap (option_and_then G) (slice_get-left files (f ∷ []) file y at) ∙ is) in
           (o.0, kept_number, kept _ _ _ _ _ of.unions o.0 (union file u) (kept _ _ _ _ _ of.structs o.0 (union file u) o.2))
           )
       | inr last ↦ (
-          let o = of.unions.each place u (ap (λ (e : Entry). slice_get e.unit.unions place) (sym last.1) ∙ there) in
+          let o = of.unions.each place u (ap (λ (e : Entry). slice_get e.unit.unions place) last.1 ∙ there) in
           let at : slice_get (files ++ f ∷ []) file ≡ Some f = ap (slice_get (files ++ f ∷ [])) (last.0 ∙ sym before.long) ∙ slice_get-last files f in
           let P : ℕ → Type 0 = λ n. slice_get new o.0 ≡ Some (union n u) in
           (o.0, ap (option_and_then G) at ∙ o.1, subst P (sym last.0) o.2)

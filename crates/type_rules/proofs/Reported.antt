@@ -15,7 +15,7 @@ use Rattle.type_rules.specs.Parts.{AreNodes}
 use Rattle.type_rules.specs.declared.compounds.Compound.{Compound}
 use Rattle.type_rules.specs.declared.compounds.FileNumbers.{FileNumbers}
 use Rattle.type_rules.proofs.Definedness.{derived_defined, defined_derived}
-use Rattle.type_rules.proofs.Gains.{Gains-like}
+use Rattle.findings.proofs.Gathers.{Gains-like}
 use Rattle.type_rules.proofs.Lists.{read_map, contains_read}
 
 -- one that stands in the program and is not defined is reported there

@@ -5,7 +5,8 @@ use Rattle.ipdl_base.specs.declared.finding.Place.{Place}
 use Rattle.ipdl_base.specs.declared.finding.Rule.{Rule}
 use Rattle.findings.proofs.Same.{same_finding}
 use Rattle.findings.specs.Gains.{Gains}
-use Rattle.type_rules.proofs.Gains.{Gains-like, Gains-push, Gains-quiet}
+use Rattle.findings.proofs.Gathers.{Gains-like, Gains-none}
+use Rattle.type_rules.proofs.Gains.{Gains-push}
 
 -- a finding where this holds
 pub Gains-unmarked : (r : Rule) (at : Place) (P : Type 0) (old new : List Finding) → P → new ≡ old ++ record { place = at; rule = r } ∷ [] → Gains (λ f. (f.rule ≡ r) × P × (at ≡ f.place)) old new
@@ -17,4 +18,4 @@ Gains-unmarked r at P old new holds e =
 
 -- none where it does not
 pub Gains-marked : (r : Rule) (at : Place) (P : Type 0) (old new : List Finding) → ¬ P → new ≡ old → Gains (λ f. (f.rule ≡ r) × P × (at ≡ f.place)) old new
-Gains-marked r at P old new not e = Gains-quiet (λ f. (f.rule ≡ r) × P × (at ≡ f.place)) old new (λ f h. not h.1) e
+Gains-marked r at P old new not e = Gains-none (λ f. (f.rule ≡ r) × P × (at ≡ f.place)) old new (λ f h. not h.1) e

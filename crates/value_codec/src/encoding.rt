@@ -11,13 +11,16 @@ ghost use Rattle.value_codec.specs.Spelling.{FrameOf, frame_bytes};
 use crate::writing::frame_of;
 use ipdl_base::{Message, Schema};
 use std::alloc::{AllocError, Global};
+use thiserror::Error;
 use value_types::{NEW, payload_size};
 
 /// Why a message is not encoded.
-#[derive(Clone, Copy, Debug, PartialEq, Eq)]
+#[derive(Clone, Copy, Debug, PartialEq, Eq, Error)]
 pub enum EncodeFault {
     /// The payload has so many bytes, or at least so many where this is the greatest `usize`.
+    #[error("a payload of {0} bytes is too large for a frame")]
     TooLarge(usize),
+    #[error("no memory")]
     NoMemory,
 }
 

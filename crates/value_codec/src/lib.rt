@@ -10,7 +10,6 @@ mod parts;
 mod payload;
 mod reading;
 pub mod rules;
-mod shapes;
 mod values;
 mod writing;
 

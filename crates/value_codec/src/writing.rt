@@ -1,6 +1,6 @@
 //! Values and messages as bytes.
 
-ghost use Rattle.std.specs.Prelude.{◌≡◌, ◌++◌, ◌^◌, ◌%◌, OnOk, IfOk, option_map, length};
+ghost use Rattle.std.specs.Prelude.{◌≡◌, ◌≤◌, ◌++◌, ◌^◌, ◌%◌, OnOk, IfOk, option_map, length};
 ghost use Rattle.ipdl_base.specs.Sound.{IsSound};
 ghost use Rattle.value_codec.specs.Spelling as spelling;
 ghost use Rattle.value_codec.specs.Spelling.{value_bytes, elements_bytes, values_bytes, body_bytes, payload_bytes, address_bytes, order_bytes, fields_bytes, mark_of, frame_bytes};
@@ -8,10 +8,11 @@ ghost use Rattle.value_codec.specs.Spelling.{value_bytes, elements_bytes, values
 use crate::header::{Header, fault_flags, reply_flags, request_flags};
 use crate::parts::{put_counted, put_index, put_number, put_part, put_signed_word, put_word};
 use crate::reading::STRUCT_BYTE;
-use crate::shapes::{component_of, element_of, fields_of, held_by, width};
 use ipdl_base::{Body, Kind, Message, MessageRow, ParamRow, Reason, Schema, Shape, Value, Values};
 use std::alloc::{AllocError, Global};
-use value_types::{Layout, MARK};
+use value_types::{
+    Layout, MARK, builtin_of, component_of, element_of, fields_of, held_by, number_bytes,
+};
 
 /// The number of values, as far as four bytes hold it.
 fn count(values: &Values) -> u32
@@ -20,6 +21,17 @@ fn count(values: &Values) -> u32
     match values {
         Values::Nothing => 0,
         Values::First(_, rest) => count(rest).wrapping_add(1),
+    }
+}
+
+/// The bytes of a number of a type.
+fn width(shape: &Shape) -> usize
+    ensures value { result ≡ spelling.width shape.now }
+    ensures few { result ≤ 8 }
+{
+    match builtin_of(shape) {
+        Some(builtin) => number_bytes(builtin),
+        None => 0,
     }
 }
 

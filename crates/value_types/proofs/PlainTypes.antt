@@ -20,7 +20,7 @@ use Rattle.value_types.specs.Sizes.{padded, value_size, held_size, elements_size
 use Rattle.value_types.specs.ValueText.{value_text, held_text, elements_text, parts_text, hex_digits, digit_count_of}
 
 -- what a type is, and what it says of the parts of its values
-builtin_of-plain : (shape : Shape) → builtin_of (plain_shape shape) ≡ builtin_of shape
+pub builtin_of-plain : (shape : Shape) → builtin_of (plain_shape shape) ≡ builtin_of shape
 builtin_of-plain (Builtin b) = refl
 builtin_of-plain (Using name) = refl
 builtin_of-plain (Actor p nullable) = refl
@@ -30,7 +30,7 @@ builtin_of-plain (Maybe' _ s) = refl
 builtin_of-plain (Unique' _ s) = refl
 builtin_of-plain (Endpoint p managed) = refl
 
-is_bytes-plain : (shape : Shape) → is_bytes (plain_shape shape) ≡ is_bytes shape
+pub is_bytes-plain : (shape : Shape) → is_bytes (plain_shape shape) ≡ is_bytes shape
 is_bytes-plain (Builtin b) = refl
 is_bytes-plain (Using name) = refl
 is_bytes-plain (Actor p nullable) = refl
@@ -56,7 +56,7 @@ fields_of-plain schema shape = λ i. option_and_then fields_in (row_of-plain sch
 component_of-plain : (schema : Schema) (shape : Shape) (index : ℕ) → component_of schema (plain_shape shape) index ≡ component_of schema shape index
 component_of-plain schema shape index = λ i. option_and_then (component_in index) (row_of-plain schema shape i)
 
-element_of-plain : (shape : Shape) → element_of (plain_shape shape) ≡ option_map plain_shape (element_of shape)
+pub element_of-plain : (shape : Shape) → element_of (plain_shape shape) ≡ option_map plain_shape (element_of shape)
 element_of-plain (Builtin b) = refl
 element_of-plain (Using name) = refl
 element_of-plain (Actor p nullable) = refl
@@ -66,7 +66,7 @@ element_of-plain (Maybe' _ s) = refl
 element_of-plain (Unique' _ s) = refl
 element_of-plain (Endpoint p managed) = refl
 
-held_by-plain : (shape : Shape) → held_by (plain_shape shape) ≡ option_map plain_shape (held_by shape)
+pub held_by-plain : (shape : Shape) → held_by (plain_shape shape) ≡ option_map plain_shape (held_by shape)
 held_by-plain (Builtin b) = refl
 held_by-plain (Using name) = refl
 held_by-plain (Actor p nullable) = refl
@@ -76,7 +76,7 @@ held_by-plain (Maybe' _ s) = refl
 held_by-plain (Unique' _ s) = refl
 held_by-plain (Endpoint p managed) = refl
 
-actor_of-plain : (shape : Shape) (id : ℤ) → IsActorOf (plain_shape shape) id ≡ IsActorOf shape id
+pub actor_of-plain : (shape : Shape) (id : ℤ) → IsActorOf (plain_shape shape) id ≡ IsActorOf shape id
 actor_of-plain (Builtin b) id = refl
 actor_of-plain (Using name) id = refl
 actor_of-plain (Actor p nullable) id = refl

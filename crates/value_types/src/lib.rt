@@ -12,7 +12,8 @@ mod text;
 pub use fits::{value_fits, values_fit};
 pub use laws::{boxes_say_nothing, new_is_at_most_four_times};
 pub use layout::{Layout, MARK, NEW, OLD};
-pub use sizes::{body_size, payload_size, value_size, values_size};
+pub use shapes::{builtin_of, component_of, element_of, fields_of, held_by, is_bytes};
+pub use sizes::{body_size, number_bytes, payload_size, value_size, values_size};
 pub use text::{push_value, push_values};
 
 #[cfg(test)]

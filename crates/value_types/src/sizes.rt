@@ -1,4 +1,4 @@
-ghost use Rattle.std.specs.Prelude.{◌≡◌, ◌+◌, min, length, unwrap_or, option_map};
+ghost use Rattle.std.specs.Prelude.{◌≡◌, ◌≤◌, ◌+◌, min, length, unwrap_or, option_map};
 ghost use Rattle.ipdl_base.specs.Sound.{IsSound};
 ghost use Rattle.value_types.specs.Sizes as size;
 
@@ -17,9 +17,10 @@ fn padded(layout: Layout, bytes: usize) -> usize
     }
 }
 
-/// The bytes of a number of a builtin.
-fn number_bytes(builtin: Builtin) -> usize
-    ensures { result ≡ size.number_bytes builtin }
+/// How many bytes a number of a builtin takes, without padding; 0 where its values are no numbers.
+pub fn number_bytes(builtin: Builtin) -> usize
+    ensures value { result ≡ size.number_bytes builtin }
+    ensures few { result ≤ 8 }
 {
     match builtin {
         Builtin::Char | Builtin::Int8 | Builtin::Uint8 => 1,

@@ -1,5 +1,5 @@
 use Rattle.std.proofs.lemmas.Result.{on_ok_weaker}
-use Rattle.type_rules.proofs.Gains.{Gains-then}
+use Rattle.findings.proofs.Gathers.{Gains-then}
 use Rattle.type_rules.proofs.written.+add_type.Goals as goal
 
 pub returns-in-Named : goal.returns-in-Named

@@ -1,7 +1,7 @@
 use Rattle.std.proofs.Common.{refl}
 use Rattle.type_rules.specs.Breaks.{BreaksAt}
 use Rattle.type_rules.specs.Written.{InParams}
-use Rattle.type_rules.proofs.Gains.{Gains-then, Gains-of_some, Gains-of_none}
+use Rattle.findings.proofs.Gathers.{Gains-then, Gains-of_some, Gains-of_none}
 use Rattle.type_rules.proofs.written.add_message.Goals as goal
 
 pub returns-in_ok-add_params-2 : goal.returns-in_ok-add_params-2

@@ -4,7 +4,7 @@ use Rattle.ipdl_base.specs.declared.finding.Finding.{Finding}
 use Rattle.ipdl_syntax.specs.declared.tree.ProtocolDecl.{ProtocolDecl}
 use Rattle.type_rules.specs.Breaks.{BreaksAt}
 use Rattle.type_rules.specs.Written.{InMessage}
-use Rattle.type_rules.proofs.Gains.{Gains-then, Gains-of_some, Gains-of_none}
+use Rattle.findings.proofs.Gathers.{Gains-then, Gains-of_some, Gains-of_none}
 use Rattle.type_rules.proofs.written.add_unit.Goals as goal
 
 pub returns-in_ok-add_messages : goal.returns-in_ok-add_messages
