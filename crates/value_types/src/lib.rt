@@ -14,6 +14,3 @@ pub use laws::{boxes_say_nothing, new_is_at_most_four_times};
 pub use layout::{Layout, MARK, NEW, OLD};
 pub use sizes::{body_size, payload_size, value_size, values_size};
 pub use text::{push_value, push_values};
-
-#[cfg(test)]
-mod tests;
