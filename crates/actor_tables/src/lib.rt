@@ -14,6 +14,3 @@ mod writer;
 
 pub use build::schema;
 pub use writer::table_text;
-
-#[cfg(test)]
-mod tests;

@@ -4,8 +4,6 @@
 mod actor;
 mod laws;
 mod search;
-#[cfg(test)]
-mod tests;
 mod tree;
 
 pub use actor::Actor;

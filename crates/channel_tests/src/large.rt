@@ -52,9 +52,8 @@ fn long_history(rt: HostRuntime) -> Result<(), Fail> {
         assert!(rt; holds(alloc, law, &schema, &history)?);
     }
     let count = history.lines().len();
-    if can_read(alloc, &schema, &history, count)? {
-        let calls = chain(alloc, &schema, &history, count)?;
-        assert!(rt; calls.is_empty());
-    }
+    assert!(rt; can_read(alloc, &schema, &history, count)?);
+    let calls = chain(alloc, &schema, &history, count)?;
+    assert!(rt; calls.is_empty());
     Ok(())
 }

@@ -17,6 +17,3 @@ pub use command::{Command, read_words};
 pub use fault::WordsFault;
 pub use keys::key_of;
 pub use laws::{one_command, other_commands_are_none};
-
-#[cfg(test)]
-mod tests;

@@ -8,6 +8,3 @@ mod report;
 pub use laws::one_report;
 pub use repeats::{NamePlace, add_repeated};
 pub use report::sorted;
-
-#[cfg(test)]
-mod tests;

@@ -3,6 +3,8 @@
 #![tactic(auto)]
 
 #[cfg(test)]
+mod built_names;
+#[cfg(test)]
 mod given;
 #[cfg(test)]
 mod large;

@@ -19,6 +19,26 @@ const PA: (&str, &str) = (
     "protocol PA {\nchild:\n  async A();\n  async B() returns (bool b);\n};\n",
 );
 
+const HEADER: (&str, &str) = ("H.ipdlh", "");
+
+const PQ: (&str, &str) = (
+    "PQ.ipdl",
+    "namespace x { namespace y { sync protocol PQ { parent:\n  sync S();\n}; } }\n",
+);
+
+/// A message that is sync and async.
+const PT: (&str, &str) = (
+    "PT.ipdl",
+    "sync protocol PT {\nparent:\n  sync M();\n  async M();\n};\n",
+);
+
+const ONE_OF_TWO: (&str, &str) = ("PA.ipdl", "sync protocol PA {\nparent:\n  sync A();\n};\n");
+
+const OTHER_OF_TWO: (&str, &str) = (
+    "PB.ipdl",
+    "sync protocol PB {\nparent:\n\n\n\n\n  sync A();\n  async B();\n};\n",
+);
+
 /// Files, the text of the list, and the findings.
 const LISTS: &[(Texts<'static>, &str, &str)] = &[
     // The worked case.
@@ -101,6 +121,66 @@ const LISTS: &[(Texts<'static>, &str, &str)] = &[
         "[PL::S]\ndescription = s\n[PN::A]\ndescription = a\n",
         "0:5:29 S1 1:3:8 S1 1:4:8 S1 2:1:1 S3 2:3:1 S3 ",
     ),
+    // Findings on one section, and a description behind its word in the next line.
+    (
+        &[PL],
+        "[PL::A]\ndescription=\n a\n[PL::B]\nother = b",
+        "1:4:1 S4 ",
+    ),
+    (
+        &[PL],
+        "[PL::D]\n[PL::C]",
+        "0:3:8 S1 0:4:8 S1 1:1:1 S3 1:1:1 S4 1:2:1 S2 1:2:1 S4 ",
+    ),
+    // A protocol that is not read, among others.
+    (
+        &[PL],
+        "[PX::C]\ndescription=x\n[PL::A]\ndescription=x\n[PL::B]\ndescription=x",
+        "",
+    ),
+    (
+        &[PL],
+        "[PX::D]\n[PL::A]\ndescription=x\n[PL::B]\ndescription=x",
+        "1:1:1 S4 ",
+    ),
+    // The short name counts, behind a header.
+    (&[HEADER, PQ], "", "1:2:8 S1 "),
+    (&[HEADER, PQ], "[PQ::S]\ndescription=x", ""),
+    (
+        &[HEADER, PQ],
+        "[PQ::T]\ndescription=x",
+        "1:2:8 S1 2:1:1 S3 ",
+    ),
+    (&[HEADER, PQ], "[y::S]\ndescription=x", "1:2:8 S1 "),
+    // A message that is both sync and async.
+    (&[PT], "", "0:3:8 S1 "),
+    (&[PT], "[PT::M]\ndescription=x", "1:1:1 S2 "),
+    // Two protocols with a message of one name.
+    (
+        &[ONE_OF_TWO, OTHER_OF_TWO],
+        "[PA::A]\ndescription=x",
+        "1:7:8 S1 ",
+    ),
+    (
+        &[ONE_OF_TWO, OTHER_OF_TWO],
+        "[PB::A]\ndescription=x",
+        "0:3:8 S1 ",
+    ),
+    (
+        &[ONE_OF_TWO, OTHER_OF_TWO],
+        "[PB::A]\ndescription=x\n[PA::A]\ndescription=x\n[PA::B]\ndescription=x",
+        "2:5:1 S3 ",
+    ),
+    (
+        &[ONE_OF_TWO, OTHER_OF_TWO],
+        "\n[PB::B]\ndescription=x\n[PB::A]\n[PA::A]\ndescription:\n d",
+        "2:2:1 S2 2:4:1 S4 ",
+    ),
+    (
+        &[ONE_OF_TWO, OTHER_OF_TWO],
+        "# PA\n[PB::A]\ndescription: x\n\n[PA::A]\ndescription: y\n  z\n",
+        "",
+    ),
 ];
 
 /// Texts that are no list, and the number of the first line that is not of the format (A2 at
@@ -140,6 +220,12 @@ fn lists(rt: HostRuntime) -> Result<(), Fail> {
         let program = program(alloc, files(alloc, texts, 0)?, words.as_slice())?;
         let shown = show_findings(alloc, &program, list)?;
         assert_eq!(rt; shown.as_str(), *wanted, "{list:?}");
+    }
+    // A program of no file: the list is file 0, and no protocol is read.
+    let none: Program = Program::from_vec(Vec::new(alloc));
+    for (list, wanted) in [("[P::M]", "0:1:1 S4 "), ("[P::M]\ndescription=x", "")] {
+        let shown = show_findings(alloc, &none, list)?;
+        assert_eq!(rt; shown.as_str(), wanted, "{list:?}");
     }
     for (list, line) in BAD_LISTS {
         assert!(rt; list.len() <= 1_048_576);

@@ -1,5 +1,5 @@
 use super::given::{NotedFiles, Texts, files, strings, text};
-use include_graph::{LoadFault, are_file_words, load};
+use include_graph::{LoadFault, are_file_words, key_of, load, one_reach};
 use ipdl_base::{Finding, Findings, MemoryFiles, Texts as Names};
 use ipdl_syntax::{Entry, Program};
 use std::alloc::Global;
@@ -216,6 +216,20 @@ const ROWS: &[Row<'static>] = &[
         "PG.ipdl ",
     ),
     (
+        &["PG.ipdl"],
+        HERE,
+        &[("PG.ipdl", "protocol PG {\n#if X\n};\n")],
+        "PG.ipdl:2:1 A1\n",
+        "PG.ipdl ",
+    ),
+    (
+        &["PH.ipdl"],
+        HERE,
+        &[("PH.ipdl", "protocol PH\n")],
+        "PH.ipdl:2:1 A2\n",
+        "PH.ipdl ",
+    ),
+    (
         &["PE.ipdl"],
         HERE,
         &[("PE.ipdl", "")],
@@ -271,6 +285,8 @@ fn check(rt: &impl Abort, alloc: Global, row: Row<'static>, failing: u64) -> Res
 
 #[test]
 fn loads(rt: HostRuntime) -> Result<(), Fail> {
+    one_reach();
+    assert_eq!(rt; key_of(b"one/two/PX.ipdl"), b"PX.ipdl".as_slice());
     for row in ROWS {
         check(&rt, rt.alloc(), *row, 0)?;
     }

@@ -1,15 +1,9 @@
-ghost use Rattle.std.specs.Prelude.{◌≡◌, IfOk};
-ghost use Rattle.ipdl_syntax.specs.Programs.{IsProgram, BearTheirNames};
-
-use super::given::{Texts, files, program};
-use actor_tables::{schema, table_text};
+use super::given::{Texts, files};
+use actor_tables::table_text;
 use ipdl_base::Schema;
-use ipdl_syntax::Program;
-use name_table::Names;
-use proto_rules::proto_findings;
+use schema_of_text::schema_of;
 use std::alloc::Global;
 use std::test::Fail;
-use type_rules::type_findings;
 
 /// The files of a program, of which the first is the word of the command, its table, and which of
 /// its messages are carried, in the table's order.
@@ -90,23 +84,6 @@ const TABLES: &[Row] = &[
     ),
 ];
 
-/// The schema of a program, which breaks no rule.
-fn clean_schema(alloc: Global, program: &Program) -> Result<Schema, Fail>
-    requires program { IsProgram program.now }
-    requires names { BearTheirNames program.now }
-{
-    let names = Names::build(alloc, program)?;
-    let types = type_findings(alloc, program, &names)?;
-    if !types.is_empty() {
-        return Err("a program that breaks rules on types".into());
-    }
-    let protocols = proto_findings(alloc, program, &names)?;
-    if !protocols.is_empty() {
-        return Err("a program that breaks rules on protocols".into());
-    }
-    Ok(schema(alloc, program, &names)?)
-}
-
 /// Which messages of a schema are carried, each with a blank behind it.
 fn carried(alloc: Global, schema: &Schema) -> Result<String, Fail> {
     let mut shown = String::new(alloc);
@@ -126,11 +103,32 @@ fn tables(rt: HostRuntime) -> Result<(), Fail> {
         let Some((word, _)) = texts.first() else {
             return Err("no file".into());
         };
-        let program = program(alloc, files(alloc, texts, 0)?, &[*word])?;
-        let schema = clean_schema(alloc, &program)?;
+        let schema = schema_of(alloc, files(alloc, texts, 0)?, word)?;
         let text = table_text(alloc, &schema)?;
         assert_eq!(rt; str::from_utf8(text.as_slice())?, *table);
         assert_eq!(rt; carried(alloc, &schema)?.as_str(), *wanted, "{word}");
     }
+    Ok(())
+}
+
+/// The messages of a schema by their numbers, of which one has no reply and one has one.
+#[test]
+fn messages_by_number(rt: HostRuntime) -> Result<(), Fail> {
+    let alloc = rt.alloc();
+    let text = "sync protocol P {\nparent:\n  async Ping();\n  sync Ask() returns ();\n};\n";
+    let schema = schema_of(alloc, files(alloc, &[("P.ipdl", text)], 0)?, "P.ipdl")?;
+    let rows = [
+        (0, Some(0)),
+        (1, None),
+        (2, Some(2)),
+        (3, Some(2)),
+        (4, None),
+        (65536, None),
+    ];
+    for (number, want) in rows {
+        assert_eq!(rt; schema.message(number).map(|row| row.number), want);
+    }
+    assert!(rt; schema.protocol(0).is_some());
+    assert!(rt; schema.protocol(1).is_none());
     Ok(())
 }

@@ -14,6 +14,3 @@ pub use text::{
     history_text, is_effect, params_of, push_listed, push_message, push_numbered, returns_of_number,
 };
 pub use words::reason_word;
-
-#[cfg(test)]
-mod tests;

@@ -15,6 +15,3 @@ mod walk;
 pub use keys::{are_file_words, key_of};
 pub use laws::one_reach;
 pub use loader::{LoadFault, load};
-
-#[cfg(test)]
-mod tests;

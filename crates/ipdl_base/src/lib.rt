@@ -32,6 +32,3 @@ pub use schema::{
 pub use sink::{Sink, WriteAnswer};
 pub use token::{Token, TokenKind, Tokens};
 pub use value::{Value, Values};
-
-#[cfg(test)]
-mod tests;

@@ -9,6 +9,3 @@ pub use ipdl_base::{Token, TokenKind, Tokens};
 pub use laws::words_hold;
 pub use scan::{is_reserved, lex, one_answer};
 pub use token::{LexFault, Lexed};
-
-#[cfg(test)]
-mod tests;

@@ -5,8 +5,3 @@
 mod parser;
 
 pub use parser::{SyntaxFault, parse};
-
-#[cfg(test)]
-mod tests;
-#[cfg(test)]
-mod tree_tests;

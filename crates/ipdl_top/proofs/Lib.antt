@@ -1,6 +1,5 @@
 pub mod Pieces
 pub mod Answered
-pub mod SmallSchema
 pub mod Maps
 pub mod Compilations
 pub mod Words

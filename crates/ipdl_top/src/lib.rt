@@ -4,8 +4,6 @@
 mod answer;
 mod checked;
 mod compile;
-#[cfg(test)]
-mod frame_rows;
 mod frames;
 mod laws;
 mod list;
@@ -13,8 +11,6 @@ mod program;
 mod report;
 mod rules;
 mod status;
-#[cfg(test)]
-mod tests;
 mod write;
 
 pub use laws::determined;

@@ -16,6 +16,3 @@ pub use decls::{protocol_of, struct_of, union_of};
 pub use kinds::{MessageKind, compress_of, is_lazy, kind_of, message_level, protocol_level};
 pub use names::Names;
 pub use strength::Strength;
-
-#[cfg(test)]
-mod tests;

@@ -10,6 +10,3 @@ pub use holding::Holding;
 pub use item::{Item, PushFault, Pushed};
 pub use laws::plain_forms_commute;
 pub use pending::Pending;
-
-#[cfg(test)]
-mod tests;

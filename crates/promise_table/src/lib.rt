@@ -8,6 +8,3 @@ mod promises;
 pub use laws::plain_forms_commute;
 pub use promise::{Outcome, Promise, Settling};
 pub use promises::Promises;
-
-#[cfg(test)]
-mod tests;

@@ -21,6 +21,3 @@ pub use laws::one_reading;
 pub use line::{LineReading, LineReadings, MAX_LINE_LEN, read_lines};
 pub use statement::{Call, MessageName, Statement};
 pub use written::{Atom, Who, Written, WrittenValues};
-
-#[cfg(test)]
-mod tests;

@@ -1,5 +1,6 @@
-//! Tests of handler scripts over texts: which rules a script breaks and where, the scripts of the
-//! worked cases, the actions of a script one by one, and texts as deep and as large as they can be.
+//! Tests of handler scripts over texts: what each line says, which rules a script breaks and where, the
+//! scripts of the worked cases, the actions of a script one by one, and texts as deep and as large as
+//! they can be.
 #![tactic(auto)]
 
 #[cfg(test)]
@@ -16,6 +17,8 @@ mod message_rows;
 mod parts;
 #[cfg(test)]
 mod place_rows;
+#[cfg(test)]
+mod readings;
 #[cfg(test)]
 mod rules;
 #[cfg(test)]

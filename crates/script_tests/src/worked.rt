@@ -1,7 +1,8 @@
-use super::given::{broken, schema_of};
+use super::given::broken;
 use super::rules::read_lines;
 use super::worked_rows::{WORKED, WORKED_COUNT};
 use ipdl_base::MemoryFiles;
+use schema_of_text::schema_of;
 use std::alloc::Global;
 use std::test::Fail;
 

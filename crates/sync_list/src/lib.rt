@@ -13,6 +13,3 @@ pub use laws::one_list;
 pub use list::{ListFault, Section, SyncList};
 pub use reader::read_list;
 pub use report::sync_findings;
-
-#[cfg(test)]
-mod tests;

@@ -15,6 +15,3 @@ pub use layout::{Layout, MARK, NEW, OLD};
 pub use shapes::{builtin_of, component_of, element_of, fields_of, held_by, is_bytes};
 pub use sizes::{body_size, number_bytes, payload_size, value_size, values_size};
 pub use text::{push_value, push_values};
-
-#[cfg(test)]
-mod tests;

@@ -1,0 +1,10 @@
+//! Tests of the whole program: what words are, and what a call leaves behind on files and sinks in
+//! memory.
+#![tactic(auto)]
+
+#[cfg(test)]
+mod calls;
+#[cfg(test)]
+mod frame_rows;
+#[cfg(test)]
+mod words;

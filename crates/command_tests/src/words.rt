@@ -1,0 +1,291 @@
+use command_words::{Command, WordsFault, key_of, read_words};
+use std::alloc::{AllocError, Global};
+use std::test::Fail;
+
+/// Lists of words, and behind `=>` what each is: the sync list behind `=`, or `none`; the folders,
+/// with `:` between them; and the files. Behind these stands `<-` and the file of frames where the
+/// command is the one that prints frames, or `<2` where it converts them. Nothing stands where the
+/// words are no command. An empty word is written as two single quotes.
+const ROWS: &str = "x.ipdl => none . x.ipdl
+x.ipdlh => none . x.ipdlh
+a.ipdl b.ipdlh c.ipdl => none . a.ipdl b.ipdlh c.ipdl
+a/PX.ipdl a/b/PY.ipdl => none . a/PX.ipdl a/b/PY.ipdl
+.ipdl => none . .ipdl
+run.ipdl => none . run.ipdl
+-s l x.ipdl => =l . x.ipdl
+-sl x.ipdl => =l . x.ipdl
+-s=l x.ipdl => =l . x.ipdl
+--sync-msg-list l x.ipdl => =l . x.ipdl
+--sync-msg-list=l x.ipdl => =l . x.ipdl
+--path d x.ipdl => none d x.ipdl
+--path=d:e/f x.ipdl => none d:e/f x.ipdl
+x.ipdl -s l --path d => =l d x.ipdl
+a.ipdl -s l b.ipdl --path=c d.ipdl => =l c a.ipdl b.ipdl d.ipdl
+--path d -s l x.ipdl => =l d x.ipdl
+--path d:d x.ipdl => none d:d x.ipdl
+-s= x.ipdl => = . x.ipdl
+-s '' x.ipdl => = . x.ipdl
+--sync-msg-list= x.ipdl => = . x.ipdl
+-s - x.ipdl => =- . x.ipdl
+-s -- x.ipdl =>
+x.ipdl -s -- =>
+-s -x x.ipdl =>
+-s --path=b x.ipdl =>
+x.ipdl -s =>
+x.ipdl --path =>
+-s-x x.ipdl => =-x . x.ipdl
+-s-- x.ipdl => =-- . x.ipdl
+-s==v x.ipdl => ==v . x.ipdl
+-s=-x x.ipdl => =-x . x.ipdl
+--sync-msg-list=-x x.ipdl => =-x . x.ipdl
+--sync-msg-list==v x.ipdl => ==v . x.ipdl
+-s x.ipdl y.ipdl => =x.ipdl . y.ipdl
+-s run x.ipdl => =run . x.ipdl
+-s x.ipdl =>
+-s l -s l x.ipdl =>
+-s l --sync-msg-list l x.ipdl =>
+--sync-msg-list=l x.ipdl -sl =>
+--path d x.ipdl --path d =>
+--path=d --path=e x.ipdl =>
+-- x.ipdl => none . x.ipdl
+x.ipdl -- => none . x.ipdl
+-- -x.ipdl => none . -x.ipdl
+-s l -- --path.ipdl => =l . --path.ipdl
+x.ipdl -- -- y.ipdl =>
+-- x.ipdl -s l =>
+-- --path=d x.ipdl =>
+-- =>
+-h =>
+--help =>
+-V x.ipdl =>
+--version =>
+-1 x.ipdl =>
+-x.ipdl =>
+--x.ipdl =>
+--pat=d x.ipdl =>
+--paths=d x.ipdl =>
+-p d x.ipdl =>
+-path d x.ipdl =>
+--s=l x.ipdl =>
+--limit 3 PA.ipdl =>
+--schedule PC PA.ipdl =>
+-é x.ipdl =>
+-sé =>
+-sé x.ipdl => =é . x.ipdl
+ =>
+'' =>
+x.ipdl '' =>
+x.txt =>
+x.ipdl y.txt =>
+x.ipdl y.IPDL =>
+x =>
+x.ipdlhh =>
+- =>
+help =>
+run a =>
+run x.ipdl =>
+frames x.ipdl =>
+frames =>
+frames x.ipdl f => none . x.ipdl <- f
+frames -s l x.ipdl f => =l . x.ipdl <- f
+frames x.ipdl -sl --path d:e f => =l d:e x.ipdl <- f
+frames x.ipdl f --to 2 => none . x.ipdl <2 f
+frames --to=2 x.ipdl f => none . x.ipdl <2 f
+frames --to 02 x.ipdl f => none . x.ipdl <2 f
+frames --to=0002 x.ipdl f => none . x.ipdl <2 f
+frames --to 1 x.ipdl f =>
+frames --to 3 x.ipdl f =>
+frames --to 20 x.ipdl f =>
+frames --to 22 x.ipdl f =>
+frames --to 12 x.ipdl f =>
+frames --to +2 x.ipdl f =>
+frames --to= x.ipdl f =>
+frames --to '' x.ipdl f =>
+frames --to two x.ipdl f =>
+frames --to=-2 x.ipdl f =>
+frames --to 2 --to 2 x.ipdl f =>
+frames --to x.ipdl f =>
+frames x.ipdl f --to =>
+frames x.ipdl f g =>
+frames x.ipdlh f =>
+frames f x.ipdl =>
+frames f.ipdl x.ipdl => none . f.ipdl <- x.ipdl
+frames x.ipdl x.ipdl => none . x.ipdl <- x.ipdl
+frames x.ipdl '' => none . x.ipdl <- 
+frames '' f =>
+frames -- x.ipdl -f => none . x.ipdl <- -f
+frames x.ipdl -- --to => none . x.ipdl <- --to
+frames x.ipdl -f =>
+frames x.ipdl - => none . x.ipdl <- -
+frames frames frames =>
+frames frames.ipdl frames => none . frames.ipdl <- frames
+frames --limit 3 x.ipdl f =>
+frames --path a::b x.ipdl f =>
+frames -t 2 x.ipdl f =>
+-s l frames x.ipdl f =>
+--to 2 frames x.ipdl f =>
+--to 2 x.ipdl =>
+x.ipdl --to 2 =>
+-s l frames x.ipdl =>
+gen x.ipdl =>
+feed x.ipdl =>
+relay x.ipdl =>
+audit x.ipdl =>
+waits x.ipdl =>
+run script.ids PA.ipdl =>
+frames PA.ipdl f.bin => none . PA.ipdl <- f.bin
+a/PX.ipdl b/PX.ipdl =>
+PX.ipdl ./PX.ipdl =>
+PD.ipdl PD.ipdl => none . PD.ipdl
+a.ipdl b.ipdl a.ipdl c.ipdl b.ipdl => none . a.ipdl b.ipdl c.ipdl
+PX.ipdl PX.ipdlh => none . PX.ipdl PX.ipdlh
+a/PX.ipdl a/PX.ipdl => none . a/PX.ipdl
+--path '' x.ipdl =>
+--path= x.ipdl =>
+--path : x.ipdl =>
+--path a: x.ipdl =>
+--path :a x.ipdl =>
+--path a::b x.ipdl =>
+--path - x.ipdl => none - x.ipdl
+--path -a x.ipdl =>
+--path=-a x.ipdl => none -a x.ipdl
+";
+
+/// Appends the words, with a mark between each two.
+fn push_joined(line: &mut String, words: &[String], mark: &str) -> Result<(), AllocError> {
+    for (i, word) in words.iter().enumerate() {
+        if i > 0 {
+            line.push_str(mark)?;
+        }
+        line.push_str(word.as_str())?;
+    }
+    Ok(())
+}
+
+/// Appends a sync list and folders, in the form of the rows.
+fn push_shared(
+    line: &mut String,
+    list: &Option<String>,
+    path: &[String],
+) -> Result<(), AllocError> {
+    match list {
+        Some(list) => {
+            line.push_str("=")?;
+            line.push_str(list.as_str())?;
+        }
+        None => line.push_str("none")?,
+    }
+    line.push_str(" ")?;
+    push_joined(line, path, ":")?;
+    line.push_str(" ")
+}
+
+/// What the words are, in the form of the rows.
+fn shown(alloc: Global, words: &[String]) -> Result<String, WordsFault> {
+    let mut line = String::new(alloc);
+    match read_words(alloc, words) {
+        Err(WordsFault::Usage) => {}
+        Err(WordsFault::NoMemory) => return Err(WordsFault::NoMemory),
+        Ok(Command::Compile { list, path, files }) => {
+            push_shared(&mut line, &list, path.as_slice())?;
+            push_joined(&mut line, files.as_slice(), " ")?;
+        }
+        Ok(
+            Command::Frames {
+                list,
+                path,
+                file,
+                frames,
+                convert,
+            },
+        ) => {
+            push_shared(&mut line, &list, path.as_slice())?;
+            line.push_str(file.as_str())?;
+            line.push_str(if convert { " <2 " } else { " <- " })?;
+            line.push_str(frames.as_str())?;
+        }
+    }
+    Ok(line)
+}
+
+/// The words of a row.
+fn words_of(alloc: Global, row: &str) -> Result<Vec<String>, AllocError> {
+    let mut words = Vec::new(alloc);
+    for word in row.split(' ') {
+        if word == "''" {
+            words.push(String::new(alloc))?;
+        } else if !word.is_empty() {
+            words.push(String::from_str(alloc, word)?)?;
+        }
+    }
+    Ok(words)
+}
+
+#[test]
+fn lists_of_words(rt: HostRuntime) -> Result<(), Fail> {
+    let mut count = 0u32;
+    for row in ROWS.lines() {
+        let (words, expected) = row.split_once("=>").ok_or("a row")?;
+        let words = words_of(rt.alloc(), words)?;
+        let line = shown(rt.alloc(), words.as_slice())?;
+        assert_eq!(rt; line.as_str().trim_end(), expected.trim(), "{row}");
+        count = count.wrapping_add(1);
+    }
+    assert_eq!(rt; count, 143);
+    Ok(())
+}
+
+/// This many different files.
+fn many(alloc: Global, count: usize) -> Result<Vec<String>, AllocError> {
+    let mut words = Vec::new(alloc);
+    for i in 0..count {
+        words.push(format!(in alloc; "d/P{i}.ipdl")?)?;
+    }
+    Ok(words)
+}
+
+/// A file, and this many folders.
+fn far(alloc: Global, count: usize) -> Result<Vec<String>, AllocError> {
+    let mut words = words_of(alloc, "x.ipdl --path")?;
+    let mut dirs = String::new(alloc);
+    for i in 0..count {
+        if i > 0 {
+            dirs.push_str(":")?;
+        }
+        dirs.push_str("d")?;
+    }
+    words.push(dirs)?;
+    Ok(words)
+}
+
+/// How many files the command of the words names, or nothing where they are no command.
+fn file_count(alloc: Global, words: &[String]) -> Result<Option<usize>, WordsFault> {
+    match read_words(alloc, words) {
+        Ok(
+            Command::Compile {
+                list: _list,
+                path: _path,
+                files,
+            },
+        ) => Ok(Some(files.len())),
+        Ok(Command::Frames { .. }) => Ok(None),
+        Err(WordsFault::Usage) => Ok(None),
+        Err(WordsFault::NoMemory) => Err(WordsFault::NoMemory),
+    }
+}
+
+#[test]
+fn limits_of_words(rt: HostRuntime) -> Result<(), Fail> {
+    let mut most = many(rt.alloc(), 4096)?;
+    most.push(String::from_str(rt.alloc(), "d/P7.ipdl")?)?;
+    assert_eq!(rt; file_count(rt.alloc(), most.as_slice())?, Some(4096));
+    let more = many(rt.alloc(), 4097)?;
+    assert_eq!(rt; file_count(rt.alloc(), more.as_slice())?, None);
+    let folders = far(rt.alloc(), 64)?;
+    assert_eq!(rt; file_count(rt.alloc(), folders.as_slice())?, Some(1));
+    let beyond = far(rt.alloc(), 65)?;
+    assert_eq!(rt; file_count(rt.alloc(), beyond.as_slice())?, None);
+    assert_eq!(rt; key_of(b"a/b/PX.ipdl"), b"PX.ipdl".as_slice());
+    assert_eq!(rt; key_of(b"PX.ipdl"), b"PX.ipdl".as_slice());
+    Ok(())
+}

@@ -1,0 +1,16 @@
+//! Tests of the parts of a channel, one by one: stacks, actors, promises, arrived items, values and
+//! histories.
+#![tactic(auto)]
+
+#[cfg(test)]
+mod actors;
+#[cfg(test)]
+mod arrived;
+#[cfg(test)]
+mod histories;
+#[cfg(test)]
+mod promises;
+#[cfg(test)]
+mod stacks;
+#[cfg(test)]
+mod values;

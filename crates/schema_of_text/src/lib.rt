@@ -1,0 +1,57 @@
+//! The schema of a program that is given by the texts of its files. It is for tests: the crates of
+//! tests above it stand on a sound schema, and none of the product does.
+#![tactic(auto)]
+
+ghost use Rattle.std.specs.Prelude.{IfOk};
+ghost use Rattle.ipdl_base.specs.Sound.{IsSound};
+ghost use Rattle.ipdl_syntax.specs.Programs.{IsProgram, BearTheirNames};
+
+use actor_tables::schema;
+use include_graph::{are_file_words, load};
+use ipdl_base::{MemoryFiles, Schema};
+use ipdl_syntax::Program;
+use name_table::Names;
+use proto_rules::proto_findings;
+use std::alloc::Global;
+use std::test::Fail;
+use type_rules::type_findings;
+
+/// The program that a file of these reaches, which breaks no rule of files.
+fn program(alloc: Global, mut files: MemoryFiles, word: &str) -> Result<Program, Fail>
+    ensures program { IfOk result IsProgram }
+    ensures names { IfOk result BearTheirNames }
+{
+    let words = vec![in alloc; String::from_str(alloc, word)?]?;
+    let path = vec![in alloc; String::from_str(alloc, ".")?]?;
+    if !are_file_words(words.as_slice()) {
+        return Err("no words of files".into());
+    }
+    Ok(load(alloc, &mut files, words.as_slice(), path.as_slice())?)
+}
+
+/// The schema of a program that breaks no rule.
+fn clean_schema(alloc: Global, program: &Program) -> Result<Schema, Fail>
+    requires program { IsProgram program.now }
+    requires names { BearTheirNames program.now }
+    ensures { IfOk result IsSound }
+{
+    let names = Names::build(alloc, program)?;
+    let types = type_findings(alloc, program, &names)?;
+    if !types.is_empty() {
+        return Err("a program that breaks rules on types".into());
+    }
+    let protocols = proto_findings(alloc, program, &names)?;
+    if !protocols.is_empty() {
+        return Err("a program that breaks rules on protocols".into());
+    }
+    Ok(schema(alloc, program, &names)?)
+}
+
+/// The schema of the program that a file of these reaches, which breaks no rule; and a failure where
+/// it breaks one, or where the word names no file of the language.
+pub fn schema_of(alloc: Global, files: MemoryFiles, word: &str) -> Result<Schema, Fail>
+    ensures { IfOk result IsSound }
+{
+    let program = program(alloc, files, word)?;
+    clean_schema(alloc, &program)
+}
