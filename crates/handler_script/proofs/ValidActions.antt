@@ -117,19 +117,6 @@ known_of schema answered b s after u =
     let two = or_parts (speaks_in_main b s) (speaks_of_made b s) one.0 in
     record { in_main = main_quiet b s two.0; in_other = made_quiet b s two.1; placed = one.1; values = u.values }
 
--- values that are fitted to types
-fitted : (schema : Schema) (b : Standing) (types : List ParamRow) (vs : WrittenValues) → ¬ ¬ EachFits schema (given_in b) types vs
-    → (is_main b ≡ true → any_mentions is_of_handler vs ≡ false) → (is_of_constructor b ≡ false → any_mentions is_made vs ≡ false) → ValuesNames vs → EachTermFits schema b types (terms_of schema types vs)
-fitted schema b types vs h m k n = each_value_fits schema b types vs h m k n
-
--- a statement that speaks of one, and of values
-spoken : (test : Who → Bool) (w : Who) (vs : WrittenValues) → (test w || any_mentions test vs) ≡ false → (test w ≡ false) × (any_mentions test vs ≡ false)
-spoken test w vs h = or_parts (test w) (any_mentions test vs) h
-
--- the message that a statement names, which is there
-named_message : (schema : Schema) (name : MessageName) → ¬ (message_named schema name ≡ None) → (m : MessageRow) × (message_named schema name ≡ Some m)
-named_message schema name h = some_of (message_named schema name) h
-
 -- a message is sent
 sendable : (schema : Schema) (sound : IsSound schema) (b : Standing) (name : MessageName) (vs : WrittenValues) (m : MessageRow) → message_named schema name ≡ Some m
     → sends (side_of b) m.direction ≡ true → m.carried ≡ true → ¬ ¬ EachFits schema (given_in b) m.params vs
@@ -138,9 +125,9 @@ sendable : (schema : Schema) (sound : IsSound schema) (b : Standing) (name : Mes
 sendable schema sound b name vs m e sent carried fits main other names =
     let found : message_of schema m.number ≡ Some m = message_numbered schema sound name m e in
     let P : Option MessageRow → Type 0 =
-        λ o. IsSendable schema b (option_map_or (λ message. message.number) o 0) (terms_of schema (unwrap_or (option_map (λ message. message.params) o) []) vs) m × (message_of schema (option_map_or (λ message. message.number) o 0) ≡ Some m)
+    λ o. IsSendable schema b (option_map_or (λ message. message.number) o 0) (terms_of schema (unwrap_or (option_map (λ message. message.params) o) []) vs) m × (message_of schema (option_map_or (λ message. message.number) o 0) ≡ Some m)
     in
-    subst P (sym e) ((refl, sent, carried, fitted schema b m.params vs fits main other names), found)
+    subst P (sym e) ((refl, sent, carried, each_value_fits schema b m.params vs fits main other names), found)
 
 -- whom a statement names, where it is not broken
 who_valid : (b : Standing) (w : Who) → ¬ IsTrue (is_no_actor (given_in b) w) → (is_main b ≡ true → is_of_handler w ≡ false) → (is_of_constructor b ≡ false → is_made w ≡ false) → IsNamed w → MayName b w
@@ -162,9 +149,9 @@ call_valid schema sound b w c m e values direction carried main other named name
     let carries : m.carried ≡ true = is_true _ (λ n. carried (some_in (λ message. message.carried ≡ false) (message_named schema c.message) m e (false_from_ne_true _ n))) in
     let P : Option MessageRow → Type 0 = λ o. AreUnfit schema (given_in b) (option_map (λ message. message.params) o) c.values in
     let fits : ¬ ¬ EachFits schema (given_in b) m.params c.values = λ n. values (inr (subst P (sym e) n)) in
-    let done = sendable schema sound b c.message c.values m e sent carries fits (λ h. (spoken is_of_handler w c.values (main h)).1) (λ h. (spoken is_made w c.values (other h)).1) names in
+    let done = sendable schema sound b c.message c.values m e sent carries fits (λ h. (or_parts (is_of_handler w) (any_mentions is_of_handler c.values) (main h)).1) (λ h. (or_parts (is_made w) (any_mentions is_made c.values) (other h)).1) names in
     record {
-      who = who_valid b w (λ t. values (inl t)) (λ h. (spoken is_of_handler w c.values (main h)).0) (λ h. (spoken is_made w c.values (other h)).0) named;
+      who = who_valid b w (λ t. values (inl t)) (λ h. (or_parts (is_of_handler w) (any_mentions is_of_handler c.values) (main h)).0) (λ h. (or_parts (is_made w) (any_mentions is_made c.values) (other h)).0) named;
       sendable = done.0;
       found = done.1;
     }
@@ -182,7 +169,7 @@ answer_valid : (schema : Schema) (b : Standing) (o : Option (List ParamRow)) (vs
     → (is_main b ≡ true → any_mentions is_of_handler vs ≡ false) → (is_of_constructor b ≡ false → any_mentions is_made vs ≡ false) → ValuesNames vs
     → IsSomeAnd o (λ returns. EachTermFits schema b returns (terms_of schema (unwrap_or o []) vs))
 answer_valid schema b None vs there values main other names = absurd (true≢false there)
-answer_valid schema b (Some types) vs there values main other names = fitted schema b types vs values main other names
+answer_valid schema b (Some types) vs there values main other names = each_value_fits schema b types vs values main other names
 
 -- a message that answers with a kept resolver
 kept_valid : (schema : Schema) (sound : IsSound schema) (name : MessageName) (m : MessageRow) → message_named schema name ≡ Some m → is_unresolved (message_named schema name) ≡ false
@@ -206,12 +193,12 @@ action_valid schema sound answered b (forms.On side m) after u n = tt
 action_valid schema sound answered b forms.End after u n = tt
 action_valid schema sound answered b (forms.Send w c) after u n =
     let k = known_of schema answered b (forms.Send w c) after u in
-    let m = named_message schema c.message u.known in
+    let m = some_of (message_named schema c.message) u.known in
     let call = call_valid schema sound b w c m.0 m.1 k.values (λ h. u.direction (inr h)) (λ h. u.carried (inr h)) k.in_main k.in_other n.0 n.1 in
     (call.who, some_in (IsSendable schema b (number_of schema c.message) (typed schema b (forms.Send w c) c.values)) _ m.0 call.found call.sendable)
 action_valid schema sound answered b (forms.New name w c) after u n =
     let k = known_of schema answered b (forms.New name w c) after u in
-    let m = named_message schema c.message u.known in
+    let m = some_of (message_named schema c.message) u.known in
     let call = call_valid schema sound b w c m.0 m.1 k.values (λ h. u.direction (inr h)) (λ h. u.carried (inr h)) k.in_main k.in_other n.1 n.2 in
     let P : Option MessageRow → Type 0 = λ o. is_other_constructor o ≡ false in
     let makes : is_constructor m.0.kind ≡ true = not-false _ (subst P m.1 k.placed) in
@@ -232,7 +219,7 @@ action_valid schema sound answered b (forms.Keep name) after u n =
     (n, is_there _ there.0 there.1)
 action_valid schema sound answered b (forms.ResolveKept name c) after u n =
     let k = known_of schema answered b (forms.ResolveKept name c) after u in
-    let m = named_message schema c.message u.known in
+    let m = some_of (message_named schema c.message) u.known in
     let kept = kept_valid schema sound c.message m.0 m.1 k.placed in
     let P : Option MessageRow → Type 0 = λ o. ¬ AreUnfit schema (given_in b) (option_and_then resolves o) c.values in
     let answer = answer_valid schema b (resolves m.0) c.values kept.2 (subst P m.1 (λ h. k.values (inr h))) (λ h. values_quiet _ (k.in_main h)) (λ h. values_quiet _ (k.in_other h)) n.1 in
@@ -240,7 +227,7 @@ action_valid schema sound answered b (forms.ResolveKept name c) after u n =
     (n.0, some_in (λ message. (message.number ≡ number_of schema c.message) × IsSomeAnd (resolves message) (λ returns. EachTermFits schema b returns (typed schema b (forms.ResolveKept name c) c.values))) _ m.0 kept.1 (kept.0, subst Q (sym m.1) answer))
 action_valid schema sound answered b (forms.RejectKept name message) after u n =
     let k = known_of schema answered b (forms.RejectKept name message) after u in
-    let m = named_message schema message u.known in
+    let m = some_of (message_named schema message) u.known in
     let kept = kept_valid schema sound message m.0 m.1 k.placed in
     let there = some_where (resolves m.0) kept.2 in
     (n, some_in (λ row. (row.number ≡ number_of schema message) × IsSome (resolves row)) _ m.0 kept.1 (kept.0, is_there _ there.0 there.1))

@@ -63,7 +63,7 @@ line_kept schema top before x rest kept r h =
     let split : before ++ x ∷ rest ≡ (before ++ x ∷ []) ++ rest = sym (append_assoc before (x ∷ []) rest) in
     let front : take (length before) (before ++ x ∷ rest) ≡ before = take-append_seam before (x ∷ rest) in
     let back : drop (length before + 1) (before ++ x ∷ rest) ≡ rest =
-        ap (drop (length before + 1)) split ∙ (ap (λ n. drop n ((before ++ x ∷ []) ++ rest)) (sym (length-more before x)) ∙ drop-append_seam (before ++ x ∷ []) rest)
+    ap (drop (length before + 1)) split ∙ (ap (λ n. drop n ((before ++ x ∷ []) ++ rest)) (sym (length-more before x)) ∙ drop-append_seam (before ++ x ∷ []) rest)
     in
     let P : List LineReading → Type 0 = λ ls. LineBreaks schema r ls x (drop (length before + 1) (before ++ x ∷ rest)) in
     let Q : List LineReading → Type 0 = λ ls. LineBreaks schema r before x ls in
@@ -129,7 +129,7 @@ unbroken schema b before s after e h =
 
 abbrev counted : List Action → ℕ
 counted [] = 0
-counted (a ∷ acts) = cond (answers_handled a) (1 + counted acts) (counted acts)
+counted (a ∷ actions) = cond (answers_handled a) (1 + counted actions) (counted actions)
 
 abbrev IsReply : Schema → Standing → Terms → Type 0
 IsReply schema b values = IsSomeAnd (option_and_then replies (handled_in b)) (λ returns. EachTermFits schema b returns values)
@@ -140,8 +140,8 @@ record AreValid (schema : Schema) (b : Standing) (answered : Bool) (ss : List St
   pub once : counted (filter_map (action_of schema b) ss) ≤ cond answered 0 1
   pub reply : IfSome (first_of (filter_map (reply_of schema b) ss)) (IsReply schema b)
 
-is_counted : (acts : List Action) → counted acts ≡ count_by answers_handled acts
-is_counted acts = is_count_by counted answers_handled refl (λ x xs. refl) acts
+is_counted : (actions : List Action) → counted actions ≡ count_by answers_handled actions
+is_counted actions = is_count_by counted answers_handled refl (λ x xs. refl) actions
 
 some_map : {X : Type 0} (P Q : X → Type 0) (o : Option X) → IsSomeAnd o P → ((x : X) → P x → Q x) → IsSomeAnd o Q
 some_map P Q None h f = absurd h
@@ -155,14 +155,14 @@ first_valid : {X : Type 0} (P : X → Type 0) (o : Option X) (xs : List X) → I
 first_valid P None xs h k = k
 first_valid P (Some x) xs h k = h
 
-once_more : (o : Option Action) (acts : List Action) (answered t : Bool) → IfSome o (λ a. answers_handled a ≡ t) → (t ≡ true → answered ≡ false) → counted acts ≤ cond (answered || t) 0 1 → counted (cons_option o acts) ≤ cond answered 0 1
-once_more None acts true t h k n = n
-once_more None acts false true h k n = omega arith
-once_more None acts false false h k n = n
-once_more (Some a) acts true true h k n = absurd (true≢false (k refl))
-once_more (Some a) acts true false h k n = rw h n
-once_more (Some a) acts false true h k n = rw h (omega arith)
-once_more (Some a) acts false false h k n = rw h n
+once_more : (o : Option Action) (actions : List Action) (answered t : Bool) → IfSome o (λ a. answers_handled a ≡ t) → (t ≡ true → answered ≡ false) → counted actions ≤ cond (answered || t) 0 1 → counted (cons_option o actions) ≤ cond answered 0 1
+once_more None actions true t h k n = n
+once_more None actions false true h k n = omega arith
+once_more None actions false false h k n = n
+once_more (Some a) actions true true h k n = absurd (true≢false (k refl))
+once_more (Some a) actions true false h k n = rw h n
+once_more (Some a) actions false true h k n = rw h (omega arith)
+once_more (Some a) actions false false h k n = rw h n
 
 none_valid : (schema : Schema) (b : Standing) (answered : Bool) → AreValid schema b answered []
 none_valid schema b answered = record { actions = tt; once = omega arith; reply = tt }
@@ -249,10 +249,10 @@ block_doable schema sound (in_handler side m) s st before lines rest h e k n =
     let known : ¬ NamesNone schema s = λ x. h rule.UNKNOWN_MESSAGE (inr (inl (refl, x))) in
     let named = handler_named schema s side m st in
     let received : receives side m.direction ≡ true =
-        is_true _ (λ x. h rule.WRONG_DIRECTION (inr (inr (known, inl (refl, inl (some_in (λ b. IsTrue (is_misdirected b)) (standing_of schema s) b st (ap not (false_from_ne_true _ x))))))))
+    is_true _ (λ x. h rule.WRONG_DIRECTION (inr (inr (known, inl (refl, inl (some_in (λ b. IsTrue (is_misdirected b)) (standing_of schema s) b st (ap not (false_from_ne_true _ x))))))))
     in
     let carried : m.carried ≡ true =
-        is_true _ (λ x. h rule.UNCARRIED_TYPE (inr (inr (known, inr (inr (inr (refl, inl (some_in (λ b. IsTrue (is_uncarried b)) (standing_of schema s) b st (ap not (false_from_ne_true _ x))))))))))
+    is_true _ (λ x. h rule.UNCARRIED_TYPE (inr (inr (known, inr (inr (inr (refl, inl (some_in (λ b. IsTrue (is_uncarried b)) (standing_of schema s) b st (ap not (false_from_ne_true _ x))))))))))
     in
     some_in (IsHandled schema (block_of schema b (inside rest)) m.number) (message_of schema m.number) m (message_numbered schema sound named.0 m named.1) (refl, received, carried, in_block schema sound b s st lines rest e k n)
 
@@ -341,15 +341,15 @@ action_boxed schema b (action.Keep name) h = h
 action_boxed schema b (action.ResolveNamed name number values) h = (
   h.0,
   some_map (λ m. (m.number ≡ number) × IsSomeAnd (resolves m) (λ returns. EachTermFits schema b returns (plain_terms values))) (λ m. (m.number ≡ number) × IsSomeAnd (resolves m) (λ returns. EachTermFits schema b returns values)) (message_of schema number) h.1
-    (λ m k. (k.0, some_map (λ returns. EachTermFits schema b returns (plain_terms values)) (λ returns. EachTermFits schema b returns values) (resolves m) k.1 (λ returns l. each_boxed schema b returns values l))),
+      (λ m k. (k.0, some_map (λ returns. EachTermFits schema b returns (plain_terms values)) (λ returns. EachTermFits schema b returns values) (resolves m) k.1 (λ returns l. each_boxed schema b returns values l))),
 )
 action_boxed schema b (action.RejectNamed name number) h = h
 action_boxed schema b action.Close h = h
 action_boxed schema b action.Die h = h
 
-actions_boxed : (schema : Schema) (b : Standing) (acts : List Action) → AllByRecursion (IsValidAction schema b) (map plain_action acts) → AllByRecursion (IsValidAction schema b) acts
+actions_boxed : (schema : Schema) (b : Standing) (actions : List Action) → AllByRecursion (IsValidAction schema b) (map plain_action actions) → AllByRecursion (IsValidAction schema b) actions
 actions_boxed schema b [] h = tt
-actions_boxed schema b (a ∷ acts) h = (action_boxed schema b a h.0, actions_boxed schema b acts h.1)
+actions_boxed schema b (a ∷ actions) h = (action_boxed schema b a h.0, actions_boxed schema b actions h.1)
 
 answers_boxed : (a : Action) → answers_handled (plain_action a) ≡ answers_handled a
 answers_boxed (action.Send who number values) = refl
@@ -363,9 +363,9 @@ answers_boxed (action.RejectNamed name number) = refl
 answers_boxed action.Close = refl
 answers_boxed action.Die = refl
 
-counted_boxed : (acts : List Action) → counted (map plain_action acts) ≡ counted acts
+counted_boxed : (actions : List Action) → counted (map plain_action actions) ≡ counted actions
 counted_boxed [] = refl
-counted_boxed (a ∷ acts) = ap (λ t. cond t (1 + counted (map plain_action acts)) (counted (map plain_action acts))) (answers_boxed a) ∙ ap (λ n. cond (answers_handled a) (1 + n) n) (counted_boxed acts)
+counted_boxed (a ∷ actions) = ap (λ t. cond t (1 + counted (map plain_action actions)) (counted (map plain_action actions))) (answers_boxed a) ∙ ap (λ n. cond (answers_handled a) (1 + n) n) (counted_boxed actions)
 
 reply_boxed : (schema : Schema) (b : Standing) (o : Option Terms) → IfSome (option_map plain_terms o) (IsReply schema b) → IfSome o (λ values. IsSomeAnd (option_and_then replies (handled_in b)) (λ returns. EachTermFits schema b returns values))
 reply_boxed schema b None h = tt
@@ -375,9 +375,9 @@ in_boxed : (schema : Schema) (b : Standing) (block : Block) → IsDoable schema 
 in_boxed schema b block d = record {
   actions = All-from_recursion (IsValidAction schema b) block.actions (actions_boxed schema b block.actions d.actions);
   once = (
-    let P : ℕ → Type 0 = λ n. n ≤ 1 in
-    subst P (counted_boxed block.actions ∙ is_counted block.actions) d.once
-    );
+      let P : ℕ → Type 0 = λ n. n ≤ 1 in
+      subst P (counted_boxed block.actions ∙ is_counted block.actions) d.once
+      );
   reply = reply_boxed schema b block.reply d.reply;
 }
 
