@@ -8,15 +8,6 @@ use Rattle.ipdl_base.specs.declared.finding.Rule.{Rule}
 use Rattle.findings.specs.Gains.{Gains}
 use Rattle.findings.proofs.Gathers.{Gains-none, Gains-like, Gains-push, Gains-then}
 
--- a finding where the test passes
-pub gains_found : (rule : Rule) (place : Place) (b : Bool) (old new : List Finding) → b ≡ true → new ≡ old ++ record { place = place; rule = rule } ∷ [] → Gains (λ f. (place ≡ f.place) × ((f.rule ≡ rule) × IsTrue b)) old new
-gains_found rule place b old new is e =
-    Gains-like (λ f. (f.rule ≡ rule) × (place ≡ f.place)) (λ f. (place ≡ f.place) × ((f.rule ≡ rule) × IsTrue b)) old new (Gains-push rule place old new e) (λ f h. (h.1, (h.0, is))) (λ f h. (h.1.0, h.0))
-
--- and none where it does not
-pub gains_quiet : (rule : Rule) (place : Place) (b : Bool) (old new : List Finding) → b ≡ false → new ≡ old → Gains (λ f. (place ≡ f.place) × ((f.rule ≡ rule) × IsTrue b)) old new
-gains_quiet rule place b old new is e = Gains-none (λ f. (place ≡ f.place) × ((f.rule ≡ rule) × IsTrue b)) old new (λ f h. true≢false (sym h.1.1 ∙ is)) e
-
 -- a test says that a rule is broken
 pub gains_if : (rule : Rule) (place : Place) (b : Bool) (P : Type 0) (old new : List Finding) → Gains (λ f. (place ≡ f.place) × ((f.rule ≡ rule) × IsTrue b)) old new → IsTrue b ↔ P → Gains (λ f. (place ≡ f.place) × ((f.rule ≡ rule) × P)) old new
 gains_if rule place b P old new gains iff =

@@ -33,10 +33,6 @@ none_broken found is empty f broken =
     let below = has.1 in
     omega (arith, below, empty)
 
--- and where it is not it has a finding
-pub some_finding : (found : List Finding) → length found ≢ 0 → found ≢ []
-some_finding found some e = some (ap length e)
-
 -- the script of the blocks that are built
 pub script_is : (top : ℕ) (blocks whole : List Block) → map plain_block blocks ≡ whole → (let s : Script = record { top = top; blocks = blocks } in plain_script s) ≡ (let s : Script = record { top = top; blocks = whole } in s)
 script_is top blocks whole e = ap (λ (bs : List Block). let s : Script = record { top = top; blocks = bs } in s) e

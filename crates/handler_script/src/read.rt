@@ -2,6 +2,7 @@ ghost use Rattle.std.specs.Prelude.{◌≡◌, ◌<◌, ◌≤◌, length, IfOk,
 ghost use Rattle.ipdl_base.specs.Sound.{IsSound};
 ghost use Rattle.handler_script.specs.Faults.{IsFault};
 ghost use Rattle.handler_script.specs.ScriptOf.{IsScriptOf};
+ghost use Rattle.handler_script.specs.Valid.{IsValid};
 
 use crate::building::blocks_of;
 use crate::report::report_of;
@@ -23,6 +24,7 @@ pub fn read_script(
     requires sound { IsSound schema.now }
     requires protocol { top < length schema.now.protocols }
     ensures script { IfOk result (IsScriptOf text.now schema.now top) }
+    ensures valid { IfOk result (IsValid schema.now) }
     ensures fault { IfErr result (IsFault text.now schema.now top) }
 {
     let Ok(readings) = read_lines(alloc, text) else {

@@ -1,5 +1,10 @@
+ghost use Rattle.std.specs.Prelude.{◌≡◌, IfOk};
+ghost use Rattle.handler_script.specs.Plain.{plain_term, plain_terms};
+
+use crate::typed::copy_who;
 use ipdl_base::Name;
 use script_reader::Who;
+use std::alloc::{AllocError, Global};
 
 /// What stands for a value in an action: a value with parameters and names in it.
 #[cycle(term)]
@@ -34,4 +39,48 @@ pub enum Term {
 pub enum Terms {
     Nothing,
     First(Box<Term>, Box<Terms>),
+}
+
+impl Term {
+    /// The same term, up to where its boxes lie. The only error is want of memory.
+    #[cycle(copy)]
+    pub fn copy(&self, alloc: Global) -> Result<Term, AllocError>
+        ensures { IfOk result (λ copied. plain_term copied ≡ plain_term self.now) }
+    {
+        match self {
+            Term::Bool(b) => Ok(Term::Bool(*b)),
+            Term::Int(n) => Ok(Term::Int(*n)),
+            Term::Text(text) => Ok(Term::Text(text.copy(alloc)?)),
+            Term::Bytes(bytes) => Ok(Term::Bytes(bytes.copy(alloc)?)),
+            Term::Bits(bits) => Ok(Term::Bits(*bits)),
+            Term::Struct(fields) => Ok(Term::Struct(fields.copy(alloc)?)),
+            Term::Union(index, held) => {
+                Ok(Term::Union(*index, Box::new(alloc, held.copy(alloc)?)?))
+            }
+            Term::Array(elements) => Ok(Term::Array(elements.copy(alloc)?)),
+            Term::Maybe(None) => Ok(Term::Maybe(None)),
+            Term::Maybe(Some(held)) => {
+                Ok(Term::Maybe(Some(Box::new(alloc, held.copy(alloc)?)?)))
+            }
+            Term::Actor(id) => Ok(Term::Actor(*id)),
+            Term::Param(n) => Ok(Term::Param(*n)),
+            Term::Who(who) => Ok(Term::Who(copy_who(alloc, who)?)),
+        }
+    }
+}
+
+impl Terms {
+    /// The same terms, up to where their boxes lie. The only error is want of memory.
+    #[cycle(copy)]
+    pub fn copy(&self, alloc: Global) -> Result<Terms, AllocError>
+        ensures { IfOk result (λ copied. plain_terms copied ≡ plain_terms self.now) }
+    {
+        match self {
+            Terms::Nothing => Ok(Terms::Nothing),
+            Terms::First(first, rest) => Ok(Terms::First(
+                Box::new(alloc, first.copy(alloc)?)?,
+                Box::new(alloc, rest.copy(alloc)?)?,
+            )),
+        }
+    }
 }

@@ -4,6 +4,7 @@ use Rattle.findings.specs.Report as report
 use Rattle.script_reader.specs.declared.line.LineReading.{LineReading}
 use Rattle.handler_script.specs.Broken.{IsBroken}
 use Rattle.handler_script.specs.ScriptOf.{blocks_of}
+use Rattle.handler_script.proofs.Validity.{script_valid}
 use Rattle.handler_script.proofs.Whole.{few_lines, none_broken, script_is}
 use Rattle.handler_script.proofs.read.read_script.Goals as goal
 
@@ -23,3 +24,6 @@ returns-in-Ok-blocks_of-clause-script c =
       kept = none_broken c.in-Ok-report_of.findings (subst R c.as_slice.ensures c.in-Ok-report_of.ensures) (sym (ap length c.as_slice-2.ensures) ∙ zero);
       is = script_is c.args.top c.in-Ok-blocks_of.blocks _ (c.in-Ok-blocks_of.ensures ∙ ap (blocks_of c.args.schema.now) c.as_slice-3.ensures);
     }
+
+pub returns-in-Ok-blocks_of-clause-valid : goal.returns-in-Ok-blocks_of-clause-valid
+returns-in-Ok-blocks_of-clause-valid c = script_valid c.args.text.now c.args.schema.now c.args.top _ c.requires.small c.requires.sound c.requires.protocol (returns-in-Ok-blocks_of-clause-script c)
