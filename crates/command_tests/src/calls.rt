@@ -198,25 +198,31 @@ fn failing_frames(rt: HostRuntime) -> Result<(), Fail> {
     Ok(())
 }
 
-/// A file of frames of one byte more than are read.
-#[test]
-fn large_frames(rt: HostRuntime) -> Result<(), Fail> {
-    let alloc = rt.alloc();
-    let mut names = Vec::new(alloc);
+/// What a call leaves, where a file with this name has one byte more than are read.
+fn call_on_larger(alloc: Global, words: &[&str], larger: &str) -> Result<Left, AllocError> {
+    let mut entries = Vec::new(alloc);
     let text = b"protocol PF {\n};\n";
-    names.push((
+    entries.push((
         String::from_str(alloc, "PF.ipdl")?,
         Vec::from_slice(alloc, text)?,
     ))?;
-    let frames = vec![in alloc; 0u8; 1_048_577]?;
-    names.push((String::from_str(alloc, "f.bin")?, frames))?;
-    let mut files = MemoryFiles::new(names, Vec::new(alloc));
+    let bytes = vec![in alloc; 0u8; 1_048_577]?;
+    entries.push((String::from_str(alloc, larger)?, bytes))?;
+    let mut files = MemoryFiles::new(entries, Vec::new(alloc));
     let mut out = sink(alloc, 1000, 0)?;
     let mut err = sink(alloc, 1000, 0)?;
-    let words = strings(alloc, &["frames", "PF.ipdl", "f.bin"])?;
+    let words = strings(alloc, words)?;
     let status = ipdl(alloc, words.as_slice(), &mut files, &mut out, &mut err);
-    let left = Left { status, out, err };
-    assert!(rt; leaves(&left, Status::BadFrames, b"", b"f.bin:0: larger\n"));
+    Ok(Left { status, out, err })
+}
+
+/// A file of frames and a sync list that are too large.
+#[test]
+fn larger_files(rt: HostRuntime) -> Result<(), Fail> {
+    let frames = call_on_larger(rt.alloc(), &["frames", "PF.ipdl", "f.bin"], "f.bin")?;
+    assert!(rt; leaves(&frames, Status::BadFrames, b"", b"f.bin:0: larger\n"));
+    let list = call_on_larger(rt.alloc(), &["-s", "list.ini", "PF.ipdl"], "list.ini")?;
+    assert!(rt; leaves(&list, Status::Broken, b"", b"list.ini:0:0: A5 too large\n"));
     Ok(())
 }
 
