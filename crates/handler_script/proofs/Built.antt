@@ -1,15 +1,11 @@
 -- How a script is built from lines.
-use Rattle.std.proofs.Common.{◌≡◌, ℕ, ◌+◌, ◌<◌, true, false, not, List, [], ◌∷◌, ◌++◌, length, take, drop, get_or, Option, Some, None, refl, sym, ap, ◌∙◌, append_assoc}
-use Rattle.std.specs.List.{filter_map, cons_option}
+use Rattle.std.proofs.Common.{◌≡◌, ℕ, ◌+◌, ◌<◌, true, not, List, [], ◌∷◌, length, drop, get_or, Some, None, refl, sym, ap, ◌∙◌}
 use Rattle.std.proofs.lemmas.List.{drop_more}
-use Rattle.ipdl_base.specs.declared.schema.Schema.{Schema}
 use Rattle.script_reader.specs.declared.line.LineReading.{LineReading}
 use Rattle.script_reader.specs.declared.line.LineReading.TheVariants as line
 use Rattle.script_reader.specs.declared.statement.Statement.{Statement}
-use Rattle.handler_script.specs.declared.action.Block.{Block}
 use Rattle.handler_script.specs.Blocks.{closes, said, is_followed}
-use Rattle.handler_script.specs.Building.{listed, blocks_of_line}
-use Rattle.handler_script.specs.ScriptOf.{inside, blocks_at, blocks_of}
+use Rattle.handler_script.specs.ScriptOf.{inside}
 
 -- The statements of a block behind one more line
 

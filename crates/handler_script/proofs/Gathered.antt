@@ -1,12 +1,11 @@
 -- How the findings of a line are gathered.
-use Rattle.std.proofs.Common.{◌≡◌, true, false, Bool, List, [], ◌∷◌, ◌++◌, ◌⊎◌, inl, inr, refl, sym, subst, ◌∙◌}
+use Rattle.std.proofs.Common.{◌≡◌, true, Bool, List, ◌⊎◌, inl, inr, refl}
 use Rattle.std.specs.Prelude.{◌↔◌, IsTrue}
-use Rattle.std.proofs.lemmas.Bool.{true≢false}
 use Rattle.ipdl_base.specs.declared.finding.Finding.{Finding}
 use Rattle.ipdl_base.specs.declared.finding.Place.{Place}
 use Rattle.ipdl_base.specs.declared.finding.Rule.{Rule}
 use Rattle.findings.specs.Gains.{Gains}
-use Rattle.findings.proofs.Gathers.{Gains-none, Gains-like, Gains-push, Gains-then}
+use Rattle.findings.proofs.Gathers.{Gains-like, Gains-then}
 
 -- a test says that a rule is broken
 pub gains_if : (rule : Rule) (place : Place) (b : Bool) (P : Type 0) (old new : List Finding) → Gains (λ f. (place ≡ f.place) × ((f.rule ≡ rule) × IsTrue b)) old new → IsTrue b ↔ P → Gains (λ f. (place ≡ f.place) × ((f.rule ≡ rule) × P)) old new

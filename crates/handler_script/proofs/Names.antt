@@ -1,5 +1,5 @@
 -- The names in the statement of a line are names.
-use Rattle.std.proofs.Common.{◌≡◌, ℕ, ◌+◌, ◌*◌, ◌-◌, ◌<◌, ◌≤◌, drop, arith, true, false, Bool, List, [], ◌∷◌, ◌&&◌, Option, Some, None, ◌⊎◌, inl, inr, refl, sym, ap, subst, ◌∙◌}
+use Rattle.std.proofs.Common.{◌≡◌, ℕ, ◌+◌, ◌*◌, ◌-◌, ◌<◌, ◌≤◌, drop, arith, true, false, Bool, List, [], ◌∷◌, ◌&&◌, Option, Some, None, ◌⊎◌, inl, inr, refl, ap, subst}
 use Rattle.std.specs.Prelude.{◌==◌, nat_le, codes, if◌then◌else◌, option_and_then}
 use Rattle.std.specs.List.{list_all, take_while}
 use Rattle.std.specs.Option.{option_map}
@@ -25,9 +25,9 @@ use Rattle.script_reader.specs.declared.written.Written.{Written, Union', Held'}
 use Rattle.script_reader.specs.declared.written.Written.TheVariants as written
 use Rattle.script_reader.specs.declared.written.WrittenValues.{WrittenValues, First'}
 use Rattle.script_reader.specs.declared.written.WrittenValues.TheVariants as values
-use Rattle.script_reader.specs.Grammar.{is_no_name, named, name_of, name, who_named, who_of, who, message, atom_named, atom_of, closing, value, listed, more, arguments, call, keyword_of, keyword_for, behind_keyword, statement}
+use Rattle.script_reader.specs.Grammar.{is_no_name, named, name_of, name, who_named, who_of, who, message, atom_named, atom_of, value, listed, more, arguments, call, behind_keyword}
 use Rattle.script_reader.specs.Lines.{IsStatement}
-use Rattle.script_reader.specs.Parts.{Part, ◌⨾◌, mark, word, component, single}
+use Rattle.script_reader.specs.Parts.{word}
 use Rattle.script_reader.specs.Tokens.{class_of, begins_bytes, IsTokenOf, IsToken, AreTokens, behind, is_blank, is_digit, is_mark, hex_value, hex_byte, hex_at, InSequence}
 use Rattle.handler_script.specs.Valid.{IsName}
 

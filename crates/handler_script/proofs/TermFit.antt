@@ -1,15 +1,13 @@
 -- What fits a type stands for a term that does.
-use Rattle.std.proofs.Common.{◌≡◌, ℕ, ◌+◌, ◌*◌, ◌<◌, ◌^◌, Bool, true, false, not, ◌&&◌, ◌||◌, List, [], ◌∷◌, length, fold, Option, Some, None, ℤ, pos, ◌≤ℤ◌, ◌⊎◌, inl, inr, refl, sym, ap, ◌∙◌, subst, eqb, arith, lit<}
-use Rattle.std.specs.Prelude.{IsTrue, IsSome, IsSomeAnd, unwrap_or, option_and_then, ◌==◌, if◌then◌else◌}
+use Rattle.std.proofs.Common.{◌≡◌, ℕ, ◌*◌, ◌<◌, ◌^◌, Bool, true, false, List, [], ◌∷◌, length, Option, Some, None, ℤ, pos, ◌≤ℤ◌, ◌⊎◌, inl, inr, refl, sym, subst, arith}
+use Rattle.std.specs.Prelude.{IsTrue, IsSome, IsSomeAnd, unwrap_or, option_and_then, if◌then◌else◌}
 use Rattle.std.proofs.lemmas.Bool.{true≢false, cases_Bool, or_parts, eq-eqb}
 use Rattle.std.proofs.lemmas.Int.{by_lt_z, ints}
-use Rattle.ipdl_base.specs.Plain.{one_box}
 use Rattle.ipdl_base.specs.declared.builtin.Builtin.{Builtin as BuiltinType}
 use Rattle.ipdl_base.specs.declared.builtin.Builtin.TheVariants as builtin
-use Rattle.ipdl_base.specs.declared.schema.MessageRow.{MessageRow}
 use Rattle.ipdl_base.specs.declared.schema.ParamRow.{ParamRow}
 use Rattle.ipdl_base.specs.declared.schema.Schema.{Schema}
-use Rattle.ipdl_base.specs.declared.schema.Shape.{Shape, Builtin, Using, Actor, Named, Array', Maybe', Unique', Endpoint}
+use Rattle.ipdl_base.specs.declared.schema.Shape.{Shape, Builtin, Using, Actor}
 use Rattle.script_reader.specs.declared.written.Atom.{Atom}
 use Rattle.script_reader.specs.declared.written.Atom.TheVariants as atom
 use Rattle.script_reader.specs.declared.written.Who.{Who}
@@ -20,7 +18,6 @@ use Rattle.script_reader.specs.declared.written.WrittenValues.{WrittenValues, Fi
 use Rattle.script_reader.specs.declared.written.WrittenValues.TheVariants as values
 use Rattle.value_types.specs.HasType.{IsInRange, IsActorOf}
 use Rattle.value_types.specs.Shapes.{range_of, builtin_of, is_bytes, element_of, held_by, fields_of, component_of}
-use Rattle.handler_script.specs.declared.term.Term.{Term}
 use Rattle.handler_script.specs.declared.term.Term.TheVariants as term
 use Rattle.handler_script.specs.Blocks.{Standing, in_main, in_handler, given_in}
 use Rattle.handler_script.specs.Broken.{is_of_handler, is_made, is_of_constructor}

@@ -1,14 +1,11 @@
 -- What a statement does that breaks no rule can be done.
-use Rattle.std.proofs.Common.{◌≡◌, ℕ, suc, ◌+◌, ◌*◌, ◌/◌, ◌%◌, ◌<◌, ◌≤◌, Bool, true, false, not, ◌&&◌, ◌||◌, List, [], ◌∷◌, ◌++◌, length, Option, Some, None, ◌⊎◌, inl, inr, refl, sym, ap, ◌∙◌, subst, arith}
+use Rattle.std.proofs.Common.{◌≡◌, ℕ, suc, ◌+◌, ◌*◌, ◌/◌, ◌%◌, ◌<◌, ◌≤◌, Bool, true, false, not, ◌||◌, List, [], ◌∷◌, length, Option, Some, None, ◌⊎◌, inl, inr, refl, sym, ap, ◌∙◌, subst, arith}
 use Rattle.std.specs.Prelude.{IsTrue, IfSome, IsSome, IsSomeAnd, unwrap_or, option_and_then, is_some, slice_get}
 use Rattle.std.specs.List.{find}
 use Rattle.std.specs.Option.{option_map, option_map_or}
 use Rattle.std.specs.Str.{bytes_eq}
 use Rattle.std.proofs.lemmas.Bool.{true≢false, cases_Bool, or_parts, and_cases, false_from_ne_true, not-false}
 use Rattle.std.proofs.lemmas.Option.{slice_get_within}
-use Rattle.ipdl_base.specs.declared.finding.TheConstants.Rule as rule
-use Rattle.ipdl_base.specs.declared.finding.Rule.{Rule}
-use Rattle.ipdl_base.specs.declared.kinds.Side.{Side}
 use Rattle.ipdl_base.specs.declared.schema.MessageRow.{MessageRow}
 use Rattle.ipdl_base.specs.declared.schema.ParamRow.{ParamRow}
 use Rattle.ipdl_base.specs.declared.schema.ProtocolRow.{ProtocolRow}
@@ -24,11 +21,9 @@ use Rattle.script_reader.specs.declared.statement.Statement.TheVariants as forms
 use Rattle.script_reader.specs.declared.written.Who.{Who}
 use Rattle.script_reader.specs.declared.written.Who.TheVariants as whos
 use Rattle.script_reader.specs.declared.written.WrittenValues.{WrittenValues}
-use Rattle.handler_script.specs.declared.action.Action.{Action}
-use Rattle.handler_script.specs.declared.action.Action.TheVariants as action
 use Rattle.handler_script.specs.Blocks.{answers, is_followed, Standing, in_main, in_handler, side_of, given_in, handled_in}
-use Rattle.handler_script.specs.Broken.{is_of_handler, is_made, is_of_constructor, is_no_actor, is_misplaced, has_no_resolver, has_no_reply, is_other_constructor, is_unresolved, speaks_in_main, speaks_of_made, types_of, AreUnfit, NamesNone, BreaksDirection, BreaksCarried, BreaksValues, ValuesBreak, IsNotAllowed}
-use Rattle.handler_script.specs.Mentions.{any_mentions, some_mentions, some_passes, values_of, who_of, speaks_of, message_of as message_in_statement}
+use Rattle.handler_script.specs.Broken.{is_of_handler, is_made, is_of_constructor, is_no_actor, is_misplaced, has_no_resolver, has_no_reply, is_other_constructor, is_unresolved, speaks_in_main, speaks_of_made, AreUnfit, NamesNone, BreaksDirection, BreaksCarried, BreaksValues, ValuesBreak, IsNotAllowed}
+use Rattle.handler_script.specs.Mentions.{any_mentions, speaks_of}
 use Rattle.handler_script.specs.Messages.{message_in, protocol_named, message_named, sends, resolves, replies, is_constructor}
 use Rattle.handler_script.specs.ScriptOf.{number_of, typed, action_of, reply_of}
 use Rattle.handler_script.specs.Terms.{param_at, is_actor, EachFits, terms_of}

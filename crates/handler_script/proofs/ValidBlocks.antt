@@ -1,10 +1,10 @@
 -- A script that breaks no rule is valid.
-use Rattle.std.proofs.Common.{◌≡◌, ℕ, suc, ◌+◌, ◌<◌, ◌≤◌, ◌^◌, Bool, true, false, not, cond, ◌&&◌, ◌||◌, List, [], ◌∷◌, ◌++◌, length, map, take, drop, fold, Option, Some, None, ◌⊎◌, inl, inr, refl, sym, ap, ◌∙◌, subst, append_assoc, arith, lit<}
+use Rattle.std.proofs.Common.{◌≡◌, ℕ, ◌+◌, ◌≤◌, Bool, true, false, not, cond, ◌&&◌, ◌||◌, List, [], ◌∷◌, ◌++◌, length, map, take, drop, Option, Some, None, inl, inr, refl, sym, ap, ◌∙◌, subst, append_assoc, arith}
 use Rattle.std.specs.Prelude.{if◌then◌else◌, IsTrue, IfSome, IsSomeAnd, option_and_then, slice_get, count_by}
 use Rattle.std.specs.List.{All, AllByRecursion, filter_map, cons_option}
 use Rattle.std.specs.Option.{option_map, option_map_or}
-use Rattle.std.proofs.lemmas.Bool.{true≢false, cases_Bool, false_from_ne_true, not-false}
-use Rattle.std.proofs.lemmas.List.Elements.{All-append, All-cons, All-from_recursion}
+use Rattle.std.proofs.lemmas.Bool.{true≢false, cases_Bool, false_from_ne_true}
+use Rattle.std.proofs.lemmas.List.Elements.{All-from_recursion}
 use Rattle.std.proofs.lemmas.List.Recursion.{is_count_by}
 use Rattle.std.proofs.lemmas.List.Sums.{fold-append}
 use Rattle.std.proofs.lemmas.List.{length-append, length-map}
@@ -31,7 +31,7 @@ use Rattle.handler_script.specs.declared.term.Term.{Term, Union', Maybe', Held-T
 use Rattle.handler_script.specs.declared.term.Term.TheVariants as term
 use Rattle.handler_script.specs.declared.term.Terms.{Terms, First'}
 use Rattle.handler_script.specs.declared.term.Terms.TheVariants as terms
-use Rattle.handler_script.specs.Blocks.{closes, answers, opened_by, open_after, open_behind, answered_after, answered_behind, Standing, in_main, in_handler, standing_of, standing_behind, side_of, handled_in}
+use Rattle.handler_script.specs.Blocks.{closes, answers, opened_by, open_after, open_behind, answered_after, answered_behind, Standing, in_main, in_handler, standing_of, standing_behind, handled_in}
 use Rattle.handler_script.specs.Broken.{line_place, NamesNone, BreaksDirection, BreaksValues, IsNotAllowed, BreaksCarried, LineBreaks, StatementBreaks, is_misdirected, is_uncarried, IsBroken}
 use Rattle.handler_script.specs.Messages.{message_named, receives, resolves, replies, is_constructor}
 use Rattle.handler_script.specs.Plain.{plain_term, plain_held, plain_terms, plain_action, plain_block}

@@ -1,5 +1,5 @@
 -- The script of a text is valid for its schema.
-use Rattle.std.proofs.Common.{◌≡◌, ℕ, ◌+◌, ◌<◌, ◌≤◌, ◌^◌, List, length, map, inl, refl, sym, ap, subst, arith}
+use Rattle.std.proofs.Common.{◌≡◌, ℕ, ◌+◌, ◌<◌, ◌≤◌, List, length, map, inl, refl, sym, ap, subst, arith}
 use Rattle.ipdl_base.specs.declared.finding.TheConstants.Rule as rule
 use Rattle.ipdl_base.specs.declared.schema.Schema.{Schema}
 use Rattle.ipdl_base.specs.Sound.{IsSound}

@@ -1,18 +1,14 @@
 -- What is read of a text, and where no rule is broken.
-use Rattle.std.proofs.Common.{◌≡◌, ◌≢◌, ℕ, ◌+◌, ◌<◌, ◌≤◌, ◌^◌, Bool, true, false, List, [], ◌∷◌, length, map, refl, sym, ap, ◌∙◌, arith}
-use Rattle.std.specs.List.{Contains}
+use Rattle.std.proofs.Common.{◌≡◌, ℕ, ◌+◌, ◌≤◌, List, [], ◌∷◌, length, map, refl, ap, arith}
 use Rattle.std.proofs.lemmas.List.Splits.{length-slice_split}
 use Rattle.std.proofs.lemmas.List.Sums.{count_by-le-length}
 use Rattle.ipdl_base.specs.declared.finding.Finding.{Finding}
-use Rattle.ipdl_base.specs.declared.schema.Schema.{Schema}
 use Rattle.findings.specs.Report as report
 use Rattle.script_reader.specs.declared.line.LineReading.{LineReading}
 use Rattle.script_reader.specs.Lines.{is_line_feed, lines_of, AreRead, IsReading}
 use Rattle.handler_script.specs.declared.action.Block.{Block}
 use Rattle.handler_script.specs.declared.script.Script.{Script}
-use Rattle.handler_script.specs.Broken.{IsBroken, IsReport}
 use Rattle.handler_script.specs.Plain.{plain_block, plain_script}
-use Rattle.handler_script.specs.ScriptOf.{IsScriptOf, blocks_of}
 
 as_many : (lines : List (List ℕ)) (readings : List LineReading) → AreRead lines readings → length readings ≡ length lines
 as_many [] [] h = refl

@@ -1,5 +1,5 @@
 -- The blocks of a script: in which block a line stands, and what stands before and behind it there.
-use Rattle.std.specs.Prelude.{ℕ, Bool, true, false, ◌||◌, not, ◌&&◌, List, [], ◌∷◌, fold, Option, Some, None, option_and_then}
+use Rattle.std.specs.Prelude.{Bool, true, false, ◌||◌, not, ◌&&◌, List, [], ◌∷◌, fold, Option, Some, None, option_and_then}
 use Rattle.std.specs.List.{list_any}
 use Rattle.std.specs.Option.{option_map}
 use Rattle.ipdl_base.specs.declared.kinds.Side.{Side}

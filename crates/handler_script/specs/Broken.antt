@@ -1,5 +1,5 @@
 -- The rules of a script, where a text breaks them, and the report.
-use Rattle.std.specs.Prelude.{◌≡◌, ◌≢◌, ℕ, ◌+◌, ◌<◌, ◌⊎◌, Bool, true, false, not, ◌&&◌, ◌||◌, IsTrue, List, [], ◌∷◌, ◌++◌, length, take, drop, slice_get, Option, Some, None, IsSome, IsSomeAnd, is_some, option_and_then}
+use Rattle.std.specs.Prelude.{◌≡◌, ◌≢◌, ℕ, ◌+◌, ◌⊎◌, Bool, true, false, not, ◌&&◌, ◌||◌, IsTrue, List, [], take, drop, slice_get, Option, Some, None, IsSome, IsSomeAnd, is_some, option_and_then}
 use Rattle.std.specs.List.{list_any}
 use Rattle.std.specs.Option.{option_map, option_map_or}
 use Rattle.ipdl_base.specs.declared.finding.Finding.{Finding}
@@ -20,7 +20,7 @@ use Rattle.script_reader.specs.declared.written.WrittenValues.{WrittenValues}
 use Rattle.script_reader.specs.Lines.{IsReading}
 use Rattle.findings.specs.Gains.{AtSome}
 use Rattle.findings.specs.Report as report
-use Rattle.handler_script.specs.Blocks.{opens, answers, said, open_behind, answered_behind, is_followed, is_closed, Standing, in_main, in_handler, standing_of, standing_behind, side_of, given_in, handled_in}
+use Rattle.handler_script.specs.Blocks.{opens, answers, open_behind, answered_behind, is_followed, is_closed, Standing, in_main, in_handler, standing_of, standing_behind, side_of, given_in, handled_in}
 use Rattle.handler_script.specs.Mentions.{any_mentions, values_of, who_of, message_of, speaks_of}
 use Rattle.handler_script.specs.Messages.{message_named, receives, sends, resolves, replies, is_constructor}
 use Rattle.handler_script.specs.Served.{is_side}

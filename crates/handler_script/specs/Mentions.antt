@@ -1,6 +1,5 @@
 -- Whom a statement and its values speak of.
-use Rattle.std.specs.Prelude.{ℕ, Bool, true, false, ◌||◌, List, Option, Some, None, is_some, not}
-use Rattle.ipdl_base.specs.declared.schema.ParamRow.{ParamRow}
+use Rattle.std.specs.Prelude.{Bool, false, ◌||◌, Option, Some, None}
 use Rattle.script_reader.specs.declared.statement.Statement.{Statement}
 use Rattle.script_reader.specs.declared.statement.Statement.TheVariants as forms
 use Rattle.script_reader.specs.declared.statement.MessageName.{MessageName}

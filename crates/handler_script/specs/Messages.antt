@@ -1,5 +1,5 @@
 -- The messages that a script names, and who may send and receive them.
-use Rattle.std.specs.Prelude.{◌≡◌, ℕ, ◌==◌, ◌&&◌, not, Bool, true, false, IsTrue, List, Option, Some, None, is_some, find, option_and_then}
+use Rattle.std.specs.Prelude.{ℕ, Bool, true, false, List, Option, None, find, option_and_then}
 use Rattle.std.specs.Str.{bytes_eq}
 use Rattle.ipdl_base.specs.declared.kinds.Direction.{Direction}
 use Rattle.ipdl_base.specs.declared.kinds.Direction.TheVariants as direction

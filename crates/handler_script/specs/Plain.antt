@@ -1,5 +1,5 @@
 -- Terms, actions and scripts up to where their boxes lie: the plain form is the same with every box at one place.
-use Rattle.std.specs.Prelude.{List, map, Option}
+use Rattle.std.specs.Prelude.{map}
 use Rattle.std.specs.Option.{option_map}
 use Rattle.ipdl_base.specs.Plain.{one_box}
 use Rattle.handler_script.specs.declared.action.Action.{Action}

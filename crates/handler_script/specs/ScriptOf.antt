@@ -1,11 +1,9 @@
 -- The script of a text that breaks no rule, and its actions one by one.
-use Rattle.std.specs.Prelude.{◌≡◌, ℕ, ◌==◌, ◌&&◌, Bool, true, false, if◌then◌else◌, List, [], ◌∷◌, ◌++◌, length, filter, slice_get, Option, Some, None, is_some, unwrap_or, option_and_then}
+use Rattle.std.specs.Prelude.{◌≡◌, ℕ, if◌then◌else◌, List, [], ◌∷◌, ◌++◌, filter, slice_get, Option, Some, None, unwrap_or, option_and_then}
 use Rattle.std.specs.List.{filter_map}
 use Rattle.std.specs.Option.{option_map, option_map_or}
 use Rattle.ipdl_base.specs.declared.finding.Finding.{Finding}
 use Rattle.ipdl_base.specs.declared.kinds.Side.{Side}
-use Rattle.ipdl_base.specs.declared.schema.MessageRow.{MessageRow}
-use Rattle.ipdl_base.specs.declared.schema.ParamRow.{ParamRow}
 use Rattle.ipdl_base.specs.declared.schema.Schema.{Schema}
 use Rattle.script_reader.specs.declared.line.LineReading.{LineReading}
 use Rattle.script_reader.specs.declared.line.LineReading.TheVariants as line
@@ -21,7 +19,7 @@ use Rattle.handler_script.specs.declared.script.Point.{Point}
 use Rattle.handler_script.specs.declared.script.Point.TheVariants as point
 use Rattle.handler_script.specs.declared.script.Script.{Script}
 use Rattle.handler_script.specs.declared.term.Terms.{Terms}
-use Rattle.handler_script.specs.Blocks.{closes, Standing, in_main, in_handler, standing_of, side_of, handled_in}
+use Rattle.handler_script.specs.Blocks.{closes, Standing, standing_of, side_of, handled_in}
 use Rattle.handler_script.specs.Broken.{types_of, IsBroken}
 use Rattle.handler_script.specs.Messages.{message_named}
 use Rattle.handler_script.specs.Plain.{plain_script}

@@ -1,9 +1,8 @@
 -- Scripts that a run can follow: what every script that is read is for its schema.
-use Rattle.std.specs.Prelude.{◌≡◌, ◌≢◌, ℕ, ◌<◌, ◌≤◌, ◌^◌, Bool, true, false, IsTrue, not, List, [], ◌∷◌, length, count_by, slice_get, Option, Some, None, IfSome, IsSome, IsSomeAnd, option_and_then, pos}
+use Rattle.std.specs.Prelude.{◌≡◌, ℕ, ◌<◌, ◌≤◌, ◌^◌, Bool, true, false, IsTrue, List, [], ◌∷◌, length, count_by, Option, Some, None, IfSome, IsSome, IsSomeAnd, option_and_then, pos}
 use Rattle.std.specs.List.{All}
 use Rattle.std.specs.Str.{IsUtf8}
 use Rattle.ipdl_base.specs.declared.builtin.Builtin.TheVariants as builtin
-use Rattle.ipdl_base.specs.declared.kinds.Side.{Side}
 use Rattle.ipdl_base.specs.declared.schema.MessageRow.{MessageRow}
 use Rattle.ipdl_base.specs.declared.schema.ParamRow.{ParamRow}
 use Rattle.ipdl_base.specs.declared.schema.Schema.{Schema}

@@ -1,4 +1,4 @@
-use Rattle.std.proofs.Common.{◌≡◌, ◌+◌, drop, Option, Some, None, sym, ap, ◌∙◌}
+use Rattle.std.proofs.Common.{◌≡◌, ◌+◌, drop, Some, None, sym, ap, ◌∙◌}
 use Rattle.handler_script.specs.Blocks.{said, is_followed}
 use Rattle.handler_script.proofs.Built.{drop_item, followed_none, followed_some}
 use Rattle.handler_script.proofs.lines.is_followed.Goals as goal

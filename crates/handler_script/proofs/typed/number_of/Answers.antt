@@ -1,4 +1,4 @@
-use Rattle.std.proofs.Common.{◌≤◌, ◌<◌, ◌^◌, length, lit<, arith}
+use Rattle.std.proofs.Common.{◌≤◌, lit<, arith}
 use Rattle.std.proofs.Math.Nat.{pow-le-pow_right}
 use Rattle.handler_script.proofs.typed.number_of.Goals as goal
 
