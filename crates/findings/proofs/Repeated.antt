@@ -1,15 +1,16 @@
 -- Names that stand a second time, when one more name stands behind them.
 use Rattle.std.proofs.Common.{◌≡◌, ℕ, ◌+◌, ◌<◌, ◌≤◌, Bool, true, false, not, cond, List, [], ◌∷◌, ◌++◌, length, take, get_or, map, Bor, ◌⊎◌, inl, inr, refl, sym, ◌∙◌, ap, subst, arith}
 use Rattle.std.specs.Prelude.{nat_eq}
-use Rattle.std.specs.List.{Contains}
+use Rattle.std.specs.List.{list_any, Contains}
+use Rattle.std.specs.Str.{bytes_eq}
 use Rattle.std.specs.Cmp.Lexicographic.{pointwise}
 use Rattle.std.specs.Bool.{Decides}
 use Rattle.std.proofs.lemmas.Bool.{true≢false}
-use Rattle.std.proofs.lemmas.Bool.Decides.{Decides-eqb}
+use Rattle.std.proofs.lemmas.Bool.Decides.{Decides-by_or, Decides-eqb}
 use Rattle.std.proofs.lemmas.List.{take_more, take-append-le, take_all, map-append}
-use Rattle.std.proofs.lemmas.List.Elements.{Contains-append_left, Contains-push, Contains-push_cases}
+use Rattle.std.proofs.lemmas.List.Elements.{Contains-append_left, Contains-push, Contains-push_cases, Decides-contains}
 use Rattle.std.proofs.lemmas.Option.{slice_get_within}
-use Rattle.std.proofs.lemmas.Slice.Eq.{slice_eq-Decides}
+use Rattle.std.proofs.lemmas.Slice.Eq.{bytes_eq-Decides, slice_eq-Decides}
 use Rattle.ipdl_base.specs.declared.finding.Finding.{Finding}
 use Rattle.ipdl_base.specs.declared.finding.Place.{Place}
 use Rattle.ipdl_base.specs.declared.finding.Rule.{Rule}
@@ -121,6 +122,19 @@ Adds-new rule names i d a b lt none old =
     (Adds-like rule (IsRepeatedAt before) (IsRepeatedAt (before ++ y ∷ [])) a b old
     (λ place r. repeated_left before y place r)
     (λ place h. elim (repeated_cases before y place h) [ inl r ↦ r | inr e ↦ absurd (none e.0) ]))
+
+-- the test that finds a name among others
+
+among_texts : (names : List Given) (q : List ℕ) → list_any (λ (n : Given). bytes_eq q n.0.now) names ≡ list_any (λ w. bytes_eq q w) (texts (map plain_name names))
+among_texts [] q = refl
+among_texts (n ∷ names) q = rw (among_texts names q) refl
+
+pub among_decided : (names : List Given) (q : List ℕ) → Decides (list_any (λ (n : Given). bytes_eq q n.0.now) names) (Contains (texts (map plain_name names)) q)
+among_decided names q =
+    rw (among_texts names q)
+    (Decides-contains (texts (map plain_name names)) q _
+    (Decides-by_or (λ w. bytes_eq q w) (λ w. w ≡ q) (list_any (λ w. bytes_eq q w))
+    (λ w. let d = bytes_eq-Decides q w in (λ h. sym (d.0 h), λ e. d.1 (sym e))) refl (λ _ _. refl) (texts (map plain_name names))))
 
 -- nothing repeats where there is no name
 pub Adds-no_name : (rule : Rule) (a : List Finding) → Adds rule (IsRepeatedAt []) a a

@@ -1,4 +1,6 @@
-ghost use Rattle.std.specs.Prelude.{map, OnOk};
+ghost use Rattle.std.specs.Prelude.{◌≡◌, map, OnOk};
+ghost use Rattle.std.specs.List.{list_any};
+ghost use Rattle.std.specs.Str.{bytes_eq};
 ghost use Rattle.findings.specs.Adds.{Adds};
 ghost use Rattle.findings.specs.Repeats.{IsRepeatedAt};
 
@@ -9,9 +11,37 @@ use std::collections::HashSet;
 /// A name and its place.
 pub type NamePlace<'n> = (&'n [u8], Place);
 
-/// Adds a finding of this rule at each name that stands earlier in the list too. Takes time in
-/// proportion to the list. The only error is want of memory.
-pub fn add_repeated(
+/// The most names of which each is compared with all before it; more than these go into a set.
+const FEW: usize = 8;
+
+/// Whether one of these names is the same as the other.
+fn is_among(names: &[NamePlace<'_>], other: &[u8]) -> bool
+    ensures { result ≡ list_any (λ n. bytes_eq other.now n.0.now) names.now }
+{
+    names.iter().any(|(name, _)| other == *name)
+}
+
+/// Adds the findings at names that stand earlier too, without taking memory but for these.
+fn add_repeated_few(
+    rule: Rule,
+    names: &[NamePlace<'_>],
+    found: &mut Vec<Finding>,
+) -> Result<(), AllocError>
+    ensures { OnOk result (Adds rule (IsRepeatedAt (map (λ n. (n.0.now, n.1)) names.now)) found.old.items found.new.items) }
+{
+    for (i, (name, place)) in names.iter().enumerate() {
+        if is_among(&names[..i], name) {
+            found.push(Finding {
+                place: *place,
+                rule,
+            })?;
+        }
+    }
+    Ok(())
+}
+
+/// The same by a set of the names so far.
+fn add_repeated_many(
     alloc: Global,
     rule: Rule,
     names: &[NamePlace<'_>],
@@ -29,4 +59,21 @@ pub fn add_repeated(
         }
     }
     Ok(())
+}
+
+/// Adds a finding of this rule at each name that stands earlier in the list too. Takes time in
+/// proportion to the list. The only error is want of memory.
+pub fn add_repeated(
+    alloc: Global,
+    rule: Rule,
+    names: &[NamePlace<'_>],
+    found: &mut Vec<Finding>,
+) -> Result<(), AllocError>
+    ensures { OnOk result (Adds rule (IsRepeatedAt (map (λ n. (n.0.now, n.1)) names.now)) found.old.items found.new.items) }
+{
+    if names.len() <= FEW {
+        add_repeated_few(rule, names, found)
+    } else {
+        add_repeated_many(alloc, rule, names, found)
+    }
 }

@@ -57,7 +57,7 @@ letter_is_not : (b c : ℕ) → is_word_start b ≡ true → is_word_start c ≡
 letter_is_not b c h k =
     ⊎_elim (λ e. absurd (true≢false (sym h ∙ ap is_word_start (eqb-true b c e) ∙ k))) (λ e. e) (cases_Bool (b == c))
 
-class_of-letter : (b : ℕ) → is_word_start b ≡ true → class_of b ≡ class.Letter
+pub class_of-letter : (b : ℕ) → is_word_start b ≡ true → class_of b ≡ class.Letter
 class_of-letter b h =
     letter_from (is_blank b) (b == 47) (b == 34) (is_mark b) (is_word_start b)
     (letter_not_blank b h) (letter_is_not b 47 h refl) (letter_is_not b 34 h refl) (letter_not_mark b h) h
@@ -121,7 +121,7 @@ word_start-class b h = from_letter (is_blank b) (b == 47) (b == 34) (is_mark b) 
 
 -- a word begins with a letter, and goes on with letters and digits
 
-word_first : (b : ℕ) (bytes : List ℕ) → IsWord (b ∷ bytes) → is_word_start b ≡ true
+pub word_first : (b : ℕ) (bytes : List ℕ) → IsWord (b ∷ bytes) → is_word_start b ≡ true
 word_first b bytes h = (and_parts (is_word_start b) (list_all is_word_byte bytes) h).0
 
 pub word_rest : (b : ℕ) (bytes : List ℕ) → IsWord (b ∷ bytes) → AllByRecursion (λ c. IsTrue (is_word_byte c)) bytes

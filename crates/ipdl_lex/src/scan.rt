@@ -1,6 +1,6 @@
 ghost use Rattle.std.specs.Prelude.{◌≡◌, ◌↔◌, ℕ, ◌+◌, ◌<◌, ◌≤◌, ◌^◌, ◌-◌, ◌⊎◌, ◌++◌, Some, None, IsTrue, IfOk, IfErr, OnOk, IfSome, IfNone, Contains, not, length, position, List, Ok, Err, slice_index, take};
 ghost use Rattle.ipdl_base.specs.Words.{is_word_start, is_word_byte, IsWord};
-ghost use Rattle.ipdl_lex.specs.Pieces.{is_blank, is_line_feed, is_mark, reserved_words, Spells};
+ghost use Rattle.ipdl_lex.specs.Pieces.{is_blank, is_line_feed, is_mark, reserved_words, IsPieceOf, Spells};
 ghost use Rattle.ipdl_lex.specs.Tokens.{FailsAt, IsShortOf, IsTokens, IsFault, Gives, token_at};
 ghost use Rattle.ipdl_lex.specs.declared.token.Lexed.{Lexed};
 ghost use Rattle.ipdl_lex.specs.declared.token.LexFault.{LexFault};
@@ -96,7 +96,9 @@ pub fn is_reserved(word: &[u8]) -> bool
 fn class_of(b: u8) -> Class
     ensures { result ≡ class_of b }
 {
-    if is_blank(b) {
+    if is_word_start(b) {
+        Class::Letter
+    } else if is_blank(b) {
         Class::Blank
     } else if b == b'/' {
         Class::Slash
@@ -104,8 +106,6 @@ fn class_of(b: u8) -> Class
         Class::Quote
     } else if is_mark(b) {
         Class::Mark
-    } else if is_word_start(b) {
-        Class::Letter
     } else {
         Class::Other
     }
@@ -296,6 +296,23 @@ fn behind_bytes(here: Place, bytes: &[u8]) -> Place
     place
 }
 
+/// The place behind a piece. A token has no line feed, so it is further on its line by its bytes.
+fn behind_piece(here: Place, kind: Option<TokenKind>, bytes: &[u8]) -> Place
+    requires piece { IsPieceOf kind bytes.now }
+    requires line { here.line + length bytes.now < 2 ^ 32 }
+    requires column { here.column + length bytes.now < 2 ^ 32 }
+    ensures { result ≡ behind_bytes here bytes.now }
+{
+    match kind {
+        None => behind_bytes(here, bytes),
+        Some(_) => Place {
+            file: here.file,
+            line: here.line,
+            column: here.column + bytes.len() as u32,
+        },
+    }
+}
+
 /// Adds the token of a piece, if it is one.
 fn keep<'t>(
     tokens: &mut Vec<Token<'t>>,
@@ -328,7 +345,7 @@ fn scan(alloc: Global, text: &[u8], file: u32) -> Result<Lexed<'_>, LexFault>
         let found = short_front(rest, here)?;
         let (bytes, after) = rest.split_at(found.len);
         keep(&mut tokens, found.kind, bytes, here)?;
-        here = behind_bytes(here, bytes);
+        here = behind_piece(here, found.kind, bytes);
         rest = after;
     }
     Ok(Lexed {

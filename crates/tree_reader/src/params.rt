@@ -39,7 +39,7 @@ fn some_params(alloc: Global, reader: &mut Reader) -> Result<Params, Refusal>
     ensures stops { IfErr result (Stops (one_param ∷ more_parameters ∷ []) reader.old) }
     ensures less { OnOk result (length reader.new < length reader.old) }
 {
-    let mut all = Vec::new(alloc);
+    let mut all = Vec::with_capacity(alloc, reader.listed())?;
     all.push(param(alloc, reader)?)?;
     'params: while reader.skips(Symbol::Comma) {
         all.push(param(alloc, reader)?)?;

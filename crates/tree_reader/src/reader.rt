@@ -14,6 +14,9 @@ use ipdl_syntax::NameAt;
 use std::alloc::{AllocError, Global};
 use std::marker::Model;
 
+/// For how many items of a list there is room before the first, at most.
+const MOST_ROOM: usize = 16;
+
 /// A name with the text of a token.
 fn name_of(alloc: Global, token: &Token) -> Result<Name, AllocError>
     ensures { IfOk result (λ name. name ≡ token.now.text) }
@@ -56,6 +59,20 @@ impl<'a, 't> Reader<'a, 't> {
         ensures { result ≡ first_symbol self.now }
     {
         self.next
+    }
+
+    /// About how many items with a comma between each two come before the next `)`, for so many
+    /// there is room at once; never more than a few, whatever comes.
+    pub(crate) fn listed(&self) -> usize {
+        let mut count = 1;
+        for token in self.rest {
+            match token.text() {
+                b")" => return count,
+                b"," if count < MOST_ROOM => count += 1,
+                _ => {}
+            }
+        }
+        count
     }
 
     /// That the next token, or the end, may not stand here.

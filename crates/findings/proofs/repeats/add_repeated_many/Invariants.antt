@@ -7,7 +7,7 @@ use Rattle.std.specs.HashSet.{contains}
 use Rattle.findings.specs.Adds.{Adds}
 use Rattle.findings.specs.Repeats.{IsRepeatedAt}
 use Rattle.findings.proofs.Repeated.{plain_name, texts}
-use Rattle.findings.proofs.repeats.add_repeated.Given as goal
+use Rattle.findings.proofs.repeats.add_repeated_many.Given as goal
 
 -- the set has the names so far, and the repeated ones have their findings
 abbrev pub invariant-loop-name : goal.invariant-loop-name

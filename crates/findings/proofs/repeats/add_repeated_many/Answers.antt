@@ -5,8 +5,8 @@ use Rattle.std.specs.HashSet.{contains}
 use Rattle.std.proofs.lemmas.Bool.{true≢false}
 use Rattle.std.proofs.lemmas.List.{take_all}
 use Rattle.findings.proofs.Repeated.{Given, told_more, Adds-repeated, Adds-new, Adds-no_name, was_there, was_new}
-use Rattle.findings.proofs.repeats.add_repeated.Goals as goal
-use Rattle.findings.proofs.repeats.add_repeated.Goals.{then-not-branch+in_ok-push, else-not-branch}
+use Rattle.findings.proofs.repeats.add_repeated_many.Goals as goal
+use Rattle.findings.proofs.repeats.add_repeated_many.Goals.{then-not-branch+in_ok-push, else-not-branch}
 
 pub loop-name-init : goal.loop-name-init
 loop-name-init c = record {
