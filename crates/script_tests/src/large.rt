@@ -1,7 +1,7 @@
 ghost use Rattle.ipdl_base.specs.Sound.{IsSound};
 
 use super::given::{broken, read, script, the_schema};
-use handler_script::{Action, Point, Script, ScriptFault, Term, Terms};
+use handler_script::{Point, ScriptFault};
 use ipdl_base::{Findings, Rule, Schema, Side};
 use std::alloc::{AllocError, Global};
 use std::test::Fail;
@@ -62,46 +62,6 @@ fn depths(rt: HostRuntime) -> Result<(), Fail> {
     let brackets = repeat(alloc, "", "[", 16_385)?;
     let shown = broken(alloc, &schema, "PT", brackets.as_slice())?;
     assert_eq!(rt; shown.as_str(), "0:1:1 K9 ");
-    Ok(())
-}
-
-/// The first value of the first action in the parent's main.
-fn first_value(script: &Script) -> Option<&Term> {
-    match script.action(Side::Parent, Point::Main(0))? {
-        Action::Send {
-            who: _,
-            number: _,
-            values: Terms::First(term, _),
-        } => Some(term),
-        _ => None,
-    }
-}
-
-/// The term so many levels inside unions of arrays and arrays.
-fn inside(term: &Term, levels: u32) -> Option<&Term> {
-    let mut inner = term;
-    for _ in 0..levels {
-        inner = match inner {
-            Term::Union(2, held) => held,
-            Term::Array(Terms::First(first, _)) => first,
-            _ => return None,
-        };
-    }
-    Some(inner)
-}
-
-/// A term as deep as a line can hold it is copied, and the copy outlives the script.
-#[test]
-fn deep_copy(rt: HostRuntime) -> Result<(), Fail> {
-    let alloc = rt.alloc();
-    let schema = the_schema(alloc)?;
-    let text = nested(alloc, "@2[", "@0 true", "]", 4080)?;
-    let script = script(alloc, &schema, "PT", text.as_slice())?;
-    let term = first_value(&script).ok_or("no value")?;
-    let copied = term.copy(alloc)?;
-    assert!(rt; copied == *term);
-    drop(script);
-    assert!(rt; matches!(inside(&copied, 8160), Some(Term::Union(0, _))));
     Ok(())
 }
 
