@@ -199,6 +199,8 @@ fn arrays_in_arrays(rt: HostRuntime) -> Result<(), Fail> {
     assert!(rt; each_fits(values, &schema, &[], fields.as_slice()));
     let terms = terms_of(values, alloc, &schema, fields.as_slice())?;
     assert_eq!(rt; depth(&terms), 8000);
+    let copied = terms.copy(alloc)?;
+    assert_eq!(rt; depth(&copied), 8000);
     // The innermost is empty, so it fits arrays that are deeper, and none that are not as deep.
     assert!(rt; each_fits(values, &schema, &[], field(alloc, 8001)?.as_slice()));
     assert!(rt; !each_fits(values, &schema, &[], field(alloc, 7999)?.as_slice()));

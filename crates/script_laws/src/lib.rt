@@ -1,0 +1,6 @@
+//! The law of handler scripts: a text has at most one answer (docs/scripts.md). No function that runs.
+#![tactic(auto)]
+
+mod laws;
+
+pub use laws::one_answer;
