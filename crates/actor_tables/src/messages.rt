@@ -124,7 +124,7 @@ fn message_rows(
     requires sole { ProtocolFindsSole source.now.program.now of.now.file of.now.protocol.now }
     ensures { IfOk result (λ rows. AreRows (IsMessageRow source.now.program.now (numbering_of source.now.numbers) types.now.rows.items of.now.number of.now.file of.now.protocol.now) 0 of.now.protocol.now.messages rows.items) }
 {
-    let mut rows = Vec::new(alloc);
+    let mut rows = Vec::with_capacity(alloc, of.protocol.messages.len())?;
     for (index, message) in of.protocol.messages.as_slice().iter().enumerate() {
         rows.push(message_row(alloc, source, types, of, index, message)?)?;
     }

@@ -45,7 +45,7 @@ pub fn param_rows(
     requires sole { ParamsFindSole source.now.program.now file params.now }
     ensures { IfOk result (λ rows. AreParamRows source.now.program.now (numbering_of source.now.numbers) file params.now rows.items) }
 {
-    let mut rows = Vec::new(alloc);
+    let mut rows = Vec::with_capacity(alloc, params.len())?;
     for param in params {
         rows.push(param_row(alloc, source, file, param)?)?;
     }
@@ -83,7 +83,7 @@ fn component_shapes(
     requires sole { TypesFindSole source.now.program.now file components.now }
     ensures { IfOk result (λ shapes. AllZip (IsShapeOf source.now.program.now (numbering_of source.now.numbers) file) components.now shapes.items) }
 {
-    let mut shapes = Vec::new(alloc);
+    let mut shapes = Vec::with_capacity(alloc, components.len())?;
     for component in components {
         shapes.push(shape_of(alloc, source, file, component)?)?;
     }
@@ -146,7 +146,7 @@ pub fn type_rows(alloc: Global, source: &Source<'_, '_>) -> Result<Vec<TypeRow>,
     requires clean { IsClean source.now.program.now }
     ensures { IfOk result (λ rows. AllZip (λ id. IsTypeRow source.now.program.now (numbering_of source.now.numbers) (decl_of id)) source.now.numbers.types.items rows.items) }
 {
-    let mut rows = Vec::new(alloc);
+    let mut rows = Vec::with_capacity(alloc, source.numbers.types.len())?;
     for id in source.numbers.types.as_slice() {
         rows.push(type_row(alloc, source, *id)?)?;
     }

@@ -7,7 +7,11 @@ use crate::words::{
     compress_word, direction_word, kind_word, level_word, protocol_name, semantics_word, type_name,
 };
 use ipdl_base::{MessageRow, ParamRow, ParamRows, ProtocolRow, Schema, Shape, TypeRow};
+use itoa::Buffer;
 use std::alloc::{AllocError, Global};
+
+/// How many bytes the line of a message takes, about: for so many there is room before the first.
+const MESSAGE_LEN: usize = 80;
 
 /// Appends a name with a text before it and one behind it.
 fn push_around(
@@ -41,7 +45,8 @@ fn push_shape(out: &mut Vec<u8>, schema: &Schema, shape: &Shape) -> Result<(), A
         }
         Shape::Maybe(element) => {
             push_shape(out, schema, element)?;
-            out.extend_from_slice(b"?")
+            out.push(b'?')?;
+            Ok(())
         }
         Shape::Unique(element) => {
             out.extend_from_slice(b"UniquePtr<")?;
@@ -65,7 +70,7 @@ fn push_param(out: &mut Vec<u8>, schema: &Schema, param: &ParamRow) -> Result<()
     ensures { OnOk result (out.new.items ≡ out.old.items ++ text.param_text schema.now param.now) }
 {
     push_shape(out, schema, &param.shape)?;
-    out.extend_from_slice(b" ")?;
+    out.push(b' ')?;
     out.extend_from_slice(param.name.as_slice())
 }
 
@@ -103,9 +108,10 @@ fn push_listed_params(
 fn push_params(out: &mut Vec<u8>, schema: &Schema, params: &[ParamRow]) -> Result<(), AllocError>
     ensures { OnOk result (out.new.items ≡ out.old.items ++ text.params_text schema.now params.now) }
 {
-    out.extend_from_slice(b"(")?;
+    out.push(b'(')?;
     push_listed_params(out, schema, params)?;
-    out.extend_from_slice(b")")
+    out.push(b')')?;
+    Ok(())
 }
 
 /// Appends the returns of a message, where it has them.
@@ -130,23 +136,20 @@ fn push_word(out: &mut Vec<u8>, word: &[u8]) -> Result<(), AllocError>
     ensures { OnOk result (out.new.items ≡ out.old.items ++ (word.now ++ codes " ")) }
 {
     out.extend_from_slice(word)?;
-    out.extend_from_slice(b" ")
+    out.push(b' ')?;
+    Ok(())
 }
 
 /// Appends a number and a blank.
-fn push_number(out: &mut Vec<u8>, alloc: Global, number: u64) -> Result<(), AllocError>
+fn push_number(out: &mut Vec<u8>, number: u64) -> Result<(), AllocError>
     ensures { OnOk result (out.new.items ≡ out.old.items ++ (decimal number ++ codes " ")) }
 {
-    let digits = number.to_string(alloc)?;
-    push_word(out, digits.as_bytes())
+    let mut digits = Buffer::new();
+    push_word(out, digits.format(number).as_bytes())
 }
 
 /// Appends what a message's line has before the name.
-fn push_message_head(
-    out: &mut Vec<u8>,
-    alloc: Global,
-    message: &MessageRow,
-) -> Result<(), AllocError>
+fn push_message_head(out: &mut Vec<u8>, message: &MessageRow) -> Result<(), AllocError>
     ensures { OnOk result (out.new.items ≡ out.old.items ++ (
         codes "message " ++ decimal message.now.number ++ codes " " ++ text.direction_text message.now.direction ++ codes " " ++ text.semantics_text message.now.semantics
         ++ codes " " ++ text.level_text message.now.level ++ codes " " ++ text.compress_text message.now.compress ++ codes " "
@@ -154,7 +157,7 @@ fn push_message_head(
         )) }
 {
     out.extend_from_slice(b"message ")?;
-    push_number(out, alloc, message.number as u64)?;
+    push_number(out, message.number as u64)?;
     push_word(out, direction_word(message.direction))?;
     push_word(out, semantics_word(message.semantics))?;
     push_word(out, level_word(message.level))?;
@@ -163,15 +166,10 @@ fn push_message_head(
 }
 
 /// Appends the line of a message.
-fn push_message(
-    out: &mut Vec<u8>,
-    alloc: Global,
-    schema: &Schema,
-    message: &MessageRow,
-) -> Result<(), AllocError>
+fn push_message(out: &mut Vec<u8>, schema: &Schema, message: &MessageRow) -> Result<(), AllocError>
     ensures { OnOk result (out.new.items ≡ out.old.items ++ text.message_text schema.now message.now) }
 {
-    push_message_head(out, alloc, message)?;
+    push_message_head(out, message)?;
     out.extend_from_slice(message.name.as_slice())?;
     push_params(out, schema, message.params.as_slice())?;
     push_returns(out, schema, &message.returns)?;
@@ -181,14 +179,13 @@ fn push_message(
 /// Appends the lines of messages.
 fn push_messages(
     out: &mut Vec<u8>,
-    alloc: Global,
     schema: &Schema,
     messages: &[MessageRow],
 ) -> Result<(), AllocError>
     ensures { OnOk result (out.new.items ≡ out.old.items ++ flat_map (text.message_text schema.now) messages.now) }
 {
     for message in messages {
-        push_message(out, alloc, schema, message)?;
+        push_message(out, schema, message)?;
     }
     Ok(())
 }
@@ -216,7 +213,6 @@ fn push_managed(out: &mut Vec<u8>, schema: &Schema, manages: &[u32]) -> Result<(
 /// Appends a protocol's own line.
 fn push_protocol_line(
     out: &mut Vec<u8>,
-    alloc: Global,
     number: usize,
     protocol: &ProtocolRow,
 ) -> Result<(), AllocError>
@@ -226,7 +222,7 @@ fn push_protocol_line(
         )) }
 {
     out.extend_from_slice(b"protocol ")?;
-    push_number(out, alloc, number as u64)?;
+    push_number(out, number as u64)?;
     push_word(out, protocol.name.as_slice())?;
     push_word(out, semantics_word(protocol.semantics))?;
     out.extend_from_slice(level_word(protocol.level))?;
@@ -236,30 +232,29 @@ fn push_protocol_line(
 /// Appends the lines of a protocol.
 fn push_protocol(
     out: &mut Vec<u8>,
-    alloc: Global,
     schema: &Schema,
     number: usize,
     protocol: &ProtocolRow,
 ) -> Result<(), AllocError>
     ensures { OnOk result (out.new.items ≡ out.old.items ++ text.protocol_text schema.now number protocol.now) }
 {
-    push_protocol_line(out, alloc, number, protocol)?;
+    push_protocol_line(out, number, protocol)?;
     push_managers(out, schema, protocol.managers.as_slice())?;
     push_managed(out, schema, protocol.manages.as_slice())?;
-    push_messages(out, alloc, schema, protocol.messages.as_slice())
+    out.reserve(MESSAGE_LEN.saturating_mul(protocol.messages.len()))?;
+    push_messages(out, schema, protocol.messages.as_slice())
 }
 
 /// Appends the lines of protocols.
 fn push_protocols(
     out: &mut Vec<u8>,
-    alloc: Global,
     schema: &Schema,
     protocols: &[ProtocolRow],
 ) -> Result<(), AllocError>
     ensures { OnOk result (out.new.items ≡ out.old.items ++ text.protocols_text schema.now 0 protocols.now) }
 {
     for number in 0..protocols.len() {
-        push_protocol(out, alloc, schema, number, &protocols[number])?;
+        push_protocol(out, schema, number, &protocols[number])?;
     }
     Ok(())
 }
@@ -293,7 +288,6 @@ fn push_listed_shapes(
 /// Appends the line of a struct or a union.
 fn push_type(
     out: &mut Vec<u8>,
-    alloc: Global,
     schema: &Schema,
     number: usize,
     row: &TypeRow,
@@ -303,14 +297,14 @@ fn push_type(
     match row {
         TypeRow::Struct(name, fields) => {
             out.extend_from_slice(b"struct ")?;
-            push_number(out, alloc, number as u64)?;
+            push_number(out, number as u64)?;
             push_word(out, name.as_slice())?;
             push_params(out, schema, fields.as_slice())?;
             out.extend_from_slice(b"\n")
         }
         TypeRow::Union(name, components) => {
             out.extend_from_slice(b"union ")?;
-            push_number(out, alloc, number as u64)?;
+            push_number(out, number as u64)?;
             out.extend_from_slice(name.as_slice())?;
             out.extend_from_slice(b" (")?;
             push_listed_shapes(out, schema, components.as_slice())?;
@@ -320,16 +314,11 @@ fn push_type(
 }
 
 /// Appends the lines of structs and unions.
-fn push_types(
-    out: &mut Vec<u8>,
-    alloc: Global,
-    schema: &Schema,
-    types: &[TypeRow],
-) -> Result<(), AllocError>
+fn push_types(out: &mut Vec<u8>, schema: &Schema, types: &[TypeRow]) -> Result<(), AllocError>
     ensures { OnOk result (out.new.items ≡ out.old.items ++ text.types_text schema.now 0 types.now) }
 {
     for number in 0..types.len() {
-        push_type(out, alloc, schema, number, &types[number])?;
+        push_type(out, schema, number, &types[number])?;
     }
     Ok(())
 }
@@ -340,7 +329,7 @@ pub fn table_text(alloc: Global, schema: &Schema) -> Result<Vec<u8>, AllocError>
     ensures { IfOk result (λ written. written.items ≡ text.table_text schema.now) }
 {
     let mut out = Vec::new(alloc);
-    push_protocols(&mut out, alloc, schema, schema.protocols.as_slice())?;
-    push_types(&mut out, alloc, schema, schema.types.as_slice())?;
+    push_protocols(&mut out, schema, schema.protocols.as_slice())?;
+    push_types(&mut out, schema, schema.types.as_slice())?;
     Ok(out)
 }

@@ -134,7 +134,7 @@ fn walk<F: Files>(
 {
     words_hold();
     names_hold();
-    let mut reached = Vec::new(alloc);
+    let mut reached = Vec::with_capacity(alloc, words.len())?;
     'files: while let Some(key) = keys.get_index(reached.len()) {
         let number = reached.len();
         let word = firsts.get(number).copied();

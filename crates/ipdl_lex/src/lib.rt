@@ -1,4 +1,5 @@
-//! The tokens of a text with their places, or its first fault (docs/tokens.md).
+//! The tokens of a text with their places, which borrow its bytes, or its first fault
+//! (docs/tokens.md).
 #![tactic(auto)]
 
 mod laws;

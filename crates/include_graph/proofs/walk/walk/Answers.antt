@@ -19,7 +19,7 @@ files-init g c =
     let path = map string_bytes c.args.path.now in
     let start = walk_start (g.F.Files.told c.args.files.now) words path c.args.keys.now.keys (map (λ (f : Bor (List ℕ)). f.now) c.args.firsts.now) c.requires.words c.requires.keys in
     record {
-      walking = subst (λ (fs : List Reached). Walking (g.F.Files.told c.args.files.now) words path c.args.keys.now.keys fs) (sym c.new-reached.ensures.items) start;
+      walking = subst (λ (fs : List Reached). Walking (g.F.Files.told c.args.files.now) words path c.args.keys.now.keys fs) (sym c.in_ok-reached.ensures.items) start;
       told = refl;
       count = omega arith;
     }
