@@ -5,6 +5,7 @@ pub mod Grown
 pub mod Keys
 pub mod Lines
 pub mod Refused
+pub mod Reserved
 pub mod Same
 pub mod Tags
 pub mod Turns

@@ -7,7 +7,7 @@ use Rattle.std.proofs.lemmas.Bool.Decides.{not_from_Decides}
 use Rattle.std.proofs.lemmas.List.Elements.{Contains-push}
 use Rattle.ipdl_base.specs.Words.{is_word}
 use Rattle.ipdl_lex.specs.Pieces.{reserved_words}
-use Rattle.ipdl_lex.proofs.Words.{Contains-test}
+use Rattle.sync_list.proofs.Reserved.{Contains-test}
 use Rattle.sync_list.specs.Lines.{IsIdentifier, IsSectionLine, IsValueLine, IsIndented}
 use Rattle.sync_list.specs.Forms.{blank, comment, section, value, more}
 use Rattle.sync_list.specs.Lists.{description, sections_from, IsListOf, IsFirstBad}

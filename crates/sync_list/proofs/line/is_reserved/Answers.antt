@@ -1,4 +1,4 @@
-use Rattle.ipdl_lex.proofs.Words.{Contains-test}
+use Rattle.sync_list.proofs.Reserved.{Contains-test}
 use Rattle.sync_list.proofs.line.is_reserved.Goals as goal
 
 pub returns : goal.returns
