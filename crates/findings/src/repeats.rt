@@ -71,9 +71,6 @@ pub fn add_repeated(
 ) -> Result<(), AllocError>
     ensures { OnOk result (Adds rule (IsRepeatedAt (map (λ n. (n.0.now, n.1)) names.now)) found.old.items found.new.items) }
 {
-    if names.is_empty() {
-        return Ok(());
-    }
     if names.len() <= FEW {
         add_repeated_few(rule, names, found)
     } else {

@@ -14,7 +14,7 @@ use ipdl_syntax::NameAt;
 use std::alloc::{AllocError, Global};
 use std::marker::Model;
 
-/// For how many items of a list there is room before the first, at most.
+/// The most items of a list for which room is taken before the first.
 const MOST_ROOM: usize = 16;
 
 /// A name with the text of a token.
@@ -61,8 +61,8 @@ impl<'a, 't> Reader<'a, 't> {
         self.next
     }
 
-    /// About how many items with a comma between each two come before the next `)`, for so many
-    /// there is room at once; never more than a few, whatever comes.
+    /// A guess at how many items, with a comma between each two, come before the next `)`: it says
+    /// for how many to take room, and nothing rests on it.
     pub(crate) fn listed(&self) -> usize {
         let mut count = 1;
         for token in self.rest {
