@@ -1,4 +1,5 @@
-ghost use Rattle.std.specs.Prelude.{◌≡◌, IfSome, IfNone};
+ghost use Rattle.std.specs.Prelude.{◌≡◌, IfSome, IfNone, length};
+ghost use Rattle.std.specs.List.{Contains};
 ghost use Rattle.ipdl_base.specs.Builtins.{builtin_name, is_carried};
 
 /// A type that needs no declaration (docs/language.md, "Builtin types"). `Endpoint` and
@@ -67,32 +68,10 @@ impl Builtin {
         ensures some { IfSome result (λ found. builtin_name found ≡ name.now) }
         ensures none { IfNone result ((other : Builtin) → ¬ (builtin_name other ≡ name.now)) }
     {
-        match name {
-            b"bool" => Some(Builtin::Bool),
-            b"char" => Some(Builtin::Char),
-            b"int8_t" => Some(Builtin::Int8),
-            b"uint8_t" => Some(Builtin::Uint8),
-            b"short" => Some(Builtin::Short),
-            b"int16_t" => Some(Builtin::Int16),
-            b"uint16_t" => Some(Builtin::Uint16),
-            b"int" => Some(Builtin::Int),
-            b"int32_t" => Some(Builtin::Int32),
-            b"uint32_t" => Some(Builtin::Uint32),
-            b"nsresult" => Some(Builtin::NsResult),
-            b"long" => Some(Builtin::Long),
-            b"int64_t" => Some(Builtin::Int64),
-            b"intptr_t" => Some(Builtin::IntPtr),
-            b"uint64_t" => Some(Builtin::Uint64),
-            b"uintptr_t" => Some(Builtin::UintPtr),
-            b"float" => Some(Builtin::Float),
-            b"double" => Some(Builtin::Double),
-            b"nsString" => Some(Builtin::NsString),
-            b"nsCString" => Some(Builtin::NsCString),
-            b"ByteBuf" => Some(Builtin::ByteBuf),
-            b"Shmem" => Some(Builtin::Shmem),
-            b"FileDescriptor" => Some(Builtin::FileDescriptor),
-            _ => None,
-        }
+        of_length(name.len())
+            .iter()
+            .copied()
+            .find(|builtin| builtin.name() == name)
     }
 
     /// Whether a channel carries values of the type.
@@ -100,5 +79,35 @@ impl Builtin {
         ensures { result ≡ is_carried self }
     {
         !matches!(self, Builtin::Shmem | Builtin::FileDescriptor)
+    }
+}
+
+/// The builtins whose names have so many bytes.
+fn of_length(bytes: usize) -> &'static [Builtin]
+    ensures { (other : Builtin) → length (builtin_name other) ≡ bytes → Contains result.now other }
+{
+    match bytes {
+        3 => &[Builtin::Int],
+        4 => &[Builtin::Bool, Builtin::Char, Builtin::Long],
+        5 => &[Builtin::Short, Builtin::Float, Builtin::Shmem],
+        6 => &[Builtin::Int8, Builtin::Double],
+        7 => &[
+            Builtin::Uint8,
+            Builtin::Int16,
+            Builtin::Int32,
+            Builtin::Int64,
+            Builtin::ByteBuf,
+        ],
+        8 => &[
+            Builtin::Uint16,
+            Builtin::Uint32,
+            Builtin::Uint64,
+            Builtin::NsResult,
+            Builtin::IntPtr,
+            Builtin::NsString,
+        ],
+        9 => &[Builtin::UintPtr, Builtin::NsCString],
+        14 => &[Builtin::FileDescriptor],
+        _ => &[],
     }
 }
