@@ -14,7 +14,7 @@ HasTree kind tokens = (unit : FileUnit) × Tree kind tokens unit
 abbrev pub GoesOn : FileKind → List Token → Type 0
 GoesOn kind tokens = (more : List Token) × HasTree kind (tokens ++ more)
 
--- The syntax place: the length of the longest prefix of the tokens that goes on to tokens with a tree.
+-- The syntax place: as many tokens from the front as go on to tokens with a tree, and not one more.
 pub record IsSyntaxPlace (kind : FileKind) (tokens : List Token) (index : ℕ) : Type 0 where
   pub within : index ≤ length tokens
   pub goes_on : GoesOn kind (take index tokens)

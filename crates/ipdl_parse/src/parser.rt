@@ -12,8 +12,8 @@ use tree_reader::{Refusal, read_file};
 /// Why tokens have no tree.
 #[derive(Clone, Copy, Debug, PartialEq, Eq)]
 pub enum SyntaxFault {
-    /// The length of the longest prefix of the tokens that is a prefix of some tokens with a tree,
-    /// and the place of the token there, or that of the end.
+    /// How many tokens the longest viable prefix has, the most from the front with which some file of
+    /// this kind begins, and the place of the token behind it, or that of the end.
     Fault { index: usize, place: Place },
     /// Memory ran out.
     NoMemory,

@@ -13,7 +13,7 @@ pub enum Status {
     WriteFault,
     /// Memory ran out.
     NoMemory,
-    /// A file is absent, too large, or no list of frames.
+    /// The file of frames is missing, has more bytes than a file may have, or is no list of frames.
     BadFrames,
 }
 

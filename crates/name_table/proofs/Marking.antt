@@ -85,7 +85,7 @@ pub record Follows (program : List Entry) (from : ℕ) (marks : List Bool) (work
   pub waiting : (n : ℕ) → Contains work n → IsMarked marks n
   pub closed : (n : ℕ) → IsMarked marks n → Contains work n ⊎ (IsFollowed program from n → (m : ℕ) → Includes program n m → m < length program → IsMarked marks m)
 
--- with no work left the marks are closed, so by induction on a derivation all that is reached is marked
+-- where no work is left, what a marked file includes is marked, and so is all that is reached
 pub complete : (program : List Entry) (from : ℕ) (marks : List Bool) → Follows program from marks [] → {n : ℕ} → Reaches program from n → IsMarked marks n
 complete program from marks f (start below) = f.begun
 complete program from marks f (step {file} {other} r along e below) =

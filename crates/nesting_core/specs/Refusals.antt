@@ -27,7 +27,7 @@ is_nested_in_normal frames send = send.sync && (has_level levels.Not (innermost_
 abbrev pub is_inside_cpow : List Frame → SendHead → Bool
 is_inside_cpow frames send = send.sync && has_level levels.InsideCpow (innermost_dispatch frames)
 
--- a sync send of a level below that of the innermost sync dispatch or that of the innermost wait
+-- a sync send whose level is below a level that holds here: the innermost wait's, or that of the innermost dispatch of a sync message
 abbrev pub is_level_too_low : List Frame → SendHead → Bool
 is_level_too_low frames send = send.sync && (is_below send.level (innermost_sync_dispatch frames) || is_below send.level (innermost_wait frames))
 

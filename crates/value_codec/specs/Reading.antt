@@ -30,7 +30,7 @@ abbrev pub ◌>>=◌ : {A B : Type 0} → Result A Fault → (A → Result B Fau
 (Ok x) >>= f = f x
 (Err e) >>= f = Err e
 
--- What a function returned, seen by view, is what reading gives, unless memory ran out.
+-- A function's result, through `view`, is that of reading; it may give up only for want of memory.
 abbrev pub Fails : {Y : Type 0} → Refusal → Result Y Fault → Type 0
 Fails refusal.NoMemory read = Unit {0}
 Fails (refusal.Broken f) read = read ≡ Err f

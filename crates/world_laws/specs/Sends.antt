@@ -39,7 +39,7 @@ is_wait_on_top (top.Dispatch head) = false
 is_wait_on_top (top.Unanswered head) = true
 is_wait_on_top (top.Answered head) = true
 
--- whether an end may act: it is not dead, and no wait is on top of its stack
+-- whether an end may act: it has not died, and what is on top of its stack, if anything, is a dispatch
 abbrev pub may_act : End → Bool
 may_act e = not (is_dead_end e.state) && not (is_wait_on_top (top_of (frames_of e)))
 
