@@ -6,7 +6,7 @@ use crate::value::Values;
 use std::alloc::{AllocError, Global};
 
 /// What one end sends to the other, but for the mark that an end has died.
-#[derive(Debug, Drop, PartialEq)]
+#[derive(Debug, Drop)]
 pub struct Message {
     /// The id of the actor that it is sent to.
     pub route: i32,
@@ -21,7 +21,7 @@ pub struct Message {
 }
 
 /// What a message carries.
-#[derive(Debug, Drop, PartialEq)]
+#[derive(Debug, Drop)]
 pub enum Body {
     Request(Values),
     Reply(Values),

@@ -6,7 +6,7 @@ use std::alloc::{AllocError, Global};
 
 /// A value that a channel carries.
 #[cycle(value)]
-#[derive(Debug, Drop, PartialEq)]
+#[derive(Debug, Drop)]
 pub enum Value {
     Bool(bool),
     /// A whole number, in the range of its type.
@@ -29,7 +29,7 @@ pub enum Value {
 
 /// A list of values: nothing, or a first one and the rest.
 #[cycle(value)]
-#[derive(Debug, Drop, PartialEq)]
+#[derive(Debug, Drop)]
 pub enum Values {
     Nothing,
     First(Box<Value>, Box<Values>),
