@@ -1,10 +1,12 @@
 ghost use Rattle.ipdl_base.specs.Sound.{IsSound};
 ghost use Rattle.value_types.specs.Fits.{Fits};
 
+use super::checks::{check, check_count, cut};
 use super::schemas::the_schema;
 use super::shown::{bytes_of, digits_of};
 use ipdl_base::{Message, Schema};
 use std::alloc::Global;
+use std::process::Abort;
 use std::test::Fail;
 use value_codec::{Decoded, decode, decode_old, encode, frame_size};
 
@@ -31,8 +33,8 @@ const ENCODES: &str =
 /// How many rows stand there.
 const ENCODES_COUNT: u32 = 17;
 
-/// The new frame of a message, behind a byte that stands there before, and its size.
-pub fn framed(alloc: Global, schema: &Schema, message: &Message) -> Result<(String, usize), Fail>
+/// The size of a message's new frame, and that frame behind a byte that stands there before.
+pub fn framed(alloc: Global, schema: &Schema, message: &Message) -> Result<String, Fail>
     requires sound { IsSound schema.now }
     requires fits { Fits schema.now message.now }
 {
@@ -40,45 +42,51 @@ pub fn framed(alloc: Global, schema: &Schema, message: &Message) -> Result<(Stri
     if encode(alloc, schema, message, &mut out).is_err() {
         return Err("no room".into());
     }
-    Ok((
-        digits_of(alloc, out.as_slice())?,
-        frame_size(schema, message),
-    ))
+    let digits = digits_of(alloc, out.as_slice())?;
+    let size = frame_size(schema, message);
+    if 2 + 2 * size.min(8192) != digits.len() {
+        return Err("another size".into());
+    }
+    Ok(format!(in alloc; "{size} {digits}")?)
 }
 
-/// The new frame of the message that bytes begin with, behind a byte, and its size.
-fn again(alloc: Global, schema: &Schema, old: bool, bytes: &[u8]) -> Result<(String, usize), Fail>
+/// The size and the new frame of the message that bytes begin with.
+fn again(alloc: Global, schema: &Schema, old: bool, digits: &str) -> Result<String, Fail>
     requires { IsSound schema.now }
 {
+    let bytes = bytes_of(alloc, digits)?;
     let decoded = if old {
-        decode_old(alloc, schema, bytes)
+        decode_old(alloc, schema, bytes.as_slice())
     } else {
-        decode(alloc, schema, bytes)
+        decode(alloc, schema, bytes.as_slice())
     };
-    let Decoded::Frame(message, _) = decoded else {
-        return Err("no frame".into());
-    };
-    framed(alloc, schema, &message)
+    match &decoded {
+        Decoded::Frame(message, _) => framed(alloc, schema, message),
+        _ => Err("no frame".into()),
+    }
+}
+
+/// Sees that the message of an old frame and that of its new one are written as the new one.
+fn check_row(rt: &impl Abort, alloc: Global, schema: &Schema, row: &str) -> Result<(), Fail>
+    requires { IsSound schema.now }
+{
+    let (first, second) = cut(row, ": ");
+    let size = second.len() / 2;
+    let wanted = format!(in alloc; "{size} 07{second}")?;
+    for (old, digits) in [(true, first), (false, second)] {
+        let found = again(alloc, schema, old, digits)?;
+        check(rt, digits, found.as_str(), wanted.as_str());
+    }
+    Ok(())
 }
 
 #[test]
 fn encodes(rt: HostRuntime) -> Result<(), Fail> {
+    check_count(&rt, ENCODES, ENCODES_COUNT);
     let alloc = rt.alloc();
     let schema = the_schema(alloc)?;
-    let mut count = 0u32;
     for row in ENCODES.split("\n") {
-        let Some((first, second)) = row.split_once(": ") else {
-            return Err("a row without its new frame".into());
-        };
-        let whole = format!(in alloc; "07{second}")?;
-        for (old, digits) in [(true, first), (false, second)] {
-            let bytes = bytes_of(alloc, digits)?;
-            let (found, size) = again(alloc, &schema, old, bytes.as_slice())?;
-            assert_eq!(rt; found.as_str(), whole.as_str(), "{digits}");
-            assert_eq!(rt; 2 + 2 * size.min(8192), whole.len(), "{digits}");
-        }
-        count = count.wrapping_add(1);
+        check_row(&rt, alloc, &schema, row)?;
     }
-    assert_eq!(rt; count, ENCODES_COUNT);
     Ok(())
 }

@@ -2,7 +2,9 @@ ghost use Rattle.std.specs.Prelude.{◌≡◌, true, Some, [], IfOk};
 ghost use Rattle.ipdl_base.specs.Sound.{IsSound, message_of};
 ghost use Rattle.value_types.specs.Fits.{Fits, actor_ids, all_actor_ids};
 
+use super::checks::check;
 use super::schemas::the_schema;
+use super::shown::digits_of;
 use ipdl_base::{Body, Items, Kind, Message, MessageRow, Schema, Semantics, Value, Values};
 use std::alloc::{AllocError, Global};
 use std::test::Fail;
@@ -75,41 +77,71 @@ fn values_of(alloc: Global, count: usize) -> Result<Values, AllocError> {
     before(alloc, text, values)
 }
 
+/// The message with so many bytes in one of its values.
+fn values_message(alloc: Global, schema: &Schema, count: usize) -> Result<Message, Fail>
+    requires { IsSound schema.now }
+    ensures { IfOk result (Fits schema.now) }
+{
+    let values = values_of(alloc, count)?;
+    match schema.message(TEXTS) {
+        Some(row) => request(schema, row, TEXTS, values),
+        None => Err("no such message".into()),
+    }
+}
+
+/// The frame that bytes begin with: whether it is that of the message, and its size.
+fn read_text(
+    alloc: Global,
+    schema: &Schema,
+    message: &Message,
+    bytes: &[u8],
+) -> Result<String, Fail>
+    requires { IsSound schema.now }
+{
+    match decode(alloc, schema, bytes) {
+        Decoded::Frame(read, size) => {
+            let is_same = read.same(message);
+            Ok(format!(in alloc; "same {is_same} size {size}")?)
+        }
+        _ => Err("no frame".into()),
+    }
+}
+
+/// What becomes of a message with so many bytes that is written behind two others: the size of its
+/// frame, whether it is taken, and what stands there then.
+fn shown(alloc: Global, schema: &Schema, message: &Message) -> Result<String, Fail>
+    requires sound { IsSound schema.now }
+    requires fits { Fits schema.now message.now }
+{
+    let size = frame_size(schema, message);
+    let mut out = vec![in alloc; 1, 2]?;
+    match encode(alloc, schema, message, &mut out) {
+        Ok(()) => {
+            let read = read_text(alloc, schema, message, &out[2..])?;
+            Ok(format!(in alloc; "{size} taken {} {read}", out.len())?)
+        }
+        Err(EncodeFault::TooLarge(payload)) => {
+            let left = digits_of(alloc, out.as_slice())?;
+            Ok(format!(in alloc; "{size} too large {payload} {left}")?)
+        }
+        Err(EncodeFault::NoMemory) => Err("no memory".into()),
+    }
+}
+
 /// The greatest payload is encoded and read again; one that is larger is refused by its size, and
 /// leaves what stands before it.
 #[test]
 fn limits(rt: HostRuntime) -> Result<(), Fail> {
     let alloc = rt.alloc();
     let schema = the_schema(alloc)?;
-    for (count, size, is_taken) in [
-        (4080, 4096, true),
-        (4081, 4100, false),
-        (70000, 70016, false),
+    for (count, wanted) in [
+        (4080, "4124 taken 4126 same true size 4124"),
+        (4081, "4128 too large 4100 0102"),
+        (70000, "70044 too large 70016 0102"),
     ] {
-        let Some(row) = schema.message(TEXTS) else {
-            return Err("no such message".into());
-        };
-        let message = request(&schema, row, TEXTS, values_of(alloc, count)?)?;
-        assert_eq!(rt; frame_size(&schema, &message), size + 28);
-        let mut out = vec![in alloc; 1, 2]?;
-        match encode(alloc, &schema, &message, &mut out) {
-            Ok(()) => {
-                assert!(rt; is_taken);
-                assert_eq!(rt; out.len(), 4126);
-                match decode(alloc, &schema, &out[2..]) {
-                    Decoded::Frame(read, n) => {
-                        assert!(rt; read.same(&message));
-                        assert_eq!(rt; n, 4124);
-                    }
-                    _ => return Err("no frame".into()),
-                }
-            }
-            Err(fault) => {
-                assert!(rt; !is_taken);
-                assert_eq!(rt; fault, EncodeFault::TooLarge(size));
-                assert_eq!(rt; out.as_slice(), [1, 2].as_slice());
-            }
-        }
+        let message = values_message(alloc, &schema, count)?;
+        let found = shown(alloc, &schema, &message)?;
+        check(&rt, wanted, found.as_str(), wanted);
     }
     Ok(())
 }

@@ -1,53 +1,80 @@
+ghost use Rattle.ipdl_base.specs.Sound.{IsSound};
+ghost use Rattle.value_types.specs.Fits.{Fits};
+
+use super::checks::{check, check_count, cut};
 use super::encodes::framed;
 use super::new_rows::{NEW_ROWS, NEW_ROWS_COUNT};
 use super::old_rows::{OLD_ROWS, OLD_ROWS_COUNT};
 use super::schemas::the_schema;
 use super::shown::{bytes_of, decoded_text};
+use ipdl_base::{Message, Schema};
+use std::alloc::Global;
 use std::test::Fail;
 use value_codec::{Decoded, decode, decode_old};
 
+/// What the bytes of a row begin in the old layout.
+fn old_text(alloc: Global, schema: &Schema, digits: &str) -> Result<String, Fail>
+    requires { IsSound schema.now }
+{
+    let bytes = bytes_of(alloc, digits)?;
+    let decoded = decode_old(alloc, schema, bytes.as_slice());
+    decoded_text(alloc, schema, &decoded)
+}
+
 #[test]
 fn old_rows(rt: HostRuntime) -> Result<(), Fail> {
+    check_count(&rt, OLD_ROWS, OLD_ROWS_COUNT);
     let alloc = rt.alloc();
     let schema = the_schema(alloc)?;
-    let mut count = 0u32;
     for row in OLD_ROWS.split("\n") {
-        let Some((digits, wanted)) = row.split_once(": ") else {
-            return Err("a row without its answer".into());
-        };
-        let bytes = bytes_of(alloc, digits)?;
-        let decoded = decode_old(alloc, &schema, bytes.as_slice());
-        let text = decoded_text(alloc, &schema, &decoded)?;
-        assert_eq!(rt; text.as_str(), wanted, "{digits}");
-        count = count.wrapping_add(1);
+        let (digits, wanted) = cut(row, ": ");
+        let found = old_text(alloc, &schema, digits)?;
+        check(&rt, digits, found.as_str(), wanted);
     }
-    assert_eq!(rt; count, OLD_ROWS_COUNT);
     Ok(())
+}
+
+/// Whether a message is written as the frame of this size that these digits begin with.
+fn is_frame(
+    alloc: Global,
+    schema: &Schema,
+    message: &Message,
+    size: usize,
+    digits: &str,
+) -> Result<bool, Fail>
+    requires sound { IsSound schema.now }
+    requires fits { Fits schema.now message.now }
+{
+    let found = framed(alloc, schema, message)?;
+    let whole = format!(in alloc; "{size} 07{digits}")?;
+    Ok(whole.starts_with(found.as_str()))
+}
+
+/// What the bytes of a row begin in the new layout, and whether a frame there is the one which is
+/// written.
+fn new_text(alloc: Global, schema: &Schema, digits: &str) -> Result<String, Fail>
+    requires { IsSound schema.now }
+{
+    let bytes = bytes_of(alloc, digits)?;
+    let decoded = decode(alloc, schema, bytes.as_slice());
+    if let Decoded::Frame(message, size) = &decoded {
+        if !is_frame(alloc, schema, message, *size, digits)? {
+            return Err("another frame is written".into());
+        }
+    }
+    decoded_text(alloc, schema, &decoded)
 }
 
 /// What each row says of its bytes, and that a frame there is the one which is written.
 #[test]
 fn new_rows(rt: HostRuntime) -> Result<(), Fail> {
+    check_count(&rt, NEW_ROWS, NEW_ROWS_COUNT);
     let alloc = rt.alloc();
     let schema = the_schema(alloc)?;
-    let mut count = 0u32;
     for row in NEW_ROWS.split("\n") {
-        let Some((digits, wanted)) = row.split_once(": ") else {
-            return Err("a row without its answer".into());
-        };
-        let bytes = bytes_of(alloc, digits)?;
-        let decoded = decode(alloc, &schema, bytes.as_slice());
-        let text = decoded_text(alloc, &schema, &decoded)?;
-        assert_eq!(rt; text.as_str(), wanted, "{digits}");
-        if let Decoded::Frame(message, n) = &decoded {
-            let (found, size) = framed(alloc, &schema, message)?;
-            assert_eq!(rt; size, *n, "{digits}");
-            assert_eq!(rt; 2 + 2 * size.min(8192), found.len(), "{digits}");
-            let whole = format!(in alloc; "07{digits}")?;
-            assert!(rt; whole.starts_with(found.as_str()), "{digits}");
-        }
-        count = count.wrapping_add(1);
+        let (digits, wanted) = cut(row, ": ");
+        let found = new_text(alloc, &schema, digits)?;
+        check(&rt, digits, found.as_str(), wanted);
     }
-    assert_eq!(rt; count, NEW_ROWS_COUNT);
     Ok(())
 }

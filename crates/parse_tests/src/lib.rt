@@ -5,12 +5,26 @@
 #[cfg(test)]
 mod base;
 #[cfg(test)]
+mod checks;
+#[cfg(test)]
+mod copies;
+#[cfg(test)]
 mod reports;
+#[cfg(test)]
+mod rules;
+#[cfg(test)]
+mod sync_rows;
 #[cfg(test)]
 mod sync_texts;
 #[cfg(test)]
 mod syntax;
 #[cfg(test)]
+mod syntax_rows;
+#[cfg(test)]
+mod token_rows;
+#[cfg(test)]
 mod tokens;
+#[cfg(test)]
+mod tree_rows;
 #[cfg(test)]
 mod trees;

@@ -1,58 +1,88 @@
+use super::checks::{check, cut};
 use findings::{one_report, sorted};
-use ipdl_base::{Finding, Place, Rule};
-use std::alloc::{AllocError, Global};
+use ipdl_base::{Finding, Findings, Place, Rule};
+use std::alloc::Global;
 use std::test::Fail;
 
-/// File, line, column and rule.
-type Row = (u32, u32, u32, Rule);
+/// Rows, each the findings that are given, as `FILE LINE COLUMN RULE`, a line of `---`, and the report,
+/// with a line of `====` between them.
+const ROWS: &str = "
+---
+====
+0 2 1 A1
+0 1 9 A1
+0 2 1 A1
+---
+0 1 9 A1
+0 2 1 A1
+====
+1 1 1 A1
+0 3 3 B21
+0 3 3 B2
+0 3 3 A2
+0 3 2 A4
+---
+0 3 2 A4
+0 3 3 A2
+0 3 3 B2
+0 3 3 B21
+1 1 1 A1
+";
 
-fn finding(row: Row) -> Finding {
-    let (file, line, column, rule) = row;
-    Finding {
-        place: Place { file, line, column },
-        rule,
+fn rule_of(word: &str) -> Rule {
+    match word {
+        "A1" => Rule::BAD_TOKEN,
+        "A2" => Rule::SYNTAX_FAULT,
+        "A4" => Rule::MISNAMED_PROTOCOL,
+        "B2" => Rule::AMBIGUOUS_TYPE,
+        _ => Rule::REPEATED_NAME,
     }
 }
 
-fn findings(alloc: Global, rows: &[Row]) -> Result<Vec<Finding>, AllocError> {
+fn finding(line: &str) -> Result<Finding, Fail> {
+    let (file, rest) = cut(line, " ");
+    let (line, rest) = cut(rest, " ");
+    let (column, rule) = cut(rest, " ");
+    let place = Place {
+        file: file.parse::<u32>()?,
+        line: line.parse::<u32>()?,
+        column: column.parse::<u32>()?,
+    };
+    let rule = rule_of(rule);
+    Ok(Finding { place, rule })
+}
+
+/// The findings of the lines of a text; an empty one has none.
+fn findings(alloc: Global, text: &str) -> Result<Vec<Finding>, Fail> {
     let mut findings = Vec::new(alloc);
-    for row in rows {
-        findings.push(finding(*row))?;
+    if text.is_empty() {
+        return Ok(findings);
+    }
+    for line in text.split("\n") {
+        findings.push(finding(line)?)?;
     }
     Ok(findings)
+}
+
+fn shown(alloc: Global, findings: &Findings) -> Result<String, Fail> {
+    let mut text = String::new(alloc);
+    for finding in findings.as_slice() {
+        let Place { file, line, column } = finding.place;
+        let letter = char::from(finding.rule.letter);
+        let number = finding.rule.number;
+        writeln!(text, "{file} {line} {column} {letter}{number}")?;
+    }
+    Ok(text)
 }
 
 #[test]
 fn orders(rt: HostRuntime) -> Result<(), Fail> {
     one_report();
-    let token = Rule::BAD_TOKEN;
-    let rows: [(&[Row], &[Row]); 3] = [
-        (&[], &[]),
-        (
-            &[(0, 2, 1, token), (0, 1, 9, token), (0, 2, 1, token)],
-            &[(0, 1, 9, token), (0, 2, 1, token)],
-        ),
-        (
-            &[
-                (1, 1, 1, token),
-                (0, 3, 3, Rule::REPEATED_NAME),
-                (0, 3, 3, Rule::AMBIGUOUS_TYPE),
-                (0, 3, 3, Rule::SYNTAX_FAULT),
-                (0, 3, 2, Rule::MISNAMED_PROTOCOL),
-            ],
-            &[
-                (0, 3, 2, Rule::MISNAMED_PROTOCOL),
-                (0, 3, 3, Rule::SYNTAX_FAULT),
-                (0, 3, 3, Rule::AMBIGUOUS_TYPE),
-                (0, 3, 3, Rule::REPEATED_NAME),
-                (1, 1, 1, token),
-            ],
-        ),
-    ];
-    for (given, wanted) in rows {
+    for row in ROWS.split("====\n") {
+        let (given, wanted) = cut(row, "\n---\n");
         let report = sorted(findings(rt.alloc(), given)?);
-        let wanted = findings(rt.alloc(), wanted)?;
-        assert_eq!(rt; report.as_slice(), wanted.as_slice());
+        let found = shown(rt.alloc(), &report)?;
+        check(&rt, given, found.as_str(), wanted);
     }
     Ok(())
 }

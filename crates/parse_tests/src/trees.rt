@@ -1,11 +1,14 @@
+use super::checks::{check, cut};
+use super::tree_rows::{HEADER_TREES, PROTOCOL_TREES, WHOLE_HEADERS};
 use ipdl_base::{Direction, Name, Place, Semantics};
-use ipdl_lex::lex;
+use ipdl_lex::{Lexed, lex};
 use ipdl_parse::parse;
 use ipdl_syntax::{
     Attributes, Base, FileKind, IncludeKind, Includes, MessageDecl, NamesAt, Params, ProtocolDecl,
     StructDecls, Suffix, TypeSpec, UnionDecls, Unit, Usings,
 };
 use std::alloc::{AllocError, Global};
+use std::process::Abort;
 use std::test::Fail;
 
 /// A word, a name and the place of that.
@@ -206,200 +209,65 @@ fn show_unions(alloc: Global, out: &mut Vec<u8>, unions: &UnionDecls) -> Result<
     Ok(())
 }
 
-/// A tree as text, one line for each part: includes, usings, structs, unions and the protocol.
-fn show_unit(alloc: Global, unit: &Unit) -> Result<Vec<u8>, AllocError> {
-    let mut out = Vec::new(alloc);
-    show_includes(alloc, &mut out, &unit.includes)?;
-    show_usings(alloc, &mut out, &unit.usings)?;
-    show_structs(alloc, &mut out, &unit.structs)?;
-    show_unions(alloc, &mut out, &unit.unions)?;
-    if let Some(protocol) = &unit.protocol {
-        show_protocol(alloc, &mut out, protocol)?;
+/// A tree as lines, one for each part: includes, usings, structs, unions and the protocol.
+fn show_unit(alloc: Global, out: &mut Vec<u8>, unit: &Unit) -> Result<(), AllocError> {
+    show_includes(alloc, out, &unit.includes)?;
+    show_usings(alloc, out, &unit.usings)?;
+    show_structs(alloc, out, &unit.structs)?;
+    show_unions(alloc, out, &unit.unions)?;
+    match &unit.protocol {
+        Some(protocol) => show_protocol(alloc, out, protocol),
+        None => Ok(()),
     }
-    Ok(out)
+}
+
+/// A tree as text.
+fn unit_text(alloc: Global, unit: &Unit) -> Result<String, Fail> {
+    let mut out = Vec::new(alloc);
+    show_unit(alloc, &mut out, unit)?;
+    Ok(String::from_utf8(out)?)
+}
+
+/// The tree of a text's tokens.
+fn tree_text(alloc: Global, lexed: &Lexed<'_>, kind: FileKind) -> Result<String, Fail> {
+    match parse(alloc, lexed.tokens.as_slice(), lexed.end, kind) {
+        Ok(unit) => unit_text(alloc, &unit),
+        Err(_) => Err("no tree".into()),
+    }
 }
 
 /// The tree of a text.
 fn shown(alloc: Global, kind: FileKind, text: &str) -> Result<String, Fail> {
     if text.len() > 1_048_576 {
-        return Ok(format!(in alloc; "too long")?);
+        return Err("too long".into());
     }
-    let lexed = match lex(alloc, text.as_bytes(), 0) {
-        Ok(lexed) => lexed,
-        Err(_) => return Ok(format!(in alloc; "no tokens")?),
-    };
-    match parse(alloc, lexed.tokens.as_slice(), lexed.end, kind) {
-        Ok(unit) => Ok(String::from_utf8(show_unit(alloc, &unit)?)?),
-        Err(_) => Ok(format!(in alloc; "no tree")?),
+    match lex(alloc, text.as_bytes(), 0) {
+        Ok(lexed) => tree_text(alloc, &lexed, kind),
+        Err(_) => Err("no tokens".into()),
     }
+}
+
+/// Compares the tree of each row's text with what the row says.
+fn check_rows(rt: &impl Abort, alloc: Global, kind: FileKind, rows: &str) -> Result<(), Fail> {
+    for row in rows.split("====\n") {
+        let (text, wanted) = cut(row, "\n---\n");
+        let found = shown(alloc, kind, text)?;
+        check(rt, text, found.as_str(), wanted);
+    }
+    Ok(())
 }
 
 #[test]
 fn header_trees(rt: HostRuntime) -> Result<(), Fail> {
-    let rows = [
-        ("", ""),
-        (
-            "include protocol Q; include r; include \"x.h\";",
-            "include protocol Q 1:18\n\
-             include header r 1:29\n\
-             include quoted \"x.h\" 1:40\n",
-        ),
-        (
-            "using a from \"b\";\n\
-             using class a :: b < c::d > from \"e\";\n\
-             [A] using struct f from \"g\";",
-            "using a 1:7\n\
-             using a::b<c::d> 2:13\n\
-             using f 3:18\n\
-             attribute A 3:2\n",
-        ),
-        (
-            "[A, B=c, C=\"d e\", D=struct] struct S { };",
-            "struct S 1:36\n\
-             attribute A 1:2\n\
-             attribute B 1:5 = c\n\
-             attribute C 1:10 = \"d e\"\n\
-             attribute D 1:19 = struct\n",
-        ),
-        (
-            "struct S { int a;\n\
-             b::c<d>[]?[]? e;\n\
-             nullable P f;\n\
-             nullable P[] g;\n\
-             };",
-            "struct S 1:8\n\
-             field a 1:16: int at 1:12\n\
-             field e 2:15: b::c<d>[]?[]? at 2:1\n\
-             field f 3:12: nullable P at 3:10\n\
-             field g 4:14: nullable P[] at 4:10\n",
-        ),
-        (
-            "struct S { UniquePtr<nullable UniquePtr<int[]>?>[] x;\n\
-             nullable UniquePtr<P> y; };",
-            "struct S 1:8\n\
-             field x 1:52: UniquePtr<nullable UniquePtr<int[] at 1:41>? at 1:31>[] at 1:12\n\
-             field y 2:23: nullable UniquePtr<P at 2:20> at 2:10\n",
-        ),
-        (
-            "[A] union U { int; nullable a<b>?; UniquePtr<P>; };",
-            "union U 1:11\n\
-             attribute A 1:2\n\
-             component int at 1:15\n\
-             component nullable a<b>? at 1:29\n\
-             component UniquePtr<P at 1:46> at 1:36\n",
-        ),
-    ];
-    for (text, wanted) in rows {
-        let answer = shown(rt.alloc(), FileKind::Header, text)?;
-        assert_eq!(rt; answer.as_str(), wanted);
-    }
-    Ok(())
+    check_rows(&rt, rt.alloc(), FileKind::Header, HEADER_TREES)
 }
 
-/// Lists are in text order, whatever stands between, and full names have the namespaces.
 #[test]
 fn whole_headers(rt: HostRuntime) -> Result<(), Fail> {
-    let rows = [
-        (
-            "struct S { };\n\
-             include a;\n\
-             using b from \"c\";\n\
-             union U { int; };\n\
-             include d;",
-            "include header a 2:9\n\
-             include header d 5:9\n\
-             using b 3:7\n\
-             struct S 1:8\n\
-             union U 4:7\n\
-             component int at 4:11\n",
-        ),
-        (
-            "struct A { };\n\
-             namespace n { struct B { };\n\
-             namespace m { union C { int; }; }\n\
-             struct D { }; }\n\
-             namespace n { struct E { }; }",
-            "struct A 1:8\n\
-             struct n::B 2:22\n\
-             struct n::D 4:8\n\
-             struct n::E 5:22\n\
-             union n::m::C 3:21\n\
-             component int at 3:25\n",
-        ),
-    ];
-    for (text, wanted) in rows {
-        let answer = shown(rt.alloc(), FileKind::Header, text)?;
-        assert_eq!(rt; answer.as_str(), wanted);
-    }
-    Ok(())
+    check_rows(&rt, rt.alloc(), FileKind::Header, WHOLE_HEADERS)
 }
 
 #[test]
 fn protocol_trees(rt: HostRuntime) -> Result<(), Fail> {
-    let rows = [
-        ("protocol P { };", "async protocol P 1:10\n"),
-        (
-            "[A] sync protocol P {\n\
-             manager A or B; manages C; manager D; manages E;\n\
-             };",
-            "sync protocol P 1:19\n\
-             attribute A 1:2\n\
-             manager A 2:9\n\
-             manager B 2:14\n\
-             manager D 2:36\n\
-             manages C 2:25\n\
-             manages E 2:47\n",
-        ),
-        (
-            "async protocol P {\n\
-             parent: async a();\n\
-             child: both: sync b(int x) returns (bool y, [A] int z);\n\
-             parent: [B=c] sync d(nullable Q p) returns ();\n\
-             child: async e([D, E=f] int[] g, UniquePtr<h> i);\n\
-             };",
-            "async protocol P 1:16\n\
-             parent async a 2:15\n\
-             both sync b 3:19\n\
-             param x 3:25: int at 3:21\n\
-             returns\n\
-             return y 3:42: bool at 3:37\n\
-             return z 3:53: int at 3:49\n\
-             attribute A 3:46\n\
-             parent sync d 4:20\n\
-             attribute B 4:10 = c\n\
-             param p 4:33: nullable Q at 4:31\n\
-             returns\n\
-             child async e 5:14\n\
-             param g 5:31: int[] at 5:25\n\
-             attribute D 5:17\n\
-             attribute E 5:20 = f\n\
-             param i 5:47: UniquePtr<h at 5:44> at 5:34\n",
-        ),
-        (
-            "include protocol Q; struct A { };\n\
-             namespace n { struct B { };\n\
-             namespace m { union C { int; };\n\
-             protocol P { parent: async a(); };\n\
-             struct D { }; }\n\
-             struct E { }; }\n\
-             struct F { };\n\
-             using g from \"h\";",
-            "include protocol Q 1:18\n\
-             using g 8:7\n\
-             struct A 1:28\n\
-             struct n::B 2:22\n\
-             struct n::m::D 5:8\n\
-             struct n::E 6:8\n\
-             struct F 7:8\n\
-             union n::m::C 3:21\n\
-             component int at 3:25\n\
-             async protocol n::m::P 4:10\n\
-             parent async a 4:28\n",
-        ),
-    ];
-    for (text, wanted) in rows {
-        let answer = shown(rt.alloc(), FileKind::Protocol, text)?;
-        assert_eq!(rt; answer.as_str(), wanted);
-    }
-    Ok(())
+    check_rows(&rt, rt.alloc(), FileKind::Protocol, PROTOCOL_TREES)
 }

@@ -1,6 +1,7 @@
 ghost use Rattle.std.specs.Prelude.{◌≡◌, IfOk};
 ghost use Rattle.actor_tree.specs.Fall.{post_order, others};
 
+use super::checks::{check, cut};
 use actor_tree::{
     Actor, Tree, TreeFault, falls_in_order, falls_later, falls_once, gives_subtree, leaves_nobody,
     root_falls,
@@ -9,7 +10,61 @@ use std::alloc::{AllocError, Global};
 use std::process::Abort;
 use std::test::Fail;
 
-const TOP: i32 = 2147483647;
+/// Who is let in, who falls with an id, and who lives then. First two actors of one id and managers that
+/// do not live, then a line of actors of which one falls with those that it manages, and the same line
+/// where the id does not live, then two managers of others, and last an actor of id 0, which is not the
+/// manager of the top actor.
+const ROWS: &str = "insert 4 2147483647: inserted
+insert 4 2147483647: 4 is present
+insert 4 12: 4 is present
+insert 8 12: no manager 12
+fall 2147483647: 4 2147483647
+lookup 4: none
+lookup 2147483647: none
+
+insert 4 2147483647: inserted
+insert 8 4: inserted
+insert 12 8: inserted
+fall 4: 12 8 4
+lookup 12: none
+lookup 8: none
+lookup 4: none
+lookup 2147483647: 2147483647 0 0
+
+insert 4 2147483647: inserted
+insert 8 4: inserted
+insert 12 8: inserted
+fall 16:
+lookup 2147483647: 2147483647 0 0
+lookup 4: 4 1 2147483647
+lookup 8: 8 1 4
+lookup 12: 12 1 8
+
+insert 4 2147483647: inserted
+insert 8 2147483647: inserted
+insert 12 8: inserted
+insert 16 4: inserted
+insert 20 4: inserted
+fall 2147483647: 16 20 4 12 8 2147483647
+lookup 16: none
+lookup 20: none
+lookup 4: none
+lookup 12: none
+lookup 8: none
+lookup 2147483647: none
+
+insert 0 2147483647: inserted
+insert -4 0: inserted
+fall 0: -4 0
+lookup -4: none
+lookup 0: none
+lookup 2147483647: 2147483647 0 0";
+
+/// The first that falls, while the top actor still lives.
+const FIRST_FALLS: &str = "insert 4 2147483647: inserted
+lookup 4: 4 1 2147483647
+first 2147483647: 4 1 2147483647
+lookup 2147483647: 2147483647 7 0";
 
 /// Lets the whole subtree of an id fall, as a caller does.
 fn fall_all(alloc: Global, tree: &mut Tree, id: i32) -> Result<Vec<Actor>, AllocError>
@@ -25,82 +80,81 @@ fn fall_all(alloc: Global, tree: &mut Tree, id: i32) -> Result<Vec<Actor>, Alloc
     Ok(fallen)
 }
 
-/// Makes actors, each as its id, its manager and the answer that is wanted, lets a subtree fall, and
-/// compares who falls and who lives then.
-fn check_row(
-    rt: &impl Abort,
-    alloc: Global,
-    made: &[(i32, i32, Result<(), TreeFault>)],
-    root: i32,
-    fallen: &[i32],
-    living: &[i32],
-) -> Result<(), Fail> {
-    let mut tree = Tree::new(alloc, 0)?;
-    for (id, manager, answer) in made {
-        assert_eq!(rt; tree.insert(*id, 1, *manager), *answer);
+/// The ids of those who fall with an id.
+fn fallen_text(alloc: Global, tree: &mut Tree, id: i32) -> Result<String, Fail> {
+    let fallen = fall_all(alloc, tree, id)?;
+    let mut text = String::new(alloc);
+    for actor in &fallen {
+        let id = actor.id;
+        write!(text, " {id}")?;
     }
-    let given = fall_all(alloc, &mut tree, root)?;
-    assert_eq!(rt; given.len(), fallen.len());
-    for (actor, id) in given.iter().zip(fallen) {
-        assert_eq!(rt; actor.id, *id);
-        assert_eq!(rt; tree.lookup(*id), None);
+    Ok(text)
+}
+
+fn actor_text(alloc: Global, actor: Option<Actor>) -> Result<String, Fail> {
+    let Some(actor) = actor else {
+        return Ok(String::from_str(alloc, " none")?);
+    };
+    let Actor {
+        id,
+        protocol,
+        manager,
+    } = actor;
+    Ok(format!(in alloc; " {id} {protocol} {manager}")?)
+}
+
+fn inserted_text(alloc: Global, answer: Result<(), TreeFault>) -> Result<String, Fail> {
+    match answer {
+        Ok(()) => Ok(String::from_str(alloc, " inserted")?),
+        Err(TreeFault::Present(id)) => Ok(format!(in alloc; " {id} is present")?),
+        Err(TreeFault::NoManager(id)) => Ok(format!(in alloc; " no manager {id}")?),
+        Err(TreeFault::NoMemory) => Err("no memory".into()),
     }
-    for id in living {
-        assert!(rt; tree.lookup(*id).is_some());
+}
+
+/// Makes a call and says what it answers, behind a blank.
+fn answer(alloc: Global, tree: &mut Tree, call: &str) -> Result<String, Fail> {
+    let (word, arguments) = cut(call, " ");
+    let (id, manager) = cut(arguments, " ");
+    let id = id.parse::<i32>()?;
+    match word {
+        "insert" => inserted_text(alloc, tree.insert(id, 1, manager.parse::<i32>()?)),
+        "lookup" => actor_text(alloc, tree.lookup(id)),
+        "first" => actor_text(alloc, tree.fall(id).next()),
+        _ => fallen_text(alloc, tree, id),
+    }
+}
+
+/// Makes the calls of the lines `CALL: ANSWER` on a tree whose top actor has this protocol.
+fn run(rt: &impl Abort, alloc: Global, protocol: u32, lines: &str) -> Result<(), Fail> {
+    let mut tree = Tree::new(alloc, protocol)?;
+    for line in lines.split("\n") {
+        let (call, wanted) = cut(line, ":");
+        let found = answer(alloc, &mut tree, call)?;
+        check(rt, line, found.as_str(), wanted);
     }
     Ok(())
 }
 
 #[test]
 fn calls(rt: HostRuntime) -> Result<(), Fail> {
-    let mut tree = Tree::new(rt.alloc(), 7)?;
-    tree.insert(4, 1, TOP)?;
-    let four = Actor {
-        id: 4,
-        protocol: 1,
-        manager: TOP,
-    };
-    let top = Actor {
-        id: TOP,
-        protocol: 7,
-        manager: 0,
-    };
-    assert_eq!(rt; tree.lookup(4), Some(four));
-    let mut falling = tree.fall(TOP);
-    assert_eq!(rt; falling.next(), Some(four));
-    assert_eq!(rt; tree.lookup(TOP), Some(top));
+    run(&rt, rt.alloc(), 7, FIRST_FALLS)
+}
+
+#[test]
+fn rows(rt: HostRuntime) -> Result<(), Fail> {
+    for lines in ROWS.split("\n\n") {
+        run(&rt, rt.alloc(), 0, lines)?;
+    }
+    Ok(())
+}
+
+/// What the laws of falling say of every tree.
+#[test]
+fn laws(_rt: HostRuntime) {
     leaves_nobody();
     falls_in_order();
     falls_later();
     falls_once();
     root_falls();
-    Ok(())
-}
-
-#[test]
-fn rows(rt: HostRuntime) -> Result<(), Fail> {
-    let alloc = rt.alloc();
-    let present = Err(TreeFault::Present(4));
-    let no_manager = Err(TreeFault::NoManager(12));
-    let parts = [
-        (4, TOP, Ok(())),
-        (4, TOP, present),
-        (4, 12, present),
-        (8, 12, no_manager),
-    ];
-    check_row(&rt, alloc, &parts, TOP, &[4, TOP], &[])?;
-    let line = [(4, TOP, Ok(())), (8, 4, Ok(())), (12, 8, Ok(()))];
-    check_row(&rt, alloc, &line, 4, &[12, 8, 4], &[TOP])?;
-    check_row(&rt, alloc, &line, 16, &[], &[TOP, 4, 8, 12])?;
-    let wide = [
-        (4, TOP, Ok(())),
-        (8, TOP, Ok(())),
-        (12, 8, Ok(())),
-        (16, 4, Ok(())),
-        (20, 4, Ok(())),
-    ];
-    check_row(&rt, alloc, &wide, TOP, &[16, 20, 4, 12, 8, TOP], &[])?;
-    // An actor of id 0 is not the manager of the top actor.
-    let zero = [(0, TOP, Ok(())), (-4, 0, Ok(()))];
-    check_row(&rt, alloc, &zero, 0, &[-4, 0], &[TOP])
 }

@@ -1,62 +1,126 @@
+use super::checks::{check, cut};
 use ipdl_base::{Body, Compress, Level, Message, Reason, Side, Values};
 use pending_queue::{Holding, Item, Pending, Pushed};
+use std::alloc::Global;
+use std::process::Abort;
 use std::test::Fail;
 
-const TOP: i32 = 2147483647;
+/// The arrived items of nine sends, of which some compress: the number of the one that each replaces.
+const NINE_SENDS_COMPRESS: &str = "is_empty: true
+push async 0 -1/0 last: 0 added
+push async 0 -2/0 last: -1 replaced -1
+push async 4 -3/0 plain: 0 added
+push async 0 -4/0 last: 0 added
+push async 2 -5/0 all: 0 added
+push async 4 -6/0 plain: 0 added
+push async 2 -7/0 all: -5 replaced -5
+push async 6 -8/0 last: 0 added
+push async 6 -9/0 last: -8 replaced -8
+len: 6
+take nothing: -2
+take nothing: -3
+take nothing: -4
+take nothing: -6
+take nothing: -7
+take nothing: -9
+take nothing: 0";
 
-const UP: u32 = 0;
+/// Room for two items, and two plain ones.
+const TWO_PLAIN_ITEMS: &str = "reserve 2: reserved
+push async 4 1/0 plain: 0 added
+push async 4 2/0 plain: 0 added";
 
-const ALLS: u32 = 2;
+/// What a parent that awaits a reply of level 1, in the transaction 7, takes first: first the request
+/// of level 2, then the one of its transaction, then what says that the other end is gone.
+const A_PARENT_DEFERS: &str = "push async 4 -1/0 plain: 0 added
+push fault 7 1/0 plain: 0 added
+push sync 4 -2/7 plain: 0 added
+push call 4 -3/-3 plain: 0 added
+push poke 0 -4/0 plain: 0 added
+push call 4 -5/7 plain: 0 added
+push goodbye 0 9/0 plain: 0 added
+first parent: -4
+take parent: -4
+first parent: -5
+take parent: -5
+first parent: 9
+take parent: 9
+first parent: 0
+take parent: 0
+take child: -3
+take child: 0
+take nothing: -1
+take nothing: 1
+take nothing: -2
+take nothing: 0";
 
-const MARK: u32 = 4;
-
-const ASK: u32 = 6;
-
-const NOTHING: Holding = Holding {
-    side: Side::Parent,
-    level: None,
-    transaction: 0,
-};
-
-fn arrived(number: u32, seq: i32, transaction: i32, body: Body, sync: bool, level: Level) -> Item {
-    let message = Message {
-        route: TOP,
-        number,
-        seq,
-        transaction,
-        made: 0,
-        body,
-    };
-    Item::Message {
-        message,
-        sync,
-        level,
+fn body_of(kind: &str) -> Body {
+    match kind {
+        "fault" => Body::Fault(Reason::HandlerRejected),
+        "goodbye" => Body::Goodbye,
+        _ => Body::Request(Values::Nothing),
     }
 }
 
-fn request(number: u32, seq: i32) -> Item {
-    arrived(
-        number,
-        seq,
-        0,
-        Body::Request(Values::Nothing),
-        false,
-        Level::Not,
-    )
+/// A call is a sync request of level `inside_sync`, and a poke an async one of level `inside_cpow`.
+fn level_of(kind: &str) -> Level {
+    match kind {
+        "call" => Level::InsideSync,
+        "poke" => Level::InsideCpow,
+        _ => Level::Not,
+    }
 }
 
-fn sync_request(seq: i32, transaction: i32, level: Level) -> Item {
-    arrived(
-        MARK,
-        seq,
-        transaction,
-        Body::Request(Values::Nothing),
-        true,
-        level,
-    )
+/// The item that a text spells: its kind, the number of its message, its own and its transaction.
+fn item_of(text: &str) -> Result<Item, Fail> {
+    let (kind, rest) = cut(text, " ");
+    let (number, rest) = cut(rest, " ");
+    let (seq, transaction) = cut(rest, "/");
+    let message = Message {
+        route: 2147483647,
+        number: number.parse::<u32>()?,
+        seq: seq.parse::<i32>()?,
+        transaction: transaction.parse::<i32>()?,
+        made: 0,
+        body: body_of(kind),
+    };
+    Ok(Item::Message {
+        message,
+        sync: kind == "sync" || kind == "call",
+        level: level_of(kind),
+    })
 }
 
-// The number of an item, or 0 where there is none or it has none.
+fn compress_of(word: &str) -> Compress {
+    match word {
+        "last" => Compress::Last,
+        "all" => Compress::All,
+        _ => Compress::Plain,
+    }
+}
+
+/// What an end awaits: nothing, or in the transaction 7 a reply of level `inside_sync`.
+fn holding_of(word: &str) -> Holding {
+    let side = if word == "child" {
+        Side::Child
+    } else {
+        Side::Parent
+    };
+    if word == "nothing" {
+        return Holding {
+            side,
+            level: None,
+            transaction: 0,
+        };
+    }
+    Holding {
+        side,
+        level: Some(Level::InsideSync),
+        transaction: 7,
+    }
+}
+
+/// The number of an item, or 0 where there is none or it has none.
 fn seq_of(item: Option<&Item>) -> i32 {
     match item {
         Some(Item::Message { message, .. }) => message.seq,
@@ -64,111 +128,82 @@ fn seq_of(item: Option<&Item>) -> i32 {
     }
 }
 
-// The number of what is taken first, or 0 where nothing is or it has none.
-fn taken(pending: &mut Pending, holding: &Holding) -> i32 {
-    match pending.take_first(holding) {
-        Some(Item::Message { message, .. }) => message.seq,
-        Some(Item::Broken) | None => 0,
+fn pushed_text(alloc: Global, old: i32, pushed: &Pushed) -> Result<String, Fail> {
+    match pushed {
+        Pushed::Added => Ok(format!(in alloc; "{old} added")?),
+        Pushed::Replaced(item) => {
+            let seq = seq_of(Some(item));
+            Ok(format!(in alloc; "{old} replaced {seq}")?)
+        }
     }
 }
 
-// The arrived items of nine sends, of which some compress: the number of each and of the one that it
-// replaces, or 0.
+/// Pushes an item: the number of what it is said to replace, and of what it replaces.
+fn push(alloc: Global, pending: &mut Pending, argument: &str) -> Result<String, Fail> {
+    let (item, compress) = argument.rsplit_once(" ").unwrap_or((argument, ""));
+    let compress = compress_of(compress);
+    let item = item_of(item)?;
+    let old = seq_of(pending.replaced(&item, compress));
+    let pushed = pending.push(item, compress)?;
+    pushed_text(alloc, old, &pushed)
+}
+
+/// The number of what is taken first, or 0 where nothing is or it has none.
+fn take(pending: &mut Pending, holding: &Holding) -> i32 {
+    seq_of(pending.take_first(holding).as_ref())
+}
+
+/// A call whose answer is a number, which is how many items there are where it is no other.
+fn number_answer(pending: &mut Pending, word: &str, argument: &str) -> i32 {
+    match word {
+        "first" => seq_of(pending.first(&holding_of(argument))),
+        "take" => take(pending, &holding_of(argument)),
+        _ => i32::try_from(pending.len()).unwrap_or(-1),
+    }
+}
+
+/// Makes a call and says what it answers.
+fn answer(alloc: Global, pending: &mut Pending, call: &str) -> Result<String, Fail> {
+    let (word, argument) = cut(call, " ");
+    match word {
+        "push" => push(alloc, pending, argument),
+        "reserve" => {
+            pending.reserve(argument.parse::<usize>()?)?;
+            Ok(String::from_str(alloc, "reserved")?)
+        }
+        "is_empty" => {
+            let is_empty = pending.is_empty();
+            Ok(format!(in alloc; "{is_empty}")?)
+        }
+        _ => {
+            let number = number_answer(pending, word, argument);
+            Ok(format!(in alloc; "{number}")?)
+        }
+    }
+}
+
+/// Makes the calls of the lines `CALL: ANSWER` where nothing has arrived.
+fn run(rt: &impl Abort, alloc: Global, lines: &str) -> Result<(), Fail> {
+    let mut pending = Pending::new(alloc)?;
+    for line in lines.split("\n") {
+        let (call, wanted) = cut(line, ": ");
+        let found = answer(alloc, &mut pending, call)?;
+        check(rt, line, found.as_str(), wanted);
+    }
+    Ok(())
+}
+
 #[test]
 fn nine_sends_compress(rt: HostRuntime) -> Result<(), Fail> {
-    let sends = [
-        (UP, Compress::Last, -1, 0),
-        (UP, Compress::Last, -2, -1),
-        (MARK, Compress::Plain, -3, 0),
-        (UP, Compress::Last, -4, 0),
-        (ALLS, Compress::All, -5, 0),
-        (MARK, Compress::Plain, -6, 0),
-        (ALLS, Compress::All, -7, -5),
-        (ASK, Compress::Last, -8, 0),
-        (ASK, Compress::Last, -9, -8),
-    ];
-    let mut pending = Pending::new(rt.alloc())?;
-    assert!(rt; pending.is_empty());
-    for (number, compress, seq, old) in sends {
-        let new = request(number, seq);
-        assert_eq!(rt; seq_of(pending.replaced(&new, compress)), old);
-        let replaced = match pending.push(new, compress)? {
-            Pushed::Replaced(Item::Message { message, .. }) => message.seq,
-            Pushed::Replaced(Item::Broken) | Pushed::Added => 0,
-        };
-        assert_eq!(rt; replaced, old);
-    }
-    assert_eq!(rt; pending.len(), 6);
-    for seq in [-2, -3, -4, -6, -7, -9, 0] {
-        assert_eq!(rt; taken(&mut pending, &NOTHING), seq);
-    }
-    Ok(())
+    run(&rt, rt.alloc(), NINE_SENDS_COMPRESS)
 }
 
-// Room for two items, and two plain ones.
 #[test]
 fn two_plain_items(rt: HostRuntime) -> Result<(), Fail> {
-    let mut pending = Pending::new(rt.alloc())?;
-    pending.reserve(2)?;
-    assert_eq!(rt;
-        pending.push(request(MARK, 1), Compress::Plain)?,
-        Pushed::Added
-    );
-    assert_eq!(rt;
-        pending.push(request(MARK, 2), Compress::Plain)?,
-        Pushed::Added
-    );
-    Ok(())
+    run(&rt, rt.alloc(), TWO_PLAIN_ITEMS)
 }
 
-// What a parent that awaits a reply of level 1, in the transaction 7, takes first: first the request
-// of level 2, then the one of its transaction, then what says that the other end is gone.
 #[test]
 fn a_parent_defers(rt: HostRuntime) -> Result<(), Fail> {
-    let mut pending = Pending::new(rt.alloc())?;
-    for item in [
-        request(MARK, -1),
-        arrived(
-            ASK + 1,
-            1,
-            0,
-            Body::Fault(Reason::HandlerRejected),
-            false,
-            Level::Not,
-        ),
-        sync_request(-2, 7, Level::Not),
-        sync_request(-3, -3, Level::InsideSync),
-        arrived(
-            UP,
-            -4,
-            0,
-            Body::Request(Values::Nothing),
-            false,
-            Level::InsideCpow,
-        ),
-        sync_request(-5, 7, Level::InsideSync),
-        arrived(0, 9, 0, Body::Goodbye, false, Level::Not),
-    ] {
-        pending.push(item, Compress::Plain)?;
-    }
-    let holding = Holding {
-        side: Side::Parent,
-        level: Some(Level::InsideSync),
-        transaction: 7,
-    };
-    for seq in [-4, -5, 9, 0] {
-        assert_eq!(rt; seq_of(pending.first(&holding)), seq);
-        assert_eq!(rt; taken(&mut pending, &holding), seq);
-    }
-    let holding = Holding {
-        side: Side::Child,
-        ..holding
-    };
-    for seq in [-3, 0] {
-        assert_eq!(rt; taken(&mut pending, &holding), seq);
-    }
-    for seq in [-1, 1, -2, 0] {
-        assert_eq!(rt; taken(&mut pending, &NOTHING), seq);
-    }
-    Ok(())
+    run(&rt, rt.alloc(), A_PARENT_DEFERS)
 }

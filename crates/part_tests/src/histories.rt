@@ -1,9 +1,10 @@
 ghost use Rattle.std.specs.Prelude.{IfOk};
 ghost use Rattle.ipdl_base.specs.Sound.{IsSound};
 
+use super::checks::check;
 use history::{History, Line, What, history_text};
 use ipdl_base::{Items, Schema, SendRefusal, Side};
-use std::alloc::Global;
+use std::alloc::{AllocError, Global};
 use std::test::Fail;
 
 /// No protocol and no type.
@@ -16,29 +17,46 @@ fn nothing(alloc: Global) -> Schema
     }
 }
 
+fn push(history: &mut History, side: Side, what: What) -> Result<(), AllocError> {
+    history.push(Line { side, what })
+}
+
+/// Room for two lines, and three lines.
+fn write(history: &mut History) -> Result<(), AllocError> {
+    history.reserve(2)?;
+    push(
+        history,
+        Side::Parent,
+        What::RefusedClose(SendRefusal::InCall),
+    )?;
+    push(history, Side::Child, What::Close)?;
+    push(history, Side::Child, What::Fails(-3))
+}
+
+/// The text of a history.
+fn text_of(alloc: Global, history: &History) -> Result<String, Fail> {
+    let text = history_text(alloc, &nothing(alloc), history)?;
+    Ok(String::from_utf8(text)?)
+}
+
+/// How many lines a history has before and after some are written, and its text then.
+fn shown(alloc: Global) -> Result<String, Fail> {
+    let mut history = History::new(alloc);
+    let before = history.lines().len();
+    write(&mut history)?;
+    let after = history.lines().len();
+    let text = text_of(alloc, &history)?;
+    Ok(format!(in alloc; "{before} {after}\n{text}")?)
+}
+
 #[test]
 fn lines(rt: HostRuntime) -> Result<(), Fail> {
-    let alloc = rt.alloc();
-    let mut history = History::new(alloc);
-    assert!(rt; history.lines().is_empty());
-    history.reserve(2)?;
-    history.push(Line {
-        side: Side::Parent,
-        what: What::RefusedClose(SendRefusal::InCall),
-    })?;
-    history.push(Line {
-        side: Side::Child,
-        what: What::Close,
-    })?;
-    history.push(Line {
-        side: Side::Child,
-        what: What::Fails(-3),
-    })?;
-    assert_eq!(rt; history.lines().len(), 3);
-    let text = history_text(alloc, &nothing(alloc), &history)?;
-    assert_eq!(rt;
-        text.as_slice(),
-        b"parent refused InCall close\nchild close\n  fails -3\n".as_slice()
+    let found = shown(rt.alloc())?;
+    check(
+        &rt,
+        "three lines",
+        found.as_str(),
+        "0 3\nparent refused InCall close\nchild close\n  fails -3\n",
     );
     Ok(())
 }

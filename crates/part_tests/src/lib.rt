@@ -7,10 +7,14 @@ mod actors;
 #[cfg(test)]
 mod arrived;
 #[cfg(test)]
+mod checks;
+#[cfg(test)]
 mod histories;
 #[cfg(test)]
 mod promises;
 #[cfg(test)]
 mod stacks;
+#[cfg(test)]
+mod value_rows;
 #[cfg(test)]
 mod values;

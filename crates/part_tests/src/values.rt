@@ -1,472 +1,296 @@
+use super::checks::{check, cut};
+use super::value_rows::VALUE_ROWS;
 use ipdl_base::{
     Body, Builtin, Compress, Direction, Items, Kind, Level, Message, MessageRow, Name, ParamRow,
-    Reason, Schema, Semantics, Shape, TypeRow, Value, Values,
+    ParamRows, Reason, Schema, Semantics, Shape, TypeRow, Value, Values,
 };
 use std::alloc::{AllocError, Global};
-use std::process::Abort;
 use std::test::Fail;
 use value_types::{
     NEW, OLD, body_size, payload_size, push_value, push_values, value_fits, value_size, values_fit,
     values_size,
 };
 
-fn name(alloc: Global, bytes: &[u8]) -> Result<Name, AllocError> {
-    Ok(Items::from_vec(Vec::from_slice(alloc, bytes)?))
+/// The bytes that pairs of hexadecimal digits spell.
+fn bytes_of(alloc: Global, digits: &str) -> Result<Name, Fail> {
+    let mut bytes = Vec::new(alloc);
+    let mut high = None;
+    for c in digits.chars() {
+        let digit = u8::try_from(c.to_digit(16).unwrap_or(0)).unwrap_or(0);
+        high = match high {
+            None => Some(digit),
+            Some(first) => {
+                bytes.push((first & 15) << 4 | (digit & 15))?;
+                None
+            }
+        };
+    }
+    Ok(Items::from_vec(bytes))
 }
 
-fn field(alloc: Global, shape: Shape) -> Result<ParamRow, AllocError> {
-    Ok(ParamRow {
-        name: name(alloc, b"f")?,
-        shape,
-    })
+fn name(alloc: Global, text: &str) -> Result<Name, AllocError> {
+    Ok(Items::from_vec(Vec::from_slice(alloc, text.as_bytes())?))
 }
 
-/// The types 0, a struct of a `uint8_t` and a `bool`, and 1, a union of `nsString` and that struct.
-fn schema(alloc: Global) -> Result<Schema, AllocError> {
-    let byte = field(alloc, Shape::Builtin(Builtin::Uint8))?;
-    let fields = vec![in alloc; byte, field(alloc, Shape::Builtin(Builtin::Bool))?]?;
-    let pair = TypeRow::Struct(name(alloc, b"Pair")?, Items::from_vec(fields));
-    let components = vec![in alloc; Shape::Builtin(Builtin::NsString), Shape::Named(0)]?;
-    let either = TypeRow::Union(name(alloc, b"Either")?, Items::from_vec(components));
-    Ok(Schema {
-        protocols: Items::from_vec(Vec::new(alloc)),
-        types: Items::from_vec(vec![in alloc; pair, either]?),
-    })
+/// The type of a word: 0 is a struct of the schema, 1 a union, and 2 none.
+fn word_shape(alloc: Global, word: &str) -> Result<Shape, Fail> {
+    if let Some(builtin) = Builtin::named(word.as_bytes()) {
+        return Ok(Shape::Builtin(builtin));
+    }
+    match word {
+        "Pair" => Ok(Shape::Named(0)),
+        "Either" => Ok(Shape::Named(1)),
+        "Absent" => Ok(Shape::Named(2)),
+        "actor" => Ok(Shape::Actor(3, false)),
+        "nullable" => Ok(Shape::Actor(3, true)),
+        "endpoint" => Ok(Shape::Endpoint(0, false)),
+        _ => Ok(Shape::Using(name(alloc, word)?)),
+    }
+}
+
+/// What a word makes of the type before it.
+fn made_shape(alloc: Global, shape: Shape, word: &str) -> Result<Shape, AllocError> {
+    let held = Box::new(alloc, shape)?;
+    match word {
+        "[]" => Ok(Shape::Array(held)),
+        "?" => Ok(Shape::Maybe(held)),
+        _ => Ok(Shape::Unique(held)),
+    }
+}
+
+/// The type that a text spells.
+fn shape_of(alloc: Global, text: &str) -> Result<Shape, Fail> {
+    match text.split_once(" ") {
+        Some((word, made)) => Ok(made_shape(alloc, word_shape(alloc, word)?, made)?),
+        None => word_shape(alloc, text),
+    }
 }
 
 fn first(alloc: Global, value: Value, rest: Values) -> Result<Values, AllocError> {
     Ok(Values::First(Box::new(alloc, value)?, Box::new(alloc, rest)?))
 }
 
-/// The value `{7, true}` of the struct.
-fn pair(alloc: Global) -> Result<Values, AllocError> {
-    let rest = first(alloc, Value::Bool(true), Values::Nothing)?;
-    first(alloc, Value::Int(7), rest)
+/// The value of a word that no other follows.
+fn word_value(alloc: Global, kind: &str, argument: &str) -> Result<Value, Fail> {
+    match kind {
+        "int" => Ok(Value::Int(argument.parse::<i128>()?)),
+        "bits" => Ok(Value::Bits(argument.parse::<u64>()?)),
+        "actor" => Ok(Value::Actor(argument.parse::<i32>()?)),
+        "text" => Ok(Value::Text(bytes_of(alloc, argument)?)),
+        "bytes" => Ok(Value::Bytes(bytes_of(alloc, argument)?)),
+        "none" => Ok(Value::Maybe(None)),
+        _ => Ok(Value::Bool(kind == "true")),
+    }
 }
 
-fn array_of(alloc: Global, shape: Shape) -> Result<Shape, AllocError> {
-    Ok(Shape::Array(Box::new(alloc, shape)?))
+/// The value that holds another one.
+fn holds(argument: &str, held: Box<Value>) -> Result<Value, Fail> {
+    match argument {
+        "" => Ok(Value::Maybe(Some(held))),
+        _ => Ok(Value::Union(argument.parse::<u32>()?, held)),
+    }
 }
 
-/// A value that has the type, with its text and its bytes in the old and the new layout.
-#[derive(Drop)]
-struct Case {
-    shape: Shape,
-    value: Value,
-    text: &'static str,
-    old: usize,
-    new: usize,
-}
-
-fn check(rt: &impl Abort, alloc: Global, schema: &Schema, case: &Case) -> Result<(), AllocError> {
-    assert!(rt;
-        value_fits(schema, &case.shape, &case.value),
-        "{}",
-        case.text
-    );
-    let mut out = Vec::from_slice(alloc, b"= ")?;
-    push_value(alloc, schema, &case.shape, &case.value, &mut out)?;
-    assert_eq!(rt; &out[..2], b"= ".as_slice());
-    assert_eq!(rt; &out[2..], case.text.as_bytes(), "{}", case.text);
-    assert_eq!(rt; value_size(schema, OLD, &case.shape, &case.value), case.old);
-    assert_eq!(rt; value_size(schema, NEW, &case.shape, &case.value), case.new);
-    Ok(())
-}
-
-/// The least and the greatest value of each builtin with numbers, and those next to them.
-fn numbers(rt: &impl Abort, alloc: Global, schema: &Schema) -> Result<(), AllocError> {
-    let rows = [
-        (Builtin::Char, -128, "-128", 127, "127", 1),
-        (Builtin::Int8, -128, "-128", 127, "127", 1),
-        (Builtin::Uint8, 0, "0", 255, "255", 1),
-        (Builtin::Short, -32768, "-32768", 32767, "32767", 2),
-        (Builtin::Int16, -32768, "-32768", 32767, "32767", 2),
-        (Builtin::Uint16, 0, "0", 65535, "65535", 2),
-        (
-            Builtin::Int,
-            -2147483648,
-            "-2147483648",
-            2147483647,
-            "2147483647",
-            4,
-        ),
-        (
-            Builtin::Int32,
-            -2147483648,
-            "-2147483648",
-            2147483647,
-            "2147483647",
-            4,
-        ),
-        (Builtin::Uint32, 0, "0", 4294967295, "4294967295", 4),
-        (Builtin::NsResult, 0, "0", 4294967295, "4294967295", 4),
-        (
-            Builtin::Long,
-            -9223372036854775808,
-            "-9223372036854775808",
-            9223372036854775807,
-            "9223372036854775807",
-            8,
-        ),
-        (
-            Builtin::Int64,
-            -9223372036854775808,
-            "-9223372036854775808",
-            9223372036854775807,
-            "9223372036854775807",
-            8,
-        ),
-        (
-            Builtin::IntPtr,
-            -9223372036854775808,
-            "-9223372036854775808",
-            9223372036854775807,
-            "9223372036854775807",
-            8,
-        ),
-        (
-            Builtin::Uint64,
-            0,
-            "0",
-            18446744073709551615,
-            "18446744073709551615",
-            8,
-        ),
-        (
-            Builtin::UintPtr,
-            0,
-            "0",
-            18446744073709551615,
-            "18446744073709551615",
-            8,
-        ),
-    ];
-    for (builtin, least, least_text, greatest, greatest_text, old) in rows {
-        let new = if old == 8 { 8 } else { 4 };
-        for (number, text) in [(least, least_text), (greatest, greatest_text)] {
-            let value = Value::Int(number);
-            let shape = Shape::Builtin(builtin);
-            check(
-                rt,
-                alloc,
-                schema,
-                &Case {
-                    shape,
-                    value,
-                    text,
-                    old,
-                    new,
-                },
-            )?;
+/// What a word makes of the first of the values behind it.
+fn held_values(alloc: Global, argument: &str, values: Values) -> Result<Values, Fail> {
+    match values {
+        Values::First(held, rest) => {
+            let value = Box::new(alloc, holds(argument, held)?)?;
+            Ok(Values::First(value, rest))
         }
-        let least: i128 = least;
-        for beyond in [least.wrapping_sub(1), greatest.wrapping_add(1)] {
-            let shape = Shape::Builtin(builtin);
-            assert!(rt;
-                !value_fits(schema, &shape, &Value::Int(beyond)),
-                "{beyond}"
-            );
-        }
+        Values::Nothing => Err("nothing to hold".into()),
     }
-    Ok(())
 }
 
-/// Bits, texts and bytes.
-fn bits_and_bytes(rt: &impl Abort, alloc: Global, schema: &Schema) -> Result<(), AllocError> {
-    let rows = [
-        (Builtin::Float, 0, "h\"00000000\"", 4),
-        (Builtin::Float, 0x3f80_0000, "h\"3f800000\"", 4),
-        (Builtin::Float, 0xffff_ffff, "h\"ffffffff\"", 4),
-        (Builtin::Double, 0, "h\"0000000000000000\"", 8),
-        (
-            Builtin::Double,
-            0xffff_ffff_ffff_ffff,
-            "h\"ffffffffffffffff\"",
-            8,
-        ),
-    ];
-    for (builtin, bits, text, size) in rows {
-        let value = Value::Bits(bits);
-        let shape = Shape::Builtin(builtin);
-        check(
-            rt,
-            alloc,
-            schema,
-            &Case {
-                shape,
-                value,
-                text,
-                old: size,
-                new: size,
-            },
-        )?;
+/// What a word makes of the values behind it.
+fn made_values(alloc: Global, word: &str, values: Values) -> Result<Values, Fail> {
+    let (kind, argument) = cut(word, ":");
+    match kind {
+        "struct" => Ok(first(alloc, Value::Struct(values), Values::Nothing)?),
+        "array" => Ok(first(alloc, Value::Array(values), Values::Nothing)?),
+        "some" | "union" => held_values(alloc, argument, values),
+        _ => Ok(first(alloc, word_value(alloc, kind, argument)?, values)?),
     }
-    let rows = [
-        (b"".as_slice(), "\"\"", 4, 4),
-        (
-            b"a\"\\\n\t\x01\x1f\x7f\xc3\xa9 A".as_slice(),
-            "\"a\\\"\\\\\\n\\t\\x01\\x1f\\x7f\u{e9} A\"",
-            16,
-            16,
-        ),
-    ];
-    for (bytes, text, old, new) in rows {
-        let value = Value::Text(name(alloc, bytes)?);
-        let shape = Shape::Builtin(Builtin::NsString);
-        check(
-            rt,
-            alloc,
-            schema,
-            &Case {
-                shape,
-                value,
-                text,
-                old,
-                new,
-            },
-        )?;
+}
+
+/// The values that a text spells, from its last word on.
+fn values_of(alloc: Global, text: &str) -> Result<Values, Fail> {
+    let mut values = Values::Nothing;
+    for word in text.rsplit(" ") {
+        values = made_values(alloc, word, values)?;
     }
-    let rows = [
-        (
-            Shape::Builtin(Builtin::NsCString),
-            b"\x00\xab\xff".as_slice(),
-            "h\"00abff\"",
-            7,
-            8,
-        ),
-        (
-            Shape::Builtin(Builtin::ByteBuf),
-            b"".as_slice(),
-            "h\"\"",
-            4,
-            4,
-        ),
-        (
-            Shape::Using(name(alloc, b"gfx::Size")?),
-            b" ".as_slice(),
-            "h\"20\"",
-            5,
-            8,
-        ),
-    ];
-    for (shape, bytes, text, old, new) in rows {
-        let value = Value::Bytes(name(alloc, bytes)?);
-        check(
-            rt,
-            alloc,
-            schema,
-            &Case {
-                shape,
-                value,
-                text,
-                old,
-                new,
-            },
-        )?;
+    Ok(values)
+}
+
+fn fields(alloc: Global, builtins: &[Builtin]) -> Result<ParamRows, AllocError> {
+    let mut fields = Vec::new(alloc);
+    for builtin in builtins {
+        let name = name(alloc, "f")?;
+        let shape = Shape::Builtin(*builtin);
+        fields.push(ParamRow { name, shape })?;
     }
-    Ok(())
+    Ok(Items::from_vec(fields))
 }
 
-fn maybe(alloc: Global, shape: Shape) -> Result<Shape, AllocError> {
-    Ok(Shape::Maybe(Box::new(alloc, shape)?))
+/// A struct of a `uint8_t` and a `bool`.
+fn pair_row(alloc: Global) -> Result<TypeRow, AllocError> {
+    Ok(TypeRow::Struct(
+        name(alloc, "Pair")?,
+        fields(alloc, &[Builtin::Uint8, Builtin::Bool])?,
+    ))
 }
 
-fn some(alloc: Global, value: Value) -> Result<Value, AllocError> {
-    Ok(Value::Maybe(Some(Box::new(alloc, value)?)))
+/// A union of `nsString` and the type 0.
+fn either_row(alloc: Global) -> Result<TypeRow, AllocError> {
+    let components = vec![in alloc; Shape::Builtin(Builtin::NsString), Shape::Named(0)]?;
+    Ok(TypeRow::Union(name(alloc, "Either")?, Items::from_vec(components)))
 }
 
-/// A union's value.
-fn union(alloc: Global, index: u32, value: Value) -> Result<Value, AllocError> {
-    Ok(Value::Union(index, Box::new(alloc, value)?))
+/// The types 0, a struct, and 1, a union.
+fn schema(alloc: Global) -> Result<Schema, AllocError> {
+    let types = vec![in alloc; pair_row(alloc)?, either_row(alloc)?]?;
+    Ok(Schema {
+        protocols: Items::from_vec(Vec::new(alloc)),
+        types: Items::from_vec(types),
+    })
 }
 
-/// The values `1` and `-2`.
-fn two(alloc: Global) -> Result<Values, AllocError> {
-    let rest = first(alloc, Value::Int(-2), Values::Nothing)?;
-    first(alloc, Value::Int(1), rest)
-}
-
-fn text(alloc: Global, bytes: &[u8]) -> Result<Value, AllocError> {
-    Ok(Value::Text(name(alloc, bytes)?))
-}
-
-/// Values that are made of others, and actors.
-fn compound_values(rt: &impl Abort, alloc: Global, schema: &Schema) -> Result<(), AllocError> {
-    let byte = Shape::Builtin(Builtin::Int16);
-    let rows = [
-        (
-            Shape::Builtin(Builtin::Bool),
-            Value::Bool(true),
-            "true",
-            1,
-            4,
-        ),
-        (
-            Shape::Builtin(Builtin::Bool),
-            Value::Bool(false),
-            "false",
-            1,
-            4,
-        ),
-        (
-            Shape::Named(0),
-            Value::Struct(pair(alloc)?),
-            "{7, true}",
-            3,
-            12,
-        ),
-        (
-            Shape::Named(1),
-            union(alloc, 0, text(alloc, b"x")?)?,
-            "@0 \"x\"",
-            9,
-            12,
-        ),
-        (
-            Shape::Named(1),
-            union(alloc, 1, Value::Struct(pair(alloc)?))?,
-            "@1 {7, true}",
-            7,
-            16,
-        ),
-        (
-            array_of(alloc, byte)?,
-            Value::Array(two(alloc)?),
-            "[1, -2]",
-            8,
-            12,
-        ),
-        (
-            array_of(alloc, Shape::Builtin(Builtin::Shmem))?,
-            Value::Array(Values::Nothing),
-            "[]",
-            4,
-            4,
-        ),
-        (
-            maybe(alloc, Shape::Builtin(Builtin::Int32))?,
-            Value::Maybe(None),
-            "none",
-            1,
-            4,
-        ),
-        (
-            maybe(alloc, Shape::Builtin(Builtin::Int32))?,
-            some(alloc, Value::Int(5))?,
-            "some 5",
-            5,
-            8,
-        ),
-        (
-            Shape::Unique(Box::new(alloc, Shape::Named(0))?),
-            some(alloc, Value::Struct(pair(alloc)?))?,
-            "some {7, true}",
-            4,
-            16,
-        ),
-        (Shape::Actor(3, false), Value::Actor(7), "#7", 4, 4),
-        (Shape::Actor(3, false), Value::Actor(-3), "#-3", 4, 4),
-        (Shape::Actor(3, true), Value::Actor(0), "null", 4, 4),
-    ];
-    for (shape, value, text, old, new) in rows {
-        check(
-            rt,
-            alloc,
-            schema,
-            &Case {
-                shape,
-                value,
-                text,
-                old,
-                new,
-            },
-        )?;
+/// Whether the type has the value; and its sizes and its text, behind what stands there before.
+fn shown(alloc: Global, schema: &Schema, shape: &Shape, value: &Value) -> Result<String, Fail> {
+    if !value_fits(schema, shape, value) {
+        return Ok(String::from_str(alloc, "misfit")?);
     }
-    Ok(())
+    let old = value_size(schema, OLD, shape, value);
+    let new = value_size(schema, NEW, shape, value);
+    let mut out = format!(in alloc; "{old} {new} = ")?.into_bytes();
+    push_value(alloc, schema, shape, value, &mut out)?;
+    Ok(String::from_utf8(out)?)
 }
 
-/// Values of every type: that they have it, their texts and their sizes.
+/// What is shown of the type and the value of a row.
+fn row_shown(alloc: Global, schema: &Schema, row: &str) -> Result<String, Fail> {
+    let (shape, value) = cut(row, " | ");
+    let shape = shape_of(alloc, shape)?;
+    match values_of(alloc, value)? {
+        Values::First(value, _) => shown(alloc, schema, &shape, &value),
+        Values::Nothing => Err("a row without a value".into()),
+    }
+}
+
+/// Values of every type, and values that a type does not have.
 #[test]
 fn values(rt: HostRuntime) -> Result<(), Fail> {
     let alloc = rt.alloc();
     let schema = schema(alloc)?;
-    numbers(&rt, alloc, &schema)?;
-    bits_and_bytes(&rt, alloc, &schema)?;
-    compound_values(&rt, alloc, &schema)?;
-    Ok(())
-}
-
-/// Values that the type does not have.
-#[test]
-fn misfits(rt: HostRuntime) -> Result<(), Fail> {
-    let alloc = rt.alloc();
-    let schema = schema(alloc)?;
-    let short = first(alloc, Value::Int(7), Values::Nothing)?;
-    let long = first(alloc, Value::Int(7), pair(alloc)?)?;
-    let rows = [
-        (Shape::Builtin(Builtin::Bool), Value::Int(1)),
-        (Shape::Builtin(Builtin::Int32), Value::Bool(true)),
-        (Shape::Builtin(Builtin::Float), Value::Bits(0x1_0000_0000)),
-        (Shape::Builtin(Builtin::Int32), Value::Bits(0)),
-        (Shape::Builtin(Builtin::NsString), text(alloc, b"\xff")?),
-        (Shape::Builtin(Builtin::NsCString), text(alloc, b"x")?),
-        (
-            Shape::Builtin(Builtin::NsString),
-            Value::Bytes(name(alloc, b"x")?),
-        ),
-        (
-            Shape::Builtin(Builtin::Shmem),
-            Value::Bytes(name(alloc, b"")?),
-        ),
-        (Shape::Endpoint(0, false), Value::Actor(1)),
-        (Shape::Named(0), Value::Struct(short)),
-        (Shape::Named(0), Value::Struct(long)),
-        (Shape::Named(1), Value::Struct(Values::Nothing)),
-        (Shape::Named(2), Value::Struct(Values::Nothing)),
-        (Shape::Named(1), union(alloc, 2, Value::Int(0))?),
-        (Shape::Named(1), union(alloc, 0, Value::Int(0))?),
-        (
-            array_of(alloc, Shape::Builtin(Builtin::Shmem))?,
-            Value::Array(two(alloc)?),
-        ),
-        (
-            array_of(alloc, Shape::Builtin(Builtin::Uint8))?,
-            Value::Array(two(alloc)?),
-        ),
-        (
-            maybe(alloc, Shape::Builtin(Builtin::Bool))?,
-            some(alloc, Value::Int(1))?,
-        ),
-        (Shape::Actor(3, false), Value::Actor(0)),
-    ];
-    for (shape, value) in rows {
-        assert!(rt; !value_fits(&schema, &shape, &value), "{shape:?} {value:?}");
+    for row in VALUE_ROWS.split("\n") {
+        let (given, wanted) = row.rsplit_once(" | ").unwrap_or((row, ""));
+        let found = row_shown(alloc, &schema, given)?;
+        check(&rt, row, found.as_str(), wanted);
     }
     Ok(())
 }
 
 /// A constructor with the parameters of the struct and a return.
 fn constructor(alloc: Global) -> Result<MessageRow, AllocError> {
-    let byte = field(alloc, Shape::Builtin(Builtin::Uint8))?;
-    let params = vec![in alloc; byte, field(alloc, Shape::Builtin(Builtin::Bool))?]?;
-    let returns = vec![in alloc; field(alloc, Shape::Builtin(Builtin::Int64))?]?;
     Ok(MessageRow {
         number: 0,
-        name: name(alloc, b"PManaged")?,
+        name: name(alloc, "PManaged")?,
         direction: Direction::Both,
         semantics: Semantics::Async,
         level: Level::Not,
         compress: Compress::Plain,
         kind: Kind::Constructor(1),
-        params: Items::from_vec(params),
-        returns: Some(Items::from_vec(returns)),
+        params: fields(alloc, &[Builtin::Uint8, Builtin::Bool])?,
+        returns: Some(fields(alloc, &[Builtin::Int64])?),
         carried: true,
         lazy: false,
     })
 }
 
-/// A goodbye under a schema of nothing.
-fn goodbye(rt: &impl Abort, alloc: Global) {
+/// Whether the parameters have the values; and their sizes and their text, behind what stands there
+/// before.
+fn params_shown(
+    alloc: Global,
+    schema: &Schema,
+    params: &[ParamRow],
+    values: &Values,
+) -> Result<String, Fail> {
+    if !values_fit(schema, params, values) {
+        return Ok(String::from_str(alloc, "misfit")?);
+    }
+    let old = values_size(schema, OLD, params, values);
+    let new = values_size(schema, NEW, params, values);
+    let mut out = format!(in alloc; "{old} {new} = ")?.into_bytes();
+    push_values(alloc, schema, params, values, &mut out)?;
+    Ok(String::from_utf8(out)?)
+}
+
+/// What is shown of values under the parameters of the constructor.
+fn given_shown(alloc: Global, values: &str) -> Result<String, Fail> {
+    let schema = schema(alloc)?;
+    let row = constructor(alloc)?;
+    let values = values_of(alloc, values)?;
+    params_shown(alloc, &schema, row.params.as_slice(), &values)
+}
+
+#[test]
+fn parameters(rt: HostRuntime) -> Result<(), Fail> {
+    for (values, wanted) in [("int:7 true", "2 8 = 7, true"), ("int:1 int:-2", "misfit")] {
+        let found = given_shown(rt.alloc(), values)?;
+        check(&rt, values, found.as_str(), wanted);
+    }
+    Ok(())
+}
+
+/// What a message of this kind carries.
+fn body_of(alloc: Global, kind: &str, values: &str) -> Result<Body, Fail> {
+    match kind {
+        "request" => Ok(Body::Request(values_of(alloc, values)?)),
+        "reply" => Ok(Body::Reply(values_of(alloc, values)?)),
+        "fault" => Ok(Body::Fault(Reason::HandlerRejected)),
+        _ => Ok(Body::Goodbye),
+    }
+}
+
+/// The sizes of a body in the old and the new layout.
+fn body_sizes(
+    alloc: Global,
+    schema: &Schema,
+    row: Option<&MessageRow>,
+    body: &Body,
+) -> Result<String, Fail> {
+    let old = body_size(schema, OLD, row, body);
+    let new = body_size(schema, NEW, row, body);
+    Ok(format!(in alloc; "{old} {new}")?)
+}
+
+/// The sizes of what a message of the constructor carries, or of a goodbye.
+fn carried_sizes(alloc: Global, kind: &str, values: &str) -> Result<String, Fail> {
+    let schema = schema(alloc)?;
+    let body = body_of(alloc, kind, values)?;
+    if kind == "goodbye" {
+        return body_sizes(alloc, &schema, None, &body);
+    }
+    let row = constructor(alloc)?;
+    body_sizes(alloc, &schema, Some(&row), &body)
+}
+
+#[test]
+fn payloads(rt: HostRuntime) -> Result<(), Fail> {
+    for (kind, values, wanted) in [
+        ("request", "int:7 true", "6 12"),
+        ("reply", "int:1", "8 8"),
+        ("fault", "", "1 4"),
+        ("goodbye", "", "0 0"),
+    ] {
+        let found = carried_sizes(rt.alloc(), kind, values)?;
+        check(&rt, kind, found.as_str(), wanted);
+    }
+    Ok(())
+}
+
+/// The size of a goodbye's payload under a schema of nothing.
+fn goodbye_size(alloc: Global) -> usize {
     let schema = Schema {
         protocols: Items::from_vec(Vec::new(alloc)),
         types: Items::from_vec(Vec::new(alloc)),
@@ -479,37 +303,10 @@ fn goodbye(rt: &impl Abort, alloc: Global) {
         made: 0,
         body: Body::Goodbye,
     };
-    assert_eq!(rt; payload_size(&schema, NEW, &message), 0);
+    payload_size(&schema, NEW, &message)
 }
 
-/// Values of parameters, and payloads.
 #[test]
-fn payloads(rt: HostRuntime) -> Result<(), Fail> {
-    let alloc = rt.alloc();
-    let schema = schema(alloc)?;
-    let row = constructor(alloc)?;
-    let params = row.params.as_slice();
-    let values = pair(alloc)?;
-    assert!(rt; values_fit(&schema, params, &values));
-    assert!(rt; !values_fit(&schema, params, &two(alloc)?));
-    let mut out = Vec::new(alloc);
-    push_values(alloc, &schema, params, &values, &mut out)?;
-    assert_eq!(rt; out.as_slice(), b"7, true".as_slice());
-    assert_eq!(rt; values_size(&schema, OLD, params, &values), 2);
-    assert_eq!(rt; values_size(&schema, NEW, params, &values), 8);
-    let request = Body::Request(values);
-    let reply = Body::Reply(first(alloc, Value::Int(1), Values::Nothing)?);
-    let fault = Body::Fault(Reason::HandlerRejected);
-    let rows = [
-        (Some(&row), request, 6, 12),
-        (Some(&row), reply, 8, 8),
-        (Some(&row), fault, 1, 4),
-        (None, Body::Goodbye, 0, 0),
-    ];
-    for (row, body, old, new) in rows {
-        assert_eq!(rt; body_size(&schema, OLD, row, &body), old);
-        assert_eq!(rt; body_size(&schema, NEW, row, &body), new);
-    }
-    goodbye(&rt, alloc);
-    Ok(())
+fn goodbye(rt: HostRuntime) {
+    assert!(rt; goodbye_size(rt.alloc()) == 0);
 }

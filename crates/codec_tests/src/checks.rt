@@ -1,0 +1,20 @@
+use std::process::Abort;
+
+/// Compares what is found with what is wanted, and names the row where they differ.
+pub fn check(rt: &impl Abort, row: &str, found: &str, wanted: &str) {
+    assert_eq!(rt; found, wanted, "{row}");
+}
+
+/// Sees that a text has so many lines.
+pub fn check_count(rt: &impl Abort, rows: &str, wanted: u32) {
+    let mut count = 0u32;
+    for _ in rows.split("\n") {
+        count = count.wrapping_add(1);
+    }
+    assert!(rt; count == wanted, "{count} rows");
+}
+
+/// A text up to the first of these, and what stands behind that.
+pub fn cut<'t>(text: &'t str, mark: &str) -> (&'t str, &'t str) {
+    text.split_once(mark).unwrap_or((text, ""))
+}
