@@ -1,6 +1,6 @@
 ghost use Rattle.std.specs.Prelude.{◌≡◌, ◌≤◌, ℕ, List, ◌++◌, length, map, IfOk, OnOk};
 ghost use Rattle.std.specs.Option.{option_copied};
-ghost use Rattle.type_rules.specs.Compounds.{told, place_of, struct, union, AreNumbers, AreOfFile, number_found, AllNumbered};
+ghost use Rattle.type_rules.specs.Compounds.{told, place_of, struct, union, AreNumbers, AreOfFile, number_of, number_found, AllNumbered};
 
 use ipdl_base::Place;
 use ipdl_syntax::{Entry, StructDecl, UnionDecl, Unit};
@@ -103,19 +103,23 @@ pub fn compounds_of(alloc: Global, program: &[Entry]) -> Result<Compounds<'_>, A
     Ok(Compounds { all, files })
 }
 
+/// The number of a declaration, where that is a struct or a union.
+fn number_of(files: &[FileNumbers], id: DeclId) -> Option<usize>
+    ensures { result ≡ number_of files.now id }
+{
+    match id {
+        DeclId::Struct(file, place) => files.get(file as usize)?.structs.get(place).copied(),
+        DeclId::Union(file, place) => files.get(file as usize)?.unions.get(place).copied(),
+        _ => None,
+    }
+}
+
 /// The number of what a name finds, where that is one struct or union.
 pub fn number_found(files: &[FileNumbers], finds: Found) -> Option<usize>
     ensures { result ≡ number_found files.now finds }
 {
     match finds {
-        Found::One(DeclId::Struct(file, place)) => {
-            let numbers = files.get(file as usize)?;
-            numbers.structs.get(place).copied()
-        }
-        Found::One(DeclId::Union(file, place)) => {
-            let numbers = files.get(file as usize)?;
-            numbers.unions.get(place).copied()
-        }
+        Found::One(id) => number_of(files, id),
         _ => None,
     }
 }
