@@ -1,4 +1,4 @@
-use Rattle.std.proofs.Common.{◌≡◌, ◌∙◌, sym, rules}
+use Rattle.std.proofs.Common.{◌∙◌, sym, rules}
 use denote.Enum.Bare.{differs_false}
 use Rattle.tree_reader.specs.contracts.symbol.Symbol.{the_type}
 use Rattle.tree_reader.proofs.reader.Reader.skips.Goals as goal
