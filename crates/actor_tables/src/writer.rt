@@ -70,8 +70,7 @@ fn push_shape(out: &mut Vec<u8>, schema: &Schema, shape: &Shape) -> Result<(), A
         }
         Shape::Maybe(element) => {
             push_shape(out, schema, element)?;
-            out.push(b'?')?;
-            Ok(())
+            out.extend_from_slice(b"?")
         }
         Shape::Unique(element) => {
             out.extend_from_slice(b"UniquePtr<")?;
@@ -92,8 +91,7 @@ fn push_param(out: &mut Vec<u8>, schema: &Schema, param: &ParamRow) -> Result<()
     ensures { OnOk result (out.new.items ≡ out.old.items ++ text.param_text schema.now param.now) }
 {
     push_shape(out, schema, &param.shape)?;
-    out.push(b' ')?;
-    out.extend_from_slice(param.name.as_slice())
+    push_behind(out, b" ", param.name.as_slice())
 }
 
 /// Appends a parameter with a comma before it.
@@ -137,10 +135,9 @@ fn push_listed_params(
 fn push_params(out: &mut Vec<u8>, schema: &Schema, params: &[ParamRow]) -> Result<(), AllocError>
     ensures { OnOk result (out.new.items ≡ out.old.items ++ text.params_text schema.now params.now) }
 {
-    out.push(b'(')?;
+    out.extend_from_slice(b"(")?;
     push_listed_params(out, schema, params)?;
-    out.push(b')')?;
-    Ok(())
+    out.extend_from_slice(b")")
 }
 
 /// Appends the returns of a message, where it has them.
@@ -164,9 +161,7 @@ fn push_returns(
 fn push_word(out: &mut Vec<u8>, word: &[u8]) -> Result<(), AllocError>
     ensures { OnOk result (out.new.items ≡ out.old.items ++ (word.now ++ codes " ")) }
 {
-    out.extend_from_slice(word)?;
-    out.push(b' ')?;
-    Ok(())
+    push_behind(out, word, b" ")
 }
 
 /// Appends a number and a blank.
