@@ -41,7 +41,7 @@ pub struct Compounds<'p> {
     pub files: Vec<FileNumbers>,
 }
 
-/// Puts the structs of a file into the list, and their numbers into one of theirs.
+/// Puts the structs of a file into the list, and their numbers into another one, which is empty.
 fn number_structs<'p>(
     file: u32,
     structs: &'p [StructDecl],
@@ -58,7 +58,7 @@ fn number_structs<'p>(
     Ok(())
 }
 
-/// Puts the unions of a file into the list, and their numbers into one of theirs.
+/// Puts the unions of a file into the list, and their numbers into another one, which is empty.
 fn number_unions<'p>(
     file: u32,
     unions: &'p [UnionDecl],
