@@ -4,7 +4,7 @@ ghost use Rattle.tree_reader.specs.Symbols.{mark_symbol, word_symbol, symbol, fi
 use ipdl_base::{Token, TokenKind};
 
 /// What the grammar sees of a token, and the end of the tokens.
-#[derive(Clone, Copy, Debug, PartialEq, Eq)]
+#[derive(Clone, Copy, PartialEq, Eq)]
 pub enum Symbol {
     End,
     Word,
