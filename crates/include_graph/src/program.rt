@@ -78,7 +78,9 @@ pub fn program_of(
 fn text_of(file: Reached) -> Name
     ensures { result ≡ file.source.text }
 {
-    file.source.text
+    let Reached { source, .. } = file;
+    let Source { text, .. } = source;
+    text
 }
 
 /// How a report calls the files.
