@@ -1,5 +1,5 @@
 -- In a program that breaks no rule the names in a protocol find neither nothing nor two.
-use Rattle.std.proofs.Common.{◌≡◌, ℕ, ◌<◌, ◌≤◌, Bool, true, false, List, length, get_or, Option, Some, IsSomeAnd, slice_get, inl, inr, refl, sym, subst, arith}
+use Rattle.std.proofs.Common.{◌≡◌, ℕ, ◌<◌, ◌≤◌, Bool, true, false, List, length, get_or, Option, Some, IsSomeAnd, slice_get, inl, inr, refl, subst, arith}
 use Rattle.std.specs.Prelude.{IfSome, codes, if◌then◌else◌}
 use Rattle.std.specs.List.{Any, list_any}
 use Rattle.std.specs.Str.{bytes_eq}
@@ -24,16 +24,15 @@ use Rattle.name_table.specs.declared.kinds.MessageKind.TheVariants as kind
 use Rattle.name_table.specs.Decls.{FindsNoProtocol, protocol_of}
 use Rattle.type_rules.specs.Written.{InParams, InMessage}
 use Rattle.schema_laws.specs.Clean.{IsClean}
+use Rattle.schema_laws.proofs.Lists.{any_at}
+use Rattle.message_rules.proofs.Whole.{some_in}
 use Rattle.actor_tables.specs.Source.{FindsSoleProtocol, NamesFindSole, MessageFindsSole, ProtocolFindsSole}
-use Rattle.actor_tables.proofs.CleanTypes.{Unknown, Ambiguous, any_at, params_sole, unit_unknown, unit_ambiguous}
+use Rattle.actor_tables.proofs.CleanTypes.{Unknown, Ambiguous, params_sole, unit_unknown, unit_ambiguous}
 use Rattle.actor_tables.proofs.Protocols.{never_two}
 
--- what holds of what is there
-in_some : {X : Type 0} (P : X → Type 0) (o : Option X) (x : X) → o ≡ Some x → P x → IsSomeAnd o P
-in_some {X} P o x has h = let Q : Option X → Type 0 = λ q. IsSomeAnd q P in subst Q (sym has) h
-
+-- what holds of the protocol that is there
 held : (P : ProtocolDecl → Type 0) (o : Option ProtocolDecl) (p : ProtocolDecl) → o ≡ Some p → P p → IsSomeAnd o P
-held P o p has h = in_some P o p has h
+held P o p has h = some_in P o p has h
 
 -- a constructor has the name of what is managed
 constructor_managed : (delete managed : Bool) → kind.Constructor ≡ (if delete then kind.Destructor else (if managed then kind.Constructor else kind.Normal)) → managed ≡ true
@@ -91,9 +90,9 @@ module _ (program : List Entry) (file : ℕ) (e : Entry) (p : ProtocolDecl) (cle
         (λ place h. unit_ambiguous program file e clean at place (inr (inr (held (λ q. Any (InMessage (Ambiguous program file place)) q.messages) e.unit.protocol p has (any_at (InMessage (Ambiguous program file place)) p.messages k m there (inl h))))));
     returns = λ params is. params_sole program file params
         (λ place h. unit_unknown program file e clean at place (inr (inr (held (λ q. Any (InMessage (Unknown program file place)) q.messages) e.unit.protocol p has
-        (any_at (InMessage (Unknown program file place)) p.messages k m there (inr (in_some (InParams (Unknown program file place)) m.returns params is h)))))))
+        (any_at (InMessage (Unknown program file place)) p.messages k m there (inr (some_in (InParams (Unknown program file place)) m.returns params is h)))))))
         (λ place h. unit_ambiguous program file e clean at place (inr (inr (held (λ q. Any (InMessage (Ambiguous program file place)) q.messages) e.unit.protocol p has
-        (any_at (InMessage (Ambiguous program file place)) p.messages k m there (inr (in_some (InParams (Ambiguous program file place)) m.returns params is h)))))));
+        (any_at (InMessage (Ambiguous program file place)) p.messages k m there (inr (some_in (InParams (Ambiguous program file place)) m.returns params is h)))))));
     made = λ makes.
         let n = Any-from_list_any (λ (x : NameAt). bytes_eq x.name m.name) p.manages (constructor_managed (bytes_eq m.name (codes "__delete__")) (list_any (λ (x : NameAt). bytes_eq x.name m.name) p.manages) makes) in
         let there : FindsSoleProtocol program file n.1.name = subst (λ (x : NameAt). FindsSoleProtocol program file x.name) n.3 (manages_sole n.0 n.1 n.2) in

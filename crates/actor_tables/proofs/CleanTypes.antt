@@ -1,7 +1,7 @@
 -- In a program that breaks no rule each name of a type finds neither nothing nor two.
 use Rattle.std.proofs.Common.{◌≡◌, ℕ, Bool, List, get_or, Some, slice_get, inl, inr, refl}
 use Rattle.std.specs.List.{Any}
-use Rattle.std.proofs.lemmas.Option.{slice_get_within, slice_get-get_or, get_or_from_slice_get, option_and_then_some}
+use Rattle.std.proofs.lemmas.Option.{slice_get-get_or, option_and_then_some}
 use Rattle.ipdl_base.specs.declared.finding.Place.{Place}
 use Rattle.ipdl_base.specs.declared.finding.TheConstants.Rule as rule
 use Rattle.ipdl_syntax.specs.declared.program.Entry.{Entry}
@@ -14,6 +14,7 @@ use Rattle.name_table.specs.Decls.{struct_of, union_of}
 use Rattle.type_rules.specs.TypeNames.{IsUnknown, IsAmbiguous, IsUnknownType, IsAmbiguousType}
 use Rattle.type_rules.specs.Written.{OfType, HoldsWithin, InType, InParams, InUnit}
 use Rattle.schema_laws.specs.Clean.{IsClean}
+use Rattle.schema_laws.proofs.Lists.{any_at}
 use Rattle.actor_tables.specs.Source.{FindsSole, ParamsFindSole, TypesFindSole}
 
 never_unknown : (program : List Entry) → IsClean program → (place : Place) → ¬ IsUnknownType program place
@@ -34,10 +35,6 @@ within_sole : (program : List Entry) (file : ℕ) (nullable : Bool) (base : Base
 within_sole program file nullable (Named name argument) here unknown ambiguous = (λ h. unknown here (h, refl), λ h. ambiguous here (h, refl))
 within_sole program file nullable (Unique' at inner_nullable inner after inner_here) here unknown ambiguous =
     within_sole program file inner_nullable inner inner_here (λ place h. unknown place (inr h)) (λ place h. ambiguous place (inr h))
-
--- one of a list, as `Any` has it
-pub any_at : {X : Type 0} (P : X → Type 0) (xs : List X) (k : ℕ) (x : X) → slice_get xs k ≡ Some x → P x → Any P xs
-any_at P xs k x at h = (k, x, slice_get_within xs k x at, get_or_from_slice_get xs k x x at, h)
 
 pub params_sole : (program : List Entry) (file : ℕ) (params : List Param) → ((place : Place) → ¬ InParams (Unknown program file place) params) → ((place : Place) → ¬ InParams (Ambiguous program file place) params) → ParamsFindSole program file params
 params_sole program file params unknown ambiguous = λ k d below.

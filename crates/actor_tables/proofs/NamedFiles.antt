@@ -15,13 +15,14 @@ use Rattle.std.proofs.lemmas.Cmp.{then_total, on_total, nat_cmp_total, nat_list_
 use Rattle.std.proofs.lemmas.Map.Keys.{IsDistinct-from_apart, IsDistinct-IsPermutation, apart_from_distinct}
 use Rattle.std.proofs.lemmas.Map.Lookups.{exact_bytes}
 use Rattle.std.proofs.lemmas.List.Sorted.{ranks_by, sorted_far, All-permutation, Contains-permutation, IsPermutation-map, length_permutation}
-use Rattle.std.proofs.lemmas.Option.{slice_get_cases, slice_get-get_or, slice_get_within, slice_get_read}
+use Rattle.std.proofs.lemmas.Option.{slice_get_cases, slice_get-get_or, slice_get_read}
 use Rattle.ipdl_base.specs.Words.{short_name}
 use Rattle.ipdl_syntax.specs.Programs.{IsProgram, BearTheirNames}
 use Rattle.ipdl_syntax.specs.declared.program.Entry.{Entry}
 use Rattle.ipdl_syntax.specs.declared.tree.ProtocolDecl.{ProtocolDecl}
 use Rattle.name_table.specs.Decls.{protocol_of}
 use Rattle.schema_laws.specs.Numbers.{AreProtocolFiles}
+use Rattle.schema_laws.proofs.Numbered.{file_below}
 use Rattle.actor_tables.specs.Numbered.{AreNamedFiles, FindsNumbers}
 use Rattle.actor_tables.proofs.Protocols.{same_file}
 
@@ -151,13 +152,6 @@ some_at_all : (o : Option ProtocolDecl) (P : ProtocolDecl → Type 0) → IsSome
 some_at_all None P h = absurd h
 some_at_all (Some p) P h = refl
 
-within : (program : List Entry) (file : ℕ) → IsSome (protocol_of program file) → file < length program
-within program file there = go (slice_get program file) refl there
-  where
-    go : (o : Option Entry) → slice_get program file ≡ o → IsSome (option_and_then (λ (e : Entry). e.unit.protocol) o) → file < length program
-    go None e h = absurd (true≢false (sym h))
-    go (Some x) e h = slice_get_within program file x e
-
 -- files that are sorted with the names of their protocols are in the order of these
 pub files_ordered : (program : List Entry) (named sorted : List Named) (files : List ℕ) → IsProgram program → BearTheirNames program → AreNamedFiles program (length program) named → IsPermutation named sorted → IsSorted named_cmp sorted
     → files ≡ Files sorted → AreProtocolFiles program files
@@ -183,7 +177,7 @@ files_ordered program named sorted files is bear are moved order same = subst (A
         (All-map (λ (f : ℕ). IsSome (protocol_of program f)) (λ (n : Named). n.1) sorted
         (All-permutation (λ (n : Named). IsSome (protocol_of program n.1)) named sorted moved
         (All-weaker (λ (n : Named). IsSomeAnd (protocol_of program n.1) (λ q. q.full ≡ n.0.now)) (λ (n : Named). IsSome (protocol_of program n.1)) (λ n k. some_at_all (protocol_of program n.1) (λ q. q.full ≡ n.0.now) k) named are.full))) h),
-    (λ there. Contains-permutation (Files named) (Files sorted) file (IsPermutation-map (λ (n : Named). n.1) named sorted moved) (are.complete file (within program file there) there)),
+    (λ there. Contains-permutation (Files named) (Files sorted) file (IsPermutation-map (λ (n : Named). n.1) named sorted moved) (are.complete file (file_below program file there) there)),
   );
 })
 
@@ -196,4 +190,4 @@ files_few program named sorted files is are moved same =
     omega arith
 
 pub files_below : (program : List Entry) (files read : List ℕ) → AreProtocolFiles program files → read ≡ files → All (λ file. file < length program) read
-files_below program files read are same = subst (All (λ (file : ℕ). file < length program)) (sym same) (λ k d below. within program (get_or files k d) ((are.exact (get_or files k d)).0 (Contains-get_or files k d below)))
+files_below program files read are same = subst (All (λ (file : ℕ). file < length program)) (sym same) (λ k d below. file_below program (get_or files k d) ((are.exact (get_or files k d)).0 (Contains-get_or files k d below)))

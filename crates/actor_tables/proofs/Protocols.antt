@@ -1,12 +1,10 @@
 -- The protocols of a program that bear the names of their files.
-use Rattle.std.proofs.Common.{◌≡◌, ℕ, ◌<◌, inl, inr, true, false, List, [], ◌∷◌, ◌++◌, get_or, Option, Some, None, slice_get, option_map, refl, sym, ap, subst, ◌∙◌}
-use Rattle.std.specs.Prelude.{option_and_then, IfSome, ◌||◌, ◌&&◌, nat_le}
-use Rattle.std.specs.List.{list_any, list_all}
-use Rattle.std.proofs.lemmas.Bool.{and_from, and_parts, cases_order}
-use Rattle.std.proofs.lemmas.Bool.Decides.{eqb_tells}
+use Rattle.std.proofs.Common.{◌≡◌, ℕ, ◌<◌, inl, inr, List, ◌++◌, get_or, Option, Some, None, slice_get, option_map, refl, sym, ap, subst, ◌∙◌}
+use Rattle.std.specs.Prelude.{option_and_then, IfSome}
+use Rattle.std.proofs.lemmas.Bool.{cases_order}
 use Rattle.std.proofs.lemmas.List.Elements.{All-from_recursion}
 use Rattle.std.proofs.lemmas.Option.{none-some, same_Some, slice_get_within, get_or_from_slice_get, option_and_then_some}
-use Rattle.ipdl_base.specs.Words.{IsWord, short_name, is_word_start, is_word_byte}
+use Rattle.ipdl_base.specs.Words.{IsWord, short_name}
 use Rattle.ipdl_syntax.specs.declared.program.Entry.{Entry}
 use Rattle.ipdl_syntax.specs.declared.tree.FileKind.TheVariants as kinds
 use Rattle.ipdl_syntax.specs.declared.tree.ProtocolDecl.{ProtocolDecl}
@@ -16,8 +14,8 @@ use Rattle.name_table.specs.declared.decl.DeclId.TheVariants.{Builtin, Using, St
 use Rattle.name_table.specs.declared.decl.Found.TheVariants as found
 use Rattle.name_table.specs.Decls.{protocol_of}
 use Rattle.name_table.specs.Finds.{FindsAsProtocol, FindsProtocol, Counts}
-use Rattle.name_table.proofs.FullNames.{colon, short_name-whole}
 use Rattle.name_table.proofs.Seeing.{sees_shown}
+use Rattle.schema_laws.proofs.KindsOfMessages.{word_short}
 
 -- the key of a file is that of its protocol
 key_of : (program : List Entry) (file : ℕ) (e : Entry) (p : ProtocolDecl) → BearTheirNames program → slice_get program file ≡ Some e → e.unit.protocol ≡ Some p → e.key ≡ short_name p.full ++ ending kinds.Protocol
@@ -50,25 +48,6 @@ same_file program a b p q is named has other same =
     (key_of program a d p named at here ∙ ap (λ (name : List ℕ). name ++ ending kinds.Protocol) same ∙ sym (key_of program b e q named there has_it))))
 
 -- Names that are words
-
-no_colon : is_word_byte 58 ≡ true → ⊥
-no_colon e = cc
-
-byte_no_colon : (b : ℕ) → is_word_byte b ≡ true → colon b ≡ false
-byte_no_colon b h = elim (eqb_tells b 58) [ inl same ↦ absurd (no_colon (subst (λ n. is_word_byte n ≡ true) same.1 h)) | inr differs ↦ differs.0 ]
-
-bytes_no_colon : (bs : List ℕ) → list_all is_word_byte bs ≡ true → list_any colon bs ≡ false
-bytes_no_colon [] h = refl
-bytes_no_colon (b ∷ bs) h =
-    let both = and_parts (is_word_byte b) (list_all is_word_byte bs) h in
-    ap (λ c. c || list_any colon bs) (byte_no_colon b both.0) ∙ bytes_no_colon bs both.1
-
-word_short : (text : List ℕ) → IsWord text → short_name text ≡ text
-word_short [] word = refl
-word_short (b ∷ bs) word =
-    let both = and_parts (is_word_start b) (list_all is_word_byte bs) word in
-    let byte : is_word_byte b ≡ true = ap (λ c. c || (nat_le 48 b && nat_le b 57)) both.0 in
-    short_name-whole (b ∷ bs) (bytes_no_colon (b ∷ bs) (and_from (is_word_byte b) (list_all is_word_byte bs) byte both.1))
 
 -- a protocol that a word finds has it for its short name
 found_short : (program : List Entry) (file : ℕ) (text : List ℕ) (p : ℕ) → IsWord text → FindsProtocol program file text p → (q : ProtocolDecl) × (protocol_of program p ≡ Some q) × (short_name q.full ≡ text)

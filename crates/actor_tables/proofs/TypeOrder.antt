@@ -20,6 +20,8 @@ use Rattle.findings.proofs.Order.{place_total, both_equal, same_place}
 use Rattle.name_table.specs.declared.decl.DeclId.{DeclId}
 use Rattle.name_table.specs.declared.decl.DeclId.TheVariants.{Builtin, Using, Struct, Union, Protocol, Endpoint}
 use Rattle.schema_laws.specs.Numbers.{AreTypes, place_of, list_number, index_of}
+use Rattle.schema_laws.proofs.Numberings.{some_of}
+use Rattle.type_rules.proofs.Lists.{contains_map}
 use Rattle.actor_tables.specs.Numbered.{decl_of, id_of_key, key_cmp, IsBefore, IsKeyBelow, AddsKeys}
 use Rattle.actor_tables.specs.declared.numbers.TypeId.{TypeId}
 use Rattle.actor_tables.specs.declared.numbers.TypeKey.{TypeKey}
@@ -88,15 +90,8 @@ place_file program is file true index p h =
     let here : UnionIsIn file u.0 = subst (UnionIsIn file) (get_or_from_slice_get e.0.unit.unions index u.0 u.0 e.2) (all index u.0 (slice_get_within e.0.unit.unions index u.0 e.2)) in
     (sym (ap (λ (q : Place). q.file) u.2) ∙ here.place, slice_get_within program file e.0 e.1)
 
-contains_map : {X Y : Type 0} (f : X → Y) (xs : List X) (x : X) → Contains xs x → Contains (map f xs) (f x)
-contains_map f xs x (k, lt, at) = (k, rw (length-map xs f) lt, get_or-map f xs k x (f x) lt ∙ ap f at)
-
 some_there : {X : Type 0} (o : Option X) (x : X) → o ≡ Some x → IsSome o
 some_there {X} o x e = let P : Option X → Type 0 = λ p. IsSome p in subst P (sym e) refl
-
-some_in : {X : Type 0} (o : Option X) → IsSome o → (x : X) × (o ≡ Some x)
-some_in None h = absurd (true≢false (sym h))
-some_in (Some x) h = (x, refl)
 
 module _ (program : List Entry) (keys : List TypeKey) (is : IsProgram program) (exact : (key : TypeKey) → Contains keys key ↔ IsKeyBelow program (length program) key) where
   abbrev types : List DeclId
@@ -116,8 +111,8 @@ module _ (program : List Entry) (keys : List TypeKey) (is : IsProgram program) (
       subst (λ (f : ℕ). Contains types (decl_of (record { file = f; is_union = is_union; index = index }))) at.0 (contains_map decl_of (map id_of_key keys) (id_of_key key) (contains_map id_of_key keys key there))
 
   in_types : (d : DeclId) → IsSome (place_of program d) → Contains types d
-  in_types (Struct file index) h = let p = some_in (place_of program (Struct file index)) h in contains_place file false index p.0 p.1
-  in_types (Union file index) h = let p = some_in (place_of program (Union file index)) h in contains_place file true index p.0 p.1
+  in_types (Struct file index) h = let p = some_of (place_of program (Struct file index)) h in contains_place file false index p.0 p.1
+  in_types (Union file index) h = let p = some_of (place_of program (Union file index)) h in contains_place file true index p.0 p.1
   in_types (Builtin type) h = absurd (true≢false (sym h))
   in_types (Using file index) h = absurd (true≢false (sym h))
   in_types (Protocol file) h = absurd (true≢false (sym h))

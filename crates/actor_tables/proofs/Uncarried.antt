@@ -5,7 +5,7 @@ use Rattle.std.specs.List.{Contains, filter_map, cons_option}
 use Rattle.std.proofs.Math.Numerals.{add-one}
 use Rattle.std.proofs.lemmas.List.{take_more}
 use Rattle.std.proofs.lemmas.List.Elements.{Contains-append_right, Contains-append_cases, Contains-push_cases}
-use Rattle.std.proofs.lemmas.Option.{none-some, same_Some, slice_get-get_or, slice_get_past}
+use Rattle.std.proofs.lemmas.Option.{none-some, same_Some, slice_get_past}
 use Rattle.std.proofs.lemmas.Slice.Zip.{all_zipped_more, AllZip-left, AllZip-right}
 use Rattle.ipdl_base.specs.Builtins.{is_carried}
 use Rattle.ipdl_base.specs.Sound.{MentionsUncarried, builtin, endpoint, in_array, in_maybe, in_unique, in_struct, in_union}
@@ -16,6 +16,7 @@ use Rattle.ipdl_base.specs.declared.schema.TypeRow.TheVariants as row
 use Rattle.least_sets.specs.Derived.{IsDerived, all, one, AreMarks}
 use Rattle.least_sets.specs.declared.nodes.Need.TheVariants.{All, One}
 use Rattle.least_sets.specs.declared.nodes.Node.{Node}
+use Rattle.schema_laws.proofs.Lists.{place_in}
 use Rattle.actor_tables.specs.Marked.{part_of, parts_of, IsNodeOf, AreNodesOf, AreMarked}
 use Rattle.actor_tables.specs.declared.carried.MarkedTypes.{MarkedTypes}
 
@@ -49,9 +50,6 @@ out_first f x xs ys y (Some z) e later k = elim (Contains-append_cases (z ∷ []
 out_filter_map : {X Y : Type 0} (f : X → Option Y) (xs : List X) (y : Y) → Contains (filter_map f xs) y → (x : X) × Contains xs x × (f x ≡ Some y)
 out_filter_map f [] y h = absurd (nothing_in y h)
 out_filter_map f (x ∷ xs) y h = out_first f x xs (filter_map f xs) y (f x) refl (out_filter_map f xs y) h
-
-contains_get : {X : Type 0} (xs : List X) (x : X) → Contains xs x → (k : ℕ) × (slice_get xs k ≡ Some x)
-contains_get xs x (k, lt, at) = (k, slice_get-get_or xs k x lt ∙ ap Some at)
 
 -- Shapes and their marks
 
@@ -153,13 +151,13 @@ module _ (rows : List TypeRow) (nodes : List Node) (are : AreNodesOf rows nodes)
   derived_mark (in_struct {t} name fields field at contains h) =
       let m = derived_mark h in
       let n = node_of t (row.Struct name fields) at in
-      let k = contains_get fields field contains in
+      let k = place_in fields field contains in
       let c : Contains n.0.parts.items m.0 = subst (λ (ps : List ℕ). Contains ps m.0) (sym n.2.parts) (in_filter_map (λ (f : ParamRow). part_of f.shape) fields k.0 field m.0 k.1 m.1) in
       (t + 1, refl, one n.0 m.0 n.1 n.2.need c m.2)
   derived_mark (in_union {t} name components component at contains h) =
       let m = derived_mark h in
       let n = node_of t (row.Union name components) at in
-      let k = contains_get components component contains in
+      let k = place_in components component contains in
       let c : Contains n.0.parts.items m.0 = subst (λ (ps : List ℕ). Contains ps m.0) (sym n.2.parts) (in_filter_map part_of components k.0 component m.0 k.1 m.1) in
       (t + 1, refl, one n.0 m.0 n.1 n.2.need c m.2)
 

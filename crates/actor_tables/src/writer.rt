@@ -1,4 +1,4 @@
-ghost use Rattle.std.specs.Prelude.{◌≡◌, ◌++◌, List, map, IfOk, OnOk, codes};
+ghost use Rattle.std.specs.Prelude.{◌≡◌, ◌++◌, if◌then◌else◌, [], List, map, IfOk, OnOk, codes};
 ghost use Rattle.std.specs.List.{flat_map};
 ghost use Rattle.std.specs.Fmt.{decimal};
 ghost use Rattle.actor_tables.specs.TableText as text;
@@ -27,6 +27,32 @@ fn push_around(
     out.extend_from_slice(behind)
 }
 
+/// Appends a name with a text before it.
+fn push_behind(out: &mut Vec<u8>, before: &[u8], name: &[u8]) -> Result<(), AllocError>
+    ensures { OnOk result (out.new.items ≡ out.old.items ++ (before.now ++ name.now)) }
+{
+    out.extend_from_slice(before)?;
+    out.extend_from_slice(name)
+}
+
+/// What stands before the name of a protocol in the type of its actors.
+fn before_actor(nullable: bool) -> &'static [u8]
+    ensures { result.now ≡ if nullable then codes "nullable " else [] }
+{
+    if nullable { b"nullable " } else { b"" }
+}
+
+/// What stands before the name of a protocol in the type of its endpoints.
+fn before_endpoint(managed: bool) -> &'static [u8]
+    ensures { result.now ≡ if managed then codes "ManagedEndpoint<" else codes "Endpoint<" }
+{
+    if managed {
+        b"ManagedEndpoint<"
+    } else {
+        b"Endpoint<"
+    }
+}
+
 /// Appends a type.
 fn push_shape(out: &mut Vec<u8>, schema: &Schema, shape: &Shape) -> Result<(), AllocError>
     ensures { OnOk result (out.new.items ≡ out.old.items ++ text.shape_text schema.now shape.now) }
@@ -34,10 +60,9 @@ fn push_shape(out: &mut Vec<u8>, schema: &Schema, shape: &Shape) -> Result<(), A
     match shape {
         Shape::Builtin(builtin) => out.extend_from_slice(builtin.name()),
         Shape::Using(name) => out.extend_from_slice(name.as_slice()),
-        Shape::Actor(number, true) => {
-            push_around(out, b"nullable ", protocol_name(schema, *number), b"")
+        Shape::Actor(number, nullable) => {
+            push_behind(out, before_actor(*nullable), protocol_name(schema, *number))
         }
-        Shape::Actor(number, false) => out.extend_from_slice(protocol_name(schema, *number)),
         Shape::Named(number) => out.extend_from_slice(type_name(schema, *number)),
         Shape::Array(element) => {
             push_shape(out, schema, element)?;
@@ -45,23 +70,19 @@ fn push_shape(out: &mut Vec<u8>, schema: &Schema, shape: &Shape) -> Result<(), A
         }
         Shape::Maybe(element) => {
             push_shape(out, schema, element)?;
-            out.push(b'?')?;
-            Ok(())
+            out.extend_from_slice(b"?")
         }
         Shape::Unique(element) => {
             out.extend_from_slice(b"UniquePtr<")?;
             push_shape(out, schema, element)?;
             out.extend_from_slice(b">")
         }
-        Shape::Endpoint(number, true) => push_around(
+        Shape::Endpoint(number, managed) => push_around(
             out,
-            b"ManagedEndpoint<",
+            before_endpoint(*managed),
             protocol_name(schema, *number),
             b">",
         ),
-        Shape::Endpoint(number, false) => {
-            push_around(out, b"Endpoint<", protocol_name(schema, *number), b">")
-        }
     }
 }
 
@@ -70,8 +91,15 @@ fn push_param(out: &mut Vec<u8>, schema: &Schema, param: &ParamRow) -> Result<()
     ensures { OnOk result (out.new.items ≡ out.old.items ++ text.param_text schema.now param.now) }
 {
     push_shape(out, schema, &param.shape)?;
-    out.push(b' ')?;
-    out.extend_from_slice(param.name.as_slice())
+    push_behind(out, b" ", param.name.as_slice())
+}
+
+/// Appends a parameter with a comma before it.
+fn push_next_param(out: &mut Vec<u8>, schema: &Schema, param: &ParamRow) -> Result<(), AllocError>
+    ensures { OnOk result (out.new.items ≡ out.old.items ++ (codes ", " ++ text.param_text schema.now param.now)) }
+{
+    out.extend_from_slice(b", ")?;
+    push_param(out, schema, param)
 }
 
 /// Appends parameters, each with a comma before it.
@@ -83,8 +111,7 @@ fn push_more_params(
     ensures { OnOk result (out.new.items ≡ out.old.items ++ flat_map (λ p. codes ", " ++ text.param_text schema.now p) params.now) }
 {
     for param in params {
-        out.extend_from_slice(b", ")?;
-        push_param(out, schema, param)?;
+        push_next_param(out, schema, param)?;
     }
     Ok(())
 }
@@ -108,10 +135,9 @@ fn push_listed_params(
 fn push_params(out: &mut Vec<u8>, schema: &Schema, params: &[ParamRow]) -> Result<(), AllocError>
     ensures { OnOk result (out.new.items ≡ out.old.items ++ text.params_text schema.now params.now) }
 {
-    out.push(b'(')?;
+    out.extend_from_slice(b"(")?;
     push_listed_params(out, schema, params)?;
-    out.push(b')')?;
-    Ok(())
+    out.extend_from_slice(b")")
 }
 
 /// Appends the returns of a message, where it has them.
@@ -135,9 +161,7 @@ fn push_returns(
 fn push_word(out: &mut Vec<u8>, word: &[u8]) -> Result<(), AllocError>
     ensures { OnOk result (out.new.items ≡ out.old.items ++ (word.now ++ codes " ")) }
 {
-    out.extend_from_slice(word)?;
-    out.push(b' ')?;
-    Ok(())
+    push_behind(out, word, b" ")
 }
 
 /// Appends a number and a blank.
@@ -146,6 +170,28 @@ fn push_number(out: &mut Vec<u8>, number: u64) -> Result<(), AllocError>
 {
     let mut digits = Buffer::new();
     push_word(out, digits.format(number).as_bytes())
+}
+
+/// Appends which way a message goes, how it is sent, and at what level.
+fn push_sending(out: &mut Vec<u8>, message: &MessageRow) -> Result<(), AllocError>
+    ensures { OnOk result (out.new.items ≡ out.old.items ++ (
+        text.direction_text message.now.direction ++ codes " " ++ text.semantics_text message.now.semantics ++ codes " "
+        ++ text.level_text message.now.level ++ codes " "
+        )) }
+{
+    push_word(out, direction_word(message.direction))?;
+    push_word(out, semantics_word(message.semantics))?;
+    push_word(out, level_word(message.level))
+}
+
+/// Appends how a message is compressed, and what it is.
+fn push_handling(out: &mut Vec<u8>, message: &MessageRow) -> Result<(), AllocError>
+    ensures { OnOk result (out.new.items ≡ out.old.items ++ (
+        text.compress_text message.now.compress ++ codes " " ++ text.kind_text message.now.kind message.now.lazy ++ codes " "
+        )) }
+{
+    push_word(out, compress_word(message.compress))?;
+    push_word(out, kind_word(message.kind, message.lazy))
 }
 
 /// Appends what a message's line has before the name.
@@ -158,11 +204,8 @@ fn push_message_head(out: &mut Vec<u8>, message: &MessageRow) -> Result<(), Allo
 {
     out.extend_from_slice(b"message ")?;
     push_number(out, message.number as u64)?;
-    push_word(out, direction_word(message.direction))?;
-    push_word(out, semantics_word(message.semantics))?;
-    push_word(out, level_word(message.level))?;
-    push_word(out, compress_word(message.compress))?;
-    push_word(out, kind_word(message.kind, message.lazy))
+    push_sending(out, message)?;
+    push_handling(out, message)
 }
 
 /// Appends the line of a message.
@@ -285,6 +328,44 @@ fn push_listed_shapes(
     push_more_shapes(out, schema, more)
 }
 
+/// Appends the line of a struct.
+fn push_struct(
+    out: &mut Vec<u8>,
+    schema: &Schema,
+    number: usize,
+    name: &[u8],
+    fields: &[ParamRow],
+) -> Result<(), AllocError>
+    ensures { OnOk result (out.new.items ≡ out.old.items ++ (
+        codes "struct " ++ decimal number ++ codes " " ++ name.now ++ codes " " ++ text.params_text schema.now fields.now ++ codes "\n"
+        )) }
+{
+    out.extend_from_slice(b"struct ")?;
+    push_number(out, number as u64)?;
+    push_word(out, name)?;
+    push_params(out, schema, fields)?;
+    out.extend_from_slice(b"\n")
+}
+
+/// Appends the line of a union.
+fn push_union(
+    out: &mut Vec<u8>,
+    schema: &Schema,
+    number: usize,
+    name: &[u8],
+    components: &[Shape],
+) -> Result<(), AllocError>
+    ensures { OnOk result (out.new.items ≡ out.old.items ++ (
+        codes "union " ++ decimal number ++ codes " " ++ name.now ++ codes " (" ++ text.listed (map (text.shape_text schema.now) components.now) ++ codes ")\n"
+        )) }
+{
+    out.extend_from_slice(b"union ")?;
+    push_number(out, number as u64)?;
+    push_behind(out, name, b" (")?;
+    push_listed_shapes(out, schema, components)?;
+    out.extend_from_slice(b")\n")
+}
+
 /// Appends the line of a struct or a union.
 fn push_type(
     out: &mut Vec<u8>,
@@ -296,19 +377,10 @@ fn push_type(
 {
     match row {
         TypeRow::Struct(name, fields) => {
-            out.extend_from_slice(b"struct ")?;
-            push_number(out, number as u64)?;
-            push_word(out, name.as_slice())?;
-            push_params(out, schema, fields.as_slice())?;
-            out.extend_from_slice(b"\n")
+            push_struct(out, schema, number, name.as_slice(), fields.as_slice())
         }
         TypeRow::Union(name, components) => {
-            out.extend_from_slice(b"union ")?;
-            push_number(out, number as u64)?;
-            out.extend_from_slice(name.as_slice())?;
-            out.extend_from_slice(b" (")?;
-            push_listed_shapes(out, schema, components.as_slice())?;
-            out.extend_from_slice(b")\n")
+            push_union(out, schema, number, name.as_slice(), components.as_slice())
         }
     }
 }

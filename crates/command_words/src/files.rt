@@ -72,15 +72,23 @@ fn names_in<'a>(
     files.values().copied().collect(alloc)
 }
 
+/// The names of the files that words name, in the order of their first words.
+fn file_names<'a>(alloc: Global, words: &[&'a str]) -> Result<Vec<&'a str>, WordsFault>
+    ensures names { IfOk result (λ names. AreListed (map (λ w. w.now) words.entry.now) (map (λ name. name.now) names.items)) }
+    ensures usage { IfErr result (λ fault. fault ≡ WordsFault.Usage → (files : List (List ℕ)) → ¬ AreListed (map (λ w. w.now) words.entry.now) files) }
+{
+    let files = noted_files(alloc, words)?;
+    Ok(names_in(alloc, &files)?)
+}
+
 /// The files that the words of a command name, in the order of their first words.
 pub fn files_of(alloc: Global, words: &[&str]) -> Result<Vec<String>, WordsFault>
     ensures files { IfOk result (λ files. AreFiles (map (λ w. w.now) words.entry.now) (map string_bytes files.items)) }
     ensures usage { IfErr result (λ fault. fault ≡ WordsFault.Usage → (files : List (List ℕ)) → ¬ AreFiles (map (λ w. w.now) words.entry.now) files) }
 {
-    let files = noted_files(alloc, words)?;
-    if files.is_empty() {
+    let names = file_names(alloc, words)?;
+    if names.is_empty() {
         return Err(WordsFault::Usage);
     }
-    let names = names_in(alloc, &files)?;
     Ok(copies_of(alloc, names.as_slice())?)
 }

@@ -1,14 +1,19 @@
-ghost use Rattle.std.specs.Prelude.{IfOk};
+ghost use Rattle.std.specs.Prelude.{◌≡◌, IfOk, List, length, map};
+ghost use Rattle.std.specs.List.{AllByRecursion, Contains};
+ghost use Rattle.findings.specs.Report.{IsReport};
+ghost use Rattle.ipdl_base.specs.declared.finding.Finding.{Finding as TheFinding};
+ghost use Rattle.ipdl_syntax.specs.declared.program.Entry.{Entry};
 ghost use Rattle.include_graph.specs.Outcome.{IsOutcome, IsGood};
-ghost use Rattle.include_graph.specs.Reading.{IsGathered};
+ghost use Rattle.include_graph.specs.Reading.{IsGathered, IsOfTree, AreEntriesFrom};
+ghost use Rattle.include_graph.specs.declared.outcome.Outcome.TheVariants.{Whole, Report};
 ghost use Rattle.include_graph.specs.Sources.{Given};
 
 use crate::program::{program_of, texts_of};
 use crate::rules::found_in;
-use crate::walk::Gathered;
+use crate::walk::{Gathered, Reached};
 use findings::sorted;
 use grammar_laws::{files_hold, names_hold, one_tree, places_hold};
-use ipdl_base::{Findings, Texts};
+use ipdl_base::{Finding, Findings, Texts};
 use ipdl_lex::{one_answer, words_hold};
 use ipdl_syntax::Program;
 use std::alloc::{AllocError, Global};
@@ -20,6 +25,24 @@ pub enum Outcome {
     Whole(Program),
     /// The report on them, and for each of them how the report calls it.
     Report(Findings, Texts),
+}
+
+/// The program of the files that are reached, each of which has a tree.
+fn whole(alloc: Global, gathered: Gathered) -> Result<Outcome, AllocError>
+    requires size { length gathered.files.items ≡ length gathered.keys.keys }
+    requires trees { AllByRecursion (λ f. IsOfTree f.source.content) gathered.files.items }
+    ensures { IfOk result (λ outcome. (program : List Entry) × (outcome ≡ Whole program) × AreEntriesFrom gathered.keys.keys gathered.files.items program) }
+{
+    let program = program_of(alloc, gathered.keys, gathered.files)?;
+    Ok(Outcome::Whole(program))
+}
+
+/// The report of what was found in the files that are reached.
+fn report(alloc: Global, files: Vec<Reached>, found: Vec<Finding>) -> Result<Outcome, AllocError>
+    ensures { IfOk result (λ outcome. (findings : List TheFinding) × (outcome ≡ Report findings (map (λ f. f.source.text) files.items)) × IsReport (Contains found.items) findings) }
+{
+    let texts = texts_of(alloc, files)?;
+    Ok(Outcome::Report(sorted(found), texts))
 }
 
 /// What the files that are reached make.
@@ -34,11 +57,15 @@ pub fn outcome_of(alloc: Global, gathered: Gathered) -> Result<Outcome, AllocErr
     places_hold();
     one_tree();
     one_answer();
-    let Gathered { words, keys, files } = gathered;
-    let found = found_in(alloc, words, keys.as_slice(), files.as_slice())?;
+    let found = found_in(
+        alloc,
+        gathered.words,
+        gathered.keys.as_slice(),
+        gathered.files.as_slice(),
+    )?;
     if found.is_empty() {
-        Ok(Outcome::Whole(program_of(alloc, keys, files)?))
+        whole(alloc, gathered)
     } else {
-        Ok(Outcome::Report(sorted(found), texts_of(alloc, files)?))
+        report(alloc, gathered.files, found)
     }
 }

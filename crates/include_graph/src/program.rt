@@ -1,5 +1,6 @@
 ghost use Rattle.std.specs.Prelude.{◌≡◌, IfOk, length, map};
 ghost use Rattle.std.specs.List.{AllByRecursion};
+ghost use Rattle.include_graph.specs.declared.content.Content.TheVariants.{Read};
 ghost use Rattle.include_graph.specs.Reading.{numbers_of as the_numbers_of, IsOfTree, IsEntryFrom, AreEntriesFrom};
 
 use crate::content::Content;
@@ -7,7 +8,7 @@ use crate::read::Source;
 use crate::walk::{Reached, Target};
 use indexmap::IndexSet;
 use ipdl_base::{Items, Name, Numbers, Texts};
-use ipdl_syntax::{Entry, Program};
+use ipdl_syntax::{Entry, Program, Unit};
 use std::alloc::{AllocError, Global};
 
 /// The numbers of the files that includes lead to.
@@ -23,23 +24,31 @@ fn numbers_of(alloc: Global, targets: &[Target]) -> Result<Numbers, AllocError>
     Ok(Items::from_vec(numbers))
 }
 
+/// The tree of a content that has one.
+fn unit_of(content: Content) -> Unit
+    requires { IsOfTree content }
+    ensures { content ≡ Read result }
+{
+    match content {
+        Content::Read(unit) => unit,
+        _ => unreachable!(),
+    }
+}
+
 /// The entry of a key by what came of it, which has a tree.
 fn entry_of(alloc: Global, key: Name, file: Reached) -> Result<Entry, AllocError>
     requires { IsOfTree file.source.content }
     ensures { IfOk result (IsEntryFrom key file) }
 {
     let Reached { source, targets } = file;
-    let Source { text, content } = source;
     let includes = numbers_of(alloc, targets.as_slice())?;
-    match content {
-        Content::Read(unit) => Ok(Entry {
-            key,
-            name: text,
-            unit,
-            includes,
-        }),
-        _ => unreachable!(),
-    }
+    let Source { text, content } = source;
+    Ok(Entry {
+        key,
+        name: text,
+        unit: unit_of(content),
+        includes,
+    })
 }
 
 /// The program of the files of these keys, each of which has a tree.

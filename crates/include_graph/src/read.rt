@@ -12,7 +12,7 @@ use ipdl_base::{Files, Items, Name, ReadAnswer};
 use std::alloc::{AllocError, Global};
 
 /// Why files are read no further.
-#[derive(Clone, Copy, Debug, PartialEq, Eq)]
+#[derive(Clone, Copy)]
 pub enum Stop {
     /// A read failed.
     ReadFault,

@@ -1,5 +1,5 @@
 -- What the functions of the scan find at the front of a text.
-use Rattle.std.specs.Prelude.{◌≡◌, ℕ, Bool, ◌==◌, ◌||◌, ◌+◌, ◌≤◌, if◌then◌else◌, List, length, take, drop, fold, Option, slice_index}
+use Rattle.std.specs.Prelude.{◌≡◌, ℕ, Bool, ◌==◌, ◌||◌, filter, ◌+◌, ◌≤◌, if◌then◌else◌, List, length, take, drop, fold, Option, slice_index}
 use Rattle.std.specs.List.{list_any}
 use Rattle.std.specs.Str.{bytes_eq}
 use Rattle.ipdl_base.specs.declared.finding.Place.{Place}
@@ -23,6 +23,10 @@ class_of b =
 -- whether a word is one that the language keeps for itself
 abbrev pub is_reserved : List ℕ → Bool
 is_reserved word = list_any (λ w. bytes_eq word w) reserved_words
+
+-- the words of so many bytes that the language keeps for itself
+abbrev pub reserved_of_length : ℕ → List (List ℕ)
+reserved_of_length bytes = filter (λ w. length w == bytes) reserved_words
 
 -- a quote or a line feed, which end a quoted text
 abbrev pub ends_quoted : ℕ → Bool

@@ -1,11 +1,13 @@
-ghost use Rattle.std.specs.Prelude.{◌≡◌, ◌↔◌, ℕ, ◌+◌, ◌<◌, ◌≤◌, ◌^◌, ◌-◌, ◌⊎◌, ◌++◌, Some, None, IsTrue, IfOk, IfErr, OnOk, IfSome, IfNone, Contains, not, length, position, List, Ok, Err, slice_index, take};
+ghost use Rattle.std.specs.Prelude.{◌≡◌, ◌↔◌, ℕ, ◌+◌, ◌<◌, ◌≤◌, ◌^◌, ◌-◌, ◌⊎◌, ◌++◌, Some, None, IsTrue, IfOk, IfErr, OnOk, IfSome, IfNone, Contains, map, not, length, position, List, Ok, Err, slice_index, take};
+ghost use Rattle.std.specs.List.{list_any};
+ghost use Rattle.std.specs.Str.{bytes_eq};
 ghost use Rattle.ipdl_base.specs.Words.{is_word_start, is_word_byte, IsWord};
 ghost use Rattle.ipdl_lex.specs.Pieces.{is_blank, is_line_feed, is_mark, reserved_words, IsPieceOf, Spells};
 ghost use Rattle.ipdl_lex.specs.Tokens.{FailsAt, IsShortOf, IsTokens, IsFault, Gives, token_at};
 ghost use Rattle.ipdl_lex.specs.declared.token.Lexed.{Lexed};
 ghost use Rattle.ipdl_lex.specs.declared.token.LexFault.{LexFault};
 ghost use Rattle.ipdl_lex.specs.declared.token.LexFault.TheVariants.{NoMemory};
-ghost use Rattle.ipdl_lex.specs.Scan.{is_reserved, class_of, ends_quoted, ClosesAt, IsFront, behind_byte, behind_bytes};
+ghost use Rattle.ipdl_lex.specs.Scan.{reserved_of_length, class_of, ends_quoted, ClosesAt, IsFront, behind_byte, behind_bytes};
 
 use crate::token::{LexFault, Lexed};
 use ipdl_base::{Items, Place, Token, TokenKind};
@@ -63,34 +65,33 @@ fn is_mark(b: u8) -> bool
     )
 }
 
-/// Whether the text is that of a reserved word, told by its first byte.
-fn has_reserved_text(word: &[u8]) -> bool
-    ensures { result ≡ is_reserved word.now }
+/// The reserved words that have so many bytes.
+fn reserved_of_length(bytes: usize) -> &'static [&'static [u8]]
+    ensures { map (λ w. w.now) result.now ≡ reserved_of_length bytes }
 {
-    match word.first() {
-        Some(b'a') => word == b"async".as_slice(),
-        Some(b'b') => word == b"both".as_slice(),
-        Some(b'c') => word == b"child".as_slice() || word == b"class".as_slice(),
-        Some(b'f') => word == b"from".as_slice(),
-        Some(b'i') => word == b"include".as_slice(),
-        Some(b'm') => word == b"manager".as_slice() || word == b"manages".as_slice(),
-        Some(b'n') => word == b"namespace".as_slice() || word == b"nullable".as_slice(),
-        Some(b'o') => word == b"or".as_slice(),
-        Some(b'p') => word == b"parent".as_slice() || word == b"protocol".as_slice(),
-        Some(b'r') => word == b"returns".as_slice(),
-        Some(b's') => word == b"struct".as_slice() || word == b"sync".as_slice(),
-        Some(b'u') => word == b"union".as_slice() || word == b"using".as_slice(),
-        Some(b'U') => word == b"UniquePtr".as_slice(),
-        _ => false,
+    match bytes {
+        2 => &[b"or"],
+        4 => &[b"both", b"from", b"sync"],
+        5 => &[b"async", b"child", b"class", b"union", b"using"],
+        6 => &[b"parent", b"struct"],
+        7 => &[b"include", b"manager", b"manages", b"returns"],
+        8 => &[b"nullable", b"protocol"],
+        9 => &[b"namespace", b"UniquePtr"],
+        _ => &[],
     }
 }
 
+fn is_among(words: &[&[u8]], word: &[u8]) -> bool
+    ensures { result ≡ list_any (λ w. bytes_eq word.now w.now) words.now }
+{
+    words.iter().any(|other| word == *other)
+}
+
 /// Whether the language keeps the word for itself (docs/tokens.md).
-#[tactic(auto, using(crate::proofs::Words::reserved_decided))]
 pub fn is_reserved(word: &[u8]) -> bool
     ensures { IsTrue result ↔ Contains reserved_words word.now }
 {
-    has_reserved_text(word)
+    is_among(reserved_of_length(word.len()), word)
 }
 
 fn class_of(b: u8) -> Class

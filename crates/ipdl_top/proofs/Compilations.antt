@@ -25,7 +25,7 @@ use Rattle.ipdl_top.specs.declared.checked.Checked.{Checked}
 use Rattle.ipdl_top.specs.declared.checked.Checked.TheVariants.{Report, Clean}
 use Rattle.ipdl_top.specs.Answer.{IsCompilation, IsFileReport, IsRuleReport, report_answer}
 use Rattle.ipdl_top.specs.Lists.{IsListFault, IsFaultOfList, AreSections, list_names}
-use Rattle.ipdl_top.specs.Steps.{IsChecked, IsFilesAnswer, IsListed, IsListedChecked, IsProgramChecked, IsRuleChecked, IsSoundChecked, IsToldOf, names_of}
+use Rattle.ipdl_top.specs.Steps.{IsChecked, IsFilesAnswer, IsListed, IsListedChecked, IsProgramChecked, IsRuleChecked, IsToldOf, names_of}
 
 -- Lists
 
@@ -162,11 +162,6 @@ pub of_told : (Says : Schema → Answer → Type 0) (given : Given) (lists : Fil
 of_told Says given lists list (Report report) answer (inl h) e = inl (subst (IsFileReport given lists list) (sym e) h)
 of_told Says given lists list (Report report) answer (inr h) e = inr (inl (subst (IsRuleReport given lists list) (sym e) h))
 of_told Says given lists list (Clean schema) answer h says = inr (inr (record { schema = schema; read = h.0; says = says }))
-
--- a schema that was found is sound
-pub sound_of : (given : Given) (lists : FileMap) (list : Option (List ℕ)) (checked : Checked) → IsChecked given lists list checked → IsSoundChecked checked
-sound_of given lists list (Report report) h = tt
-sound_of given lists list (Clean schema) h = h.1
 
 -- what was found of the list is what the list breaks
 listed_fault : (lists : FileMap) (list : Option (List ℕ)) (number : ℕ) (listed : Listed) (f : Finding) → IsListed lists list number listed → IsFaultOfList lists list number f ↔ (listed ≡ Broken f)

@@ -6,7 +6,7 @@ use Rattle.std.specs.Prelude.{Option, Some, None}
 use Rattle.ipdl_base.specs.declared.finding.TheConstants.Rule as rule
 use Rattle.include_graph.specs.Rules.{whole_file}
 use Rattle.sync_list.specs.declared.list.Section.{Section}
-use Rattle.sync_list.specs.Lists.{IsFirstBad, IsListOf}
+use Rattle.sync_list.specs.Lists.{IsListOf}
 use Rattle.ipdl_top.specs.Lists.{IsListFault, SpellsList, finding_at}
 
 -- the list is absent
@@ -16,10 +16,6 @@ absent number = inl (refl, refl)
 -- it is too large
 pub large : (held : Option (List ℕ)) (bytes : List ℕ) (number : ℕ) → held ≡ Some bytes → 1048576 < length bytes → IsListFault held number (finding_at rule.TOO_LARGE (whole_file number))
 large held bytes number has more = inr (inl (record { bytes = bytes; has = has; large = more }, refl))
-
--- a line is not of the format
-pub bad_line : (bytes : List ℕ) (number line : ℕ) → length bytes ≤ 1048576 → IsFirstBad bytes line → IsListFault (Some bytes) number (finding_at rule.SYNTAX_FAULT (record { file = number; line = line; column = 1 }))
-bad_line bytes number line few bad = inr (inr (line, record { bytes = bytes; has = refl; small = few; bad = bad }, refl))
 
 -- it has sections
 pub spelled : (bytes : List ℕ) (sections : List Section) → length bytes ≤ 1048576 → IsListOf bytes sections → SpellsList (Some bytes) sections

@@ -22,11 +22,6 @@ pub for_all : (told : Option FileMap) (P : FileMap → Type 0) → ((map : FileM
 for_all None P h = (λ name. None, h (λ name. None))
 for_all (Some told) P h = h told
 
--- what does not speak of the map
-pub for_any_map : (told : Option FileMap) (P : FileMap → Type 0) (Q : Type 0) → ((map : FileMap) → P map → Q) → load.ForMap told P → Q
-for_any_map None P Q to (map, h) = to map h
-for_any_map (Some told) P Q to h = to told h
-
 -- what holds whatever is seen
 pub for_all_seen : (told : Option FileMap) (P : Seen → Type 0) → ((seen : Seen) → P seen) → ForMap told P
 for_all_seen None P h = (steady (λ name. None), h (steady (λ name. None)))

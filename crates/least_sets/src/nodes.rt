@@ -6,7 +6,7 @@ use crate::users::users;
 use std::alloc::{AllocError, Global};
 
 /// How many of its parts a node needs.
-#[derive(Clone, Copy, Debug, PartialEq, Eq)]
+#[derive(Clone, Copy)]
 pub enum Need {
     /// All of them; without parts it is derived.
     All,
@@ -16,7 +16,7 @@ pub enum Need {
 
 /// A node, with the numbers of the nodes that are its parts. A number that no node has is a part that
 /// is never derived.
-#[derive(Debug, Drop)]
+#[derive(Drop)]
 pub struct Node {
     pub need: Need,
     pub parts: Vec<usize>,

@@ -1,6 +1,7 @@
 ghost use Rattle.std.specs.Prelude.{◌≡◌, ◌≤◌, length, map, slice_get, Some, IfOk, OnOk, IsSomeAnd};
 ghost use Rattle.findings.specs.Adds.{Adds};
 ghost use Rattle.findings.specs.Gains.{Gains};
+ghost use Rattle.findings.specs.Repeats.{IsRepeatedAt};
 ghost use Rattle.name_table.specs.Decls.{protocol_of};
 ghost use Rattle.manager_rules.specs.Breaches.{rule_of};
 ghost use Rattle.manager_rules.specs.Broken.{BrokenAt, names_at, messages_at};
@@ -123,6 +124,30 @@ fn places_of_messages(
     Ok(places)
 }
 
+/// Adds a finding at each of these names that has the text of an earlier one.
+fn add_repeated_names(
+    alloc: Global,
+    names: &[NameAt],
+    found: &mut Vec<Finding>,
+) -> Result<(), AllocError>
+    ensures { OnOk result (Adds Rule.REPEATED_NAME (IsRepeatedAt (names_at names.now)) found.old.items found.new.items) }
+{
+    let places = places_of_names(alloc, names)?;
+    add_repeated(alloc, Rule::REPEATED_NAME, places.as_slice(), found)
+}
+
+/// Adds a finding at each of these messages that has the name of an earlier one.
+fn add_repeated_messages(
+    alloc: Global,
+    messages: &[MessageDecl],
+    found: &mut Vec<Finding>,
+) -> Result<(), AllocError>
+    ensures { OnOk result (Adds Rule.REPEATED_NAME (IsRepeatedAt (messages_at messages.now)) found.old.items found.new.items) }
+{
+    let places = places_of_messages(alloc, messages)?;
+    add_repeated(alloc, Rule::REPEATED_NAME, places.as_slice(), found)
+}
+
 /// Adds a finding at each manager, managed protocol and message of a protocol that has the name of an earlier one.
 fn add_repeats(
     alloc: Global,
@@ -131,12 +156,9 @@ fn add_repeats(
 ) -> Result<(), AllocError>
     ensures { OnOk result (Adds Rule.REPEATED_NAME (RepeatedIn protocol.now) found.old.items found.new.items) }
 {
-    let managers = places_of_names(alloc, protocol.managers.as_slice())?;
-    let managed = places_of_names(alloc, protocol.manages.as_slice())?;
-    let messages = places_of_messages(alloc, protocol.messages.as_slice())?;
-    add_repeated(alloc, Rule::REPEATED_NAME, managers.as_slice(), found)?;
-    add_repeated(alloc, Rule::REPEATED_NAME, managed.as_slice(), found)?;
-    add_repeated(alloc, Rule::REPEATED_NAME, messages.as_slice(), found)
+    add_repeated_names(alloc, protocol.managers.as_slice(), found)?;
+    add_repeated_names(alloc, protocol.manages.as_slice(), found)?;
+    add_repeated_messages(alloc, protocol.messages.as_slice(), found)
 }
 
 /// Adds the findings at the subject's names of other protocols.
@@ -209,6 +231,22 @@ fn add_of_file(
     }
 }
 
+/// Adds the findings of the protocols of all files.
+fn add_of_files(
+    alloc: Global,
+    known: &Known<'_, '_>,
+    found: &mut Vec<Finding>,
+) -> Result<(), AllocError>
+    requires few { length known.now.program.now ≤ 4096 }
+    requires known { IsKnown known.now }
+    ensures { OnOk result (Gains (BrokenAt known.now.program.now) found.old.items found.new.items) }
+{
+    for (file, entry) in known.program.iter().enumerate() {
+        add_of_file(alloc, known, file as u32, entry, found)?;
+    }
+    Ok(())
+}
+
 /// Adds the findings of the rules B8, B9, B15 and B17 to B21 that a program breaks
 /// (docs/protocols.md), in some order. The names are those of the program. The only error is want of
 /// memory.
@@ -222,10 +260,6 @@ pub fn add_of_managers(
     requires of_program { names.now ≡ program.now }
     ensures { OnOk result (Gains (BrokenAt program.now) found.old.items found.new.items) }
 {
-    let entries = program.as_slice();
-    let known = Known::of(alloc, entries, names)?;
-    for (file, entry) in entries.iter().enumerate() {
-        add_of_file(alloc, &known, file as u32, entry, found)?;
-    }
-    Ok(())
+    let known = Known::of(alloc, program.as_slice(), names)?;
+    add_of_files(alloc, &known, found)
 }

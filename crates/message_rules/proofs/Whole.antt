@@ -25,7 +25,7 @@ some_out : {X : Type 0} (P : X → Type 0) (o : Option X) → IsSomeAnd o P → 
 some_out P None h = absurd h
 some_out P (Some x) h = (x, refl, h)
 
-some_in : {X : Type 0} (P : X → Type 0) (o : Option X) (x : X) → o ≡ Some x → P x → IsSomeAnd o P
+pub some_in : {X : Type 0} (P : X → Type 0) (o : Option X) (x : X) → o ≡ Some x → P x → IsSomeAnd o P
 some_in {X} P o x e h = let Q : Option X → Type 0 = λ o. IsSomeAnd o P in subst Q (sym e) h
 
 -- what a protocol's findings are, of those of its file

@@ -3,7 +3,7 @@ ghost use Rattle.std.specs.List.{Contains};
 ghost use Rattle.std.specs.Option.{option_copied};
 ghost use Rattle.ipdl_syntax.specs.Grammar.{whole_name};
 ghost use Rattle.name_table.specs.Candidates.{IsCandidate, AreOne, IsBuiltinOrEndpoint};
-ghost use Rattle.name_table.specs.Declares.{full_name_of, IsHeader};
+ghost use Rattle.name_table.specs.Declares.{file_of, full_name_in, full_name_of, IsHeader};
 ghost use Rattle.name_table.specs.Finds.{Finds, FindsAsProtocol, FindsProtocol, NamesBuiltin, Counts, endpoint_word};
 ghost use Rattle.name_table.specs.Marks.{Reaches, IsFollowed, Shows};
 ghost use Rattle.name_table.specs.Rows.{declared_from, listed_under};
@@ -43,29 +43,38 @@ impl<'p> Model for Names<'p> {
     ghost coded = { Prim.hlevel (codes, base.the_row.coded) };
 }
 
-/// The full name of a declaration of a program, where it has it.
-fn full_name<'p>(program: &'p [Entry], id: DeclId) -> Option<&'p [u8]>
-    ensures { option_map (λ full. full.now) result ≡ full_name_of program.now id }
+/// The file that a declaration stands in, where it stands in one.
+fn file_of(id: DeclId) -> Option<u32>
+    ensures { result ≡ file_of id }
 {
     match id {
-        DeclId::Using(file, place) => {
-            let entry = program.get(file as usize)?;
-            Some(entry.unit.usings.as_slice().get(place)?.full.as_slice())
-        }
-        DeclId::Struct(file, place) => {
-            let entry = program.get(file as usize)?;
-            Some(entry.unit.structs.as_slice().get(place)?.full.as_slice())
-        }
-        DeclId::Union(file, place) => {
-            let entry = program.get(file as usize)?;
-            Some(entry.unit.unions.as_slice().get(place)?.full.as_slice())
-        }
-        DeclId::Protocol(file) => {
-            let entry = program.get(file as usize)?;
-            Some(entry.unit.protocol.as_ref()?.full.as_slice())
-        }
+        DeclId::Using(file, _)
+        | DeclId::Struct(file, _)
+        | DeclId::Union(file, _)
+        | DeclId::Protocol(file) => Some(file),
         DeclId::Builtin(_) | DeclId::Endpoint(_, _) => None,
     }
+}
+
+/// The full name of a declaration that a file has, where it has it.
+fn full_name_in(entry: &Entry, id: DeclId) -> Option<&[u8]>
+    ensures { option_map (λ full. full.now) result ≡ full_name_in entry.entry.now id }
+{
+    let unit = &entry.unit;
+    match id {
+        DeclId::Using(_, place) => Some(unit.usings.as_slice().get(place)?.full.as_slice()),
+        DeclId::Struct(_, place) => Some(unit.structs.as_slice().get(place)?.full.as_slice()),
+        DeclId::Union(_, place) => Some(unit.unions.as_slice().get(place)?.full.as_slice()),
+        DeclId::Protocol(_) => Some(unit.protocol.as_ref()?.full.as_slice()),
+        DeclId::Builtin(_) | DeclId::Endpoint(_, _) => None,
+    }
+}
+
+/// The full name of a declaration of a program, where it has it.
+fn full_name(program: &[Entry], id: DeclId) -> Option<&[u8]>
+    ensures { option_map (λ full. full.now) result ≡ full_name_of program.entry.now id }
+{
+    full_name_in(program.get(file_of(id)? as usize)?, id)
 }
 
 /// Whether two are the same.

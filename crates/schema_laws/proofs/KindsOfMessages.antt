@@ -46,7 +46,7 @@ word_bytes (b ∷ bs) is =
     let parts = and_parts (is_word_start b) (list_all is_word_byte bs) is in
     and_from (is_word_byte b) (list_all is_word_byte bs) (or_left (is_word_start b) (nat_le 48 b && nat_le b 57) parts.0) parts.1
 
-word_short : (text : List ℕ) → IsWord text → short_name text ≡ text
+pub word_short : (text : List ℕ) → IsWord text → short_name text ≡ text
 word_short text is = short_name-whole text (no_colons text (word_bytes text is))
 
 -- What a word finds has that word for its short name

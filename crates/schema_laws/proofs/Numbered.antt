@@ -41,7 +41,7 @@ files_distinct n each = IsDistinct-from_apart eqb n.files (λ i j d before withi
     let places : i ≡ j = each.files i j a one other in
     omega arith))
 
-file_below : (program : List Entry) (file : ℕ) → IsSome (protocol_of program file) → file < length program
+pub file_below : (program : List Entry) (file : ℕ) → IsSome (protocol_of program file) → file < length program
 file_below program file is =
     let p = some_of (protocol_of program file) is in
     let e = entry_with program file (λ e. e.unit.protocol) p.0 p.1 in

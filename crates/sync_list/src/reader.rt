@@ -1,4 +1,4 @@
-ghost use Rattle.std.specs.Prelude.{◌≡◌, ℕ, ◌+◌, ◌≤◌, ◌⊎◌, ◌&&◌, List, [], ◌∷◌, ◌++◌, length, Ok, Err, IfOk, IfErr, OnOk};
+ghost use Rattle.std.specs.Prelude.{◌≡◌, false, ℕ, ◌+◌, ◌≤◌, ◌⊎◌, ◌&&◌, List, [], ◌∷◌, ◌++◌, length, Ok, Err, IfOk, IfErr, OnOk};
 ghost use Rattle.std.specs.List.{Contains};
 ghost use Rattle.sync_list.specs.declared.list.ListFault.TheVariants.{NoMemory};
 ghost use Rattle.sync_list.specs.declared.list.ListFault.{ListFault};
@@ -29,6 +29,25 @@ fn mark_last(sections: &mut Vec<Section>, described: bool)
     if let Some(section) = sections.last_mut() {
         section.described |= described;
     }
+}
+
+/// The section of these names that begins at the line of this number.
+fn new_section(
+    alloc: Global,
+    protocol: &[u8],
+    message: &[u8],
+    number: u32,
+) -> Result<Section, AllocError>
+    ensures { IfOk result (λ section. section ≡ record { protocol = protocol.now; message = message.now; described = false; line = number }) }
+{
+    let protocol = Items::from_vec(Vec::from_slice(alloc, protocol)?);
+    let message = Items::from_vec(Vec::from_slice(alloc, message)?);
+    Ok(Section {
+        protocol,
+        message,
+        described: false,
+        line: number,
+    })
 }
 
 /// What has been read of a sync list.
@@ -73,14 +92,8 @@ impl<'a> Reader<'a> {
         if !is_new {
             return Err(ListFault::Line(number));
         }
-        let protocol = Items::from_vec(Vec::from_slice(alloc, protocol)?);
-        let message = Items::from_vec(Vec::from_slice(alloc, message)?);
-        self.sections.push(Section {
-            protocol,
-            message,
-            described: false,
-            line: number,
-        })?;
+        let begun = new_section(alloc, protocol, message, number)?;
+        self.sections.push(begun)?;
         self.unfinished = None;
         Ok(())
     }

@@ -1,4 +1,4 @@
-ghost use Rattle.std.specs.Prelude.{◌≡◌, ◌≤◌, ◌↔◌, List, length, IfOk, OnOk, IsTrue};
+ghost use Rattle.std.specs.Prelude.{◌≡◌, ◌≤◌, ◌↔◌, List, [], length, IfOk, OnOk, IsTrue};
 ghost use Rattle.std.specs.List.{Any, Contains};
 ghost use Rattle.ipdl_base.specs.declared.finding.Finding.{Finding};
 ghost use Rattle.ipdl_base.specs.declared.kinds.Semantics.TheVariants.{Sync};
@@ -140,18 +140,32 @@ fn add_breaches(
     Ok(())
 }
 
+/// Adds all findings that hold of the program and the list to those of an empty list.
+fn add_found(
+    alloc: Global,
+    program: &[Entry],
+    list: &[Section],
+    found: &mut Vec<Finding>,
+) -> Result<(), AllocError>
+    requires few { length program.now ≤ 4096 }
+    requires none { found.old.items ≡ [] }
+    ensures { OnOk result ((f : Finding) → Contains found.new.items f ↔ BrokenAt program.now list.now f) }
+{
+    add_unlisted(alloc, program, list, found)?;
+    let file = program.len() as u32;
+    let known = Known::of(alloc, program)?;
+    add_breaches(file, &known, list, Breach::Async, found)?;
+    add_breaches(file, &known, list, Breach::Absent, found)?;
+    add_breaches(file, &known, list, Breach::Undescribed, found)
+}
+
 /// All findings that hold of the program and the list, in some order.
 fn gathered(alloc: Global, program: &[Entry], list: &[Section]) -> Result<Vec<Finding>, AllocError>
     requires { length program.now ≤ 4096 }
     ensures { IfOk result (λ found. (f : Finding) → Contains found.items f ↔ BrokenAt program.now list.now f) }
 {
     let mut found = Vec::new(alloc);
-    let file = program.len() as u32;
-    let known = Known::of(alloc, program)?;
-    add_unlisted(alloc, program, list, &mut found)?;
-    add_breaches(file, &known, list, Breach::Async, &mut found)?;
-    add_breaches(file, &known, list, Breach::Absent, &mut found)?;
-    add_breaches(file, &known, list, Breach::Undescribed, &mut found)?;
+    add_found(alloc, program, list, &mut found)?;
     Ok(found)
 }
 

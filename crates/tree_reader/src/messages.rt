@@ -1,6 +1,6 @@
-ghost use Rattle.std.specs.Prelude.{◌≡◌, ◌<◌, ◌≤◌, IfOk, OnOk, IfErr, true, [], ◌∷◌, length};
-ghost use Rattle.ipdl_syntax.specs.Grammar.{semantics_word, returns, message};
-ghost use Rattle.ipdl_syntax.specs.Parts.{reserved};
+ghost use Rattle.std.specs.Prelude.{◌≡◌, ◌<◌, ◌≤◌, IfOk, OnOk, IfErr, true, [], ◌∷◌, length, codes};
+ghost use Rattle.ipdl_syntax.specs.Grammar.{semantics_word, params, returns, message};
+ghost use Rattle.ipdl_syntax.specs.Parts.{◌⨾◌, mark, reserved};
 ghost use Rattle.tree_reader.specs.declared.symbol.Symbol.TheVariants.{OpenParen, Semicolon, Word};
 ghost use Rattle.tree_reader.specs.Machine.{take, parameters, behind_parameters, one_message, messaged};
 ghost use Rattle.tree_reader.specs.Reading.{Turns, Stops, bare_message, begins_message};
@@ -46,6 +46,27 @@ fn semantics(reader: &mut Reader) -> Result<Semantics, Refusal>
     Err(reader.refusal())
 }
 
+/// What stands in a message behind its name.
+#[derive(Drop)]
+struct Contents {
+    params: Params,
+    returns: Option<Params>,
+}
+
+/// Takes what stands in a message behind its name.
+fn message_contents(alloc: Global, reader: &mut Reader) -> Result<Contents, Refusal>
+    ensures read { IfOk result (λ c. (mark (codes "(") ⨾ params c.params ⨾ mark (codes ")") ⨾ returns c.returns ⨾ mark (codes ";")) reader.old reader.new) }
+    ensures turns { OnOk result (Turns (take OpenParen ∷ parameters ∷ behind_parameters ∷ []) reader.old [] reader.new) }
+    ensures stops { IfErr result (Stops (take OpenParen ∷ parameters ∷ behind_parameters ∷ []) reader.old) }
+    ensures less { OnOk result (length reader.new < length reader.old) }
+{
+    reader.take(Symbol::OpenParen)?;
+    let params = params(alloc, reader)?;
+    let returns = returns(alloc, reader)?;
+    reader.take(Symbol::Semicolon)?;
+    Ok(Contents { params, returns })
+}
+
 /// Takes a message behind its attributes.
 fn bare_message(
     alloc: Global,
@@ -61,10 +82,7 @@ fn bare_message(
 {
     let semantics = semantics(reader)?;
     let NameAt { name, place } = reader.word(alloc)?;
-    reader.take(Symbol::OpenParen)?;
-    let params = params(alloc, reader)?;
-    let returns = returns(alloc, reader)?;
-    reader.take(Symbol::Semicolon)?;
+    let Contents { params, returns } = message_contents(alloc, reader)?;
     Ok(MessageDecl {
         name,
         place,

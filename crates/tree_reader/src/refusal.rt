@@ -4,7 +4,7 @@ ghost use Rattle.tree_reader.specs.declared.refusal.Refusal.TheVariants.{NoMemor
 use std::alloc::{AllocError, AllocFailed};
 
 /// Why a form was not read.
-#[derive(Clone, Copy, Debug, PartialEq, Eq, Drop)]
+#[derive(Clone, Copy, Drop)]
 pub enum Refusal {
     /// A token that may not stand there, or the end: so many tokens are left.
     Left(usize),

@@ -1,10 +1,10 @@
-ghost use Rattle.std.specs.Prelude.{◌≡◌};
+ghost use Rattle.std.specs.Prelude.{◌≡◌, [], ◌∷◌};
 ghost use Rattle.tree_reader.specs.Symbols.{mark_symbol, word_symbol, symbol, first_symbol};
 
 use ipdl_base::{Token, TokenKind};
 
 /// What the grammar sees of a token, and the end of the tokens.
-#[derive(Clone, Copy, Debug, PartialEq, Eq)]
+#[derive(Clone, Copy, PartialEq, Eq)]
 pub enum Symbol {
     End,
     Word,
@@ -46,25 +46,36 @@ pub enum Symbol {
     Using,
 }
 
+/// The symbol of a mark of one byte.
+#[tactic(auto, unfolding(crate::specs::Symbols::mark_symbol))]
+fn byte_symbol(mark: u8) -> Symbol
+    ensures { result ≡ mark_symbol (mark ∷ []) }
+{
+    match mark {
+        b'{' => Symbol::OpenBrace,
+        b'}' => Symbol::CloseBrace,
+        b'(' => Symbol::OpenParen,
+        b')' => Symbol::CloseParen,
+        b'[' => Symbol::OpenBracket,
+        b']' => Symbol::CloseBracket,
+        b'<' => Symbol::Less,
+        b'>' => Symbol::Greater,
+        b';' => Symbol::Semicolon,
+        b',' => Symbol::Comma,
+        b':' => Symbol::Colon,
+        b'=' => Symbol::Equals,
+        b'?' => Symbol::Question,
+        _ => Symbol::OtherMark,
+    }
+}
+
 #[tactic(auto, unfolding(crate::specs::Symbols::mark_symbol))]
 fn mark_symbol(text: &[u8]) -> Symbol
     ensures { result ≡ mark_symbol text.now }
 {
-    match text.first() {
-        Some(b':') if text == b"::".as_slice() => Symbol::Colons,
-        Some(b'{') if text == b"{".as_slice() => Symbol::OpenBrace,
-        Some(b'}') if text == b"}".as_slice() => Symbol::CloseBrace,
-        Some(b'(') if text == b"(".as_slice() => Symbol::OpenParen,
-        Some(b')') if text == b")".as_slice() => Symbol::CloseParen,
-        Some(b'[') if text == b"[".as_slice() => Symbol::OpenBracket,
-        Some(b']') if text == b"]".as_slice() => Symbol::CloseBracket,
-        Some(b'<') if text == b"<".as_slice() => Symbol::Less,
-        Some(b'>') if text == b">".as_slice() => Symbol::Greater,
-        Some(b';') if text == b";".as_slice() => Symbol::Semicolon,
-        Some(b',') if text == b",".as_slice() => Symbol::Comma,
-        Some(b':') if text == b":".as_slice() => Symbol::Colon,
-        Some(b'=') if text == b"=".as_slice() => Symbol::Equals,
-        Some(b'?') if text == b"?".as_slice() => Symbol::Question,
+    match text {
+        [b':', b':'] => Symbol::Colons,
+        [mark] => byte_symbol(*mark),
         _ => Symbol::OtherMark,
     }
 }

@@ -1,6 +1,6 @@
-ghost use Rattle.std.specs.Prelude.{◌≡◌, ◌≤◌, ℕ, List, ◌++◌, length, map, IfOk, OnOk};
+ghost use Rattle.std.specs.Prelude.{◌≡◌, ◌≤◌, ℕ, List, [], ◌++◌, length, map, IfOk, OnOk};
 ghost use Rattle.std.specs.Option.{option_copied};
-ghost use Rattle.type_rules.specs.Compounds.{told, place_of, struct, union, AreNumbers, AreOfFile, number_found, AllNumbered};
+ghost use Rattle.type_rules.specs.Compounds.{told, place_of, struct, union, AreNumbers, AreOfFile, number_of, number_found, AllNumbered};
 
 use ipdl_base::Place;
 use ipdl_syntax::{Entry, StructDecl, UnionDecl, Unit};
@@ -41,38 +41,38 @@ pub struct Compounds<'p> {
     pub files: Vec<FileNumbers>,
 }
 
-/// Puts the structs of a file into the list, and gives their numbers.
+/// Puts the structs of a file into the list, and their numbers into another one, which is empty.
 fn number_structs<'p>(
-    alloc: Global,
     file: u32,
     structs: &'p [StructDecl],
     all: &mut Vec<Compound<'p>>,
-) -> Result<Vec<usize>, AllocError>
-    ensures { IfOk result (λ numbers. AreNumbers (struct file) structs.now numbers.items (map told all.old.items) (map told all.new.items)) }
+    numbers: &mut Vec<usize>,
+) -> Result<(), AllocError>
+    requires { numbers.old.items ≡ [] }
+    ensures { OnOk result (AreNumbers (struct file) structs.now numbers.new.items (map told all.old.items) (map told all.new.items)) }
 {
-    let mut numbers = Vec::new(alloc);
     for item in structs {
         numbers.push(all.len())?;
         all.push(Compound::Struct(file, item))?;
     }
-    Ok(numbers)
+    Ok(())
 }
 
-/// Puts the unions of a file into the list, and gives their numbers.
+/// Puts the unions of a file into the list, and their numbers into another one, which is empty.
 fn number_unions<'p>(
-    alloc: Global,
     file: u32,
     unions: &'p [UnionDecl],
     all: &mut Vec<Compound<'p>>,
-) -> Result<Vec<usize>, AllocError>
-    ensures { IfOk result (λ numbers. AreNumbers (union file) unions.now numbers.items (map told all.old.items) (map told all.new.items)) }
+    numbers: &mut Vec<usize>,
+) -> Result<(), AllocError>
+    requires { numbers.old.items ≡ [] }
+    ensures { OnOk result (AreNumbers (union file) unions.now numbers.new.items (map told all.old.items) (map told all.new.items)) }
 {
-    let mut numbers = Vec::new(alloc);
     for item in unions {
         numbers.push(all.len())?;
         all.push(Compound::Union(file, item))?;
     }
-    Ok(numbers)
+    Ok(())
 }
 
 /// Puts the structs and unions of a file into the list, and gives their numbers.
@@ -84,10 +84,13 @@ fn number_file<'p>(
 ) -> Result<FileNumbers, AllocError>
     ensures { IfOk result (λ numbers. AreOfFile file unit.now numbers (map told all.old.items) (map told all.new.items)) }
 {
-    Ok(FileNumbers {
-        structs: number_structs(alloc, file, unit.structs.as_slice(), all)?,
-        unions: number_unions(alloc, file, unit.unions.as_slice(), all)?,
-    })
+    let mut numbers = FileNumbers {
+        structs: Vec::new(alloc),
+        unions: Vec::new(alloc),
+    };
+    number_structs(file, unit.structs.as_slice(), all, &mut numbers.structs)?;
+    number_unions(file, unit.unions.as_slice(), all, &mut numbers.unions)?;
+    Ok(numbers)
 }
 
 /// The structs and unions of a program, numbered.
@@ -103,19 +106,23 @@ pub fn compounds_of(alloc: Global, program: &[Entry]) -> Result<Compounds<'_>, A
     Ok(Compounds { all, files })
 }
 
+/// The number of a declaration, where that is a struct or a union.
+fn number_of(files: &[FileNumbers], id: DeclId) -> Option<usize>
+    ensures { result ≡ number_of files.now id }
+{
+    match id {
+        DeclId::Struct(file, place) => files.get(file as usize)?.structs.get(place).copied(),
+        DeclId::Union(file, place) => files.get(file as usize)?.unions.get(place).copied(),
+        _ => None,
+    }
+}
+
 /// The number of what a name finds, where that is one struct or union.
 pub fn number_found(files: &[FileNumbers], finds: Found) -> Option<usize>
     ensures { result ≡ number_found files.now finds }
 {
     match finds {
-        Found::One(DeclId::Struct(file, place)) => {
-            let numbers = files.get(file as usize)?;
-            numbers.structs.get(place).copied()
-        }
-        Found::One(DeclId::Union(file, place)) => {
-            let numbers = files.get(file as usize)?;
-            numbers.unions.get(place).copied()
-        }
+        Found::One(id) => number_of(files, id),
         _ => None,
     }
 }

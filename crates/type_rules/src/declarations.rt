@@ -3,11 +3,11 @@ ghost use Rattle.std.specs.List.{Any};
 ghost use Rattle.std.specs.Option.{option_copied};
 ghost use Rattle.ipdl_base.specs.declared.finding.Place.{Place as ThePlace};
 ghost use Rattle.findings.specs.Adds.{Adds};
-ghost use Rattle.type_rules.specs.Declarations.{Declaration as TheDeclaration, declarations, Repeats, IsTypeWord, TakesTypeWord, IsRepeatedDeclaration};
+ghost use Rattle.type_rules.specs.Declarations.{Declaration as TheDeclaration, declarations, of_protocol, Repeats, IsTypeWord, TakesTypeWord, IsRepeatedDeclaration};
 ghost use Rattle.type_rules.specs.Firsts.{told, IsBefore, StandsBefore, IsEarlier, FirstsAre, IsRepeatedAmong};
 
 use ipdl_base::{Builtin, Finding, Place, Rule, short_name};
-use ipdl_syntax::{Entry, StructDecl, UnionDecl, Unit, Using};
+use ipdl_syntax::{Entry, ProtocolDecl, StructDecl, UnionDecl, Unit, Using};
 use std::alloc::{AllocError, Global};
 use std::collections::HashMap;
 
@@ -70,22 +70,31 @@ fn list_unions<'p>(
     Ok(())
 }
 
-/// The declarations of a file.
-fn declarations_of(alloc: Global, unit: &Unit) -> Result<Vec<Declaration<'_>>, AllocError>
-    ensures { IfOk result (λ all. map told all.items ≡ declarations unit.now) }
+/// Lists the protocol of a file, where it has one.
+fn list_protocol<'p>(
+    protocol: Option<&'p ProtocolDecl>,
+    all: &mut Vec<Declaration<'p>>,
+) -> Result<(), AllocError>
+    ensures { OnOk result (map told all.new.items ≡ map told all.old.items ++ of_protocol (option_copied protocol.entry)) }
 {
-    let mut all = Vec::new(alloc);
-    list_usings(unit.usings.as_slice(), &mut all)?;
-    list_structs(unit.structs.as_slice(), &mut all)?;
-    list_unions(unit.unions.as_slice(), &mut all)?;
-    if let Some(protocol) = &unit.protocol {
+    if let Some(protocol) = protocol {
         all.push(Declaration {
             full: protocol.full.as_slice(),
             place: protocol.place,
             is_using: false,
         })?;
     }
-    Ok(all)
+    Ok(())
+}
+
+/// Lists the declarations of a file.
+fn list_declarations<'p>(unit: &'p Unit, all: &mut Vec<Declaration<'p>>) -> Result<(), AllocError>
+    ensures { OnOk result (map told all.new.items ≡ map told all.old.items ++ declarations unit.entry.now) }
+{
+    list_usings(unit.usings.as_slice(), all)?;
+    list_structs(unit.structs.as_slice(), all)?;
+    list_unions(unit.unions.as_slice(), all)?;
+    list_protocol(unit.protocol.as_ref(), all)
 }
 
 /// Whether one place stands before another.
@@ -213,14 +222,26 @@ fn add_repeated_among(
     Ok(())
 }
 
+/// The same for these declarations, which are those of a file.
+fn add_repeated_of(
+    alloc: Global,
+    all: &[Declaration<'_>],
+    found: &mut Vec<Finding>,
+) -> Result<(), AllocError>
+    ensures { OnOk result (Adds Rule.REPEATED_DECLARATION (λ place. Any (λ d. IsRepeatedAmong (map told all.now) (told d) × (d.place ≡ place)) all.now) found.old.items found.new.items) }
+{
+    let any = firsts_of(alloc, false, all)?;
+    let own = firsts_of(alloc, true, all)?;
+    add_repeated_among(&any, &own, all, found)
+}
+
 /// The same for a file.
 fn add_repeated_in(alloc: Global, unit: &Unit, found: &mut Vec<Finding>) -> Result<(), AllocError>
     ensures { OnOk result (Adds Rule.REPEATED_DECLARATION (λ place. Any (λ d. IsRepeatedAmong (declarations unit.now) d × (d.place ≡ place)) (declarations unit.now)) found.old.items found.new.items) }
 {
-    let all = declarations_of(alloc, unit)?;
-    let any = firsts_of(alloc, false, all.as_slice())?;
-    let own = firsts_of(alloc, true, all.as_slice())?;
-    add_repeated_among(&any, &own, all.as_slice(), found)
+    let mut all = Vec::new(alloc);
+    list_declarations(unit, &mut all)?;
+    add_repeated_of(alloc, all.as_slice(), found)
 }
 
 /// The same for a program.

@@ -1,4 +1,4 @@
-use Rattle.std.proofs.Common.{◌≡◌, ◌≢◌, ◌∙◌, ◌<◌, map, string_bytes, ℕ, List, [], ◌∷◌, length, sym, ap, subst, arith, true≢false}
+use Rattle.std.proofs.Common.{◌≡◌, ◌≢◌, ◌∙◌, map, string_bytes, ℕ, List, [], ◌∷◌, length, sym, ap, subst, arith, true≢false}
 use Rattle.std.specs.Str.{bytes_eq}
 use Rattle.command_words.specs.Frames.{IsNoFrames, frames_word}
 use Rattle.command_words.proofs.Comparisons.{same_text, text_is}

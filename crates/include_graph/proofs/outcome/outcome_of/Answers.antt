@@ -3,10 +3,11 @@ use Rattle.std.specs.Prelude.{◌↔◌}
 use Rattle.std.specs.List.{Contains}
 use Rattle.std.proofs.lemmas.Bool.{eqb-true, eqb-false}
 use Rattle.std.proofs.lemmas.List.{nil_from_length}
+use Rattle.std.proofs.lemmas.Result.{IfOk-weaker}
 use Rattle.ipdl_base.specs.declared.finding.Finding.{Finding}
 use Rattle.include_graph.specs.declared.walk.Reached.{Reached}
 use Rattle.include_graph.specs.Found.{IsFoundOf}
-use Rattle.include_graph.specs.Load.{IsReportOf}
+use Rattle.include_graph.specs.Outcome.{IsOutcome, IsGood}
 use Rattle.include_graph.proofs.Loaded.{Laws, clean_of, trees, the_program, a_program, bear, report_is}
 use Rattle.include_graph.proofs.outcome.outcome_of.Goals as goal
 
@@ -16,8 +17,8 @@ same count found keys keys' files files' a b h f =
     subst (λ ks. Contains found f ↔ ((n : ℕ) × IsFoundOf count ks files' n f)) a
     (subst (λ (fs : List Reached). Contains found f ↔ ((n : ℕ) × IsFoundOf count keys fs n f)) b (h f))
 
-pub program_of-requires-clause-trees : goal.program_of-requires-clause-trees
-program_of-requires-clause-trees c =
+pub whole-requires-clause-trees : goal.whole-requires-clause-trees
+whole-requires-clause-trees c =
     let a = c.args.gathered in
     let laws : Laws = record { answer = record { one = record { tokens = c.one_answer.ensures.tokens; tree = c.one_tree.ensures }; fault = c.one_answer.ensures.fault; never_both = c.one_answer.ensures.never_both }; words = c.words_hold.ensures; files = c.files_hold.ensures; names = c.names_hold.ensures; places = c.places_hold.ensures } in
     let found = same a.words c.in_ok-found.found.items c.as_slice.result.now a.keys.keys c.as_slice-2.result.now a.files.items c.as_slice.ensures.keys c.as_slice-2.ensures.value c.in_ok-found.ensures in
@@ -25,30 +26,35 @@ program_of-requires-clause-trees c =
     let g = c.requires.1 in
     trees laws c.requires.0 a.keys.keys a.files.items g.first g.firsts g.words g.read (clean_of laws c.requires.0 a.words a.keys.keys a.files.items g c.in_ok-found.found.items found empty)
 
-pub returns-in_ok-program_of-clause-outcome : goal.returns-in_ok-program_of-clause-outcome
-returns-in_ok-program_of-clause-outcome c given g =
+pub returns-then-is_empty-clause-outcome : goal.returns-then-is_empty-clause-outcome
+returns-then-is_empty-clause-outcome c =
     let a = c.args.gathered in
     let laws : Laws = record { answer = record { one = record { tokens = c.one_answer.ensures.tokens; tree = c.one_tree.ensures }; fault = c.one_answer.ensures.fault; never_both = c.one_answer.ensures.never_both }; words = c.words_hold.ensures; files = c.files_hold.ensures; names = c.names_hold.ensures; places = c.places_hold.ensures } in
     let found = same a.words c.in_ok-found.found.items c.as_slice.result.now a.keys.keys c.as_slice-2.result.now a.files.items c.as_slice.ensures.keys c.as_slice-2.ensures.value c.in_ok-found.ensures in
     let empty : c.in_ok-found.found.items ≡ [] = nil_from_length c.in_ok-found.found.items (omega (arith, eqb-true (vec_len c.in_ok-found.found) 0 (sym c.is_empty.ensures ∙ c.if-is_empty.true), c.in_ok-found.found.ok.0)) in
-    the_program laws given a.keys.keys a.files.items g.first g.firsts g.words g.read (clean_of laws given a.words a.keys.keys a.files.items g c.in_ok-found.found.items found empty) c.in_ok-program_of.field-0 c.in_ok-program_of.ensures
+    IfOk-weaker c.whole.result _ _ (λ outcome made given g.
+    subst (IsOutcome given) (sym made.1)
+    (the_program laws given a.keys.keys a.files.items g.first g.firsts g.words g.read (clean_of laws given a.words a.keys.keys a.files.items g c.in_ok-found.found.items found empty) made.0 made.2)) c.whole.ensures
 
-pub returns-in_ok-program_of-clause-good : goal.returns-in_ok-program_of-clause-good
-returns-in_ok-program_of-clause-good c =
+pub returns-then-is_empty-clause-good : goal.returns-then-is_empty-clause-good
+returns-then-is_empty-clause-good c =
     let a = c.args.gathered in
     let laws : Laws = record { answer = record { one = record { tokens = c.one_answer.ensures.tokens; tree = c.one_tree.ensures }; fault = c.one_answer.ensures.fault; never_both = c.one_answer.ensures.never_both }; words = c.words_hold.ensures; files = c.files_hold.ensures; names = c.names_hold.ensures; places = c.places_hold.ensures } in
     let found = same a.words c.in_ok-found.found.items c.as_slice.result.now a.keys.keys c.as_slice-2.result.now a.files.items c.as_slice.ensures.keys c.as_slice-2.ensures.value c.in_ok-found.ensures in
     let empty : c.in_ok-found.found.items ≡ [] = nil_from_length c.in_ok-found.found.items (omega (arith, eqb-true (vec_len c.in_ok-found.found) 0 (sym c.is_empty.ensures ∙ c.if-is_empty.true), c.in_ok-found.found.ok.0)) in
     let g = c.requires.1 in
-    let clean = clean_of laws c.requires.0 a.words a.keys.keys a.files.items g c.in_ok-found.found.items found empty in (
-      a_program laws c.requires.0 a.keys.keys a.files.items g.first g.firsts g.words g.read clean c.in_ok-program_of.field-0 c.in_ok-program_of.ensures,
-      bear laws c.requires.0 a.keys.keys a.files.items g.first g.firsts g.words g.read clean c.in_ok-program_of.field-0 c.in_ok-program_of.ensures,
-    )
+    let clean = clean_of laws c.requires.0 a.words a.keys.keys a.files.items g c.in_ok-found.found.items found empty in
+    IfOk-weaker c.whole.result _ _ (λ outcome made.
+    subst IsGood (sym made.1) (
+      a_program laws c.requires.0 a.keys.keys a.files.items g.first g.firsts g.words g.read clean made.0 made.2,
+      bear laws c.requires.0 a.keys.keys a.files.items g.first g.firsts g.words g.read clean made.0 made.2,
+    )) c.whole.ensures
 
-pub returns-in_ok-texts_of-clause-outcome : goal.returns-in_ok-texts_of-clause-outcome
-returns-in_ok-texts_of-clause-outcome c given g =
+pub returns-else-is_empty-clause-outcome : goal.returns-else-is_empty-clause-outcome
+returns-else-is_empty-clause-outcome c =
     let a = c.args.gathered in
     let laws : Laws = record { answer = record { one = record { tokens = c.one_answer.ensures.tokens; tree = c.one_tree.ensures }; fault = c.one_answer.ensures.fault; never_both = c.one_answer.ensures.never_both }; words = c.words_hold.ensures; files = c.files_hold.ensures; names = c.names_hold.ensures; places = c.places_hold.ensures } in
     let found = same a.words c.in_ok-found.found.items c.as_slice.result.now a.keys.keys c.as_slice-2.result.now a.files.items c.as_slice.ensures.keys c.as_slice-2.ensures.value c.in_ok-found.ensures in
     let some : 0 < length c.in_ok-found.found.items = omega (arith, eqb-false (vec_len c.in_ok-found.found) 0 (sym c.is_empty.ensures ∙ c.if-is_empty.false), c.in_ok-found.found.ok.0) in
-    subst (IsReportOf given c.sorted.result) (sym c.in_ok-texts_of.ensures) (report_is laws given a.words a.keys.keys a.files.items g c.in_ok-found.found.items found some c.sorted.result c.sorted.ensures)
+    IfOk-weaker c.report.result _ _ (λ outcome made given g.
+    subst (IsOutcome given) (sym made.1) (report_is laws given a.words a.keys.keys a.files.items g c.in_ok-found.found.items found some made.0 made.2)) c.report.ensures

@@ -5,7 +5,7 @@ use Rattle.type_rules.proofs.Numbering.{numbers_none, numbers_turn}
 use Rattle.type_rules.proofs.compounds.number_structs.Goals as goal
 
 pub loop-item-init : goal.loop-item-init
-loop-item-init c = rw c.new-numbers.ensures.items (numbers_none (struct c.args.file) (map told c.args.all.now.items))
+loop-item-init c = rw c.requires (numbers_none (struct c.args.file) (map told c.args.all.now.items))
 
 pub loop-item-preserved : goal.loop-item-preserved
 loop-item-preserved c =

@@ -1,4 +1,4 @@
-use Rattle.std.proofs.Common.{inr, refl, sym, ◌∙◌}
+use Rattle.std.proofs.Common.{inr, refl, sym, ap, ◌∙◌, ◌++◌, ◌∷◌, []}
 use Rattle.std.proofs.lemmas.Bool.{true≢false, not-false, not-true}
 use Rattle.sync_list.specs.Forms.{section}
 use Rattle.sync_list.proofs.Grown.{open_word-push}
@@ -17,7 +17,7 @@ returns-clause-ok c forms read counted =
     record {
       new = λ there. true≢false (sym ((read.seen.exact (c.args.protocol, c.args.message)).1 there) ∙ not-true _ (sym c.in_ok-is_new.ensures.added ∙ c.if-not-is_new.false));
       behind = record {
-        sections = c.in_ok-push.ensures.items ∙ sections_begun forms c.args.self.now.sections.items _ _ protocol message c.args.number (c.from_vec-protocol.ensures ∙ c.in_ok-from_slice.ensures.items) (c.from_vec-message.ensures ∙ c.in_ok-from_slice-2.ensures.items) read.sections counted;
+        sections = c.in_ok-push.ensures.items ∙ ap (λ s. c.args.self.now.sections.items ++ s ∷ []) c.in_ok-begun.ensures ∙ sections_begun forms c.args.self.now.sections.items protocol message protocol message c.args.number refl refl read.sections counted;
         seen = seen_section c.args.self.now.seen c.insert.new.self forms protocol message read.seen (Adds-pair _ _ (c.args.protocol, c.args.message) protocol message refl refl c.in_ok-is_new.ensures.updates.0);
         unfinished = sym (open_word-push forms (section protocol message));
       };
