@@ -1,19 +1,10 @@
 -- How a script is built from lines.
-use Rattle.std.proofs.Common.{◌≡◌, ℕ, ◌+◌, ◌<◌, true, not, List, [], ◌∷◌, length, drop, get_or, Some, None, refl, sym, ap, ◌∙◌}
+use Rattle.std.proofs.Common.{◌≡◌, ℕ, ◌+◌, ◌<◌, not, List, ◌∷◌, length, drop, get_or, Some, None, refl, sym, ap, ◌∙◌}
 use Rattle.std.proofs.lemmas.List.{drop_more}
 use Rattle.script_reader.specs.declared.line.LineReading.{LineReading}
 use Rattle.script_reader.specs.declared.line.LineReading.TheVariants as line
 use Rattle.script_reader.specs.declared.statement.Statement.{Statement}
 use Rattle.handler_script.specs.Blocks.{closes, said, is_followed}
-use Rattle.handler_script.specs.ScriptOf.{inside}
-
--- The statements of a block behind one more line
-
-pub inside_end : (x : LineReading) (rest : List LineReading) (s : Statement) → said x ≡ Some s → closes s ≡ true → inside (x ∷ rest) ≡ []
-inside_end line.Silent rest s e f = cc
-inside_end (line.Statement held) rest s e f = let same : held.value ≡ s = cc in let shut : closes held.value ≡ true = ap closes same ∙ f in rw shut refl
-inside_end line.NoStatement rest s e f = cc
-inside_end line.TooLong rest s e f = cc
 
 -- what is left at an index is the line there and those behind it
 pub drop_item : {X : Type 0} (xs : List X) (i : ℕ) (x : X) → i < length xs → x ≡ get_or xs i x → drop i xs ≡ x ∷ drop (i + 1) xs

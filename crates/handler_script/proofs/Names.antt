@@ -1,12 +1,13 @@
 -- The names in the statement of a line are names.
 use Rattle.std.proofs.Common.{◌≡◌, ℕ, ◌+◌, ◌*◌, ◌-◌, ◌<◌, ◌≤◌, drop, arith, true, false, Bool, List, [], ◌∷◌, ◌&&◌, Option, Some, None, ◌⊎◌, inl, inr, refl, ap, subst}
-use Rattle.std.specs.Prelude.{◌==◌, nat_le, codes, if◌then◌else◌, option_and_then}
+use Rattle.std.specs.Prelude.{nat_le, codes, if◌then◌else◌, option_and_then}
 use Rattle.std.specs.List.{list_all, take_while}
 use Rattle.std.specs.Option.{option_map}
 use Rattle.std.specs.Str.{bytes_eq, IsUtf8}
-use Rattle.std.proofs.lemmas.Bool.{true≢false, cases_Bool, or_left, and_from, and_parts, leb-true}
+use Rattle.std.proofs.lemmas.Bool.{cases_Bool, or_left, and_from, and_parts, leb-true}
 use Rattle.std.proofs.lemmas.List.Sums.{take_while-cons}
 use Rattle.ipdl_base.specs.Words.{IsWord, is_word_start, is_word_byte}
+use Rattle.script_reader.proofs.Begins.{word_start}
 use Rattle.script_reader.specs.declared.parts.Bracket.{Bracket}
 use Rattle.script_reader.specs.declared.parts.Bracket.TheVariants as bracket
 use Rattle.script_reader.specs.declared.statement.Call.{Call}
@@ -28,7 +29,7 @@ use Rattle.script_reader.specs.declared.written.WrittenValues.TheVariants as val
 use Rattle.script_reader.specs.Grammar.{is_no_name, named, name_of, name, who_named, who_of, who, message, atom_named, atom_of, value, listed, more, arguments, call, behind_keyword}
 use Rattle.script_reader.specs.Lines.{IsStatement}
 use Rattle.script_reader.specs.Parts.{word}
-use Rattle.script_reader.specs.Tokens.{class_of, begins_bytes, IsTokenOf, IsToken, AreTokens, behind, is_blank, is_digit, is_mark, hex_value, hex_byte, hex_at, InSequence}
+use Rattle.script_reader.specs.Tokens.{class_of, IsTokenOf, IsToken, AreTokens, behind, is_blank, is_digit, hex_value, hex_byte, hex_at, InSequence}
 use Rattle.handler_script.specs.Valid.{IsName}
 
 -- one who is spoken of by a name
@@ -228,34 +229,6 @@ words_while (b ∷ bs) = elim (cases_Bool (is_word_byte b)) [
   | inr f ↦ rw (take_while-cons is_word_byte b bs, f) refl
 ]
 
-if_false : {X : Type 0} (b : Bool) (x y z : X) → b ≡ false → (if b then x else y) ≡ z → y ≡ z
-if_false true x y z f e = absurd (true≢false f)
-if_false false x y z f e = e
-
-not_word : (b : ℕ) (to : List ℕ) → is_word_start b ≡ false → class_of (b ∷ to) ≡ class.Word → ⊥
-not_word b to f e = elim (if_cases (begins_bytes b to) class.Bytes _ class.Word e) [
-  | inl a ↦ (let no : ⊥ = cc in no)
-  | inr e0 ↦ elim (if_cases (b == 36) class.Param _ class.Word (if_false (is_word_start b) class.Word _ class.Word f e0)) [
-    | inl a ↦ (let no : ⊥ = cc in no)
-    | inr e1 ↦ elim (if_cases (b == 64) class.Index _ class.Word e1) [
-      | inl a ↦ (let no : ⊥ = cc in no)
-      | inr e2 ↦ elim (if_cases (b == 45) class.Negative _ class.Word e2) [
-        | inl a ↦ (let no : ⊥ = cc in no)
-        | inr e3 ↦ elim (if_cases (is_digit b) class.Number _ class.Word e3) [
-          | inl a ↦ (let no : ⊥ = cc in no)
-          | inr e4 ↦ elim (if_cases (b == 34) class.Text _ class.Word e4) [
-            | inl a ↦ (let no : ⊥ = cc in no)
-            | inr e5 ↦ elim (if_cases (is_mark b) class.Mark class.Other class.Word e5) [ inl a ↦ (let no : ⊥ = cc in no) | inr a ↦ (let no : ⊥ = cc in no) ]
-          ]
-        ]
-      ]
-    ]
-  ]
-]
-
-starts_word : (b : ℕ) (to : List ℕ) → class_of (b ∷ to) ≡ class.Word → is_word_start b ≡ true
-starts_word b to e = elim (cases_Bool (is_word_start b)) [ inl t ↦ t | inr f ↦ absurd (not_word b to f e) ]
-
 -- a word at the front of bytes
 front_word : (b : ℕ) (bs : List ℕ) → is_word_start b ≡ true → IsWord (take_while is_word_byte (b ∷ bs))
 front_word b bs t =
@@ -264,7 +237,7 @@ front_word b bs t =
 
 word_of : (c : Class) (w from to : List ℕ) → class_of from ≡ c → IsTokenOf c (token.Word w) from to → IsWord w
 word_of class.Word w [] to e h = absurd (let no : ⊥ = cc in no)
-word_of class.Word w (b ∷ bs) to e h = (let same : take_while is_word_byte (b ∷ bs) ≡ w = cc in subst IsWord same (front_word b bs (starts_word b bs e)))
+word_of class.Word w (b ∷ bs) to e h = (let same : take_while is_word_byte (b ∷ bs) ≡ w = cc in subst IsWord same (front_word b bs (word_start b bs e)))
 word_of class.Param w from to e h = absurd (let is = h.1 in let no : ⊥ = cc in no)
 word_of class.Index w from to e h = absurd (let is = h.1 in let no : ⊥ = cc in no)
 word_of class.Negative w from to e h = absurd (let is = h.1 in let no : ⊥ = cc in no)

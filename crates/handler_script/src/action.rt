@@ -7,7 +7,7 @@ use ipdl_base::{Items, Name, Side};
 use script_reader::Who;
 
 /// What a side does in one step of a block. Numbers are those of requests.
-#[derive(Debug, Drop, PartialEq)]
+#[derive(Drop)]
 pub enum Action {
     /// Sends a message.
     Send {
@@ -58,7 +58,7 @@ pub enum Action {
 pub type Actions = Items<Action>;
 
 /// What a side does by itself, or when it handles a message.
-#[derive(Debug, Drop, PartialEq)]
+#[derive(Drop)]
 pub struct Block {
     pub side: Side,
     /// The number of the handled message; a main has none.

@@ -1,6 +1,7 @@
 ghost use Rattle.std.specs.Prelude.{◌≡◌, ◌++◌, map, IfOk, OnOk};
 ghost use Rattle.std.specs.List.{filter_map};
 ghost use Rattle.std.specs.Option.{option_map};
+ghost use Rattle.handler_script.specs.declared.action.Action.TheVariants as act;
 ghost use Rattle.handler_script.specs.Building.{listed, returned_by, blocks_of_line};
 ghost use Rattle.handler_script.specs.Knowing.{standing_in};
 ghost use Rattle.handler_script.specs.Plain.{plain_terms, plain_action, plain_block};
@@ -12,8 +13,8 @@ use crate::messages::message_named;
 use crate::rules::{Context, context_of, handled_in, side_of, types_of};
 use crate::term::Terms;
 use crate::typed::{copy_who, terms_of};
-use ipdl_base::{Items, Schema};
-use script_reader::{LineReading, MessageName, Statement, WrittenValues};
+use ipdl_base::{Items, Name, Schema};
+use script_reader::{Call, LineReading, MessageName, Statement, Who, WrittenValues};
 use std::alloc::{AllocError, Global};
 
 /// The number of a message's request.
@@ -40,6 +41,75 @@ fn typed(
     terms_of(values, alloc, schema, types)
 }
 
+/// The action that sends a message.
+fn sending(
+    alloc: Global,
+    schema: &Schema,
+    context: Context<'_>,
+    statement: &Statement,
+    who: &Who,
+    call: &Call,
+) -> Result<Action, AllocError>
+    ensures { IfOk result (λ a. plain_action a ≡ act.Send who.now (script_of.number_of schema.now call.now.message) (script_of.typed schema.now (standing_in context.entry) statement.now call.now.values)) }
+{
+    let values = typed(alloc, schema, context, statement, &call.values)?;
+    Ok(Action::Send {
+        who: copy_who(alloc, who)?,
+        number: number_of(schema, &call.message),
+        values,
+    })
+}
+
+/// The action that sends a constructor.
+fn making(
+    alloc: Global,
+    schema: &Schema,
+    context: Context<'_>,
+    statement: &Statement,
+    name: &Name,
+    who: &Who,
+    call: &Call,
+) -> Result<Action, AllocError>
+    ensures { IfOk result (λ a. plain_action a ≡ act.New name.now who.now (script_of.number_of schema.now call.now.message) (script_of.typed schema.now (standing_in context.entry) statement.now call.now.values)) }
+{
+    let values = typed(alloc, schema, context, statement, &call.values)?;
+    Ok(Action::New {
+        name: name.copy(alloc)?,
+        who: copy_who(alloc, who)?,
+        number: number_of(schema, &call.message),
+        values,
+    })
+}
+
+/// The action that names an actor.
+fn naming(alloc: Global, name: &Name, who: &Who) -> Result<Action, AllocError>
+    ensures { IfOk result (λ a. a ≡ act.Let name.now who.now) }
+{
+    Ok(Action::Let {
+        name: name.copy(alloc)?,
+        who: copy_who(alloc, who)?,
+    })
+}
+
+/// The action that answers with a resolver that was kept.
+fn resolving(
+    alloc: Global,
+    schema: &Schema,
+    context: Context<'_>,
+    statement: &Statement,
+    name: &Name,
+    call: &Call,
+) -> Result<Action, AllocError>
+    ensures { IfOk result (λ a. plain_action a ≡ act.ResolveNamed name.now (script_of.number_of schema.now call.now.message) (script_of.typed schema.now (standing_in context.entry) statement.now call.now.values)) }
+{
+    let values = typed(alloc, schema, context, statement, &call.values)?;
+    Ok(Action::ResolveNamed {
+        name: name.copy(alloc)?,
+        number: number_of(schema, &call.message),
+        values,
+    })
+}
+
 /// The action that a statement in a block is.
 fn action_of(
     alloc: Global,
@@ -51,26 +121,14 @@ fn action_of(
 {
     match statement {
         Statement::Send(who, call) => {
-            let values = typed(alloc, schema, context, statement, &call.values)?;
-            Ok(Some(Action::Send {
-                who: copy_who(alloc, who)?,
-                number: number_of(schema, &call.message),
-                values,
-            }))
+            let action = sending(alloc, schema, context, statement, who, call)?;
+            Ok(Some(action))
         }
         Statement::New(name, who, call) => {
-            let values = typed(alloc, schema, context, statement, &call.values)?;
-            Ok(Some(Action::New {
-                name: name.copy(alloc)?,
-                who: copy_who(alloc, who)?,
-                number: number_of(schema, &call.message),
-                values,
-            }))
+            let action = making(alloc, schema, context, statement, name, who, call)?;
+            Ok(Some(action))
         }
-        Statement::Let(name, who) => Ok(Some(Action::Let {
-            name: name.copy(alloc)?,
-            who: copy_who(alloc, who)?,
-        })),
+        Statement::Let(name, who) => Ok(Some(naming(alloc, name, who)?)),
         Statement::Resolve(values) => {
             let values = typed(alloc, schema, context, statement, values)?;
             Ok(Some(Action::Resolve { values }))
@@ -80,12 +138,8 @@ fn action_of(
             name: name.copy(alloc)?,
         })),
         Statement::ResolveKept(name, call) => {
-            let values = typed(alloc, schema, context, statement, &call.values)?;
-            Ok(Some(Action::ResolveNamed {
-                name: name.copy(alloc)?,
-                number: number_of(schema, &call.message),
-                values,
-            }))
+            let action = resolving(alloc, schema, context, statement, name, call)?;
+            Ok(Some(action))
         }
         Statement::RejectKept(name, message) => Ok(Some(Action::RejectNamed {
             name: name.copy(alloc)?,

@@ -1,10 +1,9 @@
 ghost use Rattle.std.specs.Prelude.{◌≡◌, ◌↔◌, IsTrue, option_map};
 ghost use Rattle.handler_script.specs.Terms as terms;
 
-use crate::shapes::{builtin_of, component_of, element_of, fields_of, held_by, is_bytes};
 use ipdl_base::{Builtin, ParamRow, Schema, Shape, Value};
 use script_reader::{Atom, Who, Written, WrittenValues};
-use value_types::value_fits;
+use value_types::{builtin_of, component_of, element_of, fields_of, held_by, is_bytes, value_fits};
 
 /// The parameter of this number, from 1.
 pub fn param_at(params: &[ParamRow], n: u32) -> Option<&ParamRow>

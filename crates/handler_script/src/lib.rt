@@ -12,7 +12,6 @@ mod read;
 mod report;
 mod rules;
 mod script;
-mod shapes;
 mod term;
 mod typed;
 

@@ -3,7 +3,7 @@ use crate::term::Terms;
 use ipdl_base::{Findings, Side};
 
 /// A script that breaks no rule, for the schema that it was read with.
-#[derive(Debug, Drop, PartialEq)]
+#[derive(Drop)]
 pub struct Script {
     /// The number of the top protocol.
     pub top: u32,
@@ -63,7 +63,7 @@ impl Script {
 }
 
 /// An action of a script by its place. Blocks and indices count from 0.
-#[derive(Clone, Copy, Debug, PartialEq, Eq)]
+#[derive(Clone, Copy)]
 pub enum Point {
     /// The action of this index in the main of a side.
     Main(u32),
@@ -72,7 +72,7 @@ pub enum Point {
 }
 
 /// Why there is no script.
-#[derive(Debug, Drop, PartialEq)]
+#[derive(Debug, Drop)]
 pub enum ScriptFault {
     /// These rules are broken, in order. Their places are in file 0.
     Broken(Findings),

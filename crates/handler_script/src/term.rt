@@ -1,4 +1,6 @@
 ghost use Rattle.std.specs.Prelude.{◌≡◌, IfOk};
+ghost use Rattle.ipdl_base.specs.Plain.{one_box};
+ghost use Rattle.handler_script.specs.declared.term.Terms.{First'};
 ghost use Rattle.handler_script.specs.Plain.{plain_term, plain_terms};
 
 use crate::typed::copy_who;
@@ -8,7 +10,7 @@ use std::alloc::{AllocError, Global};
 
 /// What stands for a value in an action: a value with parameters and names in it.
 #[cycle(term)]
-#[derive(Debug, Drop, PartialEq)]
+#[derive(Drop)]
 pub enum Term {
     Bool(bool),
     /// A whole number, in the range of its type.
@@ -35,10 +37,20 @@ pub enum Term {
 
 /// A list of terms: nothing, or a first one and the rest.
 #[cycle(term)]
-#[derive(Debug, Drop, PartialEq)]
+#[derive(Drop)]
 pub enum Terms {
     Nothing,
     First(Box<Term>, Box<Terms>),
+}
+
+/// The terms that begin with this one. It is no part of the functions that call themselves, so that
+/// these need little room on the stack.
+#[inline(never)]
+pub fn first_of(alloc: Global, first: Term, rest: Terms) -> Result<Terms, AllocError>
+    ensures { IfOk result (λ ts. plain_terms ts ≡ First' one_box (plain_term first) one_box (plain_terms rest)) }
+{
+    let first = Box::new(alloc, first)?;
+    Ok(Terms::First(first, Box::new(alloc, rest)?))
 }
 
 impl Term {
@@ -77,10 +89,7 @@ impl Terms {
     {
         match self {
             Terms::Nothing => Ok(Terms::Nothing),
-            Terms::First(first, rest) => Ok(Terms::First(
-                Box::new(alloc, first.copy(alloc)?)?,
-                Box::new(alloc, rest.copy(alloc)?)?,
-            )),
+            Terms::First(first, rest) => first_of(alloc, first.copy(alloc)?, rest.copy(alloc)?),
         }
     }
 }

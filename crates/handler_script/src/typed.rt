@@ -3,11 +3,11 @@ ghost use Rattle.handler_script.specs.Plain.{plain_term, plain_terms};
 ghost use Rattle.handler_script.specs.Terms as terms;
 ghost use Rattle.value_types.specs.Shapes as shapes;
 
-use crate::shapes::{builtin_of, component_of, element_of, fields_of, held_by};
-use crate::term::{Term, Terms};
+use crate::term::{Term, Terms, first_of};
 use ipdl_base::{Builtin, Name, ParamRow, Schema, Shape};
 use script_reader::{Atom, Who, Written, WrittenValues};
 use std::alloc::{AllocError, Global};
+use value_types::{builtin_of, component_of, element_of, fields_of, held_by};
 
 /// Bytes as one number, the highest first.
 fn number_of(bytes: &[u8]) -> u64
@@ -118,8 +118,7 @@ fn elements_of(
         WrittenValues::First(value, rest) => {
             let first = term_of(value, alloc, schema, shape)?;
             let rest = elements_of(rest, alloc, schema, shape)?;
-            let first = Box::new(alloc, first)?;
-            Ok(Terms::First(first, Box::new(alloc, rest)?))
+            first_of(alloc, first, rest)
         }
     }
 }
@@ -138,8 +137,7 @@ pub fn terms_of(
         (WrittenValues::First(value, rest), Some((field, more))) => {
             let first = term_of(value, alloc, schema, &field.shape)?;
             let rest = terms_of(rest, alloc, schema, more)?;
-            let first = Box::new(alloc, first)?;
-            Ok(Terms::First(first, Box::new(alloc, rest)?))
+            first_of(alloc, first, rest)
         }
         _ => Ok(Terms::Nothing),
     }

@@ -6,7 +6,7 @@ use std::marker::Model;
 
 /// The lines of a run in their order, which contracts see as a list, oldest first, and a number:
 /// how many more lines there is room for (docs/transcripts.md).
-#[derive(Debug, Drop)]
+#[derive(Drop)]
 pub struct History {
     lines: Vec<Line>,
 }
@@ -52,9 +52,7 @@ impl History {
         ensures spare { self.old.spare ≤ self.new.spare + 1 }
     {
         self.lines.reserve(1)?;
-        if self.lines.push(line).is_err() {
-            unreachable!();
-        }
+        self.lines.push(line)?;
         Ok(())
     }
 

@@ -1,7 +1,7 @@
 use ipdl_base::{Destroy, Name, Reason, SendRefusal, Side, Values};
 
 /// A line of a history: what happened at one end (docs/transcripts.md).
-#[derive(Debug, Drop, PartialEq)]
+#[derive(Drop)]
 pub struct Line {
     pub side: Side,
     pub what: What,
@@ -9,7 +9,7 @@ pub struct Line {
 
 /// What a line says. A message is named by the number of its request and a protocol by its own
 /// number. Requests are numbered from 1 at the parent and from -1 downward at the child.
-#[derive(Debug, Drop, PartialEq)]
+#[derive(Drop)]
 pub enum What {
     /// An async send: its number, the actor that it goes to, its message and its values.
     Send(i32, i32, u32, Values),

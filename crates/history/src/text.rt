@@ -2,7 +2,7 @@ ghost use Rattle.std.specs.Prelude.{◌≡◌, ◌++◌, ◌/◌, [], IfOk, OnOk
 ghost use Rattle.std.specs.Fmt.{decimal};
 ghost use Rattle.std.specs.Option.{option_map_or};
 ghost use Rattle.ipdl_base.specs.Sound.{IsSound, message_of};
-ghost use Rattle.history.specs.Noted.{noted_at};
+ghost use Rattle.history.specs.Noted.{Knows, noted_at};
 ghost use Rattle.history.specs.Text as text;
 
 use crate::history::History;
@@ -469,6 +469,25 @@ fn push_line(
     out.extend_from_slice(b"\n")
 }
 
+/// Appends lines where nothing is noted yet.
+fn push_lines(
+    out: &mut Vec<u8>,
+    alloc: Global,
+    schema: &Schema,
+    messages: &mut Messages,
+    lines: &[Line],
+) -> Result<(), AllocError>
+    requires sound { IsSound schema.now }
+    requires new { Knows [] messages.old }
+    ensures { OnOk result (out.new.items ≡ out.old.items ++ text.transcript_text schema.now lines.now) }
+{
+    for line in lines {
+        push_line(out, alloc, schema, messages, line)?;
+        messages.note(line)?;
+    }
+    Ok(())
+}
+
 /// The text that a transcript prints of a history, a line for each of its lines
 /// (docs/transcripts.md). Its time goes with the text's length.
 pub fn history_text(
@@ -481,9 +500,6 @@ pub fn history_text(
 {
     let mut messages = Messages::new(alloc);
     let mut out = Vec::new(alloc);
-    for line in history.lines() {
-        push_line(&mut out, alloc, schema, &messages, line)?;
-        messages.note(line)?;
-    }
+    push_lines(&mut out, alloc, schema, &mut messages, history.lines())?;
     Ok(out)
 }

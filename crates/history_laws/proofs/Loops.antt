@@ -1,5 +1,5 @@
 -- Lines one after the other.
-use Rattle.std.proofs.Common.{◌≡◌, ◌∙◌, ℕ, Bool, true, false, ◌&&◌, ◌+◌, ◌<◌, List, [], ◌∷◌, ◌++◌, length, take, drop, get_or, fold, sym, ap, refl}
+use Rattle.std.proofs.Common.{◌≡◌, ◌∙◌, ℕ, Bool, true, ◌&&◌, ◌+◌, ◌<◌, List, [], ◌∷◌, ◌++◌, length, take, drop, get_or, sym, ap}
 use Rattle.std.proofs.lemmas.List.{take_more, drop_more}
 use Rattle.std.proofs.lemmas.List.Sums.{fold_more}
 use Rattle.ipdl_base.specs.declared.schema.Schema.{Schema}
@@ -23,12 +23,6 @@ read_more schema lines i line reading next within is was now =
     now ∙ (ap (λ (r : Reading). after schema r line) was
     ∙ (ap (λ (l : Line). after schema (read schema (take i lines)) l) is
     ∙ sym (fold_more (after schema) opening_reading lines i line within)))
-
--- a line that fails lets all fail
-pub each_fails : (test : List Line → Line → List Line → Bool) (lines : List Line) (i : ℕ) (line : Line) (whole : Bool) → i < length lines → line ≡ get_or lines i line
-    → each_line test (take i lines) (drop i lines) ≡ whole → test (take i lines) line (drop (i + 1) lines) ≡ false → whole ≡ false
-each_fails test lines i line whole within is before fails =
-    sym before ∙ (each_more test lines i line within is ∙ ap (λ b. b && each_line test (take (i + 1) lines) (drop (i + 1) lines)) fails)
 
 -- one that passes leaves the others
 pub each_goes_on : (test : List Line → Line → List Line → Bool) (lines : List Line) (i : ℕ) (line : Line) (whole : Bool) → i < length lines → line ≡ get_or lines i line

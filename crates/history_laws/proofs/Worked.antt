@@ -8,7 +8,6 @@ use Rattle.ipdl_base.specs.declared.kinds.Level.TheVariants as level
 use Rattle.ipdl_base.specs.declared.kinds.Reason.TheVariants as reason
 use Rattle.ipdl_base.specs.declared.kinds.Semantics.{Semantics}
 use Rattle.ipdl_base.specs.declared.kinds.Semantics.TheVariants.{Async, Sync}
-use Rattle.ipdl_base.specs.declared.kinds.Side.{Side}
 use Rattle.ipdl_base.specs.declared.kinds.Side.TheVariants as side
 use Rattle.ipdl_base.specs.declared.schema.Kind.{Kind}
 use Rattle.ipdl_base.specs.declared.schema.Kind.TheVariants.{Normal, Constructor, Delete}
@@ -16,7 +15,7 @@ use Rattle.ipdl_base.specs.declared.schema.MessageRow.{MessageRow}
 use Rattle.ipdl_base.specs.declared.schema.ParamRow.{ParamRow}
 use Rattle.ipdl_base.specs.declared.schema.ProtocolRow.{ProtocolRow}
 use Rattle.ipdl_base.specs.declared.schema.Schema.{Schema}
-use Rattle.ipdl_base.specs.declared.schema.Shape.{Builtin, Actor}
+use Rattle.ipdl_base.specs.declared.schema.Shape.{Builtin}
 use Rattle.ipdl_base.specs.declared.value.Value.TheVariants as value
 use Rattle.ipdl_base.specs.declared.value.Values.{Values, First'}
 use Rattle.ipdl_base.specs.declared.value.Values.TheVariants.{Nothing}

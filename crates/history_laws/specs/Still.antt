@@ -1,6 +1,6 @@
 -- What an end defers, and whether nothing but acts is possible, as far as lines tell.
-use Rattle.std.specs.Prelude.{ℕ, ℤ, pos, Bool, true, false, not, ◌&&◌, ◌||◌, ◌==◌, nat_lt, if◌then◌else◌, List, [], ◌∷◌, length, find, Option, Some, None, option_map, option_and_then}
-use Rattle.std.specs.List.{list_any, filter_map}
+use Rattle.std.specs.Prelude.{ℕ, ℤ, Bool, true, false, not, ◌&&◌, ◌==◌, nat_lt, if◌then◌else◌, List, [], ◌∷◌, length, Option, Some, None, option_map, option_and_then}
+use Rattle.std.specs.List.{list_any}
 use Rattle.std.specs.Option.{option_map_or}
 use Rattle.ipdl_base.specs.declared.kinds.Level.{Level}
 use Rattle.ipdl_base.specs.declared.kinds.Level.TheVariants.{InsideSync}
@@ -18,8 +18,8 @@ use Rattle.history_reading.specs.declared.parts.Seen.{Seen}
 use Rattle.history_reading.specs.declared.parts.Seen.TheVariants as seen
 use Rattle.history_reading.specs.declared.parts.State.{State}
 use Rattle.history_reading.specs.declared.parts.State.TheVariants as state
-use Rattle.history_reading.specs.Half.{Half, own_request, has_unanswered}
-use Rattle.history_reading.specs.Reading.{Reading, half_of, other_of}
+use Rattle.history_reading.specs.Half.{Half, own_request}
+use Rattle.history_reading.specs.Reading.{Reading}
 
 -- the head of a message with a number and a transaction; none where there is no such message
 abbrev pub head_of_row : ℤ → ℤ → MessageRow → Head

@@ -1,9 +1,9 @@
-ghost use Rattle.std.specs.Prelude.{◌≡◌, ◌≤◌, ◌↔◌, ◌++◌, length, take, reverse, IfOk, IsTrue};
+ghost use Rattle.std.specs.Prelude.{◌≡◌, ◌≤◌, ◌↔◌, ◌++◌, length, take, reverse, IfOk, OnOk, IsTrue};
 ghost use Rattle.std.specs.List.{list_any};
 ghost use Rattle.ipdl_base.specs.Sound.{IsSound};
 ghost use Rattle.history_laws.specs.Chain as the;
 ghost use Rattle.history_laws.specs.Holds.{IsReadable, is_readable_list};
-ghost use Rattle.history_reading.specs.Reading.{read};
+ghost use Rattle.history_reading.specs.Reading.{opening_reading, read};
 ghost use Rattle.history_reading.specs.Readings.{reading_view};
 
 use crate::held::Held;
@@ -69,19 +69,34 @@ fn held_at(schema: &Schema, reading: &Reading<'_>, place: usize, line: &Line) ->
     }
 }
 
+/// Whether lines can be read where nothing was read before them.
+fn all_readable<'h>(
+    schema: &Schema,
+    reading: &mut Reading<'h>,
+    lines: &'h [Line],
+) -> Result<bool, AllocError>
+    requires sound { IsSound schema.now }
+    requires new { reading_view reading.old ≡ opening_reading }
+    ensures { IfOk result (λ yes. yes ≡ is_readable_list schema.now lines.now) }
+{
+    for line in lines {
+        if !is_readable(schema, reading, line) {
+            return Ok(false);
+        }
+        reading.note(schema, line)?;
+    }
+    Ok(true)
+}
+
 /// Whether lines can be read.
 fn are_readable(alloc: Global, schema: &Schema, lines: &[Line]) -> Result<bool, AllocError>
     requires { IsSound schema.now }
     ensures { IfOk result (λ yes. yes ≡ is_readable_list schema.now lines.now) }
 {
     let mut reading = Reading::new(alloc)?;
-    for line in lines {
-        if !is_readable(schema, &reading, line) {
-            return Ok(false);
-        }
-        reading.note(schema, line)?;
-    }
-    Ok(true)
+    let readable = all_readable(schema, &mut reading, lines);
+    drop(reading);
+    readable
 }
 
 /// Whether the first `lines` lines of a history are readable (docs/laws.md). The only error is want of
@@ -99,20 +114,20 @@ pub fn can_read(
     are_readable(alloc, schema, &history.lines()[..lines])
 }
 
-/// The reading of lines.
+/// Reads lines where nothing was read before them.
 fn read_lines<'h>(
-    alloc: Global,
     schema: &Schema,
+    reading: &mut Reading<'h>,
     lines: &'h [Line],
-) -> Result<Reading<'h>, AllocError>
-    requires { IsSound schema.now }
-    ensures { IfOk result (λ reading. reading_view reading ≡ read schema.now lines.now) }
+) -> Result<(), AllocError>
+    requires sound { IsSound schema.now }
+    requires new { reading_view reading.old ≡ opening_reading }
+    ensures { OnOk result (reading_view reading.new ≡ read schema.now lines.now) }
 {
-    let mut reading = Reading::new(alloc)?;
     for line in lines {
         reading.note(schema, line)?;
     }
-    Ok(reading)
+    Ok(())
 }
 
 /// The unanswered calls of lines.
@@ -134,13 +149,31 @@ fn held_calls(
     Ok(calls)
 }
 
+/// The calls of lines whose answers have not come, the oldest first, where nothing was read before
+/// the lines.
+fn read_calls<'h>(
+    alloc: Global,
+    schema: &Schema,
+    reading: &mut Reading<'h>,
+    lines: &'h [Line],
+) -> Result<Vec<Held>, AllocError>
+    requires sound { IsSound schema.now }
+    requires new { reading_view reading.old ≡ opening_reading }
+    ensures { IfOk result (λ calls. calls.items ≡ the.chain_of schema.now lines.now) }
+{
+    read_lines(schema, reading, lines)?;
+    held_calls(alloc, schema, reading, lines)
+}
+
 /// The calls of lines whose answers have not come, the oldest first.
 fn chain_of(alloc: Global, schema: &Schema, lines: &[Line]) -> Result<Vec<Held>, AllocError>
     requires { IsSound schema.now }
     ensures { IfOk result (λ calls. calls.items ≡ the.chain_of schema.now lines.now) }
 {
-    let reading = read_lines(alloc, schema, lines)?;
-    held_calls(alloc, schema, &reading, lines)
+    let mut reading = Reading::new(alloc)?;
+    let calls = read_calls(alloc, schema, &mut reading, lines);
+    drop(reading);
+    calls
 }
 
 /// The calls whose answers have not come behind the first `lines` lines of a history, the oldest first

@@ -1,7 +1,7 @@
 ghost use Rattle.std.specs.Prelude.{◌≡◌, ◌↔◌, IfOk, IsTrue};
 ghost use Rattle.ipdl_base.specs.Sound.{IsSound};
 ghost use Rattle.history_laws.specs.Holds as the;
-ghost use Rattle.history_reading.specs.Reading.{half_of, other_of};
+ghost use Rattle.history_reading.specs.Reading.{half_of, opening_reading, other_of};
 ghost use Rattle.history_reading.specs.Readings.{reading_view};
 
 use crate::fallen::{fallen_line, fallen_moment};
@@ -66,19 +66,35 @@ fn passes(law: Law, schema: &Schema, reading: &Reading<'_>, line: &Line, behind:
     moment_before(law, schema, reading, &line.what) && line_test(law, schema, reading, line, behind)
 }
 
+/// Whether a law holds of lines where nothing was read before them.
+fn all_pass<'h>(
+    law: Law,
+    schema: &Schema,
+    reading: &mut Reading<'h>,
+    lines: &'h [Line],
+) -> Result<bool, AllocError>
+    requires sound { IsSound schema.now }
+    requires new { reading_view reading.old ≡ opening_reading }
+    ensures { IfOk result (λ yes. yes ≡ the.holds_of law schema.now lines.now) }
+{
+    for (index, line) in lines.iter().enumerate() {
+        if !passes(law, schema, reading, line, &lines[index + 1..]) {
+            return Ok(false);
+        }
+        reading.note(schema, line)?;
+    }
+    Ok(moment_test(law, schema, reading))
+}
+
 /// Whether a law holds of lines.
 fn decide(alloc: Global, law: Law, schema: &Schema, lines: &[Line]) -> Result<bool, AllocError>
     requires { IsSound schema.now }
     ensures { IfOk result (λ yes. yes ≡ the.holds_of law schema.now lines.now) }
 {
     let mut reading = Reading::new(alloc)?;
-    for (index, line) in lines.iter().enumerate() {
-        if !passes(law, schema, &reading, line, &lines[index + 1..]) {
-            return Ok(false);
-        }
-        reading.note(schema, line)?;
-    }
-    Ok(moment_test(law, schema, &reading))
+    let holds = all_pass(law, schema, &mut reading, lines);
+    drop(reading);
+    holds
 }
 
 /// Whether a law holds of a history (docs/laws.md). The history may be any list of lines; of one that

@@ -6,7 +6,7 @@ use std::collections::HashSet;
 use std::marker::Model;
 
 /// Numbers in their order, which contracts see as a list, with a quick test of whether one is there.
-#[derive(Debug, Drop)]
+#[derive(Drop)]
 pub struct NumberList {
     list: Vec<i32>,
     members: HashSet<i32>,

@@ -1,7 +1,7 @@
 use ipdl_base::Destroy;
 
 /// The state of an end.
-#[derive(Clone, Copy, Debug, PartialEq, Eq)]
+#[derive(Clone, Copy, PartialEq, Eq)]
 pub enum State {
     Open,
     Draining,
@@ -10,7 +10,7 @@ pub enum State {
 }
 
 /// What a line of a delivery shows of a packet: its kind, with the number of its request.
-#[derive(Clone, Copy, Debug, PartialEq, Eq)]
+#[derive(Clone, Copy)]
 pub enum Seen {
     Request(i32),
     Reply(i32),
@@ -19,21 +19,21 @@ pub enum Seen {
 }
 
 /// An actor that was built at an end, with the actor under which it was.
-#[derive(Clone, Copy, Debug, PartialEq, Eq)]
+#[derive(Clone, Copy)]
 pub struct Actor {
     pub id: i32,
     pub manager: i32,
 }
 
 /// Where an actor stands among those that were built, and the actor that manages it.
-#[derive(Clone, Copy, Debug, PartialEq, Eq)]
+#[derive(Clone, Copy)]
 pub struct Standing {
     pub place: usize,
     pub manager: i32,
 }
 
 /// A request that is handled: its number, its actor and its message.
-#[derive(Clone, Copy, Debug, PartialEq, Eq)]
+#[derive(Clone, Copy)]
 pub struct Handled {
     pub seq: i32,
     pub route: i32,
@@ -41,7 +41,7 @@ pub struct Handled {
 }
 
 /// A call: its number, its transaction, its message, and the place of its line in the history.
-#[derive(Clone, Copy, Debug, PartialEq, Eq)]
+#[derive(Clone, Copy)]
 pub struct Call {
     pub seq: i32,
     pub transaction: i32,
@@ -50,7 +50,7 @@ pub struct Call {
 }
 
 /// A frame of the stack of an end.
-#[derive(Clone, Copy, Debug, PartialEq, Eq)]
+#[derive(Clone, Copy)]
 pub enum Frame {
     Dispatch(Handled),
     Unanswered(Call),
@@ -58,7 +58,7 @@ pub enum Frame {
 }
 
 /// What the laws look at of an event of an end.
-#[derive(Clone, Copy, Debug, PartialEq, Eq)]
+#[derive(Clone, Copy)]
 pub enum Event {
     /// A request of this number is sent to this actor.
     Sends(i32, i32),
@@ -72,7 +72,7 @@ pub enum Event {
 }
 
 /// Why actors fall in an event: none does, that of a destructor does with all below it, or all do.
-#[derive(Clone, Copy, Debug, PartialEq, Eq)]
+#[derive(Clone, Copy)]
 pub enum Cause {
     Nobody,
     Delete(i32),

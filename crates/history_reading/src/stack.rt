@@ -49,7 +49,7 @@ impl Frame {
 }
 
 /// The frames of an end, which contracts see as their list, the innermost first.
-#[derive(Debug, Drop)]
+#[derive(Drop)]
 pub struct CallStack {
     /// The frames, the outermost first.
     frames: Vec<Frame>,

@@ -3,7 +3,7 @@ use ipdl_base::{Reason, Values};
 /// A request of an end, by its line: its number, its transaction (0 where its line has none), whether
 /// its message is sync and whether it is async with returns, the actor that it goes to, its message,
 /// the how-manyeth actor of its sender it makes (0 where it makes none), and its values.
-#[derive(Clone, Copy, Debug)]
+#[derive(Clone, Copy)]
 pub struct Request<'h> {
     pub seq: i32,
     pub transaction: i32,
@@ -16,7 +16,7 @@ pub struct Request<'h> {
 }
 
 /// What a reply says: what a handler did with a resolver, or what a return or the channel answered.
-#[derive(Clone, Copy, Debug)]
+#[derive(Clone, Copy)]
 pub enum Said<'h> {
     Resolved(&'h Values),
     Rejected,
@@ -25,7 +25,7 @@ pub enum Said<'h> {
 }
 
 /// A packet that an end has sent, by its line; a reply has the number of its request.
-#[derive(Clone, Copy, Debug)]
+#[derive(Clone, Copy)]
 pub enum Told<'h> {
     Request(Request<'h>),
     Said(i32, Said<'h>),

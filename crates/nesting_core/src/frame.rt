@@ -16,7 +16,7 @@ pub struct Head {
 }
 
 /// What decides whether a message may be sent.
-#[derive(Clone, Copy, Debug, PartialEq, Eq)]
+#[derive(Clone, Copy)]
 pub struct SendHead {
     pub sync: bool,
     pub level: Level,
@@ -31,7 +31,7 @@ pub enum Answer {
 
 /// A frame of a stack: a message that is handled, or a wait for the reply to one, with its answer
 /// once that has come.
-#[derive(Debug, Drop, PartialEq)]
+#[derive(Drop)]
 pub enum Frame {
     Dispatch(Head),
     Wait(Head, Option<Answer>),

@@ -32,7 +32,7 @@ const VACANT: Frame = Frame::Dispatch(Head {
 });
 
 /// The frames of an end, which contracts see as their list, the innermost first.
-#[derive(Debug, Drop)]
+#[derive(Drop)]
 pub struct Stack {
     /// The frames, the outermost first, and vacant places behind them.
     frames: [Frame; ROOM],

@@ -20,7 +20,7 @@ use std::marker::Model;
 
 /// The promises that an end has made, which contracts see as a list in the order of making. No two
 /// have one number. Only `new` and `make` take memory.
-#[derive(Debug, Drop)]
+#[derive(Drop)]
 pub struct Promises {
     promises: Vec<Promise>,
 }

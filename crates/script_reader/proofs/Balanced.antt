@@ -1,5 +1,5 @@
 -- The brackets of a statement are balanced: as many open as close.
-use Rattle.std.proofs.Common.{◌≡◌, ℕ, ◌+◌, ◌<◌, Bool, true, false, cond, List, [], ◌∷◌, Option, Some, None, refl, sym, ap, ◌∙◌, subst, arith}
+use Rattle.std.proofs.Common.{◌≡◌, ℕ, ◌+◌, ◌<◌, Bool, true, false, cond, List, [], ◌∷◌, Option, None, refl, sym, ap, ◌∙◌, arith}
 use Rattle.std.specs.Prelude.{count_by, codes}
 use Rattle.std.proofs.lemmas.List.Sums.{sum_by-cons}
 use Rattle.std.proofs.lemmas.Option.{none-some}
@@ -11,7 +11,6 @@ use Rattle.script_reader.specs.declared.statement.Statement.{Statement}
 use Rattle.script_reader.specs.declared.statement.Statement.TheVariants as forms
 use Rattle.script_reader.specs.declared.token.Token.{Token}
 use Rattle.script_reader.specs.declared.token.Token.TheVariants as token
-use Rattle.script_reader.specs.declared.written.Atom.{Atom}
 use Rattle.script_reader.specs.declared.written.Who.{Who}
 use Rattle.script_reader.specs.declared.written.Written.{Written, Union', Held'}
 use Rattle.script_reader.specs.declared.written.Written.TheVariants as written
@@ -19,7 +18,7 @@ use Rattle.script_reader.specs.declared.written.WrittenValues.{WrittenValues, Fi
 use Rattle.script_reader.specs.declared.written.WrittenValues.TheVariants as values
 use Rattle.script_reader.specs.Grammar.{name_of, name, who_of, who, atom_of, keyword_of, closing, value, listed, more, message, arguments, call, keyword_for, behind_keyword, statement}
 use Rattle.script_reader.specs.Heads.{is_opening, is_closing}
-use Rattle.script_reader.specs.Parts.{mark, word, single}
+use Rattle.script_reader.specs.Parts.{mark, single}
 
 opens : List Token → ℕ
 opens ts = count_by is_opening ts

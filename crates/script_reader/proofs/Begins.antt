@@ -1,5 +1,5 @@
 -- What begins a token, and that there is one token at a place.
-use Rattle.std.proofs.Common.{◌≡◌, ℕ, ◌<◌, Bool, true, false, cond, ◌||◌, ℤ, pos, ◌-ℤ◌, List, [], ◌∷◌, ◌==◌, length, drop, subst, inl, inr, refl, sym, ap, ◌∙◌, arith}
+use Rattle.std.proofs.Common.{◌≡◌, ℕ, ◌<◌, Bool, true, false, cond, pos, ◌-ℤ◌, List, [], ◌∷◌, ◌==◌, length, drop, subst, inl, inr, refl, sym, ap, ◌∙◌, arith}
 use Rattle.std.specs.List.{prefix_len, list_all}
 use Rattle.std.proofs.lemmas.Bool.{cases_Bool, or_left, and_parts}
 use Rattle.std.proofs.Math.Seq.{drop-length}
@@ -16,7 +16,7 @@ neither true x y z f g = f
 neither false x y z f g = g
 
 -- what begins a word may stand in one
-word_start : (b : ℕ) (to : List ℕ) → class_of (b ∷ to) ≡ class.Word → is_word_start b ≡ true
+pub word_start : (b : ℕ) (to : List ℕ) → class_of (b ∷ to) ≡ class.Word → is_word_start b ≡ true
 word_start b to h = elim (cases_Bool (is_word_start b)) [
   | inl e ↦ e
   | inr e ↦ absurd (neither (begins_bytes b to) class.Bytes _ class.Word (λ e. let no : ⊥ = cc in no)

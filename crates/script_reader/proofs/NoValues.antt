@@ -1,6 +1,5 @@
 -- Where there is no way to read values.
-use Rattle.std.proofs.Common.{◌≡◌, ℕ, List, [], ◌∷◌, drop, Some, sym, ap, ◌∙◌, subst}
-use Rattle.std.specs.Prelude.{codes}
+use Rattle.std.proofs.Common.{◌≡◌, ℕ, List, ◌∷◌, drop, sym, ap, ◌∙◌, subst}
 use Rattle.script_reader.specs.declared.parts.Bracket.{Bracket}
 use Rattle.script_reader.specs.declared.parts.Bracket.TheVariants as bracket
 use Rattle.script_reader.specs.declared.reader.Begin.TheVariants as begin

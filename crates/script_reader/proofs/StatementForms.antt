@@ -1,5 +1,5 @@
 -- There is one way to read a statement, and where there is none.
-use Rattle.std.proofs.Common.{◌≡◌, ◌≢◌, ℕ, List, [], ◌∷◌, refl, sym, ap, ◌∙◌, subst}
+use Rattle.std.proofs.Common.{◌≡◌, ◌≢◌, ℕ, List, [], refl, sym, ap, ◌∙◌, subst}
 use Rattle.std.specs.Prelude.{Some, codes}
 use Rattle.std.proofs.lemmas.Option.{none-some}
 use Rattle.ipdl_base.specs.declared.kinds.Side.{Side}
@@ -115,12 +115,6 @@ only_on side from w middle read is none s h = let e = h.0 in let no : ⊥ = cc i
 -- a keyword is followed by what stands behind it
 pub no_keyword : (from : List Token) → ((k : Keyword) (to : List Token) → ¬ single keyword_of k from to) → (s : Statement) → ¬ statement s from []
 no_keyword from none s h = none (keyword_for s) h.0 h.1
-
-pub no_behind : (from middle : List Token) (k : Keyword) → single keyword_of k from middle → ((s : Statement) → ¬ IsBehind k middle s) → (s : Statement) → ¬ statement s from []
-no_behind from middle k read none s h =
-    let e = one_single keyword_of (keyword_for s) k from h.0 middle h.1 read in
-    let S : List Token → Type 0 = λ l. behind_keyword s l [] in
-    none s (e.0, subst S e.1 h.2)
 
 -- a mark is no name
 pub mark_no_name : (b : ℕ) (n : List ℕ) (from to end : List Token) → mark b from to → ¬ name n from end

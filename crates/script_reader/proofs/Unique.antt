@@ -1,17 +1,13 @@
 -- A line says at most one thing.
-use Rattle.std.proofs.Common.{◌≡◌, ℕ, ◌<◌, ◌≤◌, List, [], length, refl, sym, ap, ◌∙◌, subst, arith}
+use Rattle.std.proofs.Common.{◌≡◌, ℕ, List, [], refl, ap, subst, arith}
 use denote.RawPtr.{null_ptr}
-use Rattle.ipdl_base.specs.declared.kinds.Side.{Side}
-use Rattle.script_reader.specs.declared.line.LineReading.{LineReading}
 use Rattle.script_reader.specs.declared.line.LineReading.TheVariants as line
-use Rattle.script_reader.specs.declared.parts.Keyword.{Keyword}
 use Rattle.script_reader.specs.declared.statement.Statement.{Statement}
-use Rattle.script_reader.specs.declared.statement.Statement.TheVariants as forms
 use Rattle.script_reader.specs.declared.token.Token.{Token}
 use Rattle.script_reader.specs.Grammar.{keyword_of, keyword_for, behind_keyword, statement}
 use Rattle.script_reader.specs.Laws.{OneReading}
-use Rattle.script_reader.specs.Lines.{max_line_len, IsStatement, Says}
-use Rattle.script_reader.specs.Plain.{plain_statement, plain_reading}
+use Rattle.script_reader.specs.Lines.{IsStatement}
+use Rattle.script_reader.specs.Plain.{plain_statement}
 use Rattle.script_reader.proofs.StatementForms.{one_behind}
 use Rattle.script_reader.proofs.TokenLists.{one_tokens}
 use Rattle.script_reader.proofs.ValueForms.{one_single}

@@ -1,24 +1,19 @@
 -- There is one way to read values, and where there is none.
-use Rattle.std.proofs.Common.{◌≡◌, ℕ, Bool, true, false, eqb, List, [], ◌∷◌, drop, length, Option, Some, None, refl, sym, ap, ◌∙◌, subst}
-use Rattle.std.specs.Prelude.{codes}
+use Rattle.std.proofs.Common.{◌≡◌, List, ◌∷◌, Option, Some, refl, sym, ap, ◌∙◌, subst}
 use Rattle.std.proofs.lemmas.Bool.{true≢false, eq-eqb}
 use Rattle.ipdl_base.specs.Plain.{one_box}
 use Rattle.script_reader.specs.declared.parts.Bracket.{Bracket}
 use Rattle.script_reader.specs.declared.parts.Bracket.TheVariants as bracket
-use Rattle.script_reader.specs.declared.reader.Begin.{Begin}
-use Rattle.script_reader.specs.declared.reader.Begin.TheVariants as begin
 use Rattle.script_reader.specs.declared.token.Token.{Token}
 use Rattle.script_reader.specs.declared.token.Token.TheVariants as token
-use Rattle.script_reader.specs.declared.written.Atom.{Atom}
 use Rattle.script_reader.specs.declared.written.Written.{Written, Union', Held'}
 use Rattle.script_reader.specs.declared.written.Written.TheVariants as written
 use Rattle.script_reader.specs.declared.written.WrittenValues.{WrittenValues, First'}
 use Rattle.script_reader.specs.declared.written.WrittenValues.TheVariants as values
 use Rattle.script_reader.specs.Grammar.{atom_of, closing, value, listed, more}
-use Rattle.script_reader.specs.Heads.{begin_with, begin_of}
 use Rattle.script_reader.specs.Parts.{mark, single}
 use Rattle.script_reader.specs.Plain.{plain_written, plain_values}
-use Rattle.script_reader.proofs.Heads.{struct_head, array_head, union_head, held_head, begin_for, value_begin, no_value, closing_begin, closing_comma}
+use Rattle.script_reader.proofs.Heads.{begin_for, value_begin, no_value, closing_begin, closing_comma}
 
 -- one token is read in one way
 pub one_single : {X : Type 0} (read : Token → Option X) (x y : X) (from to end : List Token) → single read x from to → single read y from end → (x ≡ y) × (to ≡ end)

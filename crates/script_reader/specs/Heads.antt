@@ -1,5 +1,5 @@
 -- What a value is by its first token, which the reader tells it by.
-use Rattle.std.specs.Prelude.{ℕ, Bool, false, ◌==◌, ◌||◌, if◌then◌else◌, List, [], ◌∷◌, codes}
+use Rattle.std.specs.Prelude.{Bool, false, ◌==◌, ◌||◌, if◌then◌else◌, List, [], ◌∷◌, codes}
 use Rattle.std.specs.Str.{bytes_eq}
 use Rattle.script_reader.specs.declared.reader.Begin.{Begin}
 use Rattle.script_reader.specs.declared.reader.Begin.TheVariants as begin

@@ -1,5 +1,5 @@
 -- The tokens of a line of a script.
-use Rattle.std.specs.Prelude.{◌≡◌, ◌≢◌, ℕ, ◌+◌, ◌-◌, ◌*◌, ◌^◌, min, nat_le, nat_lt, ◌==◌, ◌&&◌, ◌||◌, Bool, true, false, if◌then◌else◌, IsTrue, ℤ, pos, ◌-ℤ◌, List, [], ◌∷◌, drop, fold, slice_index, Option, Some, None, option_and_then, codes}
+use Rattle.std.specs.Prelude.{◌≡◌, ◌≢◌, ℕ, ◌+◌, ◌-◌, ◌*◌, ◌^◌, min, nat_le, nat_lt, ◌==◌, ◌&&◌, Bool, false, if◌then◌else◌, IsTrue, pos, ◌-ℤ◌, List, [], ◌∷◌, drop, fold, slice_index, Option, Some, None, option_and_then, codes}
 use Rattle.std.specs.List.{list_any, list_all, take_while, prefix_len}
 use Rattle.std.specs.Option.{option_map}
 use Rattle.std.specs.Str.{IsUtf8}

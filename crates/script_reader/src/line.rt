@@ -12,7 +12,7 @@ use ipdl_base::Items;
 use std::alloc::{AllocError, Global};
 
 /// What a line of a script says.
-#[derive(Debug, Drop, PartialEq)]
+#[derive(Drop, PartialEq)]
 pub enum LineReading {
     /// Nothing: it is blank or a comment.
     Silent,

@@ -1,7 +1,7 @@
 use ipdl_base::Name;
 
 /// A token of a line of a script.
-#[derive(Debug, Drop, PartialEq)]
+#[derive(Drop)]
 pub enum Token {
     Word(Name),
     /// `$n`, the number of a parameter.

@@ -2,7 +2,7 @@ ghost use Rattle.std.specs.Prelude.{◌≡◌, ◌↔◌, ◌<◌, ◌≤◌, Is
 ghost use Rattle.std.specs.Str.{IsUtf8};
 ghost use Rattle.script_reader.specs.Reading.{Refuses};
 ghost use Rattle.script_reader.specs.Tokens as tokens;
-ghost use Rattle.script_reader.specs.Tokens.{IsToken, AreTokens, IsNumber, InQuotes, character_at, max_count, beyond};
+ghost use Rattle.script_reader.specs.Tokens.{IsToken, IsTokenOf, AreTokens, IsNumber, InQuotes, character_at, max_count, beyond};
 ghost use Rattle.script_reader.specs.declared.token.Token.{Token};
 
 use crate::cursor::Cursor;
@@ -109,13 +109,14 @@ fn text(alloc: Global, cursor: &mut Cursor) -> Result<Name, Stop>
     }
 }
 
-/// Takes a token.
-fn token(alloc: Global, cursor: &mut Cursor) -> Result<Token, Stop>
-    ensures read { IfOk result (λ t. IsToken t cursor.old cursor.new) }
-    ensures stops { IfErr result (Refuses ((t : Token) (to : List ℕ) → ¬ IsToken t cursor.old to)) }
+/// Takes a token of a class.
+fn token_of(alloc: Global, cursor: &mut Cursor, class: Class) -> Result<Token, Stop>
+    requires { class ≡ tokens.class_of cursor.old }
+    ensures read { IfOk result (λ t. IsTokenOf class t cursor.old cursor.new) }
+    ensures stops { IfErr result (Refuses ((t : Token) (to : List ℕ) → ¬ IsTokenOf class t cursor.old to)) }
     ensures less { OnOk result (length cursor.new < length cursor.old) }
 {
-    match class_of(cursor.rest()) {
+    match class {
         Class::Word => Ok(Token::Word(name(alloc, cursor.word())?)),
         Class::Param => Ok(Token::Param(count(cursor)?)),
         Class::Index => Ok(Token::Index(count(cursor)?)),
@@ -133,6 +134,16 @@ fn token(alloc: Global, cursor: &mut Cursor) -> Result<Token, Stop>
         }
         Class::Other => Err(Stop::NoReading),
     }
+}
+
+/// Takes a token.
+fn token(alloc: Global, cursor: &mut Cursor) -> Result<Token, Stop>
+    ensures read { IfOk result (λ t. IsToken t cursor.old cursor.new) }
+    ensures stops { IfErr result (Refuses ((t : Token) (to : List ℕ) → ¬ IsToken t cursor.old to)) }
+    ensures less { OnOk result (length cursor.new < length cursor.old) }
+{
+    let class = class_of(cursor.rest());
+    token_of(alloc, cursor, class)
 }
 
 /// The tokens of a line.

@@ -27,10 +27,6 @@ not_top : (side : Side) (k : ℕ) → id_of side k ≢ top_id
 not_top Parent k e = let f : 4 * k + 2 ≡ 2147483647 = cc in absurd (omega arith)
 not_top Child k e = let f : 4 * k ≡ 2147483647 = cc in absurd (omega arith)
 
-other_other : (side : Side) → other (other side) ≡ side
-other_other Parent = refl
-other_other Child = refl
-
 more_ids : (side : Side) (n m : ℕ) (id : ℤ) → n ≤ m → IsIdOf side n id → IsIdOf side m id
 more_ids side n m id h (k, low, e) = (k, omega arith, e)
 

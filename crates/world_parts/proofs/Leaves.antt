@@ -3,7 +3,6 @@ use Rattle.std.proofs.Common.{◌≡◌, ℕ, ℤ, Bool, true, false, List, [], 
 use Rattle.ipdl_base.specs.declared.kinds.Reason.TheVariants as reason
 use Rattle.ipdl_base.specs.declared.message.Message.{Message}
 use Rattle.ipdl_base.specs.declared.schema.MessageRow.{MessageRow}
-use Rattle.history.specs.declared.line.What.{What}
 use Rattle.nesting_core.specs.declared.frame.Answer.{Answer}
 use Rattle.nesting_core.specs.declared.frame.Answer.TheVariants as answer
 use Rattle.pending_queue.specs.declared.item.Item.{Item}
@@ -13,7 +12,7 @@ use Rattle.world_laws.specs.Deliveries as delivery
 use Rattle.world_laws.specs.Ends.{End, Packet, message, Naming, Holds, actor, resolver, Resolver}
 use Rattle.world_laws.specs.Names.{held_by_name, without_name, let_go, holding, renamed}
 use Rattle.world_laws.specs.Numbers.{makes_promise}
-use Rattle.world_laws.specs.Outputs.{Output, Change, unchanged, ◌▷◌, when, when_open, on_end, line, put, is_open, Answered, answered, destroyed, resolver_answered, request_answered, answer_line, reply_to, body_of}
+use Rattle.world_laws.specs.Outputs.{Output, Change, ◌▷◌, when, when_open, on_end, line, put, is_open, Answered, answered, destroyed, resolver_answered, request_answered, answer_line, reply_to, body_of}
 use Rattle.world_laws.specs.Sends as sends
 
 -- a part leaves what `f` shows of the end
@@ -25,9 +24,6 @@ pub record Ignores {A : Type 0} (f : End → A) : Type 0 where
   pub outbox : (e : End) (ms : List Message) → f (record e { outbox = ms }) ≡ f e
   pub names : (e : End) (ns : List Naming) → f (record e { names = ns }) ≡ f e
 
-pub leaves-unchanged : {A : Type 0} (f : End → A) → Leaves f unchanged
-leaves-unchanged f o = refl
-
 pub leaves-chain : {A : Type 0} (f : End → A) (first second : Change) → Leaves f first → Leaves f second → Leaves f (first ▷ second)
 leaves-chain f first second h k o = k (first o) ∙ h o
 
@@ -37,9 +33,6 @@ leaves-when f false change h o = refl
 
 pub leaves-when_open : {A : Type 0} (f : End → A) (change : Change) → Leaves f change → Leaves f (when_open change)
 leaves-when_open f change h o = leaves-when f (is_open o.end.state) change h o
-
-pub leaves-line : {A : Type 0} (f : End → A) (w : What) → Leaves f (line w)
-leaves-line f w o = refl
 
 pub leaves-put : {A : Type 0} (f : End → A) (packet : Packet) → Ignores f → Leaves f (put packet)
 leaves-put f packet h o = h.outbox o.end []

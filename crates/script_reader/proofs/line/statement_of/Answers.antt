@@ -1,4 +1,4 @@
-use Rattle.std.proofs.Common.{◌≡◌, [], List, sym, subst, ◌∙◌}
+use Rattle.std.proofs.Common.{[], List, sym, subst, ◌∙◌}
 use Rattle.script_reader.specs.declared.token.Token.{Token}
 use Rattle.script_reader.specs.Grammar.{statement}
 use Rattle.script_reader.proofs.Refused.{refuses_on, refuses_as}

@@ -1,5 +1,5 @@
 use Rattle.script_reader.proofs.Refused.{refuses_on}
-use Rattle.script_reader.proofs.StatementForms.{same_name, same_who, not_behind, not_whole, only_let}
+use Rattle.script_reader.proofs.StatementForms.{same_name, not_behind, only_let}
 use Rattle.std.proofs.Common.{[]}
 use Rattle.script_reader.specs.Grammar.{name, who}
 use Rattle.script_reader.proofs.statements.naming.Goals as goal

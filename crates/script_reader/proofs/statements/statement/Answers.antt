@@ -1,5 +1,4 @@
 use Rattle.std.proofs.Common.{List, subst}
-use Rattle.script_reader.specs.declared.parts.Keyword.{Keyword}
 use Rattle.script_reader.specs.declared.token.Token.{Token}
 use Rattle.script_reader.specs.Grammar.{keyword_of}
 use Rattle.script_reader.specs.Parts.{single}

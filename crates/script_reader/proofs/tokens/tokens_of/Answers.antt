@@ -1,5 +1,4 @@
-use Rattle.std.proofs.Common.{◌≡◌, ℕ, List, sym, subst, ◌∙◌}
-use Rattle.script_reader.specs.declared.token.Token.{Token}
+use Rattle.std.proofs.Common.{ℕ, List, sym, subst, ◌∙◌}
 use Rattle.script_reader.specs.Tokens.{IsToken}
 use Rattle.script_reader.proofs.Refused.{refuses_on}
 use Rattle.script_reader.proofs.TokenLists.{HasTaken-next, taken_whole, none_taken}

@@ -2,7 +2,7 @@ use Rattle.std.proofs.Common.{◌≡◌, [], take, drop}
 use Rattle.history_laws.specs.Holds.{each_line, passes}
 use Rattle.history_reading.specs.Reading.{read}
 use Rattle.history_reading.specs.Readings.{reading_view}
-use Rattle.history_laws.proofs.verdict.decide.Given as goal
+use Rattle.history_laws.proofs.verdict.all_pass.Given as goal
 
 -- the reading is that of the lines so far, and they pass
 abbrev pub invariant-loop-index : goal.invariant-loop-index

@@ -5,7 +5,7 @@ use Rattle.history_laws.specs.Holds.{passes}
 use Rattle.history_reading.specs.Reading.{Reading, read}
 use Rattle.history_reading.specs.Readings.{reading_view}
 use Rattle.history_laws.proofs.Loops.{each_goes_on, read_more}
-use Rattle.history_laws.proofs.verdict.decide.Goals as goal
+use Rattle.history_laws.proofs.verdict.all_pass.Goals as goal
 
 pub loop-index-preserved : goal.loop-index-preserved
 loop-index-preserved c =

@@ -3,7 +3,7 @@ use Rattle.history_laws.specs.Holds.{is_readable}
 use Rattle.history_reading.specs.Reading.{Reading, read}
 use Rattle.history_reading.specs.Readings.{reading_view}
 use Rattle.history_laws.proofs.Loops.{each_goes_on, read_more}
-use Rattle.history_laws.proofs.unanswered.are_readable.Goals as goal
+use Rattle.history_laws.proofs.unanswered.all_readable.Goals as goal
 
 pub loop-line-preserved : goal.loop-line-preserved
 loop-line-preserved c =

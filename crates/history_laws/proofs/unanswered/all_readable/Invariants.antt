@@ -2,7 +2,7 @@ use Rattle.std.proofs.Common.{◌≡◌, [], take, drop}
 use Rattle.history_laws.specs.Holds.{each_line, is_readable}
 use Rattle.history_reading.specs.Reading.{read}
 use Rattle.history_reading.specs.Readings.{reading_view}
-use Rattle.history_laws.proofs.unanswered.are_readable.Given as goal
+use Rattle.history_laws.proofs.unanswered.all_readable.Given as goal
 
 -- the reading is that of the lines so far, and they can be read
 abbrev pub invariant-loop-line : goal.invariant-loop-line
