@@ -1,9 +1,10 @@
 ghost use Rattle.ipdl_base.specs.Sound.{IsSound};
 
-use super::given::{number_of, script, the_schema};
-use handler_script::{Action, Point, Script, Term, Terms, Who};
-use ipdl_base::{Name, Schema, Side, short_name};
-use std::alloc::Global;
+use super::given::{note, number_of, script, the_schema};
+use super::shows::{push_terms, push_who, text};
+use handler_script::{Action, Point, Script, Terms, Who};
+use ipdl_base::{Schema, Side, short_name};
+use std::alloc::{AllocError, Global};
 use std::test::Fail;
 
 /// A script that breaks no rule.
@@ -49,113 +50,49 @@ reject
 end
 ";
 
-/// The text of a name.
-fn text(name: &Name) -> Result<&str, Fail> {
-    Ok(str::from_utf8(name.as_slice())?)
-}
-
-/// Appends one who is spoken of.
-fn push_who(who: &Who, out: &mut String) -> Result<(), Fail> {
-    match who {
-        Who::Top => out.push_str("top")?,
-        Who::This => out.push_str("this")?,
-        Who::Made => out.push_str("made")?,
-        Who::Param(n) => write!(out, "${n}")?,
-        Who::Name(name) => out.push_str(text(name)?)?,
-    }
-    Ok(())
-}
-
-/// Appends bytes, each by its two digits.
-fn push_bytes(bytes: &[u8], out: &mut String) -> Result<(), Fail> {
-    for byte in bytes {
-        write!(out, "{byte:02x}")?;
-    }
-    Ok(())
-}
-
-/// Appends a term, with a word before it where its text alone does not say which it is.
-#[cycle(shown)]
-fn push_term(term: &Term, out: &mut String) -> Result<(), Fail> {
-    match term {
-        Term::Bool(b) => write!(out, "{b}")?,
-        Term::Int(n) => write!(out, "{n}")?,
-        Term::Text(name) => {
-            out.push_str("text ")?;
-            out.push_str(text(name)?)?;
-        }
-        Term::Bytes(bytes) => {
-            out.push_str("bytes ")?;
-            push_bytes(bytes.as_slice(), out)?;
-        }
-        Term::Bits(bits) => write!(out, "bits {bits:x}")?,
-        Term::Struct(fields) => {
-            out.push('{')?;
-            push_terms(fields, out)?;
-            out.push('}')?;
-        }
-        Term::Union(index, held) => {
-            write!(out, "@{index} ")?;
-            push_term(held, out)?;
-        }
-        Term::Array(elements) => {
-            out.push('[')?;
-            push_terms(elements, out)?;
-            out.push(']')?;
-        }
-        Term::Maybe(None) => out.push_str("none")?,
-        Term::Maybe(Some(held)) => {
-            out.push_str("some ")?;
-            push_term(held, out)?;
-        }
-        Term::Actor(id) => write!(out, "actor {id}")?,
-        Term::Param(n) => write!(out, "param {n}")?,
-        Term::Who(who) => {
-            out.push_str("who ")?;
-            push_who(who, out)?;
-        }
-    }
-    Ok(())
-}
-
-/// Appends terms, each with a comma behind it.
-#[cycle(shown)]
-pub fn push_terms(terms: &Terms, out: &mut String) -> Result<(), Fail> {
-    match terms {
-        Terms::Nothing => Ok(()),
-        Terms::First(first, rest) => {
-            push_term(first, out)?;
-            out.push(',')?;
-            push_terms(rest, out)
-        }
-    }
-}
-
 /// Appends the message of this number.
-fn push_message(schema: &Schema, number: u32, out: &mut String) -> Result<(), Fail>
+fn push_message(schema: &Schema, number: u32, out: &mut String) -> Result<(), AllocError>
     requires { IsSound schema.now }
 {
-    let protocol = schema.protocol(number / 65536).ok_or("no protocol")?;
-    let message = schema.message(number).ok_or("no message")?;
-    out.push_str(str::from_utf8(short_name(protocol.name.as_slice()))?)?;
+    let protocol = schema.protocol(number / 65536);
+    let protocol = protocol.map_or(b"".as_slice(), |row| short_name(row.name.as_slice()));
+    out.push_str(str::from_utf8(protocol).unwrap_or("no text"))?;
     out.push('.')?;
-    out.push_str(text(&message.name)?)?;
-    Ok(())
+    out.push_str(schema.message(number).map_or("", |row| text(&row.name)))
 }
 
 /// Appends a message with values.
-fn push_call(schema: &Schema, number: u32, values: &Terms, out: &mut String) -> Result<(), Fail>
+fn push_call(
+    schema: &Schema,
+    number: u32,
+    values: &Terms,
+    out: &mut String,
+) -> Result<(), AllocError>
     requires { IsSound schema.now }
 {
     push_message(schema, number, out)?;
     out.push('(')?;
     push_terms(values, out)?;
-    out.push(')')?;
-    Ok(())
+    out.push(')')
+}
+
+/// Appends who a message is sent to, and the message with values.
+fn push_sent(
+    schema: &Schema,
+    who: &Who,
+    number: u32,
+    values: &Terms,
+    out: &mut String,
+) -> Result<(), AllocError>
+    requires { IsSound schema.now }
+{
+    push_who(who, out)?;
+    out.push(' ')?;
+    push_call(schema, number, values, out)
 }
 
 /// Appends an action.
-fn push_action(schema: &Schema, action: &Action, out: &mut String) -> Result<(), Fail>
+fn push_action(schema: &Schema, action: &Action, out: &mut String) -> Result<(), AllocError>
     requires { IsSound schema.now }
 {
     match action {
@@ -165,9 +102,7 @@ fn push_action(schema: &Schema, action: &Action, out: &mut String) -> Result<(),
             values,
         } => {
             out.push_str("send ")?;
-            push_who(who, out)?;
-            out.push(' ')?;
-            push_call(schema, *number, values, out)
+            push_sent(schema, who, *number, values, out)
         }
         Action::New {
             name,
@@ -175,35 +110,33 @@ fn push_action(schema: &Schema, action: &Action, out: &mut String) -> Result<(),
             number,
             values,
         } => {
-            write!(out, "new {} ", text(name)?)?;
-            push_who(who, out)?;
-            out.push(' ')?;
-            push_call(schema, *number, values, out)
+            write!(out, "new {} ", text(name))?;
+            push_sent(schema, who, *number, values, out)
         }
         Action::Let { name, who } => {
-            write!(out, "let {} ", text(name)?)?;
+            write!(out, "let {} ", text(name))?;
             push_who(who, out)
         }
         Action::Resolve { values } => {
             out.push_str("resolve ")?;
             push_terms(values, out)
         }
-        Action::Reject => Ok(out.push_str("reject")?),
-        Action::Keep { name } => Ok(write!(out, "keep {}", text(name)?)?),
+        Action::Reject => out.push_str("reject"),
+        Action::Keep { name } => write!(out, "keep {}", text(name)),
         Action::ResolveNamed {
             name,
             number,
             values,
         } => {
-            write!(out, "resolve {} ", text(name)?)?;
+            write!(out, "resolve {} ", text(name))?;
             push_call(schema, *number, values, out)
         }
         Action::RejectNamed { name, number } => {
-            write!(out, "reject {} ", text(name)?)?;
+            write!(out, "reject {} ", text(name))?;
             push_message(schema, *number, out)
         }
-        Action::Close => Ok(out.push_str("close")?),
-        Action::Die => Ok(out.push_str("die")?),
+        Action::Close => out.push_str("close"),
+        Action::Die => out.push_str("die"),
     }
 }
 
@@ -295,6 +228,19 @@ const ACTIONS: &[(Side, &str, u32, u32, &str)] = &[
     (Side::Child, "Ping", 0, 1, ""),
 ];
 
+/// The point of an action in a main or in the handler of a message of `PT`.
+fn point_of(schema: &Schema, handled: &str, block: u32, index: u32) -> Result<Point, Fail> {
+    if handled.is_empty() {
+        return Ok(Point::Main(index));
+    }
+    let number = number_in_top(schema, handled)?;
+    Ok(Point::Handler {
+        number,
+        block,
+        index,
+    })
+}
+
 /// The action at a point, as it is shown; nothing where there is none.
 fn action_text(
     alloc: Global,
@@ -302,7 +248,7 @@ fn action_text(
     script: &Script,
     side: Side,
     point: Point,
-) -> Result<String, Fail>
+) -> Result<String, AllocError>
     requires { IsSound schema.now }
 {
     let mut shown = String::new(alloc);
@@ -312,25 +258,19 @@ fn action_text(
     Ok(shown)
 }
 
-#[test]
-fn actions(rt: HostRuntime) -> Result<(), Fail> {
-    let alloc = rt.alloc();
-    let schema = the_schema(alloc)?;
-    let script = script(alloc, &schema, "PT", SCRIPT.as_bytes())?;
+/// Notes which of these actions are others.
+fn note_actions(
+    alloc: Global,
+    schema: &Schema,
+    script: &Script,
+    wrong: &mut String,
+) -> Result<(), Fail>
+    requires { IsSound schema.now }
+{
     for (side, handled, block, index, wanted) in ACTIONS {
-        let (handled, block, index) = (*handled, *block, *index);
-        let point = if handled == "" {
-            Point::Main(index)
-        } else {
-            let number = number_in_top(&schema, handled)?;
-            Point::Handler {
-                number,
-                block,
-                index,
-            }
-        };
-        let shown = action_text(alloc, &schema, &script, *side, point)?;
-        assert_eq!(rt; shown.as_str(), *wanted, "{handled} {block} {index}");
+        let point = point_of(schema, handled, *block, *index)?;
+        let found = action_text(alloc, schema, script, *side, point)?;
+        note(wanted, found.as_str(), wanted, wrong)?;
     }
     Ok(())
 }
@@ -355,28 +295,65 @@ const REPLIES: &[(Side, &str, u32, &str)] = &[
     (Side::Child, "Look", 0, "nothing"),
 ];
 
-#[test]
-fn blocks_and_replies(rt: HostRuntime) -> Result<(), Fail> {
-    let alloc = rt.alloc();
-    let schema = the_schema(alloc)?;
-    let script = script(alloc, &schema, "PT", SCRIPT.as_bytes())?;
-    assert_eq!(rt; script.top(), number_of(&schema, "PT")?);
-    assert_eq!(rt; script.top(), 3);
+/// The values that a block returns.
+fn reply_text(
+    alloc: Global,
+    script: &Script,
+    side: Side,
+    number: u32,
+    block: u32,
+) -> Result<String, AllocError> {
+    let mut shown = String::new(alloc);
+    match script.reply(side, number, block) {
+        Some(values) => push_terms(values, &mut shown)?,
+        None => shown.push_str("nothing")?,
+    }
+    Ok(shown)
+}
+
+/// Notes which of these replies are others.
+fn note_replies(
+    alloc: Global,
+    schema: &Schema,
+    script: &Script,
+    wrong: &mut String,
+) -> Result<(), Fail> {
+    for (side, handled, block, wanted) in REPLIES {
+        let number = number_in_top(schema, handled)?;
+        let found = reply_text(alloc, script, *side, number, *block)?;
+        note(handled, found.as_str(), wanted, wrong)?;
+    }
+    Ok(())
+}
+
+/// Notes which of these counts of blocks are others.
+fn note_blocks(schema: &Schema, script: &Script, wrong: &mut String) -> Result<(), Fail> {
     if script.blocks.len() > 0xffff_ffff {
         return Err("too many blocks".into());
     }
     for (side, handled, wanted) in BLOCKS {
-        let number = number_in_top(&schema, handled)?;
-        assert_eq!(rt; script.blocks(*side, number), *wanted, "{handled}");
-    }
-    for (side, handled, block, wanted) in REPLIES {
-        let number = number_in_top(&schema, handled)?;
-        let mut shown = String::new(alloc);
-        match script.reply(*side, number, *block) {
-            Some(values) => push_terms(values, &mut shown)?,
-            None => shown.push_str("nothing")?,
+        let found = script.blocks(*side, number_in_top(schema, handled)?);
+        if found != *wanted {
+            writeln!(wrong, "{handled}: {found}")?;
         }
-        assert_eq!(rt; shown.as_str(), *wanted, "{handled} {block}");
     }
+    Ok(())
+}
+
+/// Which actions, blocks and replies of `SCRIPT` are others, and the numbers of its top.
+fn wrong_calls(alloc: Global) -> Result<String, Fail> {
+    let schema = the_schema(alloc)?;
+    let script = script(alloc, &schema, SCRIPT.as_bytes())?;
+    let mut wrong = String::new(alloc);
+    note_actions(alloc, &schema, &script, &mut wrong)?;
+    note_blocks(&schema, &script, &mut wrong)?;
+    note_replies(alloc, &schema, &script, &mut wrong)?;
+    write!(wrong, "{} {}", script.top(), number_of(&schema, "PT")?)?;
+    Ok(wrong)
+}
+
+#[test]
+fn actions_blocks_and_replies(rt: HostRuntime) -> Result<(), Fail> {
+    assert_eq!(rt; wrong_calls(rt.alloc())?.as_str(), "3 3");
     Ok(())
 }

@@ -2,16 +2,15 @@ ghost use Rattle.std.specs.Prelude.{IfOk};
 ghost use Rattle.ipdl_base.specs.Sound.{IsSound};
 
 use handler_script::{Script, ScriptFault, read_script};
-use ipdl_base::{Findings, MemoryFiles, Schema, short_name};
+use ipdl_base::{Finding, Findings, MemoryFiles, Schema, short_name};
 use schema_of_text::schema_of;
 use std::alloc::{AllocError, Global};
 use std::test::Fail;
 
-/// The files of the one program, in which the tables of rules have their messages. `PT` is its top.
-const FILES: &[(&str, &str)] = &[
-    (
-        "PT.ipdl",
-        "include protocol PD;
+/// The files of the one program, in which the tables of rules have their messages, each with its name
+/// behind `@ `, and then its text. `PT` is its top.
+const FILES: &str = "@ PT.ipdl
+include protocol PD;
 include protocol PK;
 include protocol PS;
 include protocol PU;
@@ -75,11 +74,8 @@ both:
   async Ping() returns (bool b);
   async top(bool true);
 };
-",
-    ),
-    (
-        "PK.ipdl",
-        "include protocol PT;
+@ PK.ipdl
+include protocol PT;
 protocol PK {
   manager PT;
 both:
@@ -87,43 +83,31 @@ both:
 parent:
   async __delete__();
 };
-",
-    ),
-    (
-        "PS.ipdl",
-        "include protocol PT;
+@ PS.ipdl
+include protocol PT;
 sync protocol PS {
   manager PT;
 parent:
   async Take(PS s);
   async __delete__();
 };
-",
-    ),
-    (
-        "PU.ipdl",
-        "include protocol PT;
+@ PU.ipdl
+include protocol PT;
 sync protocol PU {
   manager PT;
 parent:
   async __delete__();
 };
-",
-    ),
-    (
-        "PD.ipdl",
-        "protocol PD {
+@ PD.ipdl
+protocol PD {
   manager PD;
   manages PD;
 parent:
   async PD();
   async __delete__();
 };
-",
-    ),
-    (
-        "PX.ipdl",
-        "namespace x {
+@ PX.ipdl
+namespace x {
 namespace y {
 protocol PX {
 both:
@@ -131,25 +115,38 @@ both:
 };
 }
 }
-",
-    ),
-];
+";
 
-/// Files in memory with these names and texts.
-pub fn files(alloc: Global, texts: &[(&str, &str)]) -> Result<MemoryFiles, AllocError> {
+/// A file with this name and text.
+fn file(alloc: Global, name: &str, text: &str) -> Result<(String, Vec<u8>), AllocError> {
+    let name = String::from_str(alloc, name)?;
+    Ok((name, Vec::from_slice(alloc, text.as_bytes())?))
+}
+
+/// The files that a text spells, in memory.
+fn files(alloc: Global, texts: &str) -> Result<MemoryFiles, AllocError> {
     let mut files = Vec::new(alloc);
-    for (name, text) in texts {
-        let name = String::from_str(alloc, name)?;
-        files.push((name, Vec::from_slice(alloc, text.as_bytes())?))?;
+    for piece in texts.split("@ ") {
+        if let Some((name, text)) = piece.split_once("\n") {
+            files.push(file(alloc, name, text)?)?;
+        }
     }
     Ok(MemoryFiles::new(files, Vec::new(alloc)))
+}
+
+/// The schema of a top's file, which is among these, and of those that it includes.
+pub fn schema_of_top(alloc: Global, texts: &str, top: &str) -> Result<Schema, Fail>
+    ensures { IfOk result IsSound }
+{
+    let word = format!(in alloc; "{top}.ipdl")?;
+    schema_of(alloc, files(alloc, texts)?, word.as_str())
 }
 
 /// The schema of the one program.
 pub fn the_schema(alloc: Global) -> Result<Schema, Fail>
     ensures { IfOk result IsSound }
 {
-    schema_of(alloc, files(alloc, FILES)?, "PT.ipdl")
+    schema_of_top(alloc, FILES, "PT")
 }
 
 /// The number of the protocol with this short name.
@@ -181,24 +178,28 @@ pub fn read(
 }
 
 /// The script of a text that breaks no rule.
-pub fn script(alloc: Global, schema: &Schema, top: &str, text: &[u8]) -> Result<Script, Fail>
+pub fn script(alloc: Global, schema: &Schema, text: &[u8]) -> Result<Script, Fail>
     requires { IsSound schema.now }
 {
-    Ok(read(alloc, schema, top, text)??)
+    Ok(read(alloc, schema, "PT", text)?.ok().ok_or("no script")?)
+}
+
+/// Appends a finding as `FILE:LINE:COLUMN RULE` and a blank.
+fn push_finding(finding: &Finding, out: &mut String) -> Result<(), AllocError> {
+    let (place, rule) = (finding.place, finding.rule);
+    let (file, line, column) = (place.file, place.line, place.column);
+    let (letter, number) = (char::from(rule.letter), rule.number);
+    write!(out, "{file}:{line}:{column} {letter}{number} ")
 }
 
 /// Findings, each as `FILE:LINE:COLUMN RULE` and a blank.
-pub fn show(alloc: Global, findings: &Findings) -> Result<String, Fail> {
+fn show(alloc: Global, findings: &Findings) -> Result<String, AllocError> {
     let mut shown = String::new(alloc);
     for finding in findings.as_slice() {
-        let place = finding.place;
-        let letter = char::from(finding.rule.letter);
-        let number = finding.rule.number;
-        write!(
-            shown,
-            "{}:{}:{} {letter}{number} ",
-            place.file, place.line, place.column
-        )?;
+        push_finding(finding, &mut shown)?;
+    }
+    if shown.is_empty() {
+        shown.push_str("a report of nothing")?;
     }
     Ok(shown)
 }
@@ -209,12 +210,16 @@ pub fn broken(alloc: Global, schema: &Schema, top: &str, text: &[u8]) -> Result<
 {
     match read(alloc, schema, top, text)? {
         Ok(_) => Ok(String::new(alloc)),
-        Err(ScriptFault::Broken(findings)) => {
-            if findings.is_empty() {
-                return Err("a report of nothing".into());
-            }
-            show(alloc, &findings)
-        }
+        Err(ScriptFault::Broken(findings)) => Ok(show(alloc, &findings)?),
         Err(ScriptFault::NoMemory) => Err("no memory".into()),
+    }
+}
+
+/// Notes what came out of a row, where it is not what the row wants.
+pub fn note(row: &str, found: &str, wanted: &str, wrong: &mut String) -> Result<(), AllocError> {
+    if found == wanted {
+        Ok(())
+    } else {
+        writeln!(wrong, "{row}: {found}")
     }
 }

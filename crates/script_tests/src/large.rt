@@ -1,36 +1,11 @@
 ghost use Rattle.ipdl_base.specs.Sound.{IsSound};
 
-use super::given::{broken, read, script, the_schema};
+use super::given::{broken, note, read, script, the_schema};
+use super::pieces::{Pieces, joined};
 use handler_script::{Point, ScriptFault};
 use ipdl_base::{Findings, Rule, Schema, Side};
-use std::alloc::{AllocError, Global};
+use std::alloc::Global;
 use std::test::Fail;
-
-/// Bytes that begin so, and then so many times this.
-pub fn repeat(alloc: Global, head: &str, piece: &str, count: u32) -> Result<Vec<u8>, AllocError> {
-    let mut bytes = Vec::from_slice(alloc, head.as_bytes())?;
-    for _ in 0..count {
-        bytes.extend_from_slice(piece.as_bytes())?;
-    }
-    Ok(bytes)
-}
-
-/// A script that sends one value, with so many marks before it and so many behind it.
-fn nested(
-    alloc: Global,
-    open: &str,
-    value: &str,
-    close: &str,
-    count: u32,
-) -> Result<Vec<u8>, AllocError> {
-    let mut script = repeat(alloc, "parent main\nsend top PT.TellEither(", open, count)?;
-    script.extend_from_slice(value.as_bytes())?;
-    for _ in 0..count {
-        script.extend_from_slice(close.as_bytes())?;
-    }
-    script.extend_from_slice(b")\nend\n")?;
-    Ok(script)
-}
 
 /// Values as deep as a line can hold them: those of union and array fit.
 const DEEP: &[(&str, &str, &str, u32, &str)] = &[
@@ -47,134 +22,197 @@ const DEEP: &[(&str, &str, &str, u32, &str)] = &[
     ("[", "", "}", 8000, "0:2:1 K1 "),
 ];
 
+/// Lines of so many brackets.
+const BRACKETS: &[(u32, &str)] = &[(16_384, "0:1:1 K1 "), (16_385, "0:1:1 K9 ")];
+
+/// What pieces, with others as often behind them, break.
+fn broken_by(alloc: Global, schema: &Schema, pieces: Pieces, count: u32) -> Result<String, Fail>
+    requires { IsSound schema.now }
+{
+    let text = joined(alloc, pieces, count)?;
+    broken(alloc, schema, "PT", text.as_slice())
+}
+
+/// Which of these break something else.
+fn wrong_depths(alloc: Global) -> Result<String, Fail> {
+    let schema = the_schema(alloc)?;
+    let mut wrong = String::new(alloc);
+    for (open, value, close, count, wanted) in DEEP {
+        let pieces = [
+            "parent main\nsend top PT.TellEither(",
+            open,
+            value,
+            close,
+            ")\nend\n",
+        ];
+        let found = broken_by(alloc, &schema, pieces, *count)?;
+        note(open, found.as_str(), wanted, &mut wrong)?;
+    }
+    for (count, wanted) in BRACKETS {
+        let found = broken_by(alloc, &schema, ["", "[", "", "", ""], *count)?;
+        note("brackets", found.as_str(), wanted, &mut wrong)?;
+    }
+    Ok(wrong)
+}
+
 #[test]
 fn depths(rt: HostRuntime) -> Result<(), Fail> {
-    let alloc = rt.alloc();
-    let schema = the_schema(alloc)?;
-    for (open, value, close, count, wanted) in DEEP {
-        let text = nested(alloc, open, value, close, *count)?;
-        let shown = broken(alloc, &schema, "PT", text.as_slice())?;
-        assert_eq!(rt; shown.as_str(), *wanted, "{open} {value}");
-    }
-    let brackets = repeat(alloc, "", "[", 16_384)?;
-    let shown = broken(alloc, &schema, "PT", brackets.as_slice())?;
-    assert_eq!(rt; shown.as_str(), "0:1:1 K1 ");
-    let brackets = repeat(alloc, "", "[", 16_385)?;
-    let shown = broken(alloc, &schema, "PT", brackets.as_slice())?;
-    assert_eq!(rt; shown.as_str(), "0:1:1 K9 ");
+    assert_eq!(rt; wrong_depths(rt.alloc())?.as_str(), "");
     Ok(())
 }
 
-/// The findings of a text, which breaks some rule.
-fn findings_of(alloc: Global, schema: &Schema, text: &[u8]) -> Result<Findings, Fail>
-    requires { IsSound schema.now }
-{
-    match read(alloc, schema, "PT", text)? {
-        Err(ScriptFault::Broken(findings)) => Ok(findings),
-        _ => Err("no findings".into()),
-    }
-}
-
-/// How many findings there are, each of this rule, in lines so far apart from this one on.
-fn count_of(findings: &Findings, rule: Rule, first: u32, apart: u32) -> Option<usize> {
+/// How many findings there are, each of this rule, in lines so far apart from this one on; nothing
+/// where there are others.
+fn count_of(findings: &Findings, rule: Rule, first: u32, apart: u32) -> usize {
     let mut line = first;
     for finding in findings.as_slice() {
         let place = finding.place;
         if finding.rule != rule || place.line != line || place.column != 1 || place.file != 0 {
-            return None;
+            return 0;
         }
         line = line.wrapping_add(apart);
     }
-    Some(findings.len())
+    findings.len()
 }
 
-/// The bytes of the largest text.
-const LARGEST: usize = 1_048_576;
+/// A text of as many lines as there can be: its pieces, and how many times the second stands there; and
+/// what is found: the rule, the line of the first finding, and how far apart the others are.
+struct Large {
+    pieces: Pieces,
+    count: u32,
+    rule: Rule,
+    first: u32,
+    apart: u32,
+}
 
-/// One block of as many actions as there can be.
-#[test]
-fn one_block(rt: HostRuntime) -> Result<(), Fail> {
-    let alloc = rt.alloc();
+/// Texts, with how many bytes they have, and how many findings.
+const LARGE: &[(Large, &str)] = &[
+    // A side's main again and again: each but the first is a place.
+    (
+        Large {
+            pieces: ["", "parent main\nend\n", "", "", ""],
+            count: 65_536,
+            rule: Rule::BLOCK_STRUCTURE,
+            first: 3,
+            apart: 2,
+        },
+        "1048576 65535",
+    ),
+    // Lines of one byte, of which each is no statement.
+    (
+        Large {
+            pieces: ["", "x\n", "", "", ""],
+            count: 524_288,
+            rule: Rule::NOT_A_STATEMENT,
+            first: 1,
+            apart: 1,
+        },
+        "1048576 524288",
+    ),
+    // Returns of which each but the last has another behind it.
+    (
+        Large {
+            pieces: ["child on PT.Call\n", "return (1)\n", "end\n", "", ""],
+            count: 95_000,
+            rule: Rule::NOT_ALLOWED_HERE,
+            first: 2,
+            apart: 1,
+        },
+        "1045021 94999",
+    ),
+    // Answers of which each but the first has another before it.
+    (
+        Large {
+            pieces: ["parent on PT.Get\n", "keep k\n", "end\n", "", ""],
+            count: 149_000,
+            rule: Rule::NOT_ALLOWED_HERE,
+            first: 3,
+            apart: 1,
+        },
+        "1043021 148999",
+    ),
+];
+
+/// How many findings a text has, as `count_of` has it.
+fn found_in(alloc: Global, schema: &Schema, text: &[u8], large: &Large) -> Result<usize, Fail>
+    requires { IsSound schema.now }
+{
+    match read(alloc, schema, "PT", text)? {
+        Err(ScriptFault::Broken(findings)) => Ok(count_of(
+            &findings,
+            large.rule,
+            large.first,
+            large.apart,
+        )),
+        _ => Err("no findings".into()),
+    }
+}
+
+/// The bytes of a text, and how many findings it has.
+fn counted(alloc: Global, schema: &Schema, large: &Large) -> Result<String, Fail>
+    requires { IsSound schema.now }
+{
+    let text = joined(alloc, large.pieces, large.count)?;
+    let found = found_in(alloc, schema, text.as_slice(), large)?;
+    Ok(format!(in alloc; "{} {found}", text.len())?)
+}
+
+/// Which of these have other findings.
+fn wrong_findings(alloc: Global) -> Result<String, Fail> {
     let schema = the_schema(alloc)?;
-    let mut text = repeat(alloc, "parent main\n", "send top PT.Tell(1)\n", 52_428)?;
-    text.extend_from_slice(b"end\n")?;
-    assert_eq!(rt; text.len(), LARGEST);
-    let script = script(alloc, &schema, "PT", text.as_slice())?;
-    assert!(rt; script.action(Side::Parent, Point::Main(52_427)).is_some());
-    assert!(rt; script.action(Side::Parent, Point::Main(52_428)).is_none());
+    let mut wrong = String::new(alloc);
+    for (large, wanted) in LARGE {
+        note(
+            wanted,
+            counted(alloc, &schema, large)?.as_str(),
+            wanted,
+            &mut wrong,
+        )?;
+    }
+    Ok(wrong)
+}
+
+#[test]
+fn findings(rt: HostRuntime) -> Result<(), Fail> {
+    assert_eq!(rt; wrong_findings(rt.alloc())?.as_str(), "");
     Ok(())
 }
 
-/// As many blocks as there can be, of one message.
-#[test]
-fn blocks_of_one_message(rt: HostRuntime) -> Result<(), Fail> {
-    let alloc = rt.alloc();
-    let schema = the_schema(alloc)?;
-    let text = repeat(
-        alloc,
-        "# so many blocks\n",
-        "child on PT.Any\nend\n",
-        52_427,
-    )?;
-    assert!(rt; text.len() <= LARGEST);
-    let script = script(alloc, &schema, "PT", text.as_slice())?;
-    assert_eq!(rt; script.blocks.len(), 52_427);
-    Ok(())
+/// One block of as many actions as there can be: its bytes, and whether an action stands at two
+/// places.
+fn push_actions(alloc: Global, schema: &Schema, shown: &mut String) -> Result<(), Fail>
+    requires { IsSound schema.now }
+{
+    let pieces = ["parent main\n", "send top PT.Tell(1)\n", "end\n", "", ""];
+    let text = joined(alloc, pieces, 52_428)?;
+    let script = script(alloc, schema, text.as_slice())?;
+    let last = script.action(Side::Parent, Point::Main(52_427)).is_some();
+    let next = script.action(Side::Parent, Point::Main(52_428)).is_some();
+    Ok(write!(shown, "{} {last} {next}\n", text.len())?)
 }
 
-/// A side's main again and again: each but the first is a place.
-#[test]
-fn many_mains(rt: HostRuntime) -> Result<(), Fail> {
-    let alloc = rt.alloc();
-    let schema = the_schema(alloc)?;
-    let text = repeat(alloc, "", "parent main\nend\n", 65_536)?;
-    assert_eq!(rt; text.len(), LARGEST);
-    let findings = findings_of(alloc, &schema, text.as_slice())?;
-    assert_eq!(rt;
-        count_of(&findings, Rule::BLOCK_STRUCTURE, 3, 2),
-        Some(65_535)
-    );
-    Ok(())
+/// As many blocks as there can be, of one message: its bytes, and how many these are.
+fn push_blocks(alloc: Global, schema: &Schema, shown: &mut String) -> Result<(), Fail>
+    requires { IsSound schema.now }
+{
+    let pieces = ["# so many blocks\n", "child on PT.Any\nend\n", "", "", ""];
+    let text = joined(alloc, pieces, 52_427)?;
+    let script = script(alloc, schema, text.as_slice())?;
+    Ok(write!(shown, "{} {}\n", text.len(), script.blocks.len())?)
 }
 
-/// Lines of one byte: of a statement none, in a block that nothing closes, and of nothing.
-#[test]
-fn short_lines(rt: HostRuntime) -> Result<(), Fail> {
-    let alloc = rt.alloc();
+/// What these have, and what a text of line feeds breaks, which is nothing.
+fn scripts_text(alloc: Global) -> Result<String, Fail> {
     let schema = the_schema(alloc)?;
-    let text = repeat(alloc, "", "\n", 1_048_576)?;
-    assert_eq!(rt; broken(alloc, &schema, "PT", text.as_slice())?.as_str(), "");
-    let text = repeat(alloc, "", "x\n", 524_288)?;
-    assert_eq!(rt; text.len(), LARGEST);
-    let findings = findings_of(alloc, &schema, text.as_slice())?;
-    assert_eq!(rt;
-        count_of(&findings, Rule::NOT_A_STATEMENT, 1, 1),
-        Some(524_288)
-    );
-    Ok(())
+    let mut shown = broken_by(alloc, &schema, ["", "\n", "", "", ""], 1_048_576)?;
+    push_actions(alloc, &schema, &mut shown)?;
+    push_blocks(alloc, &schema, &mut shown)?;
+    Ok(shown)
 }
 
-/// Returns of which each but the last has another behind it, and answers of which each but the first
-/// has another before it.
 #[test]
-fn many_returns(rt: HostRuntime) -> Result<(), Fail> {
-    let alloc = rt.alloc();
-    let schema = the_schema(alloc)?;
-    let mut text = repeat(alloc, "child on PT.Call\n", "return (1)\n", 95_000)?;
-    text.extend_from_slice(b"end\n")?;
-    assert!(rt; text.len() <= LARGEST);
-    let findings = findings_of(alloc, &schema, text.as_slice())?;
-    assert_eq!(rt;
-        count_of(&findings, Rule::NOT_ALLOWED_HERE, 2, 1),
-        Some(94_999)
-    );
-    let mut text = repeat(alloc, "parent on PT.Get\n", "keep k\n", 149_000)?;
-    text.extend_from_slice(b"end\n")?;
-    assert!(rt; text.len() <= LARGEST);
-    let findings = findings_of(alloc, &schema, text.as_slice())?;
-    assert_eq!(rt;
-        count_of(&findings, Rule::NOT_ALLOWED_HERE, 3, 1),
-        Some(148_999)
-    );
+fn scripts(rt: HostRuntime) -> Result<(), Fail> {
+    let shown = scripts_text(rt.alloc())?;
+    assert_eq!(rt; shown.as_str(), "1048576 true false\n1048557 52427\n");
     Ok(())
 }

@@ -16,14 +16,16 @@ mod message_rows;
 #[cfg(test)]
 mod parts;
 #[cfg(test)]
+mod pieces;
+#[cfg(test)]
 mod place_rows;
 #[cfg(test)]
 mod readings;
 #[cfg(test)]
 mod rules;
 #[cfg(test)]
-mod value_rows;
+mod shows;
 #[cfg(test)]
-mod worked;
+mod value_rows;
 #[cfg(test)]
 mod worked_rows;

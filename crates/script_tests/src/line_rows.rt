@@ -473,6 +473,3 @@ K6> keep k
 K2 K3> child on PT.Gone
 K1> end end
 ";
-
-/// How many these are.
-pub const LINES_COUNT: u32 = 39;

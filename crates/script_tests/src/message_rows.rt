@@ -247,6 +247,3 @@ reject k PT.Lent
 reject k PT.Hand
 end
 ";
-
-/// How many these are.
-pub const MESSAGES_COUNT: u32 = 18;

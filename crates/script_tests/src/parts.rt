@@ -1,6 +1,6 @@
-use super::calls::push_terms;
-use super::given::the_schema;
-use super::large::repeat;
+use super::given::{note, the_schema};
+use super::pieces::joined;
+use super::shows::push_terms;
 use handler_script::{
     Term, Terms, each_fits, message_named, receives, replies, resolves, sends, terms_of,
 };
@@ -9,76 +9,88 @@ use script_reader::{LineReading, LineReadings, MessageName, Statement, WrittenVa
 use std::alloc::{AllocError, Global};
 use std::test::Fail;
 
+/// A name of text.
+fn name(alloc: Global, text: &str) -> Result<Name, AllocError> {
+    Ok(Name::from_vec(Vec::from_slice(alloc, text.as_bytes())?))
+}
+
 /// The message of this name; nothing where it is not there.
 fn named<'a>(
     alloc: Global,
     schema: &'a Schema,
     protocol: &str,
     message: &str,
-) -> Result<Option<&'a MessageRow>, Fail> {
-    let name = MessageName {
-        protocol: Name::from_vec(Vec::from_slice(alloc, protocol.as_bytes())?),
-        message: Name::from_vec(Vec::from_slice(alloc, message.as_bytes())?),
-    };
-    Ok(message_named(schema, &name))
+) -> Result<Option<&'a MessageRow>, AllocError> {
+    let protocol = name(alloc, protocol)?;
+    let message = name(alloc, message)?;
+    Ok(message_named(schema, &MessageName { protocol, message }))
 }
 
 /// Messages by their names, with the numbers of their requests, and the counts of what answers them
 /// as async and as sync messages; 9 where there is none.
-const MESSAGES: &[(&str, &str, u32, usize, usize)] = &[
-    ("PT", "Flag", 196608, 9, 9),
-    ("PT", "Small", 196610, 9, 9),
-    ("PT", "Look", 196644, 9, 2),
-    ("PT", "Plain", 196646, 9, 9),
-    ("PT", "Blank", 196648, 9, 0),
-    ("PT", "Get", 196650, 1, 9),
-    ("PT", "Done", 196652, 0, 9),
-    ("PT", "PS", 196654, 9, 1),
-    ("PK", "Note", 65536, 9, 9),
-    ("PK", "__delete__", 65538, 9, 9),
-    ("PX", "Hi", 327680, 9, 9),
+const MESSAGES: &[(&str, &str, &str)] = &[
+    ("PT", "Flag", "196608 9 9"),
+    ("PT", "Small", "196610 9 9"),
+    ("PT", "Look", "196644 9 2"),
+    ("PT", "Plain", "196646 9 9"),
+    ("PT", "Blank", "196648 9 0"),
+    ("PT", "Get", "196650 1 9"),
+    ("PT", "Done", "196652 0 9"),
+    ("PT", "PS", "196654 9 1"),
+    ("PK", "Note", "65536 9 9"),
+    ("PK", "__delete__", "65538 9 9"),
+    ("PX", "Hi", "327680 9 9"),
+    ("PT", "Gone", "none"),
+    ("PT", "flag", "none"),
+    ("PZ", "Flag", "none"),
+    ("PK", "PK", "none"),
+    ("x::y::PX", "Hi", "none"),
+    ("", "", "none"),
+];
+
+/// A message as it stands in `MESSAGES`.
+fn shown(alloc: Global, message: Option<&MessageRow>) -> Result<String, AllocError> {
+    let Some(message) = message else {
+        return String::from_str(alloc, "none");
+    };
+    let number = message.number;
+    let resolved = resolves(message).map_or(9, |returns| returns.len());
+    let replied = replies(message).map_or(9, |returns| returns.len());
+    format!(in alloc; "{number} {resolved} {replied}")
+}
+
+/// Which of these messages are others.
+fn wrong_messages(alloc: Global) -> Result<String, Fail> {
+    let schema = the_schema(alloc)?;
+    let mut wrong = String::new(alloc);
+    for (protocol, name, wanted) in MESSAGES {
+        let found = shown(alloc, named(alloc, &schema, protocol, name)?)?;
+        note(name, found.as_str(), wanted, &mut wrong)?;
+    }
+    Ok(wrong)
+}
+
+/// Whether a side receives messages of a direction, and whether it sends them.
+const DIRECTIONS: &[(Side, Direction, bool, bool)] = &[
+    (Side::Parent, Direction::Parent, true, false),
+    (Side::Parent, Direction::Child, false, true),
+    (Side::Parent, Direction::Both, true, true),
+    (Side::Child, Direction::Parent, false, true),
+    (Side::Child, Direction::Child, true, false),
+    (Side::Child, Direction::Both, true, true),
 ];
 
 #[test]
 fn messages(rt: HostRuntime) -> Result<(), Fail> {
-    let alloc = rt.alloc();
-    let schema = the_schema(alloc)?;
-    for (protocol, name, number, resolved, replied) in MESSAGES {
-        let message = named(alloc, &schema, protocol, name)?.ok_or("no message")?;
-        assert_eq!(rt; message.number, *number, "{name}");
-        let count = resolves(message).map_or(9, |returns| returns.len());
-        assert_eq!(rt; count, *resolved, "{name}");
-        let count = replies(message).map_or(9, |returns| returns.len());
-        assert_eq!(rt; count, *replied, "{name}");
-    }
-    let absent = [
-        ("PT", "Gone"),
-        ("PT", "flag"),
-        ("PZ", "Flag"),
-        ("PK", "PK"),
-        ("x::y::PX", "Hi"),
-        ("", ""),
-    ];
-    for (protocol, name) in absent {
-        assert!(rt; named(alloc, &schema, protocol, name)?.is_none(), "{name}");
-    }
-    let directions = [
-        (Side::Parent, Direction::Parent, true, false),
-        (Side::Parent, Direction::Child, false, true),
-        (Side::Parent, Direction::Both, true, true),
-        (Side::Child, Direction::Parent, false, true),
-        (Side::Child, Direction::Child, true, false),
-        (Side::Child, Direction::Both, true, true),
-    ];
-    for (side, direction, received, sent) in directions {
-        assert_eq!(rt;
-            receives(side, direction),
-            received,
-            "{side:?} {direction:?}"
-        );
-        assert_eq!(rt; sends(side, direction), sent, "{side:?} {direction:?}");
-    }
+    assert_eq!(rt; wrong_messages(rt.alloc())?.as_str(), "");
     Ok(())
+}
+
+#[test]
+fn directions(rt: HostRuntime) {
+    for (side, direction, received, sent) in DIRECTIONS {
+        assert!(rt; receives(*side, *direction) == *received && sends(*side, *direction) == *sent);
+    }
 }
 
 /// The values of the first line, which is a `resolve`.
@@ -94,63 +106,83 @@ fn values_in(readings: &LineReadings) -> Result<&WrittenValues, Fail> {
 
 /// Values in the handler of `PT.Many`, whether they fit the parameters of a message of `PT`, and the
 /// terms that they are there.
-const FITS: &[(&str, &str, bool, &str)] = &[
-    ("Flag", "resolve (true)", true, "true,"),
-    ("Flag", "resolve ($4)", true, "param 4,"),
-    ("Flag", "resolve ($5)", false, "param 5,"),
-    ("Flag", "resolve ()", false, ""),
-    ("Flag", "resolve (true, 1)", false, "true,"),
+const FITS: &[(&str, &str, &str)] = &[
+    ("Flag", "resolve (true)", "true true,"),
+    ("Flag", "resolve ($4)", "true param 4,"),
+    ("Flag", "resolve ($5)", "false param 5,"),
+    ("Flag", "resolve ()", "false "),
+    ("Flag", "resolve (true, 1)", "false true,"),
     (
         "Holds",
         "resolve (some true, some 1, [-1], none)",
-        true,
-        "some true,some 1,[-1,],none,",
+        "true some true,some 1,[-1,],none,",
     ),
     (
         "Actors",
         "resolve (top, null, $11)",
-        true,
-        "who top,actor 0,param 11,",
+        "true who top,actor 0,param 11,",
     ),
     (
         "Actors",
         "resolve (made, $12, $12)",
-        false,
-        "who made,param 12,param 12,",
+        "false who made,param 12,param 12,",
     ),
     (
         "Floats",
         "resolve (h\"00000001\", h\"0000000000000001\")",
-        true,
-        "bits 1,bits 1,",
+        "true bits 1,bits 1,",
     ),
     (
         "TellBytes",
         "resolve (h\"00000001\")",
-        true,
-        "bytes 00000001,",
+        "true bytes 00000001,",
     ),
 ];
 
+/// Whether values fit these parameters, and the terms that they are there.
+fn fitted(
+    alloc: Global,
+    schema: &Schema,
+    values: &WrittenValues,
+    given: &[ParamRow],
+    fields: &[ParamRow],
+) -> Result<String, AllocError> {
+    let mut shown = String::new(alloc);
+    write!(shown, "{} ", each_fits(values, schema, given, fields))?;
+    push_terms(&terms_of(values, alloc, schema, fields)?, &mut shown)?;
+    Ok(shown)
+}
+
+/// Notes the values of a line that fit a message otherwise.
+fn check_fit(
+    alloc: Global,
+    schema: &Schema,
+    message: &str,
+    line: &str,
+    wanted: &str,
+    wrong: &mut String,
+) -> Result<(), Fail> {
+    let many = named(alloc, schema, "PT", "Many")?.ok_or("no message")?;
+    let message = named(alloc, schema, "PT", message)?.ok_or("no message")?;
+    let (given, fields) = (many.params.as_slice(), message.params.as_slice());
+    let readings = read_lines(alloc, line.as_bytes())?;
+    let found = fitted(alloc, schema, values_in(&readings)?, given, fields)?;
+    Ok(note(line, found.as_str(), wanted, wrong)?)
+}
+
+/// Which of these fit otherwise.
+fn wrong_fits(alloc: Global) -> Result<String, Fail> {
+    let schema = the_schema(alloc)?;
+    let mut wrong = String::new(alloc);
+    for (name, line, wanted) in FITS {
+        check_fit(alloc, &schema, name, line, wanted, &mut wrong)?;
+    }
+    Ok(wrong)
+}
+
 #[test]
 fn fits_and_terms(rt: HostRuntime) -> Result<(), Fail> {
-    let alloc = rt.alloc();
-    let schema = the_schema(alloc)?;
-    let many = named(alloc, &schema, "PT", "Many")?.ok_or("no message")?;
-    for (name, line, wanted, terms) in FITS {
-        let message = named(alloc, &schema, "PT", name)?.ok_or("no message")?;
-        let readings = read_lines(alloc, line.as_bytes())?;
-        let values = values_in(&readings)?;
-        let (given, fields) = (many.params.as_slice(), message.params.as_slice());
-        assert_eq!(rt;
-            each_fits(values, &schema, given, fields),
-            *wanted,
-            "{line}"
-        );
-        let mut shown = String::new(alloc);
-        push_terms(&terms_of(values, alloc, &schema, fields)?, &mut shown)?;
-        assert_eq!(rt; shown.as_str(), *terms, "{line}");
-    }
+    assert_eq!(rt; wrong_fits(rt.alloc())?.as_str(), "");
     Ok(())
 }
 
@@ -185,24 +217,59 @@ fn depth(terms: &Terms) -> u32 {
     }
 }
 
-/// Arrays 8,000 deep are read, fitted, copied and dropped.
+/// Appends whether values fit arrays so deep.
+fn push_fit(
+    alloc: Global,
+    schema: &Schema,
+    values: &WrittenValues,
+    count: u32,
+    out: &mut String,
+) -> Result<(), AllocError> {
+    let fields = field(alloc, count)?;
+    write!(
+        out,
+        "{} ",
+        each_fits(values, schema, &[], fields.as_slice())
+    )
+}
+
+/// Appends how deep the terms of values are, and how deep their copy is.
+fn push_depths(
+    alloc: Global,
+    schema: &Schema,
+    values: &WrittenValues,
+    out: &mut String,
+) -> Result<(), AllocError> {
+    let fields = field(alloc, 8000)?;
+    let terms = terms_of(values, alloc, schema, fields.as_slice())?;
+    let copied = terms.copy(alloc)?;
+    write!(out, "{} {}", depth(&terms), depth(&copied))
+}
+
+/// What the values of a line fit, and how deep they are.
+fn nested_text(alloc: Global, schema: &Schema, line: &[u8]) -> Result<String, Fail> {
+    let readings = read_lines(alloc, line)?;
+    let values = values_in(&readings)?;
+    let mut shown = String::new(alloc);
+    push_fit(alloc, schema, values, 8000, &mut shown)?;
+    push_fit(alloc, schema, values, 8001, &mut shown)?;
+    push_fit(alloc, schema, values, 7999, &mut shown)?;
+    push_depths(alloc, schema, values, &mut shown)?;
+    Ok(shown)
+}
+
+/// The same, of so many arrays in one another, of which the innermost is empty.
+fn arrays_text(alloc: Global, count: u32) -> Result<String, Fail> {
+    let schema = the_schema(alloc)?;
+    let line = joined(alloc, ["resolve (", "[", "", "]", ")"], count)?;
+    nested_text(alloc, &schema, line.as_slice())
+}
+
+/// Arrays 8,000 deep are read, fitted, copied and dropped. The innermost is empty, so it fits arrays
+/// that are deeper, and none that are not as deep.
 #[test]
 fn arrays_in_arrays(rt: HostRuntime) -> Result<(), Fail> {
-    let alloc = rt.alloc();
-    let schema = the_schema(alloc)?;
-    let mut line = repeat(alloc, "resolve (", "[", 8000)?;
-    line.extend_from_slice(repeat(alloc, "", "]", 8000)?.as_slice())?;
-    line.push(b')')?;
-    let readings = read_lines(alloc, line.as_slice())?;
-    let values = values_in(&readings)?;
-    let fields = field(alloc, 8000)?;
-    assert!(rt; each_fits(values, &schema, &[], fields.as_slice()));
-    let terms = terms_of(values, alloc, &schema, fields.as_slice())?;
-    assert_eq!(rt; depth(&terms), 8000);
-    let copied = terms.copy(alloc)?;
-    assert_eq!(rt; depth(&copied), 8000);
-    // The innermost is empty, so it fits arrays that are deeper, and none that are not as deep.
-    assert!(rt; each_fits(values, &schema, &[], field(alloc, 8001)?.as_slice()));
-    assert!(rt; !each_fits(values, &schema, &[], field(alloc, 7999)?.as_slice()));
+    let shown = arrays_text(rt.alloc(), 8000)?;
+    assert_eq!(rt; shown.as_str(), "true true false 8000 8000");
     Ok(())
 }

@@ -343,6 +343,3 @@ close
 K4> send top PT.Flag(true)
 end
 ";
-
-/// How many these are.
-pub const PLACES_COUNT: u32 = 21;

@@ -1,10 +1,8 @@
-use ipdl_base::{Items, Name, Side};
-use script_reader::{
-    Atom, Call, LineReading, MAX_LINE_LEN, MessageName, Statement, Who, Written, WrittenValues,
-    read_lines,
-};
+use super::given::note;
+use super::pieces::{Pieces, joined};
+use super::shows::push_statement;
+use script_reader::{LineReading, MAX_LINE_LEN, read_lines};
 use std::alloc::{AllocError, Global};
-use std::process::Abort;
 use std::test::Fail;
 
 /// What kind of thing a line says: `.` nothing, `s` a statement, `1` and `9` by the rules.
@@ -27,23 +25,8 @@ fn kinds(alloc: Global, text: &[u8]) -> Result<String, AllocError> {
     Ok(out)
 }
 
-fn check(rt: &(impl Abort + AllocGlobal), text: &[u8], want: &str) -> Result<(), AllocError> {
-    let kinds = kinds(rt.alloc(), text)?;
-    assert_eq!(rt; kinds.as_str(), want);
-    Ok(())
-}
-
-/// The marks of the text, so many times.
-fn repeat(alloc: Global, text: &[u8], count: usize, out: &mut Vec<u8>) -> Result<(), AllocError> {
-    let _ = alloc;
-    for _ in 0..count {
-        out.extend_from_slice(text)?;
-    }
-    Ok(())
-}
-
 /// Each line with the kind that it is to have.
-const LINES: [(&str, &str); 96] = [
+const LINES: &[(&str, &str)] = &[
     ("", "."),
     ("  \t\r", "."),
     ("# parent main", "."),
@@ -142,133 +125,107 @@ const LINES: [(&str, &str); 96] = [
     ("\u{c}", "1"),
 ];
 
+/// Texts of several lines, with the kinds that these are to have.
+const TEXTS: &[(&[u8], &str)] = &[
+    (b"parent main\nend\n", "ss."),
+    (b"\n\nx\r\n# y", "..1."),
+    (b"resolve (\"\xff\")\nresolve (\"\xc3\xa4\x01\")", "1s"),
+];
+
+/// Which of these lines and texts have other kinds.
+fn wrong_kinds(alloc: Global) -> Result<String, AllocError> {
+    let mut wrong = String::new(alloc);
+    for (line, wanted) in LINES {
+        let found = kinds(alloc, line.as_bytes())?;
+        note(line, found.as_str(), wanted, &mut wrong)?;
+    }
+    for (text, wanted) in TEXTS {
+        let found = kinds(alloc, text)?;
+        note(wanted, found.as_str(), wanted, &mut wrong)?;
+    }
+    Ok(wrong)
+}
+
 #[test]
 fn lines(rt: HostRuntime) -> Result<(), Fail> {
-    for (line, want) in LINES.iter() {
-        let kinds = kinds(rt.alloc(), line.as_bytes())?;
-        assert_eq!(rt; kinds.as_str(), *want, "{line}");
+    assert_eq!(rt; wrong_kinds(rt.alloc())?.as_str(), "");
+    Ok(())
+}
+
+/// The statements of a text, each with a line feed behind it.
+fn said(alloc: Global, text: &str) -> Result<String, AllocError> {
+    let readings = read_lines(alloc, text.as_bytes())?;
+    let mut out = String::new(alloc);
+    for reading in readings.as_slice() {
+        if let LineReading::Statement(statement) = reading {
+            push_statement(statement, &mut out)?;
+        }
+        out.push('\n')?;
     }
-    check(&rt, b"parent main\nend\n", "ss.")?;
-    check(&rt, b"\n\nx\r\n# y", "..1.")?;
-    check(&rt, b"resolve (\"\xff\")\nresolve (\"\xc3\xa4\x01\")", "1s")?;
-    Ok(())
+    Ok(out)
 }
 
-fn text(alloc: Global, bytes: &[u8]) -> Result<Name, AllocError> {
-    Ok(Items::from_vec(Vec::from_slice(alloc, bytes)?))
-}
+/// Lines, each a statement.
+const STATEMENTS: &str = "child main
+let x $4294967296
+return (-00099999999999999999999999999999999999999999999)
+resolve (\"\\\"\\\\\\n\\t\\x41\")
+send made P.M(@07[h\"fF0A\"])";
 
-fn one(alloc: Global, value: Written) -> Result<WrittenValues, AllocError> {
-    let value = Box::new(alloc, value)?;
-    Ok(WrittenValues::First(value, Box::new(alloc, WrittenValues::Nothing)?))
-}
-
-/// A line and the statement that it is.
-fn says(
-    rt: &(impl Abort + AllocGlobal),
-    line: &[u8],
-    statement: Statement,
-) -> Result<(), AllocError> {
-    let readings = read_lines(rt.alloc(), line)?;
-    let want = [LineReading::Statement(Box::new(rt.alloc(), statement)?)];
-    assert!(rt; readings.as_slice() == want.as_slice());
-    Ok(())
-}
+/// What these say.
+const SAID: &str = "child main
+let x $4294967295
+return -18446744073709551616,
+resolve text \"\\\n\tA,
+send made P.M @7 [bytes ff0a,],
+";
 
 #[test]
 fn statements(rt: HostRuntime) -> Result<(), Fail> {
-    let alloc = rt.alloc();
-    says(&rt, b"child main", Statement::Main(Side::Child))?;
-    says(
-        &rt,
-        b"let x $4294967296",
-        Statement::Let(text(alloc, b"x")?, Who::Param(0xffff_ffff)),
-    )?;
-    let values = one(alloc, Written::Atom(Atom::Number(-0x1_0000_0000_0000_0000)))?;
-    says(
-        &rt,
-        b"return (-00099999999999999999999999999999999999999999999)",
-        Statement::Return(values),
-    )?;
-    let values = one(alloc, Written::Atom(Atom::Text(text(alloc, b"\"\\\n\tA")?)))?;
-    says(
-        &rt,
-        b"resolve (\"\\\"\\\\\\n\\t\\x41\")",
-        Statement::Resolve(values),
-    )?;
-    let inner = Written::Array(one(
-        alloc,
-        Written::Atom(Atom::Bytes(text(alloc, &[0xff, 0x0a])?)),
-    )?);
-    let values = one(alloc, Written::Union(7, Box::new(alloc, inner)?))?;
-    let message = MessageName {
-        protocol: text(alloc, b"P")?,
-        message: text(alloc, b"M")?,
-    };
-    says(
-        &rt,
-        b"send made P.M(@07[h\"fF0A\"])",
-        Statement::Send(Who::Made, Call { message, values }),
-    )?;
+    assert_eq!(rt; said(rt.alloc(), STATEMENTS)?.as_str(), SAID);
     Ok(())
 }
 
-/// A line of one statement, with these marks so many times inside.
-fn nested(
-    alloc: Global,
-    open: &[u8],
-    close: &[u8],
-    count: usize,
-    last: &[u8],
-) -> Result<Vec<u8>, AllocError> {
-    let mut line = Vec::from_slice(alloc, b"resolve(")?;
-    repeat(alloc, open, count, &mut line)?;
-    line.extend_from_slice(last)?;
-    repeat(alloc, close, count, &mut line)?;
-    line.extend_from_slice(b")")?;
-    Ok(line)
+/// Lines as deep and as long as they can be, in their pieces, with their kinds.
+const DEEP: &[(Pieces, u32, &str)] = &[
+    (["resolve(", "[", "", "", ""], 16_376, "1"),
+    (["resolve(", "[", "", "", ""], 16_377, "9"),
+    (["", "[", "", "", ""], 16_384, "1"),
+    (["resolve(", "[", "1", "]", ")"], 8_000, "s"),
+    (["resolve(", "{", "1", "}", ")"], 8_187, "s"),
+    (["resolve(", "@0", " 1", "", ")"], 8_186, "s"),
+    (["resolve(", "some ", "1", "", ")"], 3_274, "s"),
+    (["resolve(", "1,", "1", "", ")"], 8_186, "s"),
+    (["resolve(", "0", "1", "", ")"], 16_000, "s"),
+];
+
+/// Which of these lines have other kinds.
+fn wrong_depths(alloc: Global) -> Result<String, AllocError> {
+    let mut wrong = String::new(alloc);
+    for (pieces, count, wanted) in DEEP {
+        let line = joined(alloc, *pieces, *count)?;
+        let found = kinds(alloc, line.as_slice())?;
+        note(pieces[1], found.as_str(), wanted, &mut wrong)?;
+    }
+    Ok(wrong)
 }
 
-/// Lines as deep and as long as they can be.
-#[test]
-fn depths(rt: HostRuntime) -> Result<(), Fail> {
-    let alloc = rt.alloc();
-    let mut open = Vec::from_slice(alloc, b"resolve(")?;
-    repeat(alloc, b"[", 16_376, &mut open)?;
-    assert_eq!(rt; open.len(), MAX_LINE_LEN);
-    check(&rt, open.as_slice(), "1")?;
-    open.push(b'[')?;
-    check(&rt, open.as_slice(), "9")?;
-    let mut marks = Vec::new(alloc);
-    repeat(alloc, b"[", 16_384, &mut marks)?;
-    check(&rt, marks.as_slice(), "1")?;
-    check(&rt, nested(alloc, b"[", b"]", 8_000, b"1")?.as_slice(), "s")?;
-    check(&rt, nested(alloc, b"{", b"}", 8_187, b"1")?.as_slice(), "s")?;
-    check(
-        &rt,
-        nested(alloc, b"@0", b"", 8_186, b" 1")?.as_slice(),
-        "s",
-    )?;
-    check(
-        &rt,
-        nested(alloc, b"some ", b"", 3_274, b"1")?.as_slice(),
-        "s",
-    )?;
-    check(&rt, nested(alloc, b"1,", b"", 8_186, b"1")?.as_slice(), "s")?;
-    check(&rt, nested(alloc, b"0", b"", 16_000, b"1")?.as_slice(), "s")?;
-    Ok(())
+/// The bytes of what stands so many times, and its lines.
+fn sizes(alloc: Global, piece: &'static str, count: u32) -> Result<(usize, usize), AllocError> {
+    let text = joined(alloc, ["", piece, "", "", ""], count)?;
+    Ok((text.len(), read_lines(alloc, text.as_slice())?.len()))
 }
 
-/// Texts of the greatest size.
+/// The first of the lines has as many bytes as a line can have; the texts are of the greatest size.
 #[test]
-fn sizes(rt: HostRuntime) -> Result<(), Fail> {
+fn depths_and_sizes(rt: HostRuntime) -> Result<(), Fail> {
     let alloc = rt.alloc();
-    let mut feeds = Vec::new(alloc);
-    repeat(alloc, b"\n", 1_048_576, &mut feeds)?;
-    assert_eq!(rt; read_lines(alloc, feeds.as_slice())?.len(), 1_048_577);
-    let mut sends = Vec::new(alloc);
-    repeat(alloc, b"send top P.M(1)\n", 65_536, &mut sends)?;
-    assert_eq!(rt; sends.len(), 1_048_576);
-    assert_eq!(rt; read_lines(alloc, sends.as_slice())?.len(), 65_537);
+    assert_eq!(rt; wrong_depths(alloc)?.as_str(), "");
+    assert_eq!(rt; MAX_LINE_LEN, 16_384);
+    assert_eq!(rt; sizes(alloc, "\n", 1_048_576)?, (1_048_576, 1_048_577));
+    assert_eq!(rt;
+        sizes(alloc, "send top P.M(1)\n", 65_536)?,
+        (1_048_576, 65_537)
+    );
     Ok(())
 }

@@ -1,20 +1,15 @@
-use super::given::{broken, the_schema};
-use super::line_rows::{LINES, LINES_COUNT};
-use super::message_rows::{MESSAGES, MESSAGES_COUNT};
-use super::place_rows::{PLACES, PLACES_COUNT};
-use super::value_rows::{VALUES, VALUES_COUNT};
-use std::alloc::Global;
-use std::test::Fail;
+ghost use Rattle.ipdl_base.specs.Sound.{IsSound};
 
-/// A row: the top's short name, what the row is about, its script, and the findings, as `show` has
-/// them.
-#[derive(Drop)]
-struct Row<'t> {
-    top: &'t str,
-    about: &'t str,
-    script: Vec<u8>,
-    wanted: String,
-}
+use super::given::{broken, note, schema_of_top, the_schema};
+use super::line_rows::LINES;
+use super::message_rows::MESSAGES;
+use super::pieces::joined;
+use super::place_rows::PLACES;
+use super::value_rows::VALUES;
+use super::worked_rows::{FILES, WORKED};
+use ipdl_base::Schema;
+use std::alloc::{AllocError, Global};
+use std::test::Fail;
 
 /// The rules that a line is marked with, as `K4 K5> `, and the line itself.
 fn marked(line: &str) -> (Option<&str>, &str) {
@@ -41,21 +36,33 @@ fn push_line(line: &str, script: &mut Vec<u8>) -> Result<(), Fail> {
 
 /// Appends the findings of these rules in a line.
 fn push_findings(
-    rules: Option<&str>,
+    rules: &str,
     line: u32,
     column: u32,
     wanted: &mut String,
-) -> Result<(), Fail> {
-    if let Some(rules) = rules {
-        for rule in rules.split(' ') {
-            write!(wanted, "0:{line}:{column} {rule} ")?;
-        }
+) -> Result<(), AllocError> {
+    for rule in rules.split(' ') {
+        write!(wanted, "0:{line}:{column} {rule} ")?;
     }
     Ok(())
 }
 
-/// The script of marked lines, and the findings that they are marked with.
-pub fn read_lines(alloc: Global, lines: &str, wanted: &mut String) -> Result<Vec<u8>, Fail> {
+/// Appends a marked line, which has this number, and the findings that it is marked with.
+fn push_marked(
+    line: &str,
+    number: u32,
+    script: &mut Vec<u8>,
+    wanted: &mut String,
+) -> Result<(), Fail> {
+    let (rules, line) = marked(line);
+    if let Some(rules) = rules {
+        push_findings(rules, number, 1, wanted)?;
+    }
+    push_line(line, script)
+}
+
+/// The script of marked lines; what they are marked with is appended.
+fn script_of(alloc: Global, lines: &str, wanted: &mut String) -> Result<Vec<u8>, Fail> {
     let mut script = Vec::new(alloc);
     let mut number = 0u32;
     for line in lines.split('\n') {
@@ -63,80 +70,104 @@ pub fn read_lines(alloc: Global, lines: &str, wanted: &mut String) -> Result<Vec
             script.push(b'\n')?;
         }
         number = number.wrapping_add(1);
-        let (rules, line) = marked(line);
-        push_findings(rules, number, 1, wanted)?;
-        push_line(line, &mut script)?;
+        push_marked(line, number, &mut script, wanted)?;
     }
     Ok(script)
 }
 
-/// The row that a text spells.
-fn read_row<'t>(alloc: Global, text: &'t str) -> Result<Row<'t>, Fail> {
-    let Some((head, lines)) = text.split_once("\n") else {
-        return Err("a row without its first line".into());
-    };
-    let mut wanted = String::new(alloc);
+/// Notes a script that breaks other rules than its lines are marked with. Rules before the top's short
+/// name are those that the script breaks as a whole.
+fn check(alloc: Global, schema: &Schema, row: &str, wrong: &mut String) -> Result<(), Fail>
+    requires { IsSound schema.now }
+{
+    let (head, lines) = row.split_once("\n").ok_or("a row without its first line")?;
     let (rules, head) = marked(head);
-    push_findings(rules, 0, 0, &mut wanted)?;
-    let Some((top, about)) = head.split_once(": ") else {
-        return Err("a row without a top".into());
-    };
-    let script = read_lines(alloc, lines, &mut wanted)?;
-    Ok(Row {
-        top,
-        about,
-        script,
-        wanted,
-    })
+    let (top, about) = head.split_once(": ").ok_or("a row without a top")?;
+    let mut wanted = String::new(alloc);
+    if let Some(rules) = rules {
+        push_findings(rules, 0, 0, &mut wanted)?;
+    }
+    let script = script_of(alloc, lines, &mut wanted)?;
+    let found = broken(alloc, schema, top, script.as_slice())?;
+    Ok(note(about, found.as_str(), wanted.as_str(), wrong)?)
 }
 
-/// The rows of a table, of which there should be so many, that break other rules than they are marked
-/// with: what each is about, and what was found.
-fn wrong(alloc: Global, table: &str, wanted: u32) -> Result<String, Fail> {
-    let schema = the_schema(alloc)?;
-    let mut shown = String::new(alloc);
+/// Appends what the scripts of a table break that they are not marked with, and how many they are.
+fn push_checked(alloc: Global, schema: &Schema, table: &str, out: &mut String) -> Result<(), Fail>
+    requires { IsSound schema.now }
+{
     let mut count = 0u32;
-    for text in table.split("====\n") {
-        let row = read_row(alloc, text)?;
-        let found = broken(alloc, &schema, row.top, row.script.as_slice())?;
-        if found.as_str() != row.wanted.as_str() {
-            let about = row.about;
-            write!(shown, "{about}: {found} ")?;
-        }
+    for row in table.split("====\n") {
+        check(alloc, schema, row, out)?;
         count = count.wrapping_add(1);
     }
-    if count == wanted {
-        Ok(shown)
-    } else {
-        Err("another number of rows".into())
+    Ok(write!(out, "{count} ")?)
+}
+
+/// The same, of the tables of the one program.
+fn checked(alloc: Global) -> Result<String, Fail> {
+    let schema = the_schema(alloc)?;
+    let mut shown = String::new(alloc);
+    push_checked(alloc, &schema, LINES, &mut shown)?;
+    push_checked(alloc, &schema, MESSAGES, &mut shown)?;
+    push_checked(alloc, &schema, VALUES, &mut shown)?;
+    push_checked(alloc, &schema, PLACES, &mut shown)?;
+    Ok(shown)
+}
+
+/// Scripts on lines, messages, values and places, and how many there are of each.
+#[test]
+fn rules(rt: HostRuntime) -> Result<(), Fail> {
+    assert_eq!(rt; checked(rt.alloc())?.as_str(), "39 18 28 21 ");
+    Ok(())
+}
+
+/// Notes a worked script that breaks other rules than its lines are marked with.
+fn check_worked(alloc: Global, row: &str, wrong: &mut String) -> Result<(), Fail> {
+    let (top, _) = row.split_once(": ").ok_or("a row without a top")?;
+    let schema = schema_of_top(alloc, FILES, top)?;
+    check(alloc, &schema, row, wrong)
+}
+
+/// The same, of worked scripts.
+fn checked_worked(alloc: Global) -> Result<String, Fail> {
+    let mut shown = String::new(alloc);
+    let mut count = 0u32;
+    for row in WORKED.split("====\n") {
+        check_worked(alloc, row, &mut shown)?;
+        count = count.wrapping_add(1);
     }
+    write!(shown, "{count}")?;
+    Ok(shown)
 }
 
 #[test]
-fn lines(rt: HostRuntime) -> Result<(), Fail> {
-    let wrong = wrong(rt.alloc(), LINES, LINES_COUNT)?;
-    assert_eq!(rt; wrong.as_str(), "");
+fn worked(rt: HostRuntime) -> Result<(), Fail> {
+    assert_eq!(rt; checked_worked(rt.alloc())?.as_str(), "25");
     Ok(())
 }
 
-#[test]
-fn messages(rt: HostRuntime) -> Result<(), Fail> {
-    let wrong = wrong(rt.alloc(), MESSAGES, MESSAGES_COUNT)?;
-    assert_eq!(rt; wrong.as_str(), "");
-    Ok(())
+/// Appends a line that sends so many bytes.
+fn push_put(alloc: Global, count: u32, script: &mut Vec<u8>) -> Result<(), AllocError> {
+    let pieces = ["send top PZ.Put(h\"", "00", "\")\n", "", ""];
+    Ok(script.extend_from_slice(joined(alloc, pieces, count)?.as_slice())?)
+}
+
+/// What lines as long as the greatest payload break, and longer ones. The fourth has 16,386 bytes.
+fn broken_puts(alloc: Global) -> Result<String, Fail> {
+    let schema = schema_of_top(alloc, FILES, "PZ")?;
+    let mut script = Vec::from_slice(alloc, b"child main\n")?;
+    push_put(alloc, 4092, &mut script)?;
+    push_put(alloc, 4093, &mut script)?;
+    push_put(alloc, 8182, &mut script)?;
+    push_put(alloc, 8183, &mut script)?;
+    script.extend_from_slice(b"end\n")?;
+    broken(alloc, &schema, "PZ", script.as_slice())
 }
 
 #[test]
-fn values(rt: HostRuntime) -> Result<(), Fail> {
-    let wrong = wrong(rt.alloc(), VALUES, VALUES_COUNT)?;
-    assert_eq!(rt; wrong.as_str(), "");
-    Ok(())
-}
-
-#[test]
-fn places(rt: HostRuntime) -> Result<(), Fail> {
-    let wrong = wrong(rt.alloc(), PLACES, PLACES_COUNT)?;
-    assert_eq!(rt; wrong.as_str(), "");
+fn payloads(rt: HostRuntime) -> Result<(), Fail> {
+    assert_eq!(rt; broken_puts(rt.alloc())?.as_str(), "0:5:1 K9 ");
     Ok(())
 }
 
@@ -190,13 +221,23 @@ const BYTES: &[(&[u8], &str)] = &[
     (b"parent main\nlet x\xa0top\nend", "0:2:1 K1 "),
 ];
 
+/// What of these texts is broken otherwise than it should be.
+fn wrong_bytes(alloc: Global, schema: &Schema) -> Result<String, Fail>
+    requires { IsSound schema.now }
+{
+    let mut wrong = String::new(alloc);
+    for (text, wanted) in BYTES {
+        let found = broken(alloc, schema, "PT", text)?;
+        let row = str::from_utf8(text).unwrap_or("no UTF-8");
+        note(row, found.as_str(), wanted, &mut wrong)?;
+    }
+    Ok(wrong)
+}
+
 #[test]
 fn bytes(rt: HostRuntime) -> Result<(), Fail> {
     let alloc = rt.alloc();
     let schema = the_schema(alloc)?;
-    for (text, wanted) in BYTES {
-        let shown = broken(alloc, &schema, "PT", text)?;
-        assert_eq!(rt; shown.as_str(), *wanted, "{text:?}");
-    }
+    assert_eq!(rt; wrong_bytes(alloc, &schema)?.as_str(), "");
     Ok(())
 }

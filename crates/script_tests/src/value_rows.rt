@@ -501,6 +501,3 @@ K5> send $1 PT.Tell(\"x\")
 K5> send $2 PT.Tell($2)
 end
 ";
-
-/// How many these are.
-pub const VALUES_COUNT: u32 = 28;

@@ -1,7 +1,5 @@
-/// The worked scripts, each with what it is about, and the files of its program, of which the first is
-/// the command's word. Behind `@ script` stand its lines, marked as in `line_rows`.
-pub const WORKED: &str = "Both sides call at once
-@ PW.ipdl
+/// The files of the worked scripts, each with its name behind `@ `, and then its text.
+pub const FILES: &str = "@ PW.ipdl
 [NestedUpTo=inside_cpow]
 sync protocol PW {
 parent:
@@ -13,7 +11,42 @@ child:
   async Tell(int32_t n);
   async Give(PW w);
 };
-@ script
+@ PQ.ipdl
+protocol PQ { both: async Get() returns (int32_t r); parent: async Tell(int32_t n); };
+@ PC.ipdl
+protocol PC { parent: [Compress] async Up(int32_t n); [Compress=all] async Alls(int32_t n); async Mark(); [Compress] async Ask(int32_t n) returns (bool b); };
+@ PR.ipdl
+include protocol PK; protocol PR { manages PK; parent: async PK(); };
+@ PK.ipdl
+include protocol PR; protocol PK { manager PR or PK; manages PK; parent: async PK(); async Get() returns (int32_t r); async __delete__(); };
+@ POwn.ipdl
+include protocol PTmp; protocol POwn { manages PTmp; parent: async PTmp(); child: async Mark(nullable PTmp p); };
+@ PTmp.ipdl
+include protocol POwn; protocol PTmp { manager POwn; both: async Hi(); async __delete__(); };
+@ PF.ipdl
+protocol PF {
+parent:
+  async Flag(bool b);
+};
+@ PLz.ipdl
+protocol PLz { parent: [LazySend] async Lz(int32_t n); async Now(); };
+@ PM.ipdl
+include protocol PN; [NestedUpTo=inside_sync] sync protocol PM { manages PN; parent: sync Ask(); child: async PN(); };
+@ PN.ipdl
+include protocol PM; [NestedUpTo=inside_sync] sync protocol PN { manager PM; child: [Nested=inside_sync] sync Ping(); async __delete__(); };
+@ PGen.ipdl
+include protocol PLeaf; [NestedUpTo=inside_sync] sync protocol PGen { manages PLeaf; parent: async PLeaf(); [Compress] async Up(int32_t n); };
+@ PLeaf.ipdl
+include protocol PGen; [NestedUpTo=inside_sync] sync protocol PLeaf { manager PGen; parent: [Nested=inside_sync] sync Ask(int32_t n) returns (int32_t r); async Get(int32_t n) returns (int32_t r); async __delete__(); child: [Nested=inside_sync] sync Back(int32_t n) returns (int32_t r); };
+@ PZ.ipdl
+protocol PZ {
+parent:
+  async Put(nsCString s);
+};
+";
+
+/// The worked scripts, in the form of `line_rows`. The top is the protocol of one of the files.
+pub const WORKED: &str = "PW: Both sides call at once
 parent main
 send top PW.CallC()
 end
@@ -27,20 +60,7 @@ child on PW.CallC
 return (20)
 end
 ====
-A script that breaks four rules
-@ PW.ipdl
-[NestedUpTo=inside_cpow]
-sync protocol PW {
-parent:
-  [Nested=inside_sync] sync CallP() returns (int32_t r);
-  [Nested=inside_cpow] async Poke();
-  sync Base();
-child:
-  [Nested=inside_sync] sync CallC() returns (int32_t r);
-  async Tell(int32_t n);
-  async Give(PW w);
-};
-@ script
+PW: A script that breaks four rules
 parent main
 K4> send top PW.CallP()
 end
@@ -48,10 +68,7 @@ K2> child main
 K5> send top PW.CallP(1)
 K1> frob
 ====
-An end that closes while promises are open
-@ PQ.ipdl
-protocol PQ { both: async Get() returns (int32_t r); parent: async Tell(int32_t n); };
-@ script
+PQ: An end that closes while promises are open
 parent main
 send top PQ.Get()
 send top PQ.Get()
@@ -63,10 +80,7 @@ send top PQ.Tell(2)
 close
 end
 ====
-Messages that replace others
-@ PC.ipdl
-protocol PC { parent: [Compress] async Up(int32_t n); [Compress=all] async Alls(int32_t n); async Mark(); [Compress] async Ask(int32_t n) returns (bool b); };
-@ script
+PC: Messages that replace others
 child main
 send top PC.Up(1)
 send top PC.Up(2)
@@ -79,20 +93,7 @@ send top PC.Ask(1)
 send top PC.Ask(2)
 end
 ====
-A death under nested waits
-@ PW.ipdl
-[NestedUpTo=inside_cpow]
-sync protocol PW {
-parent:
-  [Nested=inside_sync] sync CallP() returns (int32_t r);
-  [Nested=inside_cpow] async Poke();
-  sync Base();
-child:
-  [Nested=inside_sync] sync CallC() returns (int32_t r);
-  async Tell(int32_t n);
-  async Give(PW w);
-};
-@ script
+PW: A death under nested waits
 parent main
 send top PW.CallC()
 end
@@ -106,12 +107,7 @@ child on PW.CallC
 die
 end
 ====
-A tree of actors that is deleted
-@ PR.ipdl
-include protocol PK; protocol PR { manages PK; parent: async PK(); };
-@ PK.ipdl
-include protocol PR; protocol PK { manager PR or PK; manages PK; parent: async PK(); async Get() returns (int32_t r); async __delete__(); };
-@ script
+PR: A tree of actors that is deleted
 child main
 new a top PR.PK()
 new b a PK.PK()
@@ -123,20 +119,7 @@ parent on PK.Get
 resolve (9)
 end
 ====
-Four nested calls
-@ PW.ipdl
-[NestedUpTo=inside_cpow]
-sync protocol PW {
-parent:
-  [Nested=inside_sync] sync CallP() returns (int32_t r);
-  [Nested=inside_cpow] async Poke();
-  sync Base();
-child:
-  [Nested=inside_sync] sync CallC() returns (int32_t r);
-  async Tell(int32_t n);
-  async Give(PW w);
-};
-@ script
+PW: Four nested calls
 parent main
 send top PW.CallC()
 end
@@ -159,12 +142,7 @@ parent on PW.CallP
 return (4)
 end
 ====
-Actors that are sent after they fell
-@ POwn.ipdl
-include protocol PTmp; protocol POwn { manages PTmp; parent: async PTmp(); child: async Mark(nullable PTmp p); };
-@ PTmp.ipdl
-include protocol POwn; protocol PTmp { manager POwn; both: async Hi(); async __delete__(); };
-@ script
+POwn: Actors that are sent after they fell
 child main
 new t top POwn.PTmp()
 send t PTmp.__delete__()
@@ -175,26 +153,14 @@ send made PTmp.Hi()
 send top POwn.Mark(made)
 end
 ====
-One question
-@ PQ.ipdl
-protocol PQ { both: async Get() returns (int32_t r); parent: async Tell(int32_t n); };
-@ script
+PQ: One question
 parent main
 send top PQ.Get()
 end
 ====
-No line
-@ PF.ipdl
-protocol PF {
-parent:
-  async Flag(bool b);
-};
-@ script
+PF: No line
 ====
-A resolver that is kept
-@ PQ.ipdl
-protocol PQ { both: async Get() returns (int32_t r); parent: async Tell(int32_t n); };
-@ script
+PQ: A resolver that is kept
 child main
 send top PQ.Get()
 send top PQ.Tell(1)
@@ -206,10 +172,7 @@ parent on PQ.Tell
 resolve k PQ.Get (5)
 end
 ====
-Messages that wait in an outbox
-@ PLz.ipdl
-protocol PLz { parent: [LazySend] async Lz(int32_t n); async Now(); };
-@ script
+PLz: Messages that wait in an outbox
 child main
 send top PLz.Lz(1)
 send top PLz.Lz(2)
@@ -217,12 +180,7 @@ send top PLz.Now()
 send top PLz.Lz(3)
 end
 ====
-A constructor that is overtaken
-@ PM.ipdl
-include protocol PN; [NestedUpTo=inside_sync] sync protocol PM { manages PN; parent: sync Ask(); child: async PN(); };
-@ PN.ipdl
-include protocol PM; [NestedUpTo=inside_sync] sync protocol PN { manager PM; child: [Nested=inside_sync] sync Ping(); async __delete__(); };
-@ script
+PM: A constructor that is overtaken
 parent main
 new n top PM.PN()
 send n PN.Ping()
@@ -231,20 +189,7 @@ child main
 send top PM.Ask()
 end
 ====
-A send behind a close
-@ PW.ipdl
-[NestedUpTo=inside_cpow]
-sync protocol PW {
-parent:
-  [Nested=inside_sync] sync CallP() returns (int32_t r);
-  [Nested=inside_cpow] async Poke();
-  sync Base();
-child:
-  [Nested=inside_sync] sync CallC() returns (int32_t r);
-  async Tell(int32_t n);
-  async Give(PW w);
-};
-@ script
+PW: A send behind a close
 child main
 send top PW.Poke()
 end
@@ -253,56 +198,17 @@ close
 send top PW.Tell(1)
 end
 ====
-A send to a name that holds nothing
-@ PW.ipdl
-[NestedUpTo=inside_cpow]
-sync protocol PW {
-parent:
-  [Nested=inside_sync] sync CallP() returns (int32_t r);
-  [Nested=inside_cpow] async Poke();
-  sync Base();
-child:
-  [Nested=inside_sync] sync CallC() returns (int32_t r);
-  async Tell(int32_t n);
-  async Give(PW w);
-};
-@ script
+PW: A send to a name that holds nothing
 child main
 send x PW.Poke()
 end
 ====
-A value that is a name that holds nothing
-@ PW.ipdl
-[NestedUpTo=inside_cpow]
-sync protocol PW {
-parent:
-  [Nested=inside_sync] sync CallP() returns (int32_t r);
-  [Nested=inside_cpow] async Poke();
-  sync Base();
-child:
-  [Nested=inside_sync] sync CallC() returns (int32_t r);
-  async Tell(int32_t n);
-  async Give(PW w);
-};
-@ script
+PW: A value that is a name that holds nothing
 parent main
 send top PW.Give(x)
 end
 ====
-A close under a call
-@ PW.ipdl
-[NestedUpTo=inside_cpow]
-sync protocol PW {
-parent:
-  [Nested=inside_sync] sync CallP() returns (int32_t r);
-  [Nested=inside_cpow] async Poke();
-  sync Base();
-child:
-  [Nested=inside_sync] sync CallC() returns (int32_t r);
-  async Tell(int32_t n);
-  async Give(PW w);
-};
-@ script
+PW: A close under a call
 child main
 send top PW.CallP()
 end
@@ -315,20 +221,7 @@ close
 return (2)
 end
 ====
-A call inside of a message of the highest level
-@ PW.ipdl
-[NestedUpTo=inside_cpow]
-sync protocol PW {
-parent:
-  [Nested=inside_sync] sync CallP() returns (int32_t r);
-  [Nested=inside_cpow] async Poke();
-  sync Base();
-child:
-  [Nested=inside_sync] sync CallC() returns (int32_t r);
-  async Tell(int32_t n);
-  async Give(PW w);
-};
-@ script
+PW: A call inside of a message of the highest level
 child main
 send top PW.Poke()
 end
@@ -336,20 +229,7 @@ parent on PW.Poke
 send top PW.CallC()
 end
 ====
-A call of too low a level
-@ PW.ipdl
-[NestedUpTo=inside_cpow]
-sync protocol PW {
-parent:
-  [Nested=inside_sync] sync CallP() returns (int32_t r);
-  [Nested=inside_cpow] async Poke();
-  sync Base();
-child:
-  [Nested=inside_sync] sync CallC() returns (int32_t r);
-  async Tell(int32_t n);
-  async Give(PW w);
-};
-@ script
+PW: A call of too low a level
 parent main
 send top PW.CallC()
 end
@@ -358,20 +238,7 @@ send top PW.Base()
 return (1)
 end
 ====
-A nested call in a normal one
-@ PW.ipdl
-[NestedUpTo=inside_cpow]
-sync protocol PW {
-parent:
-  [Nested=inside_sync] sync CallP() returns (int32_t r);
-  [Nested=inside_cpow] async Poke();
-  sync Base();
-child:
-  [Nested=inside_sync] sync CallC() returns (int32_t r);
-  async Tell(int32_t n);
-  async Give(PW w);
-};
-@ script
+PW: A nested call in a normal one
 child main
 send top PW.Base()
 end
@@ -379,20 +246,7 @@ parent on PW.Base
 send top PW.CallC()
 end
 ====
-Calls too deep
-@ PW.ipdl
-[NestedUpTo=inside_cpow]
-sync protocol PW {
-parent:
-  [Nested=inside_sync] sync CallP() returns (int32_t r);
-  [Nested=inside_cpow] async Poke();
-  sync Base();
-child:
-  [Nested=inside_sync] sync CallC() returns (int32_t r);
-  async Tell(int32_t n);
-  async Give(PW w);
-};
-@ script
+PW: Calls too deep
 parent main
 send top PW.CallC()
 end
@@ -405,39 +259,13 @@ send top PW.CallC()
 return (0)
 end
 ====
-Two messages
-@ PW.ipdl
-[NestedUpTo=inside_cpow]
-sync protocol PW {
-parent:
-  [Nested=inside_sync] sync CallP() returns (int32_t r);
-  [Nested=inside_cpow] async Poke();
-  sync Base();
-child:
-  [Nested=inside_sync] sync CallC() returns (int32_t r);
-  async Tell(int32_t n);
-  async Give(PW w);
-};
-@ script
+PW: Two messages
 parent main
 send top PW.Tell(5)
 send top PW.Tell(6)
 end
 ====
-A reply under a handler
-@ PW.ipdl
-[NestedUpTo=inside_cpow]
-sync protocol PW {
-parent:
-  [Nested=inside_sync] sync CallP() returns (int32_t r);
-  [Nested=inside_cpow] async Poke();
-  sync Base();
-child:
-  [Nested=inside_sync] sync CallC() returns (int32_t r);
-  async Tell(int32_t n);
-  async Give(PW w);
-};
-@ script
+PW: A reply under a handler
 parent main
 send top PW.CallC()
 end
@@ -449,12 +277,7 @@ parent on PW.Poke
 send top PW.Tell(1)
 end
 ====
-A made script of 1 round and 1 actor
-@ PGen.ipdl
-include protocol PLeaf; [NestedUpTo=inside_sync] sync protocol PGen { manages PLeaf; parent: async PLeaf(); [Compress] async Up(int32_t n); };
-@ PLeaf.ipdl
-include protocol PGen; [NestedUpTo=inside_sync] sync protocol PLeaf { manager PGen; parent: [Nested=inside_sync] sync Ask(int32_t n) returns (int32_t r); async Get(int32_t n) returns (int32_t r); async __delete__(); child: [Nested=inside_sync] sync Back(int32_t n) returns (int32_t r); };
-@ script
+PGen: A made script of 1 round and 1 actor
 child main
 new a1 top PGen.PLeaf()
 send a1 PLeaf.Ask(48)
@@ -475,12 +298,7 @@ send top PGen.Up($1)
 return ($1)
 end
 ====
-A made script of 3 rounds and 2 actors
-@ PGen.ipdl
-include protocol PLeaf; [NestedUpTo=inside_sync] sync protocol PGen { manages PLeaf; parent: async PLeaf(); [Compress] async Up(int32_t n); };
-@ PLeaf.ipdl
-include protocol PGen; [NestedUpTo=inside_sync] sync protocol PLeaf { manager PGen; parent: [Nested=inside_sync] sync Ask(int32_t n) returns (int32_t r); async Get(int32_t n) returns (int32_t r); async __delete__(); child: [Nested=inside_sync] sync Back(int32_t n) returns (int32_t r); };
-@ script
+PGen: A made script of 3 rounds and 2 actors
 child main
 new a1 top PGen.PLeaf()
 new a2 top PGen.PLeaf()
@@ -507,6 +325,3 @@ send top PGen.Up($1)
 return ($1)
 end
 ";
-
-/// How many these are.
-pub const WORKED_COUNT: u32 = 25;
