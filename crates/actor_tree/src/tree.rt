@@ -24,7 +24,7 @@ pub enum TreeFault {
 }
 
 /// The living actors. Contracts see the list of them in order of making.
-#[derive(Debug, Drop)]
+#[derive(Drop)]
 pub struct Tree {
     actors: Vec<Actor>,
 }

@@ -12,14 +12,14 @@ use value_codec::{Decoded, decode, decode_old};
 use value_types::MARK;
 
 /// A message, and where its frame begins among the bytes of a file.
-#[derive(Debug, Drop)]
+#[derive(Drop)]
 pub struct Placed {
     pub offset: usize,
     pub message: Message,
 }
 
 /// Where a file holds no further frames.
-#[derive(Clone, Copy, Debug, PartialEq, Eq)]
+#[derive(Clone, Copy)]
 pub enum ListFault {
     /// At this offset stands less than a frame: so many bytes are missing.
     Short(usize, usize),
@@ -28,7 +28,7 @@ pub enum ListFault {
 }
 
 /// The frames of a file, in order, and where it holds no further ones.
-#[derive(Debug, Drop)]
+#[derive(Drop)]
 pub struct FrameList {
     pub frames: Items<Placed>,
     pub fault: Option<ListFault>,

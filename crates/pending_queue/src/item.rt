@@ -28,7 +28,7 @@ pub enum Pushed {
 }
 
 /// Why a push failed. It hands the item back.
-#[derive(Debug, Drop, PartialEq, Error)]
+#[derive(Debug, Drop, Error)]
 pub enum PushFault {
     #[error("no memory")]
     NoMemory(Item),

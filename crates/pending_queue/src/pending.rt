@@ -10,7 +10,7 @@ use std::marker::Model;
 
 /// The items that have arrived at an end and were not taken, which contracts see as a list, oldest
 /// first, and a number: how many more items there is room for.
-#[derive(Debug, Drop)]
+#[derive(Drop)]
 pub struct Pending {
     items: Vec<Item>,
 }

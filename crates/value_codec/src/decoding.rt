@@ -16,7 +16,7 @@ use std::alloc::Global;
 use value_types::{Layout, NEW, OLD};
 
 /// What bytes begin.
-#[derive(Debug, Drop)]
+#[derive(Drop)]
 pub enum Decoded {
     /// A message, whose frame is so many of the bytes.
     Frame(Message, usize),

@@ -6,7 +6,7 @@ ghost use Rattle.value_codec.specs.declared.fault.Refusal.TheVariants.{NoMemory}
 use std::alloc::{AllocError, AllocFailed};
 
 /// The first rule that a payload breaks.
-#[derive(Clone, Copy, Debug, PartialEq, Eq)]
+#[derive(Clone, Copy)]
 pub(crate) struct Fault {
     /// The number of the rule.
     pub(crate) rule: u8,
@@ -15,7 +15,7 @@ pub(crate) struct Fault {
 }
 
 /// Why no value was read.
-#[derive(Debug, Drop)]
+#[derive(Drop)]
 pub(crate) enum Refusal {
     NoMemory,
     Broken(Fault),

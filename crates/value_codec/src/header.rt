@@ -17,7 +17,7 @@ use value_types::{Layout, MARK};
 const GOODBYE: u32 = 0xffff_0000;
 
 /// The six fields of a header.
-#[derive(Clone, Copy, Debug, PartialEq, Eq)]
+#[derive(Clone, Copy)]
 pub(crate) struct Header {
     /// The number of bytes of the payload.
     pub(crate) size: u32,
