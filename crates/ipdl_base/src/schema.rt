@@ -7,14 +7,14 @@ use crate::kinds::{Compress, Direction, Level, Semantics};
 use std::alloc::{AllocError, Global};
 
 /// The protocols and types of a program, by number.
-#[derive(Debug, Drop)]
+#[derive(Drop)]
 pub struct Schema {
     pub protocols: ProtocolRows,
     pub types: TypeRows,
 }
 
 /// A protocol. Its number is its index in the schema.
-#[derive(Debug, Drop)]
+#[derive(Drop)]
 pub struct ProtocolRow {
     /// The full name, with its namespaces.
     pub name: Name,
@@ -28,7 +28,7 @@ pub struct ProtocolRow {
 }
 
 /// A message of a protocol.
-#[derive(Debug, Drop)]
+#[derive(Drop)]
 pub struct MessageRow {
     /// The number of its request; that of its reply is the next.
     pub number: u32,
@@ -58,7 +58,7 @@ pub enum Kind {
 }
 
 /// A parameter, a return or a field.
-#[derive(Debug, Drop)]
+#[derive(Drop)]
 pub struct ParamRow {
     pub name: Name,
     pub shape: Shape,
@@ -66,7 +66,7 @@ pub struct ParamRow {
 
 /// A type. The number of `Actor` and `Endpoint` is that of a protocol, with whether it is nullable
 /// or managed; that of `Named` is an index in the schema's types.
-#[derive(Debug, Drop)]
+#[derive(Drop)]
 pub enum Shape {
     Builtin(Builtin),
     Using(Name),
@@ -114,7 +114,7 @@ impl Shape {
 }
 
 /// A struct or a union, with its full name and its fields or components.
-#[derive(Debug, Drop)]
+#[derive(Drop)]
 pub enum TypeRow {
     Struct(Name, ParamRows),
     Union(Name, Shapes),

@@ -2,7 +2,7 @@ use crate::tree::Unit;
 use ipdl_base::{Items, Name, Numbers};
 
 /// A file of a program.
-#[derive(Debug, Drop)]
+#[derive(Drop)]
 pub struct Entry {
     /// Its key, the part of its name behind the last `/`.
     pub key: Name,

@@ -10,7 +10,7 @@ pub enum FileKind {
 }
 
 /// What a file says. Each list is in text order.
-#[derive(Debug, Drop)]
+#[derive(Drop)]
 pub struct Unit {
     pub includes: Includes,
     pub usings: Usings,
@@ -32,7 +32,7 @@ pub enum IncludeKind {
 }
 
 /// An include, with the place of the name; a quoted name keeps its quotes.
-#[derive(Debug, Drop)]
+#[derive(Drop)]
 pub struct Include {
     pub kind: IncludeKind,
     pub name: Name,
@@ -40,7 +40,7 @@ pub struct Include {
 }
 
 /// A type that another language declares, with its whole text and the place of that.
-#[derive(Debug, Drop)]
+#[derive(Drop)]
 pub struct Using {
     pub full: Name,
     pub place: Place,
@@ -48,7 +48,7 @@ pub struct Using {
 }
 
 /// A struct, with its full name and the place of its name.
-#[derive(Debug, Drop)]
+#[derive(Drop)]
 pub struct StructDecl {
     pub full: Name,
     pub place: Place,
@@ -58,7 +58,7 @@ pub struct StructDecl {
 }
 
 /// A union, with its full name and the place of its name.
-#[derive(Debug, Drop)]
+#[derive(Drop)]
 pub struct UnionDecl {
     pub full: Name,
     pub place: Place,
@@ -67,7 +67,7 @@ pub struct UnionDecl {
 }
 
 /// A protocol, with its full name and the place of its name. Without `sync` it is async.
-#[derive(Debug, Drop)]
+#[derive(Drop)]
 pub struct ProtocolDecl {
     pub full: Name,
     pub place: Place,
@@ -79,14 +79,14 @@ pub struct ProtocolDecl {
 }
 
 /// A name and its place.
-#[derive(Debug, Drop)]
+#[derive(Drop)]
 pub struct NameAt {
     pub name: Name,
     pub place: Place,
 }
 
 /// A message, with the direction of its section and the place of its name.
-#[derive(Debug, Drop)]
+#[derive(Drop)]
 pub struct MessageDecl {
     pub name: Name,
     pub place: Place,
@@ -98,7 +98,7 @@ pub struct MessageDecl {
 }
 
 /// A parameter, a return or a field, with the place of its name.
-#[derive(Debug, Drop)]
+#[derive(Drop)]
 pub struct Param {
     pub spec: TypeSpec,
     pub name: Name,
@@ -108,7 +108,7 @@ pub struct Param {
 
 /// A type as it is written. Its place is that of its first token behind `nullable`.
 #[cycle(type_spec)]
-#[derive(Debug, Drop)]
+#[derive(Drop)]
 pub struct TypeSpec {
     /// Whether `nullable` stands before the base.
     pub nullable: bool,
@@ -120,7 +120,7 @@ pub struct TypeSpec {
 
 /// What the suffixes of a type apply to.
 #[cycle(type_spec)]
-#[derive(Debug, Drop)]
+#[derive(Drop)]
 pub enum Base {
     /// A name with its namespaces, and the argument in `<` and `>` where it has one.
     Named(Name, Option<Name>),
@@ -138,7 +138,7 @@ pub enum Suffix {
 }
 
 /// An attribute, with the place of its name; a quoted value keeps its quotes.
-#[derive(Debug, Drop)]
+#[derive(Drop)]
 pub struct Attribute {
     pub name: Name,
     pub value: Option<Name>,

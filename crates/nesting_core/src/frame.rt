@@ -23,7 +23,7 @@ pub struct SendHead {
 }
 
 /// What ends a wait: the values of the reply, or why there are none.
-#[derive(Debug, Drop, PartialEq)]
+#[derive(Drop)]
 pub enum Answer {
     Ok(Values),
     Fault(Reason),
@@ -38,7 +38,7 @@ pub enum Frame {
 }
 
 /// A frame that came off a stack; a wait comes with its answer.
-#[derive(Debug, Drop, PartialEq)]
+#[derive(Drop)]
 pub enum Popped {
     Dispatch(Head),
     Wait(Head, Answer),

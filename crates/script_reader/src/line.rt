@@ -12,7 +12,7 @@ use ipdl_base::Items;
 use std::alloc::{AllocError, Global};
 
 /// What a line of a script says.
-#[derive(Drop, PartialEq)]
+#[derive(Drop)]
 pub enum LineReading {
     /// Nothing: it is blank or a comment.
     Silent,

@@ -2,21 +2,21 @@ use crate::written::{Who, WrittenValues};
 use ipdl_base::{Name, Side};
 
 /// A message by the short name of its protocol and its own, as `P.M`.
-#[derive(Drop, PartialEq)]
+#[derive(Drop)]
 pub struct MessageName {
     pub protocol: Name,
     pub message: Name,
 }
 
 /// A message with values, as `P.M(VALUES)`.
-#[derive(Drop, PartialEq)]
+#[derive(Drop)]
 pub struct Call {
     pub message: MessageName,
     pub values: WrittenValues,
 }
 
 /// What a line of a script says.
-#[derive(Drop, PartialEq)]
+#[derive(Drop)]
 pub enum Statement {
     /// `SIDE main`: opens the block of what the side does by itself.
     Main(Side),

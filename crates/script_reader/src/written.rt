@@ -1,7 +1,7 @@
 use ipdl_base::Name;
 
 /// Who a statement speaks of.
-#[derive(Drop, PartialEq)]
+#[derive(Drop)]
 pub enum Who {
     /// The top actor.
     Top,
@@ -17,7 +17,7 @@ pub enum Who {
 }
 
 /// A value of one token.
-#[derive(Drop, PartialEq)]
+#[derive(Drop)]
 pub enum Atom {
     Bool(bool),
     /// A whole number. One beyond 2^64, or below -2^64, is read as that: no type has it.
@@ -36,7 +36,7 @@ pub enum Atom {
 
 /// A value as a statement writes it. Its type decides which value it is.
 #[cycle(written)]
-#[derive(Drop, PartialEq)]
+#[derive(Drop)]
 pub enum Written {
     Atom(Atom),
     /// A struct, by its fields.
@@ -50,7 +50,7 @@ pub enum Written {
 
 /// A list of written values: nothing, or a first one and the rest.
 #[cycle(written)]
-#[derive(Drop, PartialEq)]
+#[derive(Drop)]
 pub enum WrittenValues {
     Nothing,
     First(Box<Written>, Box<WrittenValues>),
