@@ -89,7 +89,10 @@ impl Terms {
     {
         match self {
             Terms::Nothing => Ok(Terms::Nothing),
-            Terms::First(first, rest) => first_of(alloc, first.copy(alloc)?, rest.copy(alloc)?),
+            Terms::First(first, rest) => Ok(Terms::First(
+                Box::new(alloc, first.copy(alloc)?)?,
+                Box::new(alloc, rest.copy(alloc)?)?,
+            )),
         }
     }
 }
