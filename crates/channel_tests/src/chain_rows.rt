@@ -393,4 +393,4 @@ child take reply -2
 ";
 
 /// For how many numbers of lines they say which calls wait.
-pub const CHAINS_COUNT: usize = 45;
+pub const CHAINS_COUNT: &str = "45";

@@ -1,84 +1,96 @@
 ghost use Rattle.ipdl_base.specs.Sound.{IsSound};
 
 use super::chain_rows::{CHAINS, CHAINS_COUNT};
-use super::given::schema_of;
+use super::given::{note, schema_of};
 use super::lists::history_of;
 use history::History;
 use history_laws::{Held, can_read, chain};
 use ipdl_base::{Schema, Side};
-use std::alloc::Global;
+use std::alloc::{AllocError, Global};
 use std::test::Fail;
 
 /// Calls, each as its end and its number, with a comma between each two.
-fn show(alloc: Global, calls: &[Held]) -> Result<String, Fail> {
+pub fn show(alloc: Global, calls: &[Held]) -> Result<String, AllocError> {
+    if calls.is_empty() {
+        return String::from_str(alloc, "nobody");
+    }
     let mut shown = String::new(alloc);
-    for call in calls {
-        let seq = call.head.seq;
-        if !shown.is_empty() {
-            shown.push_str(", ")?;
-        }
+    for (place, call) in calls.iter().enumerate() {
+        let comma = if place > 0 { ", " } else { "" };
         let side = match call.side {
             Side::Parent => "parent",
             Side::Child => "child",
         };
-        write!(shown, "{side} {seq}")?;
-    }
-    if shown.is_empty() {
-        shown.push_str("nobody")?;
+        write!(shown, "{comma}{side} {}", call.head.seq)?;
     }
     Ok(shown)
 }
 
 /// The unanswered calls behind the first lines of a history.
-fn waiting(alloc: Global, schema: &Schema, history: &History, count: usize) -> Result<String, Fail>
+pub fn waiting(
+    alloc: Global,
+    schema: &Schema,
+    history: &History,
+    count: usize,
+) -> Result<String, AllocError>
     requires { IsSound schema.now }
 {
     if count > history.lines().len() {
-        return Err("fewer lines".into());
+        return String::from_str(alloc, "fewer lines");
     }
     if !can_read(alloc, schema, history, count)? {
-        return Err("lines that are not readable".into());
+        return String::from_str(alloc, "lines that are not readable");
     }
     let calls = chain(alloc, schema, history, count)?;
     show(alloc, calls.as_slice())
 }
 
-/// Of a history, the answers to which calls wait behind so many lines that are others than wanted.
-fn wrong(alloc: Global, word: &str, wanted: &str, lines: &str) -> Result<String, Fail> {
+/// Notes the answers of the history of a row that are others than wanted, and counts what is asked.
+fn check_asked(
+    alloc: Global,
+    schema: &Schema,
+    history: &History,
+    name: &str,
+    wanted: &str,
+    wrong: &mut String,
+) -> Result<u32, Fail>
+    requires { IsSound schema.now }
+{
+    let mut asked = 0u32;
+    for piece in wanted.split('\n') {
+        let (count, _) = piece.split_once(": ").ok_or("no number of lines")?;
+        let calls = waiting(alloc, schema, history, count.parse::<usize>()?)?;
+        let found = format!(in alloc; "{count}: {calls}")?;
+        note(name, found.as_str(), piece, wrong)?;
+        asked = asked.wrapping_add(1);
+    }
+    Ok(asked)
+}
+
+/// As `check_asked`, of a row.
+fn check(alloc: Global, row: &str, wrong: &mut String) -> Result<u32, Fail> {
+    let (given, lines) = row.split_once("\n@\n").ok_or("a row without lines")?;
+    let (head, wanted) = given.split_once("\n").ok_or("a row that asks nothing")?;
+    let (name, word) = head.split_once(" ").ok_or("a row without its file")?;
     let schema = schema_of(alloc, word)?;
     let history = history_of(alloc, &schema, lines)?;
+    check_asked(alloc, &schema, &history, name, wanted, wrong)
+}
+
+/// The answers that are others than wanted, and how many there are of all.
+fn checked(alloc: Global) -> Result<String, Fail> {
     let mut shown = String::new(alloc);
-    for piece in wanted.split("\n") {
-        let Some((count, calls)) = piece.split_once(": ") else {
-            return Err("no number of lines".into());
-        };
-        let found = waiting(alloc, &schema, &history, count.parse::<usize>()?)?;
-        if found.as_str() != calls {
-            write!(shown, "{count} {found} ")?;
-        }
+    let mut count = 0u32;
+    for row in CHAINS.split("====\n") {
+        count = count.wrapping_add(check(alloc, row, &mut shown)?);
     }
+    write!(shown, "{count}")?;
     Ok(shown)
 }
 
 /// Which calls wait behind some lines, the oldest first.
 #[test]
 fn chains(rt: HostRuntime) -> Result<(), Fail> {
-    let alloc = rt.alloc();
-    let mut count = 0usize;
-    for row in CHAINS.split("====\n") {
-        let Some((given, lines)) = row.split_once("\n@\n") else {
-            return Err("a row without lines".into());
-        };
-        let Some((head, wanted)) = given.split_once("\n") else {
-            return Err("a row that asks nothing".into());
-        };
-        let Some((name, word)) = head.split_once(" ") else {
-            return Err("a row without its file".into());
-        };
-        let wrong = wrong(alloc, word, wanted, lines)?;
-        assert_eq!(rt; wrong.as_str(), "", "{name}");
-        count = count.wrapping_add(wanted.split("\n").count());
-    }
-    assert_eq!(rt; count, CHAINS_COUNT);
+    assert_eq!(rt; checked(rt.alloc())?.as_str(), CHAINS_COUNT);
     Ok(())
 }

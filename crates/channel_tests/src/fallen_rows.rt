@@ -154,4 +154,4 @@ parent refused Closed close
 ";
 
 /// How many they are.
-pub const FALLEN_COUNT: u32 = 9;
+pub const FALLEN_COUNT: &str = "9";

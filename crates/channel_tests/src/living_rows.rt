@@ -203,4 +203,4 @@ child deliver request 4
 ";
 
 /// How many they are.
-pub const LIVING_COUNT: u32 = 10;
+pub const LIVING_COUNT: &str = "10";

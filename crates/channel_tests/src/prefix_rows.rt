@@ -121,4 +121,4 @@ child send -4 to 2147483647 PQ.Get()
 ";
 
 /// How many they are.
-pub const PREFIX_COUNT: u32 = 10;
+pub const PREFIX_COUNT: &str = "10";

@@ -271,4 +271,4 @@ parent return -2
 ";
 
 /// How many they are.
-pub const RUNS_COUNT: u32 = 11;
+pub const RUNS_COUNT: &str = "11";

@@ -111,4 +111,4 @@ parent deliver request -1
 ";
 
 /// How many they are.
-pub const SETTLED_COUNT: u32 = 8;
+pub const SETTLED_COUNT: &str = "8";

@@ -163,4 +163,4 @@ parent call 3/3 to 2147483647 PW.CallC()
 ";
 
 /// How many they are.
-pub const WAITS_COUNT: u32 = 11;
+pub const WAITS_COUNT: &str = "11";

@@ -253,4 +253,4 @@ child flush 1
 ";
 
 /// How many they are.
-pub const WHOLE_COUNT: u32 = 14;
+pub const WHOLE_COUNT: &str = "14";

@@ -1,39 +1,29 @@
+use super::call_rows::{HELLO, LISTED, LISTS, REACHES, REPORTS, WORDS};
+use super::frame_rows::{FLAG, FRAMES};
 use ipdl_base::{MemoryFiles, MemorySink};
 use ipdl_top::{Status, ipdl};
 use std::alloc::{AllocError, Global};
-use std::process::Abort;
 use std::test::Fail;
 
-const HELLO: &[u8] = b"protocol PHello {
-parent:
-    async Hello(int32_t n, nsString s);
-child:
-    async World();
-};
-";
-
-const HELLO_TABLE: &[u8] = b"protocol 0 PHello async not
-message 0 parent async not plain normal Hello(int32_t n, nsString s)
-message 2 child async not plain normal World()
-";
-
-const HELLO_FILES: Sources = &[("PHello.ipdl", HELLO)];
-
-const USAGE: &[u8] = b"usage: ipdl [-s LIST] [--path DIRS] FILES
+const USAGE: &str = "usage: ipdl [-s LIST] [--path DIRS] FILES
        ipdl run [-s LIST] [--path DIRS] [--schedule WORD] [--limit N] SCRIPT FILE
        ipdl frames [-s LIST] [--path DIRS] [--to 2] FILE FRAMES
 ";
 
-/// Files by their names.
-pub type Sources = &'static [(&'static str, &'static [u8])];
+/// A file by its name.
+type Source = (&'static str, &'static [u8]);
 
-/// The outside of a call. A read or a write with number 0 is none.
+/// Files by their names.
+type Sources = &'static [Source];
+
+/// A call and what it leaves.
 #[derive(Clone, Copy)]
-struct Outside {
+struct Row {
+    words: &'static str,
     files: Sources,
-    failing_read: u64,
-    piece: usize,
-    failing_write: u64,
+    status: Status,
+    out: &'static [u8],
+    err: &'static str,
 }
 
 /// What a call leaves.
@@ -44,72 +34,146 @@ struct Left {
     err: MemorySink,
 }
 
-/// Files without a fault, and an `out` that takes all that it is given.
-fn whole(files: Sources) -> Outside {
-    Outside {
-        files,
-        failing_read: 0,
-        piece: 1000,
-        failing_write: 0,
-    }
-}
-
-fn strings(alloc: Global, words: &[&str]) -> Result<Vec<String>, AllocError> {
+/// Strings of the words of a text.
+fn strings(alloc: Global, words: &str) -> Result<Vec<String>, AllocError> {
     let mut strings = Vec::new(alloc);
-    for word in words {
-        strings.push(String::from_str(alloc, word)?)?;
+    for word in words.split(' ') {
+        if !word.is_empty() {
+            strings.push(String::from_str(alloc, word)?)?;
+        }
     }
     Ok(strings)
 }
 
-fn files(alloc: Global, outside: &Outside) -> Result<MemoryFiles, AllocError> {
-    let mut files = Vec::new(alloc);
-    for (name, bytes) in outside.files {
-        let name = String::from_str(alloc, name)?;
-        files.push((name, Vec::from_slice(alloc, bytes)?))?;
-    }
-    Ok(MemoryFiles::new(files, vec![in alloc; outside.failing_read]?))
+/// A file with this name and these bytes.
+fn file(alloc: Global, name: &str, bytes: Vec<u8>) -> Result<(String, Vec<u8>), AllocError> {
+    Ok((String::from_str(alloc, name)?, bytes))
 }
 
+/// These files, of which the read with this number, from 1, fails.
+fn files(alloc: Global, sources: Sources, failing: u64) -> Result<MemoryFiles, AllocError> {
+    let mut files = Vec::new(alloc);
+    for (name, bytes) in sources {
+        files.push(file(alloc, name, Vec::from_slice(alloc, bytes)?)?)?;
+    }
+    Ok(MemoryFiles::new(files, vec![in alloc; failing]?))
+}
+
+/// A sink that takes so many bytes at once, of which the write with this number, from 1, fails.
 fn sink(alloc: Global, piece: usize, failing: u64) -> Result<MemorySink, AllocError> {
     MemorySink::new(alloc, piece.max(1), 4000, vec![in alloc; failing]?)
 }
 
-fn call(alloc: Global, words: &[&str], outside: &Outside) -> Result<Left, AllocError> {
+/// What a call with these words leaves, where `out` takes so many bytes at once, and the write to it
+/// with this number, from 1, fails.
+fn call(
+    alloc: Global,
+    words: &str,
+    mut files: MemoryFiles,
+    piece: usize,
+    failing: u64,
+) -> Result<Left, AllocError> {
     let words = strings(alloc, words)?;
-    let mut files = files(alloc, outside)?;
-    let mut out = sink(alloc, outside.piece, outside.failing_write)?;
+    let mut out = sink(alloc, piece, failing)?;
     let mut err = sink(alloc, 1000, 0)?;
     let status = ipdl(alloc, words.as_slice(), &mut files, &mut out, &mut err);
     Ok(Left { status, out, err })
 }
 
-/// Whether a call ends with this status and has written these texts.
-fn leaves(left: &Left, status: Status, out: &[u8], err: &[u8]) -> bool {
-    left.status == status && left.out.written() == out && left.err.written() == err
+/// Notes what a call leaves, where it is not this.
+fn note(
+    words: &str,
+    left: &Left,
+    code: u8,
+    out: &[u8],
+    err: &str,
+    wrong: &mut String,
+) -> Result<(), AllocError> {
+    if left.status.code() == code
+        && left.out.written() == out
+        && left.err.written() == err.as_bytes()
+    {
+        return Ok(());
+    }
+    let out = str::from_utf8(left.out.written()).unwrap_or("no text");
+    let err = str::from_utf8(left.err.written()).unwrap_or("no text");
+    writeln!(wrong, "{words}: {} {out}{err}", left.status.code())
+}
+
+/// The byte of two digits.
+fn byte_of(digits: &[u8]) -> Result<u8, Fail> {
+    Ok(u8::from_str_radix(str::from_utf8(digits)?, 16)?)
+}
+
+/// The bytes of a text, or of digits behind `hex `.
+fn bytes_of(alloc: Global, text: &str) -> Result<Vec<u8>, Fail> {
+    let Some(digits) = text.strip_prefix("hex ") else {
+        return Ok(Vec::from_slice(alloc, text.as_bytes())?);
+    };
+    let mut bytes = Vec::new(alloc);
+    for pair in digits.trim_end().as_bytes().chunks(2) {
+        bytes.push(byte_of(pair)?)?;
+    }
+    Ok(bytes)
+}
+
+/// Appends the files of pieces behind `@ `, each its name and its bytes.
+fn push_files(alloc: Global, pieces: &str, files: &mut Vec<(String, Vec<u8>)>) -> Result<(), Fail> {
+    for piece in pieces.split("@ ") {
+        if let Some((name, text)) = piece.split_once("\n") {
+            files.push(file(alloc, name, bytes_of(alloc, text)?)?)?;
+        }
+    }
+    Ok(())
+}
+
+/// The files of pieces, and these behind them.
+fn files_of(alloc: Global, pieces: &str, shared: &str) -> Result<MemoryFiles, Fail> {
+    let mut files = Vec::new(alloc);
+    push_files(alloc, pieces, &mut files)?;
+    push_files(alloc, shared, &mut files)?;
+    Ok(MemoryFiles::new(files, Vec::new(alloc)))
+}
+
+/// Notes a row of calls that leaves something else.
+fn check(alloc: Global, row: &str, shared: &str, wrong: &mut String) -> Result<(), Fail> {
+    let (head, rest) = row
+        .split_once("\n@ ")
+        .ok_or("a row without what is written")?;
+    let (_, head) = head.split_once("\n").ok_or("a row without words")?;
+    let (words, code) = head.split_once("\n").ok_or("a row without its code")?;
+    let (out, rest) = rest.split_once("@ ").ok_or("a row without its report")?;
+    let (err, pieces) = rest.split_once("@ ").unwrap_or((rest, ""));
+    let err = if err == "usage\n" { USAGE } else { err };
+    let left = call(alloc, words, files_of(alloc, pieces, shared)?, 1000, 0)?;
+    let out = bytes_of(alloc, out)?;
+    Ok(note(
+        words,
+        &left,
+        code.parse::<u8>()?,
+        out.as_slice(),
+        err,
+        wrong,
+    )?)
+}
+
+/// Which calls of a table leave something else, where each has these files too.
+fn wrong_calls(alloc: Global, table: &str, shared: &str) -> Result<String, Fail> {
+    let mut wrong = String::new(alloc);
+    for row in table.split("====\n") {
+        check(alloc, row, shared, &mut wrong)?;
+    }
+    Ok(wrong)
 }
 
 #[test]
-fn words(rt: HostRuntime) -> Result<(), Fail> {
-    let rows: [(&[&str], Status, &[u8], &[u8]); 7] = [
-        (&["PHello.ipdl"], Status::Done, HELLO_TABLE, b""),
-        (
-            &["PHello.ipdl", "PHello.ipdl"],
-            Status::Done,
-            HELLO_TABLE,
-            b"",
-        ),
-        (&[], Status::Usage, b"", USAGE),
-        (&["x.txt"], Status::Usage, b"", USAGE),
-        (&["a/PHello.ipdl", "PHello.ipdl"], Status::Usage, b"", USAGE),
-        (&["-s"], Status::Usage, b"", USAGE),
-        (&["run", "PHello.ipdl"], Status::Usage, b"", USAGE),
-    ];
-    let outside = whole(HELLO_FILES);
-    for (words, status, out, err) in rows {
-        let left = call(rt.alloc(), words, &outside)?;
-        assert!(rt; leaves(&left, status, out, err), "{words:?}");
-    }
+fn calls(rt: HostRuntime) -> Result<(), Fail> {
+    let alloc = rt.alloc();
+    assert_eq!(rt; wrong_calls(alloc, WORDS, HELLO)?.as_str(), "");
+    assert_eq!(rt; wrong_calls(alloc, LISTS, LISTED)?.as_str(), "");
+    assert_eq!(rt; wrong_calls(alloc, REACHES, "")?.as_str(), "");
+    assert_eq!(rt; wrong_calls(alloc, REPORTS, "")?.as_str(), "");
+    assert_eq!(rt; wrong_calls(alloc, FRAMES, FLAG)?.as_str(), "");
     Ok(())
 }
 
@@ -129,335 +193,175 @@ protocol 1 PB async not
 message 65536 child async not plain normal Tell()
 ";
 
-/// Reads and writes that fail, one after the other.
+/// As `note`, of a row.
+fn note_row(row: &Row, left: &Left, wrong: &mut String) -> Result<(), AllocError> {
+    note(row.words, left, row.status.code(), row.out, row.err, wrong)
+}
+
+/// Words for the program of two files and its list.
+const TWO_WORDS: &str = "-s list.ini PA.ipdl";
+
+/// A call on these.
+const ON_TWO: Row = Row {
+    words: TWO_WORDS,
+    files: TWO,
+    status: Status::Done,
+    out: TWO_TABLE,
+    err: "",
+};
+
+/// The same call, where a read fails.
+const TWO_UNREAD: Row = Row {
+    words: TWO_WORDS,
+    files: TWO,
+    status: Status::ReadFault,
+    out: b"",
+    err: "",
+};
+
+/// The same call, where the second write fails.
+const TWO_UNWRITTEN: Row = Row {
+    words: TWO_WORDS,
+    files: TWO,
+    status: Status::WriteFault,
+    out: b"proto",
+    err: "",
+};
+
+/// A program that breaks a rule, a list and frames.
+const BROKEN: Sources = &[
+    (
+        "PF.ipdl",
+        b"protocol PF {\nparent:\n  async Flag(Bool b);\n};\n",
+    ),
+    ("list.ini", b""),
+    ("f.bin", b""),
+];
+
+/// Words for these.
+const BROKEN_WORDS: &str = "frames -s list.ini PF.ipdl f.bin";
+
+/// A call on these.
+const ON_BROKEN: Row = Row {
+    words: BROKEN_WORDS,
+    files: BROKEN,
+    status: Status::Broken,
+    out: b"",
+    err: "PF.ipdl:3:14: B1 unknown type\n",
+};
+
+/// The same call, where a read fails.
+const BROKEN_UNREAD: Row = Row {
+    words: BROKEN_WORDS,
+    files: BROKEN,
+    status: Status::ReadFault,
+    out: b"",
+    err: "",
+};
+
+/// Calls with the reads that fail, one after the other; number 0 is none. The last one of frames counts also where the
+/// program breaks a rule.
+const READS: &[(u64, Row)] = &[
+    (0, ON_TWO),
+    (1, TWO_UNREAD),
+    (2, TWO_UNREAD),
+    (3, TWO_UNREAD),
+    (1, BROKEN_UNREAD),
+    (2, BROKEN_UNREAD),
+    (3, BROKEN_UNREAD),
+    (4, ON_BROKEN),
+];
+
+/// Which of these leave something else.
+fn wrong_reads(alloc: Global) -> Result<String, AllocError> {
+    let mut wrong = String::new(alloc);
+    for (failing, row) in READS {
+        let files = files(alloc, row.files, *failing)?;
+        let left = call(alloc, row.words, files, 1000, 0)?;
+        note_row(row, &left, &mut wrong)?;
+    }
+    Ok(wrong)
+}
+
+/// Calls with the writes that fail, where `out` takes five bytes at once.
+const WRITES: &[(u64, Row)] = &[(0, ON_TWO), (2, TWO_UNWRITTEN)];
+
+/// Which of these leave something else.
+fn wrong_writes(alloc: Global) -> Result<String, AllocError> {
+    let mut wrong = String::new(alloc);
+    for (failing, row) in WRITES {
+        let left = call(alloc, row.words, files(alloc, row.files, 0)?, 5, *failing)?;
+        note_row(row, &left, &mut wrong)?;
+    }
+    Ok(wrong)
+}
+
+/// A program without a message.
+const EMPTY: Sources = &[("PF.ipdl", b"protocol PF {\n};\n")];
+
+/// A file of frames that is too large.
+const LARGER_FRAMES: Row = Row {
+    words: "frames PF.ipdl f.bin",
+    files: EMPTY,
+    status: Status::BadFrames,
+    out: b"",
+    err: "f.bin:0: larger\n",
+};
+
+/// A sync list that is too large.
+const LARGER_LIST: Row = Row {
+    words: "-s list.ini PF.ipdl",
+    files: EMPTY,
+    status: Status::Broken,
+    out: b"",
+    err: "list.ini:0:0: A5 too large\n",
+};
+
+/// Calls, and the names of files that have one byte more than are read.
+const LARGER: &[(&str, Row)] = &[("f.bin", LARGER_FRAMES), ("list.ini", LARGER_LIST)];
+
+/// The program, and a file with this name that has one byte more than is read.
+fn with_larger(alloc: Global, name: &str) -> Result<MemoryFiles, AllocError> {
+    let mut files = Vec::new(alloc);
+    for (name, bytes) in EMPTY {
+        files.push(file(alloc, name, Vec::from_slice(alloc, bytes)?)?)?;
+    }
+    files.push(file(alloc, name, vec![in alloc; 0u8; 1_048_577]?)?)?;
+    Ok(MemoryFiles::new(files, Vec::new(alloc)))
+}
+
+/// Which of these leave something else.
+fn wrong_larger(alloc: Global) -> Result<String, AllocError> {
+    let mut wrong = String::new(alloc);
+    for (name, row) in LARGER {
+        let left = call(alloc, row.words, with_larger(alloc, name)?, 1000, 0)?;
+        note_row(row, &left, &mut wrong)?;
+    }
+    Ok(wrong)
+}
+
 #[test]
 fn outsides(rt: HostRuntime) -> Result<(), Fail> {
-    let two = whole(TWO);
-    let pieces = Outside { piece: 5, ..two };
-    let failing_write = Outside {
-        failing_write: 2,
-        ..pieces
-    };
-    let rows: [(u64, Outside, Status, &[u8]); 6] = [
-        (0, two, Status::Done, TWO_TABLE),
-        (0, pieces, Status::Done, TWO_TABLE),
-        (0, failing_write, Status::WriteFault, b"proto"),
-        (1, two, Status::ReadFault, b""),
-        (2, two, Status::ReadFault, b""),
-        (3, two, Status::ReadFault, b""),
-    ];
-    for (failing_read, outside, status, out) in rows {
-        let outside = Outside {
-            failing_read,
-            ..outside
-        };
-        let left = call(rt.alloc(), &["-s", "list.ini", "PA.ipdl"], &outside)?;
-        assert!(rt;
-            leaves(&left, status, out, b""),
-            "{failing_read} {status:?}"
-        );
-    }
+    let alloc = rt.alloc();
+    assert_eq!(rt; wrong_reads(alloc)?.as_str(), "");
+    assert_eq!(rt; wrong_writes(alloc)?.as_str(), "");
+    assert_eq!(rt; wrong_larger(alloc)?.as_str(), "");
     Ok(())
 }
 
-/// Reads of a program, its list and a file of frames, each failing in its turn. The last one counts
-/// also where the program breaks a rule.
-#[test]
-fn failing_frames(rt: HostRuntime) -> Result<(), Fail> {
-    let broken: Sources = &[
-        (
-            "PF.ipdl",
-            b"protocol PF {\nparent:\n  async Flag(Bool b);\n};\n",
-        ),
-        ("list.ini", b""),
-        ("f.bin", b""),
-    ];
-    let words = ["frames", "-s", "list.ini", "PF.ipdl", "f.bin"];
-    for failing_read in 1..5 {
-        let outside = Outside {
-            failing_read,
-            ..whole(broken)
-        };
-        let left = call(rt.alloc(), &words, &outside)?;
-        if failing_read < 4 {
-            assert!(rt;
-                leaves(&left, Status::ReadFault, b"", b""),
-                "{failing_read}"
-            );
-        } else {
-            assert!(rt;
-                leaves(
-                    &left,
-                    Status::Broken,
-                    b"",
-                    b"PF.ipdl:3:14: B1 unknown type\n"
-                )
-            );
-        }
-    }
-    Ok(())
-}
-
-/// What a call leaves, where a file with this name has one byte more than are read.
-fn call_on_larger(alloc: Global, words: &[&str], larger: &str) -> Result<Left, AllocError> {
-    let mut entries = Vec::new(alloc);
-    let text = b"protocol PF {\n};\n";
-    entries.push((
-        String::from_str(alloc, "PF.ipdl")?,
-        Vec::from_slice(alloc, text)?,
-    ))?;
-    let bytes = vec![in alloc; 0u8; 1_048_577]?;
-    entries.push((String::from_str(alloc, larger)?, bytes))?;
-    let mut files = MemoryFiles::new(entries, Vec::new(alloc));
-    let mut out = sink(alloc, 1000, 0)?;
-    let mut err = sink(alloc, 1000, 0)?;
-    let words = strings(alloc, words)?;
-    let status = ipdl(alloc, words.as_slice(), &mut files, &mut out, &mut err);
-    Ok(Left { status, out, err })
-}
-
-/// A file of frames and a sync list that are too large.
-#[test]
-fn larger_files(rt: HostRuntime) -> Result<(), Fail> {
-    let frames = call_on_larger(rt.alloc(), &["frames", "PF.ipdl", "f.bin"], "f.bin")?;
-    assert!(rt; leaves(&frames, Status::BadFrames, b"", b"f.bin:0: larger\n"));
-    let list = call_on_larger(rt.alloc(), &["-s", "list.ini", "PF.ipdl"], "list.ini")?;
-    assert!(rt; leaves(&list, Status::Broken, b"", b"list.ini:0:0: A5 too large\n"));
-    Ok(())
-}
-
-/// A call and what it leaves.
-#[derive(Clone, Copy)]
-pub struct Row {
-    pub words: &'static [&'static str],
-    pub files: Sources,
-    pub status: Status,
-    pub out: &'static [u8],
-    pub err: &'static [u8],
-}
-
-pub fn check_rows(alloc: Global, rt: &impl Abort, rows: &[Row]) -> Result<(), Fail> {
-    for row in rows {
-        let left = call(alloc, row.words, &whole(row.files))?;
-        assert!(rt;
-            leaves(&left, row.status, row.out, row.err),
-            "{:?}",
-            row.words
-        );
-    }
-    Ok(())
-}
-
-/// Sync lists, with their programs.
-#[test]
-fn lists(rt: HostRuntime) -> Result<(), Fail> {
-    check_rows(
-        rt.alloc(),
-        &rt,
-        &[
-            // sync-list
-            Row {
-                words: &["-s", "sync.ini", "PL.ipdl"],
-                files: &[
-                    (
-                        "PL.ipdl",
-                        b"sync protocol PL {\nparent:\n  sync A();\n  sync B();\n  async C();\n};\n",
-                    ),
-                    (
-                        "sync.ini",
-                        b"[PL::B]\ndescription =\n[PL::C]\ndescription = why\n[PL::D]\ndescription = gone\n",
-                    ),
-                ],
-                status: Status::Broken,
-                out: b"",
-                err: b"PL.ipdl:3:8: S1 sync message is not listed\nsync.ini:1:1: S4 section has no description\nsync.ini:3:1: S2 listed message is async\nsync.ini:5:1: S3 listed message does not exist\n",
-            },
-            // sync-list-absent
-            Row {
-                words: &["-s", "sync.ini", "PL.ipdl"],
-                files: &[(
-                    "PL.ipdl",
-                    b"sync protocol PL {\nparent:\n  sync A();\n  sync B();\n  async C();\n};\n",
-                )],
-                status: Status::Broken,
-                out: b"",
-                err: b"sync.ini:0:0: A3 file not found\n",
-            },
-            // sync-list-bad-line
-            Row {
-                words: &["-s", "sync.ini", "PL.ipdl"],
-                files: &[
-                    (
-                        "PL.ipdl",
-                        b"sync protocol PL {\nparent:\n  sync A();\n  sync B();\n  async C();\n};\n",
-                    ),
-                    ("sync.ini", b"x\n"),
-                ],
-                status: Status::Broken,
-                out: b"",
-                err: b"sync.ini:1:1: A2 syntax fault\n",
-            },
-        ],
-    )
-}
-
-/// Files that are reached or absent.
-#[test]
-fn reaches(rt: HostRuntime) -> Result<(), Fail> {
-    check_rows(
-        rt.alloc(),
-        &rt,
-        &[
-            // manager-and-managed
-            Row {
-                words: &["PMyManager.ipdl"],
-                files: &[
-                    (
-                        "MyTypes.ipdlh",
-                        b"include protocol PMyManaged;\nusing mozilla::MyData from \"MyData.h\";\nnamespace mozilla {\nstruct MyPair { int32_t first; PMyManaged owner; };\nunion MyUnion { float; nsString[]; MyPair; };\n}\n",
-                    ),
-                    (
-                        "PMyManaged.ipdl",
-                        b"include protocol PMyManager;\nnamespace mozilla {\n[ManualDealloc] async protocol PMyManaged {\n  manager PMyManager;\nboth:\n  async Hello(int32_t? aCount) returns (bool aOk);\nparent:\n  async __delete__();\n};\n}\n",
-                    ),
-                    (
-                        "PMyManager.ipdl",
-                        b"include protocol PMyManaged;\ninclude MyTypes;\nusing mozilla::MyData from \"MyData.h\";\nnamespace mozilla {\nsync protocol PMyManager {\n  manages PMyManaged;\nparent:\n  async PMyManaged();\n  sync Lookup(nsString aKey) returns (MyUnion aFound);\nchild:\n  async Note(MyPair aPair, nullable PMyManaged aActor, MyData aData);\n};\n} // namespace mozilla\n",
-                    ),
-                ],
-                status: Status::Done,
-                out: b"protocol 0 mozilla::PMyManaged async not\nmanager mozilla::PMyManager\nmessage 0 both async not plain normal Hello(int32_t? aCount) returns (bool aOk)\nmessage 2 parent async not plain delete __delete__()\nprotocol 1 mozilla::PMyManager sync not\nmanages mozilla::PMyManaged\nmessage 65536 parent async not plain constructor PMyManaged()\nmessage 65538 parent sync not plain normal Lookup(nsString aKey) returns (mozilla::MyUnion aFound)\nmessage 65540 child async not plain normal Note(mozilla::MyPair aPair, nullable mozilla::PMyManaged aActor, mozilla::MyData aData)\nstruct 0 mozilla::MyPair (int32_t first, mozilla::PMyManaged owner)\nunion 1 mozilla::MyUnion (float, nsString[], mozilla::MyPair)\n",
-                err: b"",
-            },
-            // missing-file
-            Row {
-                words: &["PNo.ipdl"],
-                files: &[],
-                status: Status::Broken,
-                out: b"",
-                err: b"PNo.ipdl:0:0: A3 file not found\n",
-            },
-            // missing-include
-            Row {
-                words: &["PH.ipdl"],
-                files: &[("PH.ipdl", b"include protocol PNone;\nprotocol PH {\n};\n")],
-                status: Status::Broken,
-                out: b"",
-                err: b"PH.ipdl:1:18: A3 file not found\n",
-            },
-            // include-cycle-and-path
-            Row {
-                words: &["--path", "one:two", "one/PX.ipdl"],
-                files: &[
-                    (
-                        "one/PX.ipdl",
-                        b"include protocol PY;\nprotocol PX {\nparent:\n  async M();\n};\n",
-                    ),
-                    (
-                        "two/PY.ipdl",
-                        b"include protocol PX;\nprotocol PY {\nchild:\n  async N(PX p);\n};\n",
-                    ),
-                ],
-                status: Status::Done,
-                out: b"protocol 0 PX async not\nmessage 0 parent async not plain normal M()\nprotocol 1 PY async not\nmessage 65536 child async not plain normal N(PX p)\n",
-                err: b"",
-            },
-        ],
-    )
-}
-
-/// Reports on one file.
-#[test]
-fn reports(rt: HostRuntime) -> Result<(), Fail> {
-    check_rows(
-        rt.alloc(),
-        &rt,
-        &[
-            // empty-file
-            Row {
-                words: &["PE.ipdl"],
-                files: &[("PE.ipdl", b"")],
-                status: Status::Broken,
-                out: b"",
-                err: b"PE.ipdl:1:1: A2 syntax fault\n",
-            },
-            // only-a-comment
-            Row {
-                words: &["PE.ipdl"],
-                files: &[("PE.ipdl", b"// only\n")],
-                status: Status::Broken,
-                out: b"",
-                err: b"PE.ipdl:2:1: A2 syntax fault\n",
-            },
-            // open-comment
-            Row {
-                words: &["PG.ipdl"],
-                files: &[("PG.ipdl", b"/* open\n")],
-                status: Status::Broken,
-                out: b"",
-                err: b"PG.ipdl:1:1: A1 bad token\n",
-            },
-            // preprocessor-line
-            Row {
-                words: &["PG.ipdl"],
-                files: &[("PG.ipdl", b"protocol PG {\n#if X\n};\n")],
-                status: Status::Broken,
-                out: b"",
-                err: b"PG.ipdl:2:1: A1 bad token\n",
-            },
-            // fifth-suffix
-            Row {
-                words: &["PS.ipdl"],
-                files: &[(
-                    "PS.ipdl",
-                    b"protocol PS {\nparent:\n  async M(bool[][][][][] a);\n};\n",
-                )],
-                status: Status::Broken,
-                out: b"",
-                err: b"PS.ipdl:3:23: A2 syntax fault\n",
-            },
-            // repeated-and-unknown
-            Row {
-                words: &["PHello.ipdl"],
-                files: &[(
-                    "PHello.ipdl",
-                    b"protocol PHello {\nparent:\n  async Hello(int32_t n);\n  async Hello(foo x);\n};\n",
-                )],
-                status: Status::Broken,
-                out: b"",
-                err: b"PHello.ipdl:4:9: B21 repeated name\nPHello.ipdl:4:15: B1 unknown type\n",
-            },
-            // two-rules-on-one-message
-            Row {
-                words: &["PT.ipdl"],
-                files: &[("PT.ipdl", b"async protocol PT {\nchild:\n  sync M();\n};\n")],
-                status: Status::Broken,
-                out: b"",
-                err: b"PT.ipdl:3:8: B11 sync message of level not sent by the parent\nPT.ipdl:3:8: B14 message is stronger than its protocol\n",
-            },
-            // name-of-its-file
-            Row {
-                words: &["PH.ipdl"],
-                files: &[("PH.ipdl", b"protocol PI {\n};\n")],
-                status: Status::Broken,
-                out: b"",
-                err: b"PH.ipdl:1:10: A4 protocol does not bear the name of its file\n",
-            },
-        ],
-    )
-}
+/// The codes of statuses.
+const CODES: &[(Status, u8)] = &[
+    (Status::Done, 0),
+    (Status::Broken, 1),
+    (Status::Usage, 2),
+    (Status::ReadFault, 3),
+    (Status::WriteFault, 4),
+    (Status::NoMemory, 6),
+];
 
 #[test]
 fn codes(rt: HostRuntime) {
-    let statuses = [
-        Status::Done,
-        Status::Broken,
-        Status::Usage,
-        Status::ReadFault,
-        Status::WriteFault,
-        Status::NoMemory,
-    ];
-    for (status, code) in statuses.into_iter().zip([0, 1, 2, 3, 4, 6]) {
-        assert_eq!(rt; status.code(), code);
+    for (status, code) in CODES {
+        assert_eq!(rt; status.code(), *code);
     }
 }

@@ -1,4 +1,6 @@
-use ipdl_base::{Builtin, Compress, Direction, Items, Level, Name, Place, Semantics};
+use super::founds::{find, show_found, wrong_lookups, wrong_protocols};
+use super::given::name;
+use ipdl_base::{Compress, Direction, Items, Level, Name, Place, Semantics};
 use ipdl_syntax::{
     Attribute, Entry, MessageDecl, NameAt, Program, ProtocolDecl, StructDecl, UnionDecl, Unit,
     Using,
@@ -8,7 +10,6 @@ use name_table::{
     protocol_level,
 };
 use std::alloc::{AllocError, Global};
-use std::process::Abort;
 use std::test::Fail;
 
 const PLACE: Place = Place {
@@ -16,36 +17,6 @@ const PLACE: Place = Place {
     line: 1,
     column: 1,
 };
-
-fn name(alloc: Global, text: &[u8]) -> Result<Name, AllocError> {
-    Ok(Items::from_vec(Vec::from_slice(alloc, text)?))
-}
-
-fn using(alloc: Global, full: Name) -> Using {
-    Using {
-        full,
-        place: PLACE,
-        attributes: Items::from_vec(Vec::new(alloc)),
-    }
-}
-
-fn structure(alloc: Global, full: Name) -> StructDecl {
-    StructDecl {
-        full,
-        place: PLACE,
-        fields: Items::from_vec(Vec::new(alloc)),
-        attributes: Items::from_vec(Vec::new(alloc)),
-    }
-}
-
-fn union(alloc: Global, full: Name) -> UnionDecl {
-    UnionDecl {
-        full,
-        place: PLACE,
-        components: Items::from_vec(Vec::new(alloc)),
-        attributes: Items::from_vec(Vec::new(alloc)),
-    }
-}
 
 fn protocol(alloc: Global, full: Name) -> ProtocolDecl {
     ProtocolDecl {
@@ -59,391 +30,174 @@ fn protocol(alloc: Global, full: Name) -> ProtocolDecl {
     }
 }
 
-fn entry(
-    alloc: Global,
-    includes: &[u32],
+/// What a file declares.
+#[derive(Drop)]
+struct Declared {
     usings: Vec<Using>,
     structs: Vec<StructDecl>,
     unions: Vec<UnionDecl>,
     protocol: Option<ProtocolDecl>,
-) -> Result<Entry, AllocError> {
-    Ok(Entry {
-        key: Items::from_vec(Vec::new(alloc)),
-        name: Items::from_vec(Vec::new(alloc)),
-        unit: Unit {
-            includes: Items::from_vec(Vec::new(alloc)),
-            usings: Items::from_vec(usings),
-            structs: Items::from_vec(structs),
-            unions: Items::from_vec(unions),
-            protocol,
-        },
-        includes: Items::from_vec(Vec::from_slice(alloc, includes)?),
-    })
 }
 
-fn one_using(alloc: Global, full: &[u8], all: &mut Vec<Using>) -> Result<(), AllocError> {
-    Ok(all.push(using(alloc, name(alloc, full)?))?)
+impl Declared {
+    /// Nothing.
+    fn new(alloc: Global) -> Declared {
+        Declared {
+            usings: Vec::new(alloc),
+            structs: Vec::new(alloc),
+            unions: Vec::new(alloc),
+            protocol: None,
+        }
+    }
+
+    /// Declares a `using`.
+    fn using(&mut self, alloc: Global, full: Name) -> Result<(), AllocError> {
+        Ok(
+            self.usings.push(Using {
+                full,
+                place: PLACE,
+                attributes: Items::from_vec(Vec::new(alloc)),
+            })?,
+        )
+    }
+
+    /// Declares a struct.
+    fn structure(&mut self, alloc: Global, full: Name) -> Result<(), AllocError> {
+        Ok(
+            self.structs.push(StructDecl {
+                full,
+                place: PLACE,
+                fields: Items::from_vec(Vec::new(alloc)),
+                attributes: Items::from_vec(Vec::new(alloc)),
+            })?,
+        )
+    }
+
+    /// Declares a union.
+    fn union(&mut self, alloc: Global, full: Name) -> Result<(), AllocError> {
+        Ok(
+            self.unions.push(UnionDecl {
+                full,
+                place: PLACE,
+                components: Items::from_vec(Vec::new(alloc)),
+                attributes: Items::from_vec(Vec::new(alloc)),
+            })?,
+        )
+    }
+
+    /// Declares what a text says: a word for what it is, and its full name.
+    fn declare(&mut self, alloc: Global, text: &str) -> Result<(), AllocError> {
+        let (word, full) = text.split_once(" ").unwrap_or(("", ""));
+        let full = name(alloc, full)?;
+        match word {
+            "using" => self.using(alloc, full),
+            "struct" => self.structure(alloc, full),
+            "union" => self.union(alloc, full),
+            _ => {
+                self.protocol = Some(protocol(alloc, full));
+                Ok(())
+            }
+        }
+    }
+
+    /// The file with these declarations that includes the files with these indices.
+    fn entry(self, alloc: Global, includes: &[u32]) -> Result<Entry, AllocError> {
+        let includes = Vec::from_slice(alloc, includes)?;
+        Ok(Entry {
+            key: Items::from_vec(Vec::new(alloc)),
+            name: Items::from_vec(Vec::new(alloc)),
+            unit: Unit {
+                includes: Items::from_vec(Vec::new(alloc)),
+                usings: Items::from_vec(self.usings),
+                structs: Items::from_vec(self.structs),
+                unions: Items::from_vec(self.unions),
+                protocol: self.protocol,
+            },
+            includes: Items::from_vec(includes),
+        })
+    }
 }
 
-fn one_struct(alloc: Global, full: &[u8], all: &mut Vec<StructDecl>) -> Result<(), AllocError> {
-    Ok(all.push(structure(alloc, name(alloc, full)?))?)
+/// Files: what each declares. The second and the third are headers.
+const FILE_A: &str = "using A::T<int>
+using x::int32_t
+using ByteBuf
+using Endpoint
+struct N::S
+union N::E
+protocol N::PA";
+
+const FILE_H: &str = "using q::U
+using Endpoint<PB>
+using Endpoint<PZ>
+struct M::S";
+
+const FILE_G: &str = "using q::U
+using r::U2
+using mozilla::ipc::ManagedEndpoint
+struct D
+union D";
+
+/// Appends the file that includes those with these indices and declares what the lines of a text say.
+fn push_entry(
+    alloc: Global,
+    includes: &[u32],
+    text: &str,
+    all: &mut Vec<Entry>,
+) -> Result<(), AllocError> {
+    let mut declared = Declared::new(alloc);
+    for line in text.split('\n') {
+        declared.declare(alloc, line)?;
+    }
+    Ok(all.push(declared.entry(alloc, includes)?)?)
 }
 
-fn one_union(alloc: Global, full: &[u8], all: &mut Vec<UnionDecl>) -> Result<(), AllocError> {
-    Ok(all.push(union(alloc, name(alloc, full)?))?)
-}
-
-/// `PA.ipdl`, which includes the header `H` and `PB.ipdl`.
-fn file_a(alloc: Global) -> Result<Entry, AllocError> {
-    let mut usings = Vec::new(alloc);
-    one_using(alloc, b"A::T<int>", &mut usings)?;
-    one_using(alloc, b"x::int32_t", &mut usings)?;
-    one_using(alloc, b"ByteBuf", &mut usings)?;
-    one_using(alloc, b"Endpoint", &mut usings)?;
-    let mut structs = Vec::new(alloc);
-    one_struct(alloc, b"N::S", &mut structs)?;
-    let mut unions = Vec::new(alloc);
-    one_union(alloc, b"N::E", &mut unions)?;
-    let held = protocol(alloc, name(alloc, b"N::PA")?);
-    entry(alloc, &[1, 3], usings, structs, unions, Some(held))
-}
-
-/// The header `H`, which includes `G`.
-fn file_h(alloc: Global) -> Result<Entry, AllocError> {
-    let mut usings = Vec::new(alloc);
-    one_using(alloc, b"q::U", &mut usings)?;
-    one_using(alloc, b"Endpoint<PB>", &mut usings)?;
-    one_using(alloc, b"Endpoint<PZ>", &mut usings)?;
-    let mut structs = Vec::new(alloc);
-    one_struct(alloc, b"M::S", &mut structs)?;
-    entry(alloc, &[2], usings, structs, Vec::new(alloc), None)
-}
-
-/// The header `G`, which includes `H`.
-fn file_g(alloc: Global) -> Result<Entry, AllocError> {
-    let mut usings = Vec::new(alloc);
-    one_using(alloc, b"q::U", &mut usings)?;
-    one_using(alloc, b"r::U2", &mut usings)?;
-    one_using(alloc, b"mozilla::ipc::ManagedEndpoint", &mut usings)?;
-    let mut structs = Vec::new(alloc);
-    one_struct(alloc, b"D", &mut structs)?;
-    let mut unions = Vec::new(alloc);
-    one_union(alloc, b"D", &mut unions)?;
-    entry(alloc, &[1], usings, structs, unions, None)
-}
-
-/// `PB.ipdl`, which includes nothing.
-fn file_b(alloc: Global) -> Result<Entry, AllocError> {
-    let mut structs = Vec::new(alloc);
-    one_struct(alloc, b"Hidden", &mut structs)?;
-    let held = protocol(alloc, name(alloc, b"PB")?);
-    entry(
-        alloc,
-        &[],
-        Vec::new(alloc),
-        structs,
-        Vec::new(alloc),
-        Some(held),
-    )
-}
-
-/// `PC.ipdl`, which includes `PA.ipdl` and `PB.ipdl`.
-fn file_c(alloc: Global) -> Result<Entry, AllocError> {
-    let held = protocol(alloc, name(alloc, b"O::PB")?);
-    entry(
-        alloc,
-        &[0, 3],
-        Vec::new(alloc),
-        Vec::new(alloc),
-        Vec::new(alloc),
-        Some(held),
-    )
-}
-
+/// The program of these files, and of two more.
 fn small(alloc: Global) -> Result<Program, AllocError> {
     let mut all = Vec::new(alloc);
-    all.push(file_a(alloc)?)?;
-    all.push(file_h(alloc)?)?;
-    all.push(file_g(alloc)?)?;
-    all.push(file_b(alloc)?)?;
-    all.push(file_c(alloc)?)?;
+    push_entry(alloc, &[1, 3], FILE_A, &mut all)?;
+    push_entry(alloc, &[2], FILE_H, &mut all)?;
+    push_entry(alloc, &[1], FILE_G, &mut all)?;
+    push_entry(alloc, &[], "struct Hidden\nprotocol PB", &mut all)?;
+    push_entry(alloc, &[0, 3], "protocol O::PB", &mut all)?;
     Ok(Items::from_vec(all))
 }
 
-fn found(
-    alloc: Global,
-    names: &Names<'_>,
-    file: u32,
-    text: &[u8],
-    argument: &[u8],
-) -> Result<Found, AllocError> {
-    let text = name(alloc, text)?;
-    if argument.is_empty() {
-        return Ok(names.find(file, &text, None));
-    }
-    let argument = name(alloc, argument)?;
-    Ok(names.find(file, &text, Some(&argument)))
-}
+/// Which file looks, the name, its argument where it has one, and what is found.
+const LOOKUPS: &str = "0 N::S => struct 0 0
+0 S => struct 0 0 and struct 1 0
+0 M::S => struct 1 0
+1 S => struct 1 0
+0 E => union 0 0
+0 D => struct 2 0 and union 2 0
+0 Hidden => none
+3 Hidden => struct 3 0
+0 U => using 1 0
+2 q::U => using 1 0
+0 U2 => using 2 1
+0 A::T int => using 0 0
+0 T int => none
+0 T => none
+0 int32_t => int32_t and using 0 1
+0 ByteBuf => ByteBuf
+0 mozilla::ipc::ByteBuf => ByteBuf
+0 PA => protocol 0
+0 PB => protocol 3
+1 PB => none
+4 PB => protocol 3 and protocol 4
+4 O::PB => protocol 4
+0 bool => bool
+0 Endpoint => none
+0 ManagedEndpoint => using 2 2
+0 Endpoint PB => endpoint 3 false
+1 Endpoint PB => using 1 1
+4 Endpoint PB => endpoint 3 false and endpoint 4 false
+0 ManagedEndpoint N::PA => endpoint 0 true
+0 Endpoint PZ => using 1 2
+0 Endpoint Nope => none";
 
-fn finds(
-    rt: &impl Abort,
-    alloc: Global,
-    names: &Names<'_>,
-    file: u32,
-    text: &[u8],
-    argument: &[u8],
-    expected: Found,
-) -> Result<(), AllocError> {
-    assert_eq!(rt; found(alloc, names, file, text, argument)?, expected);
-    Ok(())
-}
-
-fn structs_and_unions(rt: &impl Abort, alloc: Global, names: &Names<'_>) -> Result<(), AllocError> {
-    finds(
-        rt,
-        alloc,
-        names,
-        0,
-        b"N::S",
-        b"",
-        Found::One(DeclId::Struct(0, 0)),
-    )?;
-    finds(
-        rt,
-        alloc,
-        names,
-        0,
-        b"S",
-        b"",
-        Found::Many(DeclId::Struct(0, 0), DeclId::Struct(1, 0)),
-    )?;
-    finds(
-        rt,
-        alloc,
-        names,
-        0,
-        b"M::S",
-        b"",
-        Found::One(DeclId::Struct(1, 0)),
-    )?;
-    finds(
-        rt,
-        alloc,
-        names,
-        1,
-        b"S",
-        b"",
-        Found::One(DeclId::Struct(1, 0)),
-    )?;
-    finds(
-        rt,
-        alloc,
-        names,
-        0,
-        b"E",
-        b"",
-        Found::One(DeclId::Union(0, 0)),
-    )?;
-    finds(
-        rt,
-        alloc,
-        names,
-        0,
-        b"D",
-        b"",
-        Found::Many(DeclId::Struct(2, 0), DeclId::Union(2, 0)),
-    )?;
-    finds(rt, alloc, names, 0, b"Hidden", b"", Found::None)?;
-    finds(
-        rt,
-        alloc,
-        names,
-        3,
-        b"Hidden",
-        b"",
-        Found::One(DeclId::Struct(3, 0)),
-    )?;
-    Ok(())
-}
-
-fn usings(rt: &impl Abort, alloc: Global, names: &Names<'_>) -> Result<(), AllocError> {
-    finds(
-        rt,
-        alloc,
-        names,
-        0,
-        b"U",
-        b"",
-        Found::One(DeclId::Using(1, 0)),
-    )?;
-    finds(
-        rt,
-        alloc,
-        names,
-        2,
-        b"q::U",
-        b"",
-        Found::One(DeclId::Using(1, 0)),
-    )?;
-    finds(
-        rt,
-        alloc,
-        names,
-        0,
-        b"U2",
-        b"",
-        Found::One(DeclId::Using(2, 1)),
-    )?;
-    finds(
-        rt,
-        alloc,
-        names,
-        0,
-        b"A::T",
-        b"int",
-        Found::One(DeclId::Using(0, 0)),
-    )?;
-    finds(rt, alloc, names, 0, b"T", b"int", Found::None)?;
-    finds(rt, alloc, names, 0, b"T", b"", Found::None)?;
-    finds(
-        rt,
-        alloc,
-        names,
-        0,
-        b"int32_t",
-        b"",
-        Found::Many(DeclId::Builtin(Builtin::Int32), DeclId::Using(0, 1)),
-    )?;
-    finds(
-        rt,
-        alloc,
-        names,
-        0,
-        b"ByteBuf",
-        b"",
-        Found::One(DeclId::Builtin(Builtin::ByteBuf)),
-    )?;
-    finds(
-        rt,
-        alloc,
-        names,
-        0,
-        b"mozilla::ipc::ByteBuf",
-        b"",
-        Found::One(DeclId::Builtin(Builtin::ByteBuf)),
-    )?;
-    Ok(())
-}
-
-fn protocols(rt: &impl Abort, alloc: Global, names: &Names<'_>) -> Result<(), AllocError> {
-    finds(
-        rt,
-        alloc,
-        names,
-        0,
-        b"PA",
-        b"",
-        Found::One(DeclId::Protocol(0)),
-    )?;
-    finds(
-        rt,
-        alloc,
-        names,
-        0,
-        b"PB",
-        b"",
-        Found::One(DeclId::Protocol(3)),
-    )?;
-    finds(rt, alloc, names, 1, b"PB", b"", Found::None)?;
-    finds(
-        rt,
-        alloc,
-        names,
-        4,
-        b"PB",
-        b"",
-        Found::Many(DeclId::Protocol(3), DeclId::Protocol(4)),
-    )?;
-    finds(
-        rt,
-        alloc,
-        names,
-        4,
-        b"O::PB",
-        b"",
-        Found::One(DeclId::Protocol(4)),
-    )?;
-    finds(
-        rt,
-        alloc,
-        names,
-        0,
-        b"bool",
-        b"",
-        Found::One(DeclId::Builtin(Builtin::Bool)),
-    )?;
-    Ok(())
-}
-
-fn endpoints(rt: &impl Abort, alloc: Global, names: &Names<'_>) -> Result<(), AllocError> {
-    finds(rt, alloc, names, 0, b"Endpoint", b"", Found::None)?;
-    finds(
-        rt,
-        alloc,
-        names,
-        0,
-        b"ManagedEndpoint",
-        b"",
-        Found::One(DeclId::Using(2, 2)),
-    )?;
-    finds(
-        rt,
-        alloc,
-        names,
-        0,
-        b"Endpoint",
-        b"PB",
-        Found::One(DeclId::Endpoint(3, false)),
-    )?;
-    finds(
-        rt,
-        alloc,
-        names,
-        1,
-        b"Endpoint",
-        b"PB",
-        Found::One(DeclId::Using(1, 1)),
-    )?;
-    finds(
-        rt,
-        alloc,
-        names,
-        4,
-        b"Endpoint",
-        b"PB",
-        Found::Many(DeclId::Endpoint(3, false), DeclId::Endpoint(4, false)),
-    )?;
-    finds(
-        rt,
-        alloc,
-        names,
-        0,
-        b"ManagedEndpoint",
-        b"N::PA",
-        Found::One(DeclId::Endpoint(0, true)),
-    )?;
-    finds(
-        rt,
-        alloc,
-        names,
-        0,
-        b"Endpoint",
-        b"PZ",
-        Found::One(DeclId::Using(1, 2)),
-    )?;
-    finds(rt, alloc, names, 0, b"Endpoint", b"Nope", Found::None)?;
-    Ok(())
-}
+/// As these, of names behind `manager` or `manages`.
+const PROTOCOLS: &str = "0 PB => protocol 3\n0 D => none";
 
 #[test]
 fn names_find_what_is_seen(rt: HostRuntime) -> Result<(), Fail> {
@@ -451,45 +205,90 @@ fn names_find_what_is_seen(rt: HostRuntime) -> Result<(), Fail> {
     let program = small(alloc)?;
     assert!(rt; program.len() <= 4096);
     let names = Names::build(alloc, &program)?;
-    structs_and_unions(&rt, alloc, &names)?;
-    usings(&rt, alloc, &names)?;
-    protocols(&rt, alloc, &names)?;
-    endpoints(&rt, alloc, &names)?;
-    assert_eq!(rt;
-        names.find_protocol(0, &name(alloc, b"PB")?),
-        Found::One(DeclId::Protocol(3))
-    );
-    assert_eq!(rt; names.find_protocol(0, &name(alloc, b"D")?), Found::None);
+    assert_eq!(rt; wrong_lookups(alloc, &names, LOOKUPS)?.as_str(), "");
+    assert_eq!(rt; wrong_protocols(alloc, &names, PROTOCOLS)?.as_str(), "");
     Ok(())
 }
 
 const HEADERS: u32 = 4096;
 
-fn numbered(alloc: Global, letter: &[u8], number: u32) -> Result<Name, AllocError> {
-    let mut text = Vec::from_slice(alloc, letter)?;
-    let digits = format!(in alloc; "{number}")?;
-    text.extend_from_slice(digits.as_bytes())?;
-    Ok(Items::from_vec(text))
+/// A name that ends with a number.
+fn numbered(alloc: Global, text: &str, number: u32) -> Result<Name, AllocError> {
+    Ok(Name::from_vec(format!(in alloc; "{text}{number}")?.into_bytes()))
 }
 
-/// Headers in a ring of includes, each with 24 usings, 24 structs, a union, and one using that all have.
+/// The header of this number in a ring: with 24 usings, 24 structs, a union, and one using that all
+/// have.
+fn header(alloc: Global, file: u32) -> Result<Entry, AllocError> {
+    let mut declared = Declared::new(alloc);
+    declared.using(alloc, name(alloc, "a::Shared")?)?;
+    for place in 0..24u32 {
+        let number = file.wrapping_mul(24).wrapping_add(place);
+        declared.using(alloc, numbered(alloc, "a::U", number)?)?;
+        declared.structure(alloc, numbered(alloc, "a::b::S", number)?)?;
+    }
+    declared.union(alloc, numbered(alloc, "Q", file)?)?;
+    declared.entry(alloc, &[file.wrapping_add(1) % HEADERS])
+}
+
+/// Headers in a ring of includes.
 fn ring(alloc: Global) -> Result<Program, AllocError> {
     let mut all = Vec::new(alloc);
     for file in 0..HEADERS {
-        let mut usings = Vec::new(alloc);
-        let mut structs = Vec::new(alloc);
-        let mut unions = Vec::new(alloc);
-        usings.push(using(alloc, name(alloc, b"a::Shared")?))?;
-        for place in 0..24u32 {
-            let number = file.wrapping_mul(24).wrapping_add(place);
-            usings.push(using(alloc, numbered(alloc, b"a::U", number)?))?;
-            structs.push(structure(alloc, numbered(alloc, b"a::b::S", number)?))?;
-        }
-        unions.push(union(alloc, numbered(alloc, b"Q", file)?))?;
-        let next = file.wrapping_add(1) % HEADERS;
-        all.push(entry(alloc, &[next], usings, structs, unions, None)?)?;
+        all.push(header(alloc, file)?)?;
     }
     Ok(Items::from_vec(all))
+}
+
+/// Whether a header finds this struct of another by its short name.
+fn finds_struct(
+    alloc: Global,
+    names: &Names<'_>,
+    file: u32,
+    place: u32,
+) -> Result<bool, AllocError> {
+    let number = file.wrapping_mul(24).wrapping_add(place);
+    let found = names.find(
+        HEADERS - 1 - file % HEADERS,
+        &numbered(alloc, "S", number)?,
+        None,
+    );
+    Ok(matches!(found, Found::One(DeclId::Struct(f, p)) if f == file && p == place as usize))
+}
+
+/// Whether the header in the middle finds this `using` of another, behind the one that all have.
+fn finds_using(
+    alloc: Global,
+    names: &Names<'_>,
+    file: u32,
+    place: u32,
+) -> Result<bool, AllocError> {
+    let number = file.wrapping_mul(24).wrapping_add(place);
+    let found = names.find(HEADERS / 2, &numbered(alloc, "a::U", number)?, None);
+    Ok(matches!(found, Found::One(DeclId::Using(f, p)) if f == file && p == place as usize + 1))
+}
+
+/// Whether these are both found, for each place in a header.
+fn finds_all(alloc: Global, names: &Names<'_>, file: u32) -> Result<bool, AllocError> {
+    for place in 0..24u32 {
+        if !finds_struct(alloc, names, file, place)? || !finds_using(alloc, names, file, place)? {
+            return Ok(false);
+        }
+    }
+    Ok(true)
+}
+
+/// How many headers are found whole, and what is found of the name that all have.
+fn found_in_ring(alloc: Global, names: &Names<'_>) -> Result<String, AllocError> {
+    let mut found = show_found(alloc, find(alloc, names, 77, "Shared", "")?)?;
+    let mut count = 0u32;
+    for file in 0..HEADERS {
+        if finds_all(alloc, names, file)? {
+            count = count.wrapping_add(1);
+        }
+    }
+    write!(found, ": {count}")?;
+    Ok(found)
 }
 
 #[test]
@@ -498,29 +297,19 @@ fn a_ring_of_headers(rt: HostRuntime) -> Result<(), Fail> {
     let program = ring(alloc)?;
     assert!(rt; program.len() <= 4096);
     let names = Names::build(alloc, &program)?;
-    for file in 0..HEADERS {
-        for place in 0..24u32 {
-            let number = file.wrapping_mul(24).wrapping_add(place);
-            let own = DeclId::Struct(file, place as usize);
-            let short = numbered(alloc, b"S", number)?;
-            assert_eq!(rt;
-                names.find(HEADERS - 1 - file, &short, None),
-                Found::One(own)
-            );
-            let full = numbered(alloc, b"a::U", number)?;
-            let foreign = DeclId::Using(file, place as usize + 1);
-            assert_eq!(rt; names.find(HEADERS / 2, &full, None), Found::One(foreign));
-        }
-    }
-    let shared = name(alloc, b"Shared")?;
-    assert_eq!(rt;
-        names.find(77, &shared, None),
-        Found::One(DeclId::Using(0, 0))
-    );
+    assert_eq!(rt; found_in_ring(alloc, &names)?.as_str(), "using 0 0: 4096");
     Ok(())
 }
 
-fn attribute(alloc: Global, of: &[u8], value: &[u8]) -> Result<Attribute, AllocError> {
+/// Attributes, with their values where they have one (else no text).
+const ATTRIBUTES: &[(&str, &str)] = &[
+    ("Nested", "inside_sync"),
+    ("Nested", "inside_cpow"),
+    ("Compress", "all"),
+    ("LazySend", ""),
+];
+
+fn attribute(alloc: Global, of: &str, value: &str) -> Result<Attribute, AllocError> {
     let value = if value.is_empty() {
         None
     } else {
@@ -533,12 +322,12 @@ fn attribute(alloc: Global, of: &[u8], value: &[u8]) -> Result<Attribute, AllocE
     })
 }
 
-fn message(alloc: Global, text: &[u8]) -> Result<MessageDecl, AllocError> {
+/// A sync message with all these attributes.
+fn message(alloc: Global, text: &str) -> Result<MessageDecl, AllocError> {
     let mut attributes = Vec::new(alloc);
-    attributes.push(attribute(alloc, b"Nested", b"inside_sync")?)?;
-    attributes.push(attribute(alloc, b"Nested", b"inside_cpow")?)?;
-    attributes.push(attribute(alloc, b"Compress", b"all")?)?;
-    attributes.push(attribute(alloc, b"LazySend", b"")?)?;
+    for (of, value) in ATTRIBUTES {
+        attributes.push(attribute(alloc, of, value)?)?;
+    }
     Ok(MessageDecl {
         name: name(alloc, text)?,
         place: PLACE,
@@ -550,31 +339,60 @@ fn message(alloc: Global, text: &[u8]) -> Result<MessageDecl, AllocError> {
     })
 }
 
-#[test]
-fn kinds_and_levels(rt: HostRuntime) -> Result<(), Fail> {
-    let alloc = rt.alloc();
-    let mut owner = protocol(alloc, name(alloc, b"PA")?);
+/// The protocol `PA`, which manages `PB`.
+fn owner(alloc: Global) -> Result<ProtocolDecl, AllocError> {
     let mut manages = Vec::new(alloc);
     manages.push(NameAt {
-        name: name(alloc, b"PB")?,
+        name: name(alloc, "PB")?,
         place: PLACE,
     })?;
+    let mut owner = protocol(alloc, name(alloc, "PA")?);
     owner.manages = Items::from_vec(manages);
-    let makes = message(alloc, b"PB")?;
-    assert_eq!(rt; kind_of(&owner, &makes), MessageKind::Constructor);
+    Ok(owner)
+}
+
+/// Appends what a message of this name is in a protocol.
+fn push_kind(
+    alloc: Global,
+    owner: &ProtocolDecl,
+    text: &str,
+    out: &mut String,
+) -> Result<(), AllocError> {
+    out.push_str(match kind_of(owner, &message(alloc, text)?) {
+        MessageKind::Constructor => "constructor ",
+        MessageKind::Destructor => "destructor ",
+        MessageKind::Normal => "normal ",
+    })
+}
+
+/// Whether the levels, the replacing and the laziness of a message and its protocol are those of their
+/// attributes, and the message does not convert to its protocol, which converts to itself.
+fn is_levelled(owner: &ProtocolDecl, makes: &MessageDecl) -> bool {
+    let (of_message, of_protocol) = (Strength::of_message(makes), Strength::of_protocol(owner));
+    matches!(message_level(makes), Level::InsideSync)
+        && matches!(protocol_level(owner), Level::Not)
+        && matches!(compress_of(makes), Compress::All)
+        && is_lazy(makes)
+        && !of_message.converts_to(of_protocol)
+        && of_protocol.converts_to(of_protocol)
+}
+
+/// What some messages are in a protocol, and whether their levels are right.
+fn kinds(alloc: Global) -> Result<String, AllocError> {
+    let owner = owner(alloc)?;
+    let mut shown = String::new(alloc);
+    push_kind(alloc, &owner, "PB", &mut shown)?;
+    push_kind(alloc, &owner, "__delete__", &mut shown)?;
+    push_kind(alloc, &owner, "Go", &mut shown)?;
+    write!(shown, "{}", is_levelled(&owner, &message(alloc, "PB")?))?;
+    Ok(shown)
+}
+
+#[test]
+fn kinds_and_levels(rt: HostRuntime) -> Result<(), Fail> {
     assert_eq!(rt;
-        kind_of(&owner, &message(alloc, b"__delete__")?),
-        MessageKind::Destructor
+        kinds(rt.alloc())?.as_str(),
+        "constructor destructor normal true"
     );
-    assert_eq!(rt;
-        kind_of(&owner, &message(alloc, b"Go")?),
-        MessageKind::Normal
-    );
-    assert_eq!(rt; message_level(&makes), Level::InsideSync);
-    assert_eq!(rt; protocol_level(&owner), Level::Not);
-    assert_eq!(rt; compress_of(&makes), Compress::All);
-    assert!(rt; is_lazy(&makes));
-    assert!(rt; !Strength::of_message(&makes).converts_to(Strength::of_protocol(&owner)));
-    assert!(rt; Strength::of_protocol(&owner).converts_to(Strength::of_protocol(&owner)));
     Ok(())
 }

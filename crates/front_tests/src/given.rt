@@ -2,29 +2,34 @@ ghost use Rattle.std.specs.Prelude.{IfOk};
 ghost use Rattle.ipdl_syntax.specs.Programs.{IsProgram, BearTheirNames};
 
 use include_graph::{are_file_words, load};
-use ipdl_base::{Files, Findings, MemoryFiles, Name, ReadAnswer};
+use ipdl_base::{Files, Finding, Findings, MemoryFiles, Name, ReadAnswer};
 use ipdl_syntax::Program;
 use std::alloc::{AllocError, Global};
 use std::test::Fail;
 
-/// Names with the texts of their files.
-pub type Texts<'a> = &'a [(&'a str, &'a str)];
-
-/// Strings of their own.
-pub fn strings(alloc: Global, words: &[&str]) -> Result<Vec<String>, AllocError> {
+/// Strings of the words of a text, which have a blank between each two.
+pub fn strings(alloc: Global, words: &str) -> Result<Vec<String>, AllocError> {
     let mut strings = Vec::new(alloc);
-    for word in words {
+    for word in words.split(' ') {
         strings.push(String::from_str(alloc, word)?)?;
     }
     Ok(strings)
 }
 
-/// Files in memory with these texts; the read with this number, from 1, fails.
-pub fn files(alloc: Global, texts: Texts<'_>, failing: u64) -> Result<MemoryFiles, AllocError> {
+/// A file with this name and text.
+fn file(alloc: Global, name: &str, text: &str) -> Result<(String, Vec<u8>), AllocError> {
+    let name = String::from_str(alloc, name)?;
+    Ok((name, Vec::from_slice(alloc, text.as_bytes())?))
+}
+
+/// The files that a text spells, in memory: each has its name behind `@ `, and then its text. The read
+/// with this number, from 1, fails.
+pub fn files(alloc: Global, texts: &str, failing: u64) -> Result<MemoryFiles, AllocError> {
     let mut files = Vec::new(alloc);
-    for (name, text) in texts {
-        let name = String::from_str(alloc, name)?;
-        files.push((name, Vec::from_slice(alloc, text.as_bytes())?))?;
+    for piece in texts.split("@ ") {
+        if let Some((name, text)) = piece.split_once("\n") {
+            files.push(file(alloc, name, text)?)?;
+        }
     }
     Ok(MemoryFiles::new(files, vec![in alloc; failing]?))
 }
@@ -35,37 +40,51 @@ pub fn name(alloc: Global, text: &str) -> Result<Name, AllocError> {
 }
 
 /// The text of a name.
-pub fn text(name: &Name) -> Result<&str, Fail> {
-    Ok(str::from_utf8(name.as_slice())?)
+pub fn text(name: &Name) -> &str {
+    str::from_utf8(name.as_slice()).unwrap_or("no text")
 }
 
 /// The program of these files, which breaks no rule of files.
-pub fn program(alloc: Global, mut files: MemoryFiles, words: &[&str]) -> Result<Program, Fail>
+pub fn program(alloc: Global, mut files: MemoryFiles, words: &str) -> Result<Program, Fail>
     ensures program { IfOk result IsProgram }
     ensures names { IfOk result BearTheirNames }
 {
     let words = strings(alloc, words)?;
-    let path = strings(alloc, &["."])?;
+    let path = strings(alloc, ".")?;
     if !are_file_words(words.as_slice()) || words.len() > 4096 {
         return Err("no words of files".into());
     }
-    Ok(load(alloc, &mut files, words.as_slice(), path.as_slice())?)
+    match load(alloc, &mut files, words.as_slice(), path.as_slice()) {
+        Ok(program) => Ok(program),
+        Err(_) => Err("no program".into()),
+    }
+}
+
+/// Appends a finding as `LINE:COLUMN RULE`.
+pub fn push_finding(finding: &Finding, out: &mut String) -> Result<(), AllocError> {
+    let (place, rule) = (finding.place, finding.rule);
+    let (letter, number) = (char::from(rule.letter), rule.number);
+    write!(out, "{}:{} {letter}{number}", place.line, place.column)
 }
 
 /// Findings, each as `FILE:LINE:COLUMN RULE` and a blank.
-pub fn show(alloc: Global, findings: &Findings) -> Result<String, Fail> {
+pub fn show(alloc: Global, findings: &Findings) -> Result<String, AllocError> {
     let mut shown = String::new(alloc);
     for finding in findings.as_slice() {
-        let place = finding.place;
-        let letter = char::from(finding.rule.letter);
-        let number = finding.rule.number;
-        write!(
-            shown,
-            "{}:{}:{} {letter}{number} ",
-            place.file, place.line, place.column
-        )?;
+        write!(shown, "{}:", finding.place.file)?;
+        push_finding(finding, &mut shown)?;
+        shown.push(' ')?;
     }
     Ok(shown)
+}
+
+/// Notes what came out of a row, where it is not what the row wants.
+pub fn note(row: &str, found: &str, wanted: &str, wrong: &mut String) -> Result<(), AllocError> {
+    if found == wanted {
+        Ok(())
+    } else {
+        writeln!(wrong, "{row}: {found}")
+    }
 }
 
 /// Files in memory that keep the names that they were asked for, each with a blank behind it.
@@ -86,7 +105,7 @@ impl NotedFiles {
 }
 
 /// Appends a name and a blank.
-fn note(asked: &mut String, name: &str) -> Result<(), AllocError> {
+fn push_asked(asked: &mut String, name: &str) -> Result<(), AllocError> {
     asked.push_str(name)?;
     asked.push(' ')
 }
@@ -100,7 +119,7 @@ impl Files for NotedFiles {
     ghost faults = { λ f. f.files.faults };
 
     fn read(&mut self, alloc: Global, name: &str, limit: usize) -> ReadAnswer {
-        match note(&mut self.asked, name) {
+        match push_asked(&mut self.asked, name) {
             Ok(()) => self.files.read(alloc, name, limit),
             Err(AllocError) => ReadAnswer::NoMemory,
         }

@@ -1,11 +1,8 @@
 use super::given::{files, program};
-use ipdl_base::{Findings, MemoryFiles, Rule};
-use ipdl_syntax::Program;
-use name_table::Names;
-use proto_rules::proto_findings;
+use super::rules::Rules;
+use ipdl_base::{Finding, Findings, MemoryFiles, Rule};
 use std::alloc::{AllocError, Global};
 use std::test::Fail;
-use type_rules::type_findings;
 
 /// The protocols of the ring: as many as a program may have files.
 const PROTOCOLS: u32 = 4096;
@@ -38,11 +35,12 @@ fn chain(alloc: Global, open: &str, close: &str, end: &str) -> Result<String, Al
     let mut text = String::new(alloc);
     for number in 0..TYPES {
         let next = number % TYPES + 1;
-        text.push_str(format!(in alloc; "{open} S{number} {{ S{next}{close}; }};\n")?.as_str())?;
+        write!(text, "{open} S{number} {{ S{next}{close}; }};\n")?;
     }
-    text.push_str(format!(in alloc;
+    write!(
+        text,
         "{open} S{TYPES} {{ {end}{close}; }};\nprotocol PA {{ }};\n"
-    )?.as_str())?;
+    )?;
     Ok(text)
 }
 
@@ -50,85 +48,86 @@ fn chain(alloc: Global, open: &str, close: &str, end: &str) -> Result<String, Al
 fn protocol_of(alloc: Global, messages: u32) -> Result<String, AllocError> {
     let mut text = String::from_str(alloc, "protocol PA {\nparent:\n")?;
     for number in 0..messages {
-        text.push_str(format!(in alloc; "  async M{number}();\n")?.as_str())?;
+        write!(text, "  async M{number}();\n")?;
     }
     text.push_str("};\n")?;
     Ok(text)
 }
 
-/// How many findings there are of this rule; nothing where there is one of another.
-fn count_of(findings: &Findings, rule: Rule) -> Option<usize> {
+/// Appends how many findings there are, where each is of this rule.
+fn push_count(findings: &Findings, rule: Rule, out: &mut String) -> Result<(), AllocError> {
     if findings.as_slice().iter().all(|f| f.rule == rule) {
-        Some(findings.len())
+        write!(out, "{} ", findings.len())
     } else {
-        None
+        out.push_str("another rule ")
     }
 }
 
-/// The findings on the types of a program of one file.
-fn types_of(alloc: Global, text: &str) -> Result<Findings, Fail> {
-    let program: Program = program(alloc, files(alloc, &[("PA.ipdl", text)], 0)?, &["PA.ipdl"])?;
-    if program.len() > 4096 {
-        return Err("too many files".into());
-    }
-    let names = Names::build(alloc, &program)?;
-    Ok(type_findings(alloc, &program, &names)?)
+/// What the rules find in a program of one file.
+fn found(alloc: Global, rules: Rules, text: &str) -> Result<Findings, Fail> {
+    let pieces = format!(in alloc; "@ PA.ipdl\n{text}")?;
+    let program = program(alloc, files(alloc, pieces.as_str(), 0)?, "PA.ipdl")?;
+    rules.findings(alloc, &program)
 }
 
-/// The findings on the protocols of a program of one file.
-fn protocols_of(alloc: Global, text: &str) -> Result<Findings, Fail> {
-    let program: Program = program(alloc, files(alloc, &[("PA.ipdl", text)], 0)?, &["PA.ipdl"])?;
-    if program.len() > 4096 {
-        return Err("too many files".into());
+/// Appends how many messages a protocol with so many has too many: all are behind those that may be.
+fn push_too_many(alloc: Global, messages: u32, out: &mut String) -> Result<(), Fail> {
+    let text = protocol_of(alloc, messages)?;
+    let findings = found(alloc, Rules::Protocols, text.as_str())?;
+    let behind = |f: &Finding| f.place.line > 32_770 && f.place.column == 9;
+    if findings.as_slice().iter().all(behind) {
+        push_count(&findings, Rule::TOO_MANY_MESSAGES, out)?;
     }
-    let names = Names::build(alloc, &program)?;
-    Ok(proto_findings(alloc, &program, &names)?)
-}
-
-#[test]
-fn messages(rt: HostRuntime) -> Result<(), Fail> {
-    let alloc = rt.alloc();
-    let most = protocols_of(alloc, protocol_of(alloc, 32_768)?.as_str())?;
-    assert!(rt; most.is_empty());
-    let more = protocols_of(alloc, protocol_of(alloc, 32_770)?.as_str())?;
-    assert_eq!(rt; count_of(&more, Rule::TOO_MANY_MESSAGES), Some(2));
-    assert!(rt;
-        more.as_slice()
-            .iter()
-            .all(|f| f.place.line > 32_770 && f.place.column == 9)
-    );
     Ok(())
 }
 
-#[test]
-fn cycle(rt: HostRuntime) -> Result<(), Fail> {
-    let alloc = rt.alloc();
-    let program = program(alloc, ring(alloc)?, &["P0.ipdl"])?;
-    if program.len() > 4096 {
-        return Err("too many files".into());
-    }
-    let names = Names::build(alloc, &program)?;
-    let findings = proto_findings(alloc, &program, &names)?;
-    assert_eq!(rt; count_of(&findings, Rule::MANAGER_CYCLE), Some(4096));
-    Ok(())
+/// Appends how many protocols of the ring manage themselves by way of others.
+fn push_cycles(alloc: Global, out: &mut String) -> Result<(), Fail> {
+    let program = program(alloc, ring(alloc)?, "P0.ipdl")?;
+    let findings = Rules::Protocols.findings(alloc, &program)?;
+    Ok(push_count(&findings, Rule::MANAGER_CYCLE, out)?)
+}
+
+/// The findings on large protocols.
+fn protocols(alloc: Global) -> Result<String, Fail> {
+    let mut shown = String::new(alloc);
+    push_too_many(alloc, 32_768, &mut shown)?;
+    push_too_many(alloc, 32_770, &mut shown)?;
+    push_cycles(alloc, &mut shown)?;
+    Ok(shown)
 }
 
 #[test]
-fn chains(rt: HostRuntime) -> Result<(), Fail> {
-    let alloc = rt.alloc();
-    let rows = [
-        ("struct", " f", "int32_t", 0),
-        ("struct", " f", "S0", 20_001),
-        ("union", "", "int32_t", 0),
-        ("union", "", "S0", 20_001),
-    ];
-    for (open, close, end, wanted) in rows {
-        let findings = types_of(alloc, chain(alloc, open, close, end)?.as_str())?;
-        assert_eq!(rt;
-            count_of(&findings, Rule::UNDEFINED_TYPE),
-            Some(wanted),
-            "{open} {end}"
-        );
-    }
+fn large_protocols(rt: HostRuntime) -> Result<(), Fail> {
+    assert_eq!(rt; protocols(rt.alloc())?.as_str(), "0 2 4096 ");
+    Ok(())
+}
+
+/// Appends how many types of a chain cannot be built.
+fn push_undefined(
+    alloc: Global,
+    open: &str,
+    close: &str,
+    end: &str,
+    out: &mut String,
+) -> Result<(), Fail> {
+    let text = chain(alloc, open, close, end)?;
+    let findings = found(alloc, Rules::Types, text.as_str())?;
+    Ok(push_count(&findings, Rule::UNDEFINED_TYPE, out)?)
+}
+
+/// The findings on chains of structs and of unions, which end with a builtin or with the first of them.
+fn types(alloc: Global) -> Result<String, Fail> {
+    let mut shown = String::new(alloc);
+    push_undefined(alloc, "struct", " f", "int32_t", &mut shown)?;
+    push_undefined(alloc, "struct", " f", "S0", &mut shown)?;
+    push_undefined(alloc, "union", "", "int32_t", &mut shown)?;
+    push_undefined(alloc, "union", "", "S0", &mut shown)?;
+    Ok(shown)
+}
+
+#[test]
+fn large_types(rt: HostRuntime) -> Result<(), Fail> {
+    assert_eq!(rt; types(rt.alloc())?.as_str(), "0 20001 0 20001 ");
     Ok(())
 }

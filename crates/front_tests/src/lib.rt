@@ -5,11 +5,15 @@
 #[cfg(test)]
 mod built_names;
 #[cfg(test)]
+mod founds;
+#[cfg(test)]
 mod given;
 #[cfg(test)]
 mod large;
 #[cfg(test)]
 mod lists;
+#[cfg(test)]
+mod load_rows;
 #[cfg(test)]
 mod loads;
 #[cfg(test)]

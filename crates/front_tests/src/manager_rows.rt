@@ -732,4 +732,4 @@ parent:
 ";
 
 /// How many programs these are.
-pub const MANAGERS_COUNT: u32 = 43;
+pub const MANAGERS_COUNT: &str = "43";

@@ -243,4 +243,4 @@ child:
 ";
 
 /// How many programs these are.
-pub const MESSAGES_COUNT: u32 = 22;
+pub const MESSAGES_COUNT: &str = "22";

@@ -1,127 +1,81 @@
-use super::given::{program, show};
+ghost use Rattle.ipdl_syntax.specs.Programs.{IsProgram};
+
+use super::given::{files, note, program, show};
 use super::manager_rows::{MANAGERS, MANAGERS_COUNT};
 use super::message_rows::{MESSAGES, MESSAGES_COUNT};
 use super::type_rows::{TYPES, TYPES_COUNT};
-use ipdl_base::MemoryFiles;
+use ipdl_base::Findings;
 use ipdl_syntax::Program;
 use name_table::Names;
 use proto_rules::proto_findings;
-use std::alloc::{AllocError, Global};
+use std::alloc::Global;
 use std::test::Fail;
 use type_rules::type_findings;
 
-/// A row: what it is about, the findings, and the files.
-#[derive(Drop)]
-struct Row<'t> {
-    about: &'t str,
-    wanted: &'t str,
-    word: &'t str,
-    files: Vec<(String, Vec<u8>)>,
+/// Some rules on programs.
+#[derive(Clone, Copy)]
+pub enum Rules {
+    Types,
+    Protocols,
 }
 
-/// The file of a piece of a row: its name on the first line, and behind it its text.
-fn file(alloc: Global, name: &str, text: &str) -> Result<(String, Vec<u8>), AllocError> {
-    let name = String::from_str(alloc, name)?;
-    Ok((name, Vec::from_slice(alloc, text.as_bytes())?))
-}
-
-/// The row that a text spells: two lines, and then each file behind `@ `.
-fn read_row<'t>(alloc: Global, text: &'t str) -> Result<Row<'t>, Fail> {
-    let Some((head, pieces)) = text.split_once("@ ") else {
-        return Err("a row without a file".into());
-    };
-    let Some((about, findings)) = head.split_once("\n") else {
-        return Err("a row without its lines".into());
-    };
-    let Some((word, _)) = pieces.split_once("\n") else {
-        return Err("a file without its name".into());
-    };
-    let mut files = Vec::new(alloc);
-    for piece in pieces.split("@ ") {
-        if let Some((name, text)) = piece.split_once("\n") {
-            files.push(file(alloc, name, text)?)?;
+impl Rules {
+    /// What the rules find in a program.
+    pub fn findings(self, alloc: Global, program: &Program) -> Result<Findings, Fail>
+        requires { IsProgram program.now }
+    {
+        if program.len() > 4096 {
+            return Err("too many files".into());
         }
+        let names = Names::build(alloc, program)?;
+        Ok(match self {
+            Rules::Types => type_findings(alloc, program, &names)?,
+            Rules::Protocols => proto_findings(alloc, program, &names)?,
+        })
     }
-    Ok(Row {
-        about,
-        wanted: findings.trim_end_matches("\n"),
-        word,
-        files,
-    })
 }
 
-/// The program of a row's files, which the first of them reaches.
-fn reached(alloc: Global, word: &str, files: Vec<(String, Vec<u8>)>) -> Result<Program, Fail> {
-    let files = MemoryFiles::new(files, Vec::new(alloc));
-    let program = program(alloc, files, &[word])?;
-    if program.len() > 4096 {
-        return Err("too many files".into());
-    }
-    Ok(program)
+/// What the rules find in the program of pieces, which the first of them reaches.
+fn found(alloc: Global, rules: Rules, pieces: &str) -> Result<String, Fail> {
+    let (word, _) = pieces.split_once("\n").ok_or("a file without its name")?;
+    let program = program(alloc, files(alloc, pieces, 0)?, word)?;
+    let findings = rules.findings(alloc, &program)?;
+    Ok(show(alloc, &findings)?)
 }
 
-/// What the rules on types find in a program.
-fn types_of(alloc: Global, program: &Program) -> Result<String, Fail> {
-    if program.len() > 4096 {
-        return Err("too many files".into());
-    }
-    let names = Names::build(alloc, program)?;
-    show(alloc, &type_findings(alloc, program, &names)?)
+/// Notes a row of which the rules find something else. It is two lines, what it is about and the
+/// findings, and then each file behind `@ `.
+fn check(alloc: Global, rules: Rules, row: &str, wrong: &mut String) -> Result<(), Fail> {
+    let (head, pieces) = row.split_once("@ ").ok_or("a row without a file")?;
+    let (about, wanted) = head.split_once("\n").ok_or("a row without its lines")?;
+    let found = found(alloc, rules, pieces)?;
+    Ok(note(about, found.as_str(), wanted.trim_end_matches("\n"), wrong)?)
 }
 
-/// What the rules on protocols find in a program.
-fn protocols_of(alloc: Global, program: &Program) -> Result<String, Fail> {
-    if program.len() > 4096 {
-        return Err("too many files".into());
+/// What the rules find in the programs of a table that these are not marked with, and how many they
+/// are.
+fn checked(alloc: Global, rules: Rules, table: &str) -> Result<String, Fail> {
+    let mut shown = String::new(alloc);
+    let mut count = 0u32;
+    for row in table.split("====\n") {
+        check(alloc, rules, row, &mut shown)?;
+        count = count.wrapping_add(1);
     }
-    let names = Names::build(alloc, program)?;
-    show(alloc, &proto_findings(alloc, program, &names)?)
+    write!(shown, "{count}")?;
+    Ok(shown)
 }
 
 #[test]
-fn types(rt: HostRuntime) -> Result<(), Fail> {
+fn programs(rt: HostRuntime) -> Result<(), Fail> {
     let alloc = rt.alloc();
-    let mut count = 0u32;
-    for text in TYPES.split("====\n") {
-        let row = read_row(alloc, text)?;
-        let (about, wanted) = (row.about, row.wanted);
-        let program = reached(alloc, row.word, row.files)?;
-        let shown = types_of(alloc, &program)?;
-        assert_eq!(rt; shown.as_str(), wanted, "{about}");
-        count = count.wrapping_add(1);
-    }
-    assert_eq!(rt; count, TYPES_COUNT);
-    Ok(())
-}
-
-#[test]
-fn managers(rt: HostRuntime) -> Result<(), Fail> {
-    let alloc = rt.alloc();
-    let mut count = 0u32;
-    for text in MANAGERS.split("====\n") {
-        let row = read_row(alloc, text)?;
-        let (about, wanted) = (row.about, row.wanted);
-        let program = reached(alloc, row.word, row.files)?;
-        let shown = protocols_of(alloc, &program)?;
-        assert_eq!(rt; shown.as_str(), wanted, "{about}");
-        count = count.wrapping_add(1);
-    }
-    assert_eq!(rt; count, MANAGERS_COUNT);
-    Ok(())
-}
-
-#[test]
-fn messages(rt: HostRuntime) -> Result<(), Fail> {
-    let alloc = rt.alloc();
-    let mut count = 0u32;
-    for text in MESSAGES.split("====\n") {
-        let row = read_row(alloc, text)?;
-        let (about, wanted) = (row.about, row.wanted);
-        let program = reached(alloc, row.word, row.files)?;
-        let shown = protocols_of(alloc, &program)?;
-        assert_eq!(rt; shown.as_str(), wanted, "{about}");
-        count = count.wrapping_add(1);
-    }
-    assert_eq!(rt; count, MESSAGES_COUNT);
+    assert_eq!(rt; checked(alloc, Rules::Types, TYPES)?.as_str(), TYPES_COUNT);
+    assert_eq!(rt;
+        checked(alloc, Rules::Protocols, MANAGERS)?.as_str(),
+        MANAGERS_COUNT
+    );
+    assert_eq!(rt;
+        checked(alloc, Rules::Protocols, MESSAGES)?.as_str(),
+        MESSAGES_COUNT
+    );
     Ok(())
 }

@@ -1,91 +1,155 @@
-use super::given::{Texts, files};
+ghost use Rattle.ipdl_base.specs.Sound.{IsSound};
+
+use super::given::{files, note};
 use actor_tables::table_text;
 use ipdl_base::Schema;
 use schema_of_text::schema_of;
-use std::alloc::Global;
+use std::alloc::{AllocError, Global};
 use std::test::Fail;
 
-/// The files of a program, of which the first is the word of the command, its table, and which of
-/// its messages are carried, in the table's order.
-type Row = (Texts<'static>, &'static str, &'static str);
-
-/// Programs that break no rule.
-const TABLES: &[Row] = &[
-    // A manager, what it manages, and types of a header.
-    (
-        &[
-            (
-                "PMyManager.ipdl",
-                "include protocol PMyManaged;\ninclude MyTypes;\nusing mozilla::MyData from \"MyData.h\";\nnamespace mozilla {\nsync protocol PMyManager {\n  manages PMyManaged;\nparent:\n  async PMyManaged();\n  sync Lookup(nsString aKey) returns (MyUnion aFound);\nchild:\n  async Note(MyPair aPair, nullable PMyManaged aActor, MyData aData);\n};\n} // namespace mozilla\n",
-            ),
-            (
-                "PMyManaged.ipdl",
-                "include protocol PMyManager;\nnamespace mozilla {\n[ManualDealloc] async protocol PMyManaged {\n  manager PMyManager;\nboth:\n  async Hello(int32_t? aCount) returns (bool aOk);\nparent:\n  async __delete__();\n};\n}\n",
-            ),
-            (
-                "MyTypes.ipdlh",
-                "include protocol PMyManaged;\nusing mozilla::MyData from \"MyData.h\";\nnamespace mozilla {\nstruct MyPair { int32_t first; PMyManaged owner; };\nunion MyUnion { float; nsString[]; MyPair; };\n}\n",
-            ),
-        ],
-        "protocol 0 mozilla::PMyManaged async not\nmanager mozilla::PMyManager\nmessage 0 both async not plain normal Hello(int32_t? aCount) returns (bool aOk)\nmessage 2 parent async not plain delete __delete__()\nprotocol 1 mozilla::PMyManager sync not\nmanages mozilla::PMyManaged\nmessage 65536 parent async not plain constructor PMyManaged()\nmessage 65538 parent sync not plain normal Lookup(nsString aKey) returns (mozilla::MyUnion aFound)\nmessage 65540 child async not plain normal Note(mozilla::MyPair aPair, nullable mozilla::PMyManaged aActor, mozilla::MyData aData)\nstruct 0 mozilla::MyPair (int32_t first, mozilla::PMyManaged owner)\nunion 1 mozilla::MyUnion (float, nsString[], mozilla::MyPair)\n",
-        "true true true true true ",
-    ),
-    // A union that holds arrays of itself.
-    (
-        &[(
-            "PU.ipdl",
-            "union U { int32_t; U[]; };\nprotocol PU {\nparent:\n  async M(U u);\n};\n",
-        )],
-        "protocol 0 PU async not\nmessage 0 parent async not plain normal M(U u)\nunion 0 U (int32_t, U[])\n",
-        "true ",
-    ),
-    // A protocol that manages itself.
-    (
-        &[(
-            "PD.ipdl",
-            "protocol PD {\n  manager PD;\n  manages PD;\nparent:\n  async PD();\n  async __delete__();\n};\n",
-        )],
-        "protocol 0 PD async not\nmanager PD\nmanages PD\nmessage 0 parent async not plain constructor PD()\nmessage 2 parent async not plain delete __delete__()\n",
-        "true true ",
-    ),
-    // Protocols by their full names, whatever their files; attributes; Shmem inside of a struct.
-    (
-        &[
-            (
-                "PMain.ipdl",
-                "include protocol PKid;\ninclude HTypes;\nusing mozilla::Data from \"x.h\";\nnamespace a {\nstruct Zed { Inner one; int32_t two; };\n[NestedUpTo=inside_sync] sync protocol PMain {\n  manages PKid;\nparent:\n  [Nested=inside_sync] sync Get(nullable PKid kid, int32_t[] xs, Data? d) returns (Zed z);\n  async Plain(UniquePtr<Inner[]> p);\nboth:\n  async PKid(Endpoint<PKid> e);\nchild:\n  [Compress=all] async Tick();\n  [LazySend] async Lazy(Leaf l);\n};\n}\n",
-            ),
-            (
-                "PKid.ipdl",
-                "include protocol PMain;\nprotocol PKid { manager PMain; parent: async __delete__(); };\n",
-            ),
-            (
-                "HTypes.ipdlh",
-                "struct Inner { Leaf l; };\nunion Leaf { Shmem; int32_t; };\n",
-            ),
-        ],
-        "protocol 0 PKid async not\nmanager a::PMain\nmessage 0 parent async not plain delete __delete__()\nprotocol 1 a::PMain sync inside_sync\nmanages PKid\nmessage 65536 parent sync inside_sync plain normal Get(nullable PKid kid, int32_t[] xs, mozilla::Data? d) returns (a::Zed z)\nmessage 65538 parent async not plain normal Plain(UniquePtr<Inner[]> p)\nmessage 65540 both async not plain constructor PKid(Endpoint<PKid> e)\nmessage 65542 child async not compressall normal Tick()\nmessage 65544 child async not plain lazy Lazy(Leaf l)\nstruct 0 a::Zed (Inner one, int32_t two)\nstruct 1 Inner (Leaf l)\nunion 2 Leaf (Shmem, int32_t)\n",
-        "true false false false true false ",
-    ),
-    // Types by file and place, unions among structs; suffixes from left to right.
-    (
-        &[
-            (
-                "PA.ipdl",
-                "include h;\nunion U { S[]?; };\nstruct S { int32_t?[] a; };\nprotocol PA {\nparent:\n  async M(ManagedEndpoint<PA> e);\n  async N(T t, U u);\n};\nstruct R { };\n",
-            ),
-            (
-                "h.ipdlh",
-                "struct T { UniquePtr<nullable PA>[] p; bool b; };\ninclude protocol PA;\n",
-            ),
-        ],
-        "protocol 0 PA async not\nmessage 0 parent async not plain normal M(ManagedEndpoint<PA> e)\nmessage 2 parent async not plain normal N(T t, U u)\nunion 0 U (S[]?)\nstruct 1 S (int32_t?[] a)\nstruct 2 R ()\nstruct 3 T (UniquePtr<nullable PA>[] p, bool b)\n",
-        "false true ",
-    ),
-];
+/// Programs that break no rule. Each row: what it is about; which of its messages are carried, in the
+/// table's order; its table; and then each file behind `@ `, of which the first is the word of the
+/// command. `====` stands between two rows.
+const TABLES: &str = "A manager, what it manages, and types of a header.
+true true true true true 
+protocol 0 mozilla::PMyManaged async not
+manager mozilla::PMyManager
+message 0 both async not plain normal Hello(int32_t? aCount) returns (bool aOk)
+message 2 parent async not plain delete __delete__()
+protocol 1 mozilla::PMyManager sync not
+manages mozilla::PMyManaged
+message 65536 parent async not plain constructor PMyManaged()
+message 65538 parent sync not plain normal Lookup(nsString aKey) returns (mozilla::MyUnion aFound)
+message 65540 child async not plain normal Note(mozilla::MyPair aPair, nullable mozilla::PMyManaged aActor, mozilla::MyData aData)
+struct 0 mozilla::MyPair (int32_t first, mozilla::PMyManaged owner)
+union 1 mozilla::MyUnion (float, nsString[], mozilla::MyPair)
+@ PMyManager.ipdl
+include protocol PMyManaged;
+include MyTypes;
+using mozilla::MyData from \"MyData.h\";
+namespace mozilla {
+sync protocol PMyManager {
+  manages PMyManaged;
+parent:
+  async PMyManaged();
+  sync Lookup(nsString aKey) returns (MyUnion aFound);
+child:
+  async Note(MyPair aPair, nullable PMyManaged aActor, MyData aData);
+};
+} // namespace mozilla
+@ PMyManaged.ipdl
+include protocol PMyManager;
+namespace mozilla {
+[ManualDealloc] async protocol PMyManaged {
+  manager PMyManager;
+both:
+  async Hello(int32_t? aCount) returns (bool aOk);
+parent:
+  async __delete__();
+};
+}
+@ MyTypes.ipdlh
+include protocol PMyManaged;
+using mozilla::MyData from \"MyData.h\";
+namespace mozilla {
+struct MyPair { int32_t first; PMyManaged owner; };
+union MyUnion { float; nsString[]; MyPair; };
+}
+====
+A union that holds arrays of itself.
+true 
+protocol 0 PU async not
+message 0 parent async not plain normal M(U u)
+union 0 U (int32_t, U[])
+@ PU.ipdl
+union U { int32_t; U[]; };
+protocol PU {
+parent:
+  async M(U u);
+};
+====
+A protocol that manages itself.
+true true 
+protocol 0 PD async not
+manager PD
+manages PD
+message 0 parent async not plain constructor PD()
+message 2 parent async not plain delete __delete__()
+@ PD.ipdl
+protocol PD {
+  manager PD;
+  manages PD;
+parent:
+  async PD();
+  async __delete__();
+};
+====
+Protocols by their full names, whatever their files; attributes; Shmem inside of a struct.
+true false false false true false 
+protocol 0 PKid async not
+manager a::PMain
+message 0 parent async not plain delete __delete__()
+protocol 1 a::PMain sync inside_sync
+manages PKid
+message 65536 parent sync inside_sync plain normal Get(nullable PKid kid, int32_t[] xs, mozilla::Data? d) returns (a::Zed z)
+message 65538 parent async not plain normal Plain(UniquePtr<Inner[]> p)
+message 65540 both async not plain constructor PKid(Endpoint<PKid> e)
+message 65542 child async not compressall normal Tick()
+message 65544 child async not plain lazy Lazy(Leaf l)
+struct 0 a::Zed (Inner one, int32_t two)
+struct 1 Inner (Leaf l)
+union 2 Leaf (Shmem, int32_t)
+@ PMain.ipdl
+include protocol PKid;
+include HTypes;
+using mozilla::Data from \"x.h\";
+namespace a {
+struct Zed { Inner one; int32_t two; };
+[NestedUpTo=inside_sync] sync protocol PMain {
+  manages PKid;
+parent:
+  [Nested=inside_sync] sync Get(nullable PKid kid, int32_t[] xs, Data? d) returns (Zed z);
+  async Plain(UniquePtr<Inner[]> p);
+both:
+  async PKid(Endpoint<PKid> e);
+child:
+  [Compress=all] async Tick();
+  [LazySend] async Lazy(Leaf l);
+};
+}
+@ PKid.ipdl
+include protocol PMain;
+protocol PKid { manager PMain; parent: async __delete__(); };
+@ HTypes.ipdlh
+struct Inner { Leaf l; };
+union Leaf { Shmem; int32_t; };
+====
+Types by file and place, unions among structs; suffixes from left to right.
+false true 
+protocol 0 PA async not
+message 0 parent async not plain normal M(ManagedEndpoint<PA> e)
+message 2 parent async not plain normal N(T t, U u)
+union 0 U (S[]?)
+struct 1 S (int32_t?[] a)
+struct 2 R ()
+struct 3 T (UniquePtr<nullable PA>[] p, bool b)
+@ PA.ipdl
+include h;
+union U { S[]?; };
+struct S { int32_t?[] a; };
+protocol PA {
+parent:
+  async M(ManagedEndpoint<PA> e);
+  async N(T t, U u);
+};
+struct R { };
+@ h.ipdlh
+struct T { UniquePtr<nullable PA>[] p; bool b; };
+include protocol PA;
+";
 
 /// Which messages of a schema are carried, each with a blank behind it.
-fn carried(alloc: Global, schema: &Schema) -> Result<String, Fail> {
+fn carried(alloc: Global, schema: &Schema) -> Result<String, AllocError> {
     let mut shown = String::new(alloc);
     for protocol in schema.protocols.as_slice() {
         for message in protocol.messages.as_slice() {
@@ -96,39 +160,65 @@ fn carried(alloc: Global, schema: &Schema) -> Result<String, Fail> {
     Ok(shown)
 }
 
+/// Notes a program whose table is another, or whose messages are carried otherwise.
+fn check(alloc: Global, row: &str, wrong: &mut String) -> Result<(), Fail> {
+    let (head, pieces) = row.split_once("@ ").ok_or("a row without a file")?;
+    let (about, head) = head.split_once("\n").ok_or("a row without its messages")?;
+    let (wanted, table) = head.split_once("\n").ok_or("a row without its table")?;
+    let (word, _) = pieces.split_once("\n").ok_or("a file without its name")?;
+    let schema = schema_of(alloc, files(alloc, pieces, 0)?, word)?;
+    note(about, carried(alloc, &schema)?.as_str(), wanted, wrong)?;
+    let text = table_text(alloc, &schema)?;
+    Ok(note(about, str::from_utf8(text.as_slice())?, table, wrong)?)
+}
+
+/// Which of these programs have other tables.
+fn wrong_tables(alloc: Global) -> Result<String, Fail> {
+    let mut wrong = String::new(alloc);
+    for row in TABLES.split("====\n") {
+        check(alloc, row, &mut wrong)?;
+    }
+    Ok(wrong)
+}
+
 #[test]
 fn tables(rt: HostRuntime) -> Result<(), Fail> {
-    let alloc = rt.alloc();
-    for (texts, table, wanted) in TABLES {
-        let Some((word, _)) = texts.first() else {
-            return Err("no file".into());
-        };
-        let schema = schema_of(alloc, files(alloc, texts, 0)?, word)?;
-        let text = table_text(alloc, &schema)?;
-        assert_eq!(rt; str::from_utf8(text.as_slice())?, *table);
-        assert_eq!(rt; carried(alloc, &schema)?.as_str(), *wanted, "{word}");
-    }
+    assert_eq!(rt; wrong_tables(rt.alloc())?.as_str(), "");
     Ok(())
+}
+
+/// A program whose messages have no reply and one.
+const REPLIES: &str = "@ P.ipdl
+sync protocol P {
+parent:
+  async Ping();
+  sync Ask() returns ();
+};
+";
+
+/// The numbers of the messages that these numbers are of, and whether there is a protocol of these.
+fn numbered(alloc: Global, schema: &Schema) -> Result<String, AllocError>
+    requires { IsSound schema.now }
+{
+    let mut shown = String::new(alloc);
+    for number in [0, 1, 2, 3, 4, 65536] {
+        match schema.message(number) {
+            Some(row) => write!(shown, "{} ", row.number)?,
+            None => shown.push_str("none ")?,
+        }
+    }
+    for number in [0, 1] {
+        write!(shown, "{} ", schema.protocol(number).is_some())?;
+    }
+    Ok(shown)
 }
 
 /// The messages of a schema by their numbers, of which one has no reply and one has one.
 #[test]
 fn messages_by_number(rt: HostRuntime) -> Result<(), Fail> {
     let alloc = rt.alloc();
-    let text = "sync protocol P {\nparent:\n  async Ping();\n  sync Ask() returns ();\n};\n";
-    let schema = schema_of(alloc, files(alloc, &[("P.ipdl", text)], 0)?, "P.ipdl")?;
-    let rows = [
-        (0, Some(0)),
-        (1, None),
-        (2, Some(2)),
-        (3, Some(2)),
-        (4, None),
-        (65536, None),
-    ];
-    for (number, want) in rows {
-        assert_eq!(rt; schema.message(number).map(|row| row.number), want);
-    }
-    assert!(rt; schema.protocol(0).is_some());
-    assert!(rt; schema.protocol(1).is_none());
+    let schema = schema_of(alloc, files(alloc, REPLIES, 0)?, "P.ipdl")?;
+    let wanted = "0 none 2 2 none none true false ";
+    assert_eq!(rt; numbered(alloc, &schema)?.as_str(), wanted);
     Ok(())
 }

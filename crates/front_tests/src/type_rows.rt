@@ -398,4 +398,4 @@ struct S { y a; int32_t a; };
 ";
 
 /// How many programs these are.
-pub const TYPES_COUNT: u32 = 42;
+pub const TYPES_COUNT: &str = "42";
