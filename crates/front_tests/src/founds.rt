@@ -50,11 +50,9 @@ pub fn show_found(alloc: Global, found: Found) -> Result<String, AllocError> {
 
 /// Notes a name that finds something else. The row has the file that looks, the name, and its argument
 /// where it has one; and behind `=>` what is found: of two, these, or `many` where they only have to
-/// differ. A row of another form says nothing.
+/// differ.
 fn check(alloc: Global, names: &Names<'_>, row: &str, wrong: &mut String) -> Result<(), Fail> {
-    let Some((asked, wanted)) = row.split_once(" => ") else {
-        return Ok(());
-    };
+    let (asked, wanted) = row.split_once(" => ").ok_or("a row without its answer")?;
     let (file, rest) = asked.split_once(" ").ok_or("a row without its name")?;
     let (text, argument) = rest.split_once(" ").unwrap_or((rest, ""));
     let found = show_found(
@@ -72,11 +70,13 @@ fn as_wanted<'t>(found: &'t str, wanted: &'t str) -> &'t str {
     }
 }
 
-/// Which names of a table find something else.
+/// Which names of a table find something else. A row that begins with `#` is a remark.
 pub fn wrong_lookups(alloc: Global, names: &Names<'_>, table: &str) -> Result<String, Fail> {
     let mut wrong = String::new(alloc);
     for row in table.split('\n') {
-        check(alloc, names, row, &mut wrong)?;
+        if !row.starts_with("#") {
+            check(alloc, names, row, &mut wrong)?;
+        }
     }
     Ok(wrong)
 }

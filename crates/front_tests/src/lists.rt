@@ -408,20 +408,20 @@ fn program_of(alloc: Global, words: &str) -> Result<Program, Fail> {
 
 /// Notes a list that has other findings.
 fn check(alloc: Global, row: &str, wrong: &mut String) -> Result<(), Fail> {
-    let Some((head, list)) = row.split_once("\n") else {
-        return Ok(());
-    };
+    let (head, list) = row.split_once("\n").ok_or("a row without its list")?;
     let (words, wanted) = head.split_once(": ").ok_or("a row without its findings")?;
     let program = program_of(alloc, words)?;
     let found = show_findings(alloc, &program, list)?;
     Ok(note(row, found.as_str(), wanted, wrong)?)
 }
 
-/// Which lists of a table have other findings.
+/// Which lists of a table have other findings. A row that begins with `#` is a remark.
 fn wrong_lists(alloc: Global, table: &str) -> Result<String, Fail> {
     let mut wrong = String::new(alloc);
     for row in table.split("\n====\n") {
-        check(alloc, row, &mut wrong)?;
+        if !row.starts_with("#") {
+            check(alloc, row, &mut wrong)?;
+        }
     }
     Ok(wrong)
 }
