@@ -1,8 +1,8 @@
 -- What a value begins with.
-use Rattle.std.proofs.Common.{◌≡◌, ℕ, Bool, true, false, cond, eqb, List, [], ◌∷◌, drop, length, ◌<◌, subst, Some, inl, inr, refl, sym, ap, ◌∙◌, arith}
+use Rattle.std.proofs.Common.{◌≡◌, ℕ, false, eqb, List, ◌∷◌, subst, Some, inl, inr, refl, sym, ap, ◌∙◌}
 use Rattle.std.specs.Prelude.{codes}
 use Rattle.std.specs.Str.{bytes_eq}
-use Rattle.std.proofs.lemmas.Bool.{cases_Bool, eqb-true}
+use Rattle.std.proofs.lemmas.Bool.{cases_Bool}
 use Rattle.std.proofs.lemmas.Option.{none-some}
 use Rattle.std.proofs.lemmas.Slice.Eq.{bytes_eq-Decides}
 use Rattle.script_reader.specs.declared.parts.Bracket.{Bracket}
@@ -16,61 +16,6 @@ use Rattle.script_reader.specs.declared.written.Written.{Written, Union', Held'}
 use Rattle.script_reader.specs.declared.written.Written.TheVariants as written
 use Rattle.script_reader.specs.Grammar.{atom_named, atom_of, closing, value}
 use Rattle.script_reader.specs.Heads.{begin_with, begin_of}
-
-pub neither : {X : Type 0} (b : Bool) (x y z : X) → ¬ (x ≡ z) → ¬ (y ≡ z) → ¬ (cond b x y ≡ z)
-neither true x y z f g = f
-neither false x y z f g = g
-
--- the token that a value of a kind begins with
-struct_with : (t : Token) → begin_with t ≡ begin.Struct → t ≡ token.Mark 123
-struct_with (token.Mark b) h = elim (cases_Bool (eqb b 123)) [
-  | inl e ↦ ap token.Mark (eqb-true b 123 e)
-  | inr e ↦ absurd (neither (eqb b 91) begin.Array begin.Atom begin.Struct (λ e. let no : ⊥ = cc in no) (λ e. let no : ⊥ = cc in no) (rw e at h))
-]
-struct_with (token.Word w) h = absurd (neither (bytes_eq w (codes "some")) begin.Held begin.Atom begin.Struct (λ e. let no : ⊥ = cc in no) (λ e. let no : ⊥ = cc in no) h)
-struct_with t h = absurd (let no : ⊥ = cc in no)
-
-array_with : (t : Token) → begin_with t ≡ begin.Array → t ≡ token.Mark 91
-array_with (token.Mark b) h = elim (cases_Bool (eqb b 91)) [
-  | inl e ↦ ap token.Mark (eqb-true b 91 e)
-  | inr e ↦ absurd (neither (eqb b 123) begin.Struct begin.Atom begin.Array (λ e. let no : ⊥ = cc in no) (λ e. let no : ⊥ = cc in no) (rw e at h))
-]
-array_with (token.Word w) h = absurd (neither (bytes_eq w (codes "some")) begin.Held begin.Atom begin.Array (λ e. let no : ⊥ = cc in no) (λ e. let no : ⊥ = cc in no) h)
-array_with t h = absurd (let no : ⊥ = cc in no)
-
-union_with : (t : Token) (n : ℕ) → begin_with t ≡ begin.Union n → t ≡ token.Index n
-union_with (token.Mark b) n h = absurd (neither (eqb b 123) begin.Struct _ (begin.Union n) (λ e. let no : ⊥ = cc in no) (neither (eqb b 91) begin.Array begin.Atom (begin.Union n) (λ e. let no : ⊥ = cc in no) (λ e. let no : ⊥ = cc in no)) h)
-union_with (token.Word w) n h = absurd (neither (bytes_eq w (codes "some")) begin.Held begin.Atom (begin.Union n) (λ e. let no : ⊥ = cc in no) (λ e. let no : ⊥ = cc in no) h)
-union_with (token.Index m) n h = let e : m ≡ n = cc in ap token.Index e
-union_with t n h = absurd (let no : ⊥ = cc in no)
-
-held_with : (t : Token) → begin_with t ≡ begin.Held → t ≡ token.Word (codes "some")
-held_with (token.Mark b) h = absurd (neither (eqb b 123) begin.Struct _ begin.Held (λ e. let no : ⊥ = cc in no) (neither (eqb b 91) begin.Array begin.Atom begin.Held (λ e. let no : ⊥ = cc in no) (λ e. let no : ⊥ = cc in no)) h)
-held_with (token.Word w) h = elim (cases_Bool (bytes_eq w (codes "some"))) [
-  | inl e ↦ ap token.Word ((bytes_eq-Decides w (codes "some")).0 e)
-  | inr e ↦ absurd (let no : begin.Atom ≡ begin.Held = (rw e at h) in let x : ⊥ = cc in x)
-]
-held_with t h = absurd (let no : ⊥ = cc in no)
-
-pub struct_head : (from : List Token) → begin_of from ≡ begin.Struct → from ≡ token.Mark 123 ∷ drop 1 from
-struct_head [] h = absurd (let no : ⊥ = cc in no)
-struct_head (t ∷ rest) h = ap (λ u. u ∷ rest) (struct_with t h)
-
-pub array_head : (from : List Token) → begin_of from ≡ begin.Array → from ≡ token.Mark 91 ∷ drop 1 from
-array_head [] h = absurd (let no : ⊥ = cc in no)
-array_head (t ∷ rest) h = ap (λ u. u ∷ rest) (array_with t h)
-
-pub union_head : (from : List Token) (n : ℕ) → begin_of from ≡ begin.Union n → from ≡ token.Index n ∷ drop 1 from
-union_head [] n h = absurd (let no : ⊥ = cc in no)
-union_head (t ∷ rest) n h = ap (λ u. u ∷ rest) (union_with t n h)
-
-pub held_head : (from : List Token) → begin_of from ≡ begin.Held → from ≡ token.Word (codes "some") ∷ drop 1 from
-held_head [] h = absurd (let no : ⊥ = cc in no)
-held_head (t ∷ rest) h = ap (λ u. u ∷ rest) (held_with t h)
-
--- behind the first token fewer are left
-pub fewer : (from middle : List Token) (t : Token) → from ≡ t ∷ drop 1 from → middle ≡ drop 1 from → length middle < length from
-fewer from middle t head is = let e = ap length head in let f = ap length is in omega (arith, e, f)
 
 -- a word that is `some` is no value by itself
 atom_begin : (t : Token) (a : Atom) → atom_of t ≡ Some a → begin_with t ≡ begin.Atom
