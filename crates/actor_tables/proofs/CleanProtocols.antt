@@ -23,10 +23,10 @@ use Rattle.message_rules.specs.Messages.{IsTooMany}
 use Rattle.name_table.specs.declared.kinds.MessageKind.TheVariants as kind
 use Rattle.name_table.specs.Decls.{FindsNoProtocol, protocol_of}
 use Rattle.type_rules.specs.Written.{InParams, InMessage}
-use Rattle.schema_laws.specs.Clean.{IsClean}
-use Rattle.schema_laws.proofs.Lists.{any_at}
+use Rattle.program_schema.specs.Clean.{IsClean}
+use Rattle.program_schema.proofs.Lists.{any_at}
 use Rattle.message_rules.proofs.Whole.{some_in}
-use Rattle.actor_tables.specs.Source.{FindsSoleProtocol, NamesFindSole, MessageFindsSole, ProtocolFindsSole}
+use Rattle.actor_tables.specs.SchemaSource.{FindsSoleProtocol, NamesFindSole, MessageFindsSole, ProtocolFindsSole}
 use Rattle.actor_tables.proofs.CleanTypes.{Unknown, Ambiguous, params_sole, unit_unknown, unit_ambiguous}
 use Rattle.actor_tables.proofs.Protocols.{never_two}
 

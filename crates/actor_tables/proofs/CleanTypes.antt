@@ -13,9 +13,9 @@ use Rattle.ipdl_syntax.specs.declared.tree.UnionDecl.{UnionDecl}
 use Rattle.name_table.specs.Decls.{struct_of, union_of}
 use Rattle.type_rules.specs.TypeNames.{IsUnknown, IsAmbiguous, IsUnknownType, IsAmbiguousType}
 use Rattle.type_rules.specs.Written.{OfType, HoldsWithin, InType, InParams, InUnit}
-use Rattle.schema_laws.specs.Clean.{IsClean}
-use Rattle.schema_laws.proofs.Lists.{any_at}
-use Rattle.actor_tables.specs.Source.{FindsSole, ParamsFindSole, TypesFindSole}
+use Rattle.program_schema.specs.Clean.{IsClean}
+use Rattle.program_schema.proofs.Lists.{any_at}
+use Rattle.actor_tables.specs.SchemaSource.{FindsSole, ParamsFindSole, TypesFindSole}
 
 never_unknown : (program : List Entry) → IsClean program → (place : Place) → ¬ IsUnknownType program place
 never_unknown program clean place h = clean.types (record { place = place; rule = rule.UNKNOWN_TYPE }) (inl (refl, h))

@@ -8,9 +8,9 @@ use Rattle.ipdl_syntax.specs.declared.program.Entry.{Entry}
 use Rattle.name_table.specs.declared.decl.DeclId.{DeclId}
 use Rattle.name_table.specs.declared.decl.DeclId.TheVariants.{Struct, Union}
 use Rattle.name_table.specs.Decls.{protocol_of}
-use Rattle.schema_laws.specs.Numbers.{IsTypeNumber, place_of}
+use Rattle.program_schema.specs.Numbers.{IsTypeNumber, place_of}
 use Rattle.actor_tables.specs.Numbered.{decl_of, same_id, numbering_of, AreNumbersOf}
-use Rattle.actor_tables.specs.declared.numbers.Numbers.{Numbers}
+use Rattle.actor_tables.specs.declared.numbers.SchemaNumbers.{SchemaNumbers}
 use Rattle.actor_tables.specs.declared.numbers.TypeId.{TypeId}
 
 -- what is said of the value of an option
@@ -33,16 +33,16 @@ read_at {X} xs read i x same below at = let P : List X → Type 0 = λ ys. slice
 
 -- Protocols
 
-number_of_file : (program : List Entry) (numbers : Numbers) (file : ℕ) → AreNumbersOf program numbers → IsSome (protocol_of program file) → IsSomeAnd (slice_get numbers.of_files.items file) (λ number. slice_get numbers.files.items number ≡ Some file)
+number_of_file : (program : List Entry) (numbers : SchemaNumbers) (file : ℕ) → AreNumbersOf program numbers → IsSome (protocol_of program file) → IsSomeAnd (slice_get numbers.of_files.items file) (λ number. slice_get numbers.files.items number ≡ Some file)
 number_of_file program numbers file are there = are.of_files file ((are.files.exact file).1 there)
 
-pub file_within : (program : List Entry) (numbers : Numbers) (file : ℕ) (read : List ℕ) → AreNumbersOf program numbers → IsSome (protocol_of program file) → read ≡ numbers.of_files.items → length read ≤ file → ⊥
+pub file_within : (program : List Entry) (numbers : SchemaNumbers) (file : ℕ) (read : List ℕ) → AreNumbersOf program numbers → IsSome (protocol_of program file) → read ≡ numbers.of_files.items → length read ≤ file → ⊥
 file_within program numbers file read are there same past =
     let below : file < length numbers.of_files.items = some_below _ numbers.of_files.items file (number_of_file program numbers file are there) in
     let long : length read ≡ length numbers.of_files.items = ap length same in
     absurd (omega arith)
 
-pub file_number : (program : List Entry) (numbers : Numbers) (file number : ℕ) (read : List ℕ) → AreNumbersOf program numbers → IsSome (protocol_of program file) → read ≡ numbers.of_files.items → file < length read
+pub file_number : (program : List Entry) (numbers : SchemaNumbers) (file number : ℕ) (read : List ℕ) → AreNumbersOf program numbers → IsSome (protocol_of program file) → read ≡ numbers.of_files.items → file < length read
     → ((d : ℕ) → number ≡ get_or read file d) → slice_get numbers.files.items number ≡ Some file
 file_number program numbers file number read are there same below at =
     at_some (λ k. slice_get numbers.files.items k ≡ Some file) (slice_get numbers.of_files.items file) number (read_at numbers.of_files.items read file number same below at) (number_of_file program numbers file are there)
@@ -69,10 +69,10 @@ contains_type ids id (k, lt, at) =
     let below : k < length ids = rw (length-map ids decl_of) at lt in
     (k, below, same_type (get_or ids k id) id (sym (get_or-map decl_of ids k id (decl_of id) below) ∙ at))
 
-pub number_of_type : (program : List Entry) (numbers : Numbers) (id : TypeId) → AreNumbersOf program numbers → IsSome (place_of program (decl_of id)) → IsSomeAnd (get same_id numbers.of_types id) (λ number. slice_get numbers.types.items number ≡ Some id)
+pub number_of_type : (program : List Entry) (numbers : SchemaNumbers) (id : TypeId) → AreNumbersOf program numbers → IsSome (place_of program (decl_of id)) → IsSomeAnd (get same_id numbers.of_types id) (λ number. slice_get numbers.types.items number ≡ Some id)
 number_of_type program numbers id are there = are.of_types id (contains_type numbers.types.items id ((are.types.exact (decl_of id)).1 there))
 
-pub type_number : (program : List Entry) (numbers : Numbers) (id : TypeId) (number : ℕ) → AreNumbersOf program numbers → IsSome (place_of program (decl_of id)) → Some number ≡ get same_id numbers.of_types id → IsTypeNumber (numbering_of numbers) number (decl_of id)
+pub type_number : (program : List Entry) (numbers : SchemaNumbers) (id : TypeId) (number : ℕ) → AreNumbersOf program numbers → IsSome (place_of program (decl_of id)) → Some number ≡ get same_id numbers.of_types id → IsTypeNumber (numbering_of numbers) number (decl_of id)
 type_number program numbers id number are there found =
     slice_get-map decl_of numbers.types.items number
     ∙ ap (option_map decl_of) (at_some (λ k. slice_get numbers.types.items k ≡ Some id) (get same_id numbers.of_types id) number (sym found) (number_of_type program numbers id are there))

@@ -15,7 +15,7 @@ use Rattle.name_table.specs.declared.decl.Found.TheVariants as found
 use Rattle.name_table.specs.Decls.{protocol_of}
 use Rattle.name_table.specs.Finds.{FindsAsProtocol, FindsProtocol, Counts}
 use Rattle.name_table.proofs.Seeing.{sees_shown}
-use Rattle.schema_laws.proofs.KindsOfMessages.{word_short}
+use Rattle.program_schema.proofs.KindsOfMessages.{word_short}
 
 -- the key of a file is that of its protocol
 key_of : (program : List Entry) (file : ℕ) (e : Entry) (p : ProtocolDecl) → BearTheirNames program → slice_get program file ≡ Some e → e.unit.protocol ≡ Some p → e.key ≡ short_name p.full ++ ending kinds.Protocol

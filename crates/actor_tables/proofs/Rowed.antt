@@ -9,7 +9,7 @@ use Rattle.std.proofs.lemmas.Slice.Zip.{all_zipped_more}
 use Rattle.ipdl_base.specs.Sound.{MentionsUncarried}
 use Rattle.ipdl_base.specs.declared.schema.ParamRow.{ParamRow}
 use Rattle.ipdl_base.specs.declared.schema.TypeRow.{TypeRow}
-use Rattle.schema_laws.specs.SchemaOf.{AreRows}
+use Rattle.program_schema.specs.SchemaOf.{AreRows}
 
 -- one row more
 pub zip_at : {X Y : Type 0} (R : X → Y → Type 0) (xs : List X) (ys : List Y) (i : ℕ) (d : X) (y : Y) → i < length xs → AllZip R (take i xs) ys → R (get_or xs i d) y → AllZip R (take (i + 1) xs) (ys ++ y ∷ [])

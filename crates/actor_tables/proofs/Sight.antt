@@ -15,7 +15,7 @@ use Rattle.name_table.specs.Declares.{full_name_of}
 use Rattle.name_table.specs.Decls.{FindsOne, FindsOneProtocol, protocol_of}
 use Rattle.name_table.specs.Finds.{Finds, FindsAsProtocol, FindsProtocol, Counts}
 use Rattle.name_table.proofs.Seeing.{sees_shown}
-use Rattle.actor_tables.specs.Source.{IsThere, FindsSole, FindsSoleProtocol}
+use Rattle.actor_tables.specs.SchemaSource.{IsThere, FindsSole, FindsSoleProtocol}
 
 struct_there : (o : Option Entry) (index : ℕ) (full : List ℕ) → option_and_then (λ e. option_map (λ s. s.full) (slice_get e.unit.structs index)) o ≡ Some full
     → IsSome (option_map (λ (s : StructDecl). s.place) (option_and_then (λ e. slice_get e.unit.structs index) o))

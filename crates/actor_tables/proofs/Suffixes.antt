@@ -13,8 +13,8 @@ use Rattle.ipdl_syntax.specs.declared.tree.TypeSpec.{TypeSpec}
 use Rattle.ipdl_syntax.specs.declared.program.Entry.{Entry}
 use Rattle.name_table.specs.declared.decl.DeclId.{DeclId}
 use Rattle.name_table.specs.Decls.{FindsOne}
-use Rattle.schema_laws.specs.Numbers.{Numbering}
-use Rattle.schema_laws.specs.Shapes.{IsSuffixedBy, IsSuffixed, IsShapeOfBase, IsShapeOfDecl, IsShapeOf}
+use Rattle.program_schema.specs.Numbers.{Numbering}
+use Rattle.program_schema.specs.Shapes.{IsSuffixedBy, IsSuffixed, IsShapeOfBase, IsShapeOfDecl, IsShapeOf}
 
 -- one suffix more
 suffixed_more : (P : Shape → Type 0) (xs : List Suffix) (s : Suffix) (whole : Shape) → IsSuffixedBy s (IsSuffixed P xs) whole → IsSuffixed P (xs ++ s ∷ []) whole

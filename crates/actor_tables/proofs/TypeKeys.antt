@@ -9,7 +9,7 @@ use Rattle.ipdl_base.specs.declared.finding.Place.{Place}
 use Rattle.ipdl_syntax.specs.declared.program.Entry.{Entry}
 use Rattle.ipdl_syntax.specs.declared.tree.StructDecl.{StructDecl}
 use Rattle.ipdl_syntax.specs.declared.tree.UnionDecl.{UnionDecl}
-use Rattle.schema_laws.specs.Numbers.{place_of}
+use Rattle.program_schema.specs.Numbers.{place_of}
 use Rattle.actor_tables.specs.Numbered.{decl_of, AddsKeys, IsStructKey, IsUnionKey, IsKeyBelow}
 use Rattle.actor_tables.specs.declared.numbers.TypeKey.{TypeKey}
 

@@ -19,8 +19,8 @@ use Rattle.findings.specs.Order.{place_cmp}
 use Rattle.findings.proofs.Order.{place_total, both_equal, same_place}
 use Rattle.name_table.specs.declared.decl.DeclId.{DeclId}
 use Rattle.name_table.specs.declared.decl.DeclId.TheVariants.{Builtin, Using, Struct, Union, Protocol, Endpoint}
-use Rattle.schema_laws.specs.Numbers.{AreTypes, place_of, list_number, index_of}
-use Rattle.schema_laws.proofs.Numberings.{some_of}
+use Rattle.program_schema.specs.Numbers.{AreTypes, place_of, list_number, index_of}
+use Rattle.program_schema.proofs.Numberings.{some_of}
 use Rattle.type_rules.proofs.Lists.{contains_map}
 use Rattle.actor_tables.specs.Numbered.{decl_of, id_of_key, key_cmp, IsBefore, IsKeyBelow, AddsKeys}
 use Rattle.actor_tables.specs.declared.numbers.TypeId.{TypeId}

@@ -13,10 +13,10 @@ use Rattle.ipdl_base.specs.declared.schema.ParamRow.{ParamRow}
 use Rattle.ipdl_base.specs.declared.schema.Shape.{Shape, Builtin, Using, Actor, Named, Array', Maybe', Unique', Endpoint}
 use Rattle.ipdl_base.specs.declared.schema.TypeRow.{TypeRow}
 use Rattle.ipdl_base.specs.declared.schema.TypeRow.TheVariants as row
-use Rattle.least_sets.specs.Derived.{IsDerived, all, one, AreMarks}
-use Rattle.least_sets.specs.declared.nodes.Need.TheVariants.{All, One}
-use Rattle.least_sets.specs.declared.nodes.Node.{Node}
-use Rattle.schema_laws.proofs.Lists.{place_in}
+use Rattle.least_fixed_points.specs.Derived.{IsDerived, all, one, AreMarks}
+use Rattle.least_fixed_points.specs.declared.nodes.Need.TheVariants.{All, One}
+use Rattle.least_fixed_points.specs.declared.nodes.Node.{Node}
+use Rattle.program_schema.proofs.Lists.{place_in}
 use Rattle.actor_tables.specs.Marked.{part_of, parts_of, IsNodeOf, AreNodesOf, AreMarked}
 use Rattle.actor_tables.specs.declared.carried.MarkedTypes.{MarkedTypes}
 

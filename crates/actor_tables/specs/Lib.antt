@@ -1,5 +1,5 @@
 pub mod Marked
 pub mod Numbered
 pub mod Parts
-pub mod Source
+pub mod SchemaSource
 pub mod TableText

@@ -6,8 +6,8 @@ use Rattle.ipdl_base.specs.Sound.{MentionsUncarried}
 use Rattle.ipdl_base.specs.declared.schema.Shape.{Shape, Builtin, Using, Actor, Named, Array', Maybe', Unique', Endpoint}
 use Rattle.ipdl_base.specs.declared.schema.TypeRow.{TypeRow}
 use Rattle.ipdl_base.specs.declared.schema.TypeRow.TheVariants as row
-use Rattle.least_sets.specs.declared.nodes.Need.TheVariants.{All, One}
-use Rattle.least_sets.specs.declared.nodes.Node.{Node}
+use Rattle.least_fixed_points.specs.declared.nodes.Need.TheVariants.{All, One}
+use Rattle.least_fixed_points.specs.declared.nodes.Node.{Node}
 use Rattle.actor_tables.specs.declared.carried.MarkedTypes.{MarkedTypes}
 
 -- the mark that tells of a shape: 0 for what is not carried, and behind it one for each type

@@ -6,9 +6,9 @@ use Rattle.ipdl_base.specs.declared.schema.TypeRow.TheVariants as row
 use Rattle.ipdl_syntax.specs.declared.program.Entry.{Entry}
 use Rattle.ipdl_syntax.specs.declared.tree.StructDecl.{StructDecl}
 use Rattle.ipdl_syntax.specs.declared.tree.UnionDecl.{UnionDecl}
-use Rattle.schema_laws.specs.Numbers.{Numbering}
-use Rattle.schema_laws.specs.SchemaOf.{AreParamRows}
-use Rattle.schema_laws.specs.Shapes.{IsShapeOf}
+use Rattle.program_schema.specs.Numbers.{Numbering}
+use Rattle.program_schema.specs.SchemaOf.{AreParamRows}
+use Rattle.program_schema.specs.Shapes.{IsShapeOf}
 
 -- the row of a struct of a file
 abbrev pub IsStructRow : List Entry → Numbering → ℕ → StructDecl → TypeRow → Type 0

@@ -1,17 +1,17 @@
 ghost use Rattle.std.specs.Prelude.{◌≡◌, IfOk};
 ghost use Rattle.ipdl_base.specs.Sound.{IsSound};
-ghost use Rattle.schema_laws.specs.Clean.{IsClean};
-ghost use Rattle.schema_laws.specs.SchemaOf.{IsSchemaOf};
+ghost use Rattle.program_schema.specs.Clean.{IsClean};
+ghost use Rattle.program_schema.specs.SchemaOf.{IsSchemaOf};
 
 use crate::carried::MarkedTypes;
 use crate::messages::protocol_rows;
-use crate::numbers::Numbers;
-use crate::source::Source;
+use crate::numbers::SchemaNumbers;
+use crate::source::SchemaSource;
 use crate::types::type_rows;
 use ipdl_base::{Items, Schema};
 use ipdl_syntax::Program;
 use name_table::Names;
-use schema_laws::clean_is_sound;
+use program_schema::clean_is_sound;
 use std::alloc::{AllocError, Global};
 
 /// The schema of a program in which no rule is broken, with what its names find: a row for each protocol, in the order of full
@@ -24,8 +24,8 @@ pub fn schema(alloc: Global, program: &Program, names: &Names<'_>) -> Result<Sch
 {
     clean_is_sound();
     let program = program.as_slice();
-    let numbers = Numbers::of(alloc, program)?;
-    let source = Source {
+    let numbers = SchemaNumbers::of(alloc, program)?;
+    let source = SchemaSource {
         program,
         names,
         numbers,

@@ -5,7 +5,7 @@ ghost use Rattle.ipdl_base.specs.Sound.{MentionsUncarried};
 ghost use Rattle.actor_tables.specs.Marked.{part_of, IsNodeOf, AreNodesOf, AreMarked};
 
 use ipdl_base::{ParamRow, Shape, TypeRow};
-use least_sets::{Need, Node, derived};
+use least_fixed_points::{Need, Node, least_fixed_point};
 use std::alloc::{AllocError, Global};
 
 /// The rows of types, and for each whether it mentions a type that is not carried.
@@ -100,7 +100,7 @@ impl MarkedTypes {
         ensures marks { IfOk result AreMarked }
     {
         let nodes = nodes(alloc, rows.as_slice())?;
-        let marks = derived(alloc, nodes.as_slice())?;
+        let marks = least_fixed_point(alloc, nodes.as_slice())?;
         Ok(MarkedTypes { rows, marks })
     }
 

@@ -3,14 +3,14 @@ ghost use Rattle.std.specs.List.{Any, AllZip};
 ghost use Rattle.std.specs.Option.{option_copied};
 ghost use Rattle.ipdl_base.specs.Sound.{MentionsUncarried};
 ghost use Rattle.name_table.specs.Decls.{protocol_of as the_protocol_of};
-ghost use Rattle.schema_laws.specs.Clean.{IsClean};
-ghost use Rattle.schema_laws.specs.SchemaOf.{AreRows, IsMessageRow, IsNumberOfName, IsProtocolRow, IsRowKind};
+ghost use Rattle.program_schema.specs.Clean.{IsClean};
+ghost use Rattle.program_schema.specs.SchemaOf.{AreRows, IsMessageRow, IsNumberOfName, IsProtocolRow, IsRowKind};
 ghost use Rattle.actor_tables.specs.Marked.{AreMarked};
 ghost use Rattle.actor_tables.specs.Numbered.{numbering_of};
-ghost use Rattle.actor_tables.specs.Source.{IsSource, NamesFindSole, MessageFindsSole, ProtocolFindsSole};
+ghost use Rattle.actor_tables.specs.SchemaSource.{IsSource, NamesFindSole, MessageFindsSole, ProtocolFindsSole};
 
 use crate::carried::MarkedTypes;
-use crate::source::Source;
+use crate::source::SchemaSource;
 use crate::types::{param_rows, return_rows};
 use ipdl_base::{Items, Kind, MessageRow, ParamRow, ParamRows, ProtocolRow};
 use ipdl_syntax::{MessageDecl, NameAt, ProtocolDecl};
@@ -21,7 +21,7 @@ use std::alloc::{AllocError, Global};
 
 /// A protocol with its number and its file.
 #[derive(Clone, Copy)]
-struct Numbered<'p> {
+struct NumberedProtocol<'p> {
     number: u32,
     file: u32,
     protocol: &'p ProtocolDecl,
@@ -30,7 +30,7 @@ struct Numbered<'p> {
 /// The numbers of the protocols that names find in a file.
 fn numbers_of_names(
     alloc: Global,
-    source: &Source<'_, '_>,
+    source: &SchemaSource<'_, '_>,
     file: u32,
     names: &[NameAt],
 ) -> Result<Vec<u32>, AllocError>
@@ -47,7 +47,7 @@ fn numbers_of_names(
 
 /// The kind of a message.
 fn row_kind(
-    source: &Source<'_, '_>,
+    source: &SchemaSource<'_, '_>,
     file: u32,
     protocol: &ProtocolDecl,
     message: &MessageDecl,
@@ -80,9 +80,9 @@ fn are_carried(types: &MarkedTypes, params: &[ParamRow], returns: Option<&ParamR
 /// The row of the message at an index of a protocol.
 fn message_row(
     alloc: Global,
-    source: &Source<'_, '_>,
+    source: &SchemaSource<'_, '_>,
     types: &MarkedTypes,
-    of: &Numbered<'_>,
+    of: &NumberedProtocol<'_>,
     index: usize,
     message: &MessageDecl,
 ) -> Result<MessageRow, AllocError>
@@ -114,9 +114,9 @@ fn message_row(
 /// The rows of the messages of a protocol.
 fn message_rows(
     alloc: Global,
-    source: &Source<'_, '_>,
+    source: &SchemaSource<'_, '_>,
     types: &MarkedTypes,
-    of: &Numbered<'_>,
+    of: &NumberedProtocol<'_>,
 ) -> Result<Vec<MessageRow>, AllocError>
     requires source { IsSource source.now }
     requires marked { AreMarked types.now }
@@ -134,9 +134,9 @@ fn message_rows(
 /// The row of a protocol.
 fn protocol_row(
     alloc: Global,
-    source: &Source<'_, '_>,
+    source: &SchemaSource<'_, '_>,
     types: &MarkedTypes,
-    of: &Numbered<'_>,
+    of: &NumberedProtocol<'_>,
 ) -> Result<ProtocolRow, AllocError>
     requires source { IsSource source.now }
     requires marked { AreMarked types.now }
@@ -161,7 +161,7 @@ fn protocol_row(
 /// The row of the protocol of a file, which has this number.
 fn row_of_file(
     alloc: Global,
-    source: &Source<'_, '_>,
+    source: &SchemaSource<'_, '_>,
     types: &MarkedTypes,
     number: u32,
     file: u32,
@@ -176,7 +176,7 @@ fn row_of_file(
     let Some(protocol) = protocol_of(source.program, file) else {
         unreachable!();
     };
-    let of = Numbered {
+    let of = NumberedProtocol {
         number,
         file,
         protocol,
@@ -187,7 +187,7 @@ fn row_of_file(
 /// The rows of the protocols of a program.
 pub fn protocol_rows(
     alloc: Global,
-    source: &Source<'_, '_>,
+    source: &SchemaSource<'_, '_>,
     types: &MarkedTypes,
 ) -> Result<Vec<ProtocolRow>, AllocError>
     requires source { IsSource source.now }

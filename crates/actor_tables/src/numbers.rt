@@ -1,7 +1,7 @@
 ghost use Rattle.std.specs.Prelude.{◌≡◌, ◌↔◌, ◌≤◌, ◌<◌, [], map, length, IfOk, OnOk};
 ghost use Rattle.std.specs.List.{All, AllPairs, Contains};
 ghost use Rattle.ipdl_syntax.specs.Programs.{IsProgram, BearTheirNames};
-ghost use Rattle.schema_laws.specs.Numbers.{AreProtocolFiles, AreTypes};
+ghost use Rattle.program_schema.specs.Numbers.{AreProtocolFiles, AreTypes};
 ghost use Rattle.actor_tables.specs.Numbered.{decl_of, id_of_key, AreNamedFiles, AddsKeys, IsStructKey, IsUnionKey, IsKeyBelow, IsBefore, GivesNumbers, FindsNumbers, AreNumbersOf};
 
 use ipdl_base::Place;
@@ -27,7 +27,7 @@ pub struct TypeKey {
 
 /// The protocols and the types of a program by number, and the numbers of both.
 #[derive(Drop)]
-pub struct Numbers {
+pub struct SchemaNumbers {
     /// The files of the protocols.
     pub files: Vec<u32>,
     /// The structs and unions.
@@ -174,9 +174,9 @@ fn numbers_of_types(alloc: Global, ids: &[TypeId]) -> Result<HashMap<TypeId, u32
     Ok(numbers)
 }
 
-impl Numbers {
+impl SchemaNumbers {
     /// The numbers of a program. The only error is want of memory.
-    pub fn of(alloc: Global, program: &[Entry]) -> Result<Numbers, AllocError>
+    pub fn of(alloc: Global, program: &[Entry]) -> Result<SchemaNumbers, AllocError>
         requires is_program { IsProgram program.now }
         requires named { BearTheirNames program.now }
         ensures { IfOk result (AreNumbersOf program.now) }
@@ -185,7 +185,7 @@ impl Numbers {
         let types = type_ids(alloc, program)?;
         let of_files = numbers_of_files(alloc, program.len(), files.as_slice())?;
         let of_types = numbers_of_types(alloc, types.as_slice())?;
-        Ok(Numbers {
+        Ok(SchemaNumbers {
             files,
             types,
             of_files,

@@ -1,10 +1,10 @@
 ghost use Rattle.std.specs.Prelude.{◌≡◌, IfOk};
-ghost use Rattle.schema_laws.specs.Shapes.{IsShapeOf, IsShapeOfBase, IsShapeOfDecl, IsSuffixed};
+ghost use Rattle.program_schema.specs.Shapes.{IsShapeOf, IsShapeOfBase, IsShapeOfDecl, IsSuffixed};
 ghost use Rattle.actor_tables.specs.Numbered.{numbering_of};
-ghost use Rattle.actor_tables.specs.Source.{IsSource, IsThere, FindsSole};
+ghost use Rattle.actor_tables.specs.SchemaSource.{IsSource, IsThere, FindsSole};
 
 use crate::numbers::TypeId;
-use crate::source::{Source, using_name};
+use crate::source::{SchemaSource, using_name};
 use ipdl_base::Shape;
 use ipdl_syntax::{Base, Suffix, TypeSpec};
 use name_table::{DeclId, Found};
@@ -13,7 +13,7 @@ use std::alloc::{AllocError, Global};
 /// The shape that a declaration stands for, behind `nullable` or not.
 fn shape_of_decl(
     alloc: Global,
-    source: &Source<'_, '_>,
+    source: &SchemaSource<'_, '_>,
     nullable: bool,
     id: DeclId,
 ) -> Result<Shape, AllocError>
@@ -60,7 +60,7 @@ fn suffixed(alloc: Global, base: Shape, suffixes: &[Suffix]) -> Result<Shape, Al
 /// The shape that a base stands for in a file, behind `nullable` or not.
 fn shape_of_base(
     alloc: Global,
-    source: &Source<'_, '_>,
+    source: &SchemaSource<'_, '_>,
     file: u32,
     nullable: bool,
     base: &Base,
@@ -85,7 +85,7 @@ fn shape_of_base(
 /// The shape that a type stands for in a file.
 pub fn shape_of(
     alloc: Global,
-    source: &Source<'_, '_>,
+    source: &SchemaSource<'_, '_>,
     file: u32,
     spec: &TypeSpec,
 ) -> Result<Shape, AllocError>

@@ -1,12 +1,12 @@
 ghost use Rattle.std.specs.Prelude.{◌≡◌, IsSome, IfOk, Some};
 ghost use Rattle.name_table.specs.Declares.{full_name_of};
 ghost use Rattle.name_table.specs.Decls.{FindsOneProtocol, protocol_of};
-ghost use Rattle.schema_laws.specs.Numbers.{IsProtocolNumber, IsTypeNumber, place_of};
-ghost use Rattle.schema_laws.specs.SchemaOf.{IsNumberOfName};
+ghost use Rattle.program_schema.specs.Numbers.{IsProtocolNumber, IsTypeNumber, place_of};
+ghost use Rattle.program_schema.specs.SchemaOf.{IsNumberOfName};
 ghost use Rattle.actor_tables.specs.Numbered.{decl_of, numbering_of};
-ghost use Rattle.actor_tables.specs.Source.{IsSource, FindsSoleProtocol};
+ghost use Rattle.actor_tables.specs.SchemaSource.{IsSource, FindsSoleProtocol};
 
-use crate::numbers::{Numbers, TypeId};
+use crate::numbers::{SchemaNumbers, TypeId};
 use ipdl_base::Name;
 use ipdl_syntax::Entry;
 use name_table::{DeclId, Found, Names};
@@ -14,13 +14,13 @@ use std::alloc::{AllocError, Global};
 
 /// What the rows of a schema are made from: a program, what its names find, and its numbers.
 #[derive(Drop)]
-pub struct Source<'s, 'p> {
+pub struct SchemaSource<'s, 'p> {
     pub program: &'s [Entry],
     pub names: &'s Names<'p>,
-    pub numbers: Numbers,
+    pub numbers: SchemaNumbers,
 }
 
-impl Source<'_, '_> {
+impl SchemaSource<'_, '_> {
     /// The number of the protocol of a file.
     pub fn protocol_number(&self, file: u32) -> u32
         requires source { IsSource self.now }

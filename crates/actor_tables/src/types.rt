@@ -1,17 +1,17 @@
 ghost use Rattle.std.specs.Prelude.{IfOk, IsSome};
 ghost use Rattle.std.specs.List.{AllZip};
 ghost use Rattle.std.specs.Option.{ForSome, option_copied};
-ghost use Rattle.schema_laws.specs.Clean.{IsClean};
-ghost use Rattle.schema_laws.specs.Numbers.{place_of};
-ghost use Rattle.schema_laws.specs.SchemaOf.{IsParamRow, AreParamRows, AreReturnRows, IsTypeRow};
-ghost use Rattle.schema_laws.specs.Shapes.{IsShapeOf};
+ghost use Rattle.program_schema.specs.Clean.{IsClean};
+ghost use Rattle.program_schema.specs.Numbers.{place_of};
+ghost use Rattle.program_schema.specs.SchemaOf.{IsParamRow, AreParamRows, AreReturnRows, IsTypeRow};
+ghost use Rattle.program_schema.specs.Shapes.{IsShapeOf};
 ghost use Rattle.actor_tables.specs.Numbered.{decl_of, numbering_of};
 ghost use Rattle.actor_tables.specs.Parts.{IsStructRow, IsUnionRow};
-ghost use Rattle.actor_tables.specs.Source.{IsSource, FindsSole, ParamsFindSole, TypesFindSole};
+ghost use Rattle.actor_tables.specs.SchemaSource.{IsSource, FindsSole, ParamsFindSole, TypesFindSole};
 
 use crate::numbers::TypeId;
 use crate::shapes::shape_of;
-use crate::source::Source;
+use crate::source::SchemaSource;
 use ipdl_base::{Items, ParamRow, ParamRows, Shape, TypeRow};
 use ipdl_syntax::{Param, Params, StructDecl, TypeSpec, UnionDecl};
 use name_table::{struct_of, union_of};
@@ -20,7 +20,7 @@ use std::alloc::{AllocError, Global};
 /// The row of a parameter, a return or a field.
 fn param_row(
     alloc: Global,
-    source: &Source<'_, '_>,
+    source: &SchemaSource<'_, '_>,
     file: u32,
     param: &Param,
 ) -> Result<ParamRow, AllocError>
@@ -37,7 +37,7 @@ fn param_row(
 /// The rows of parameters, returns or fields.
 pub fn param_rows(
     alloc: Global,
-    source: &Source<'_, '_>,
+    source: &SchemaSource<'_, '_>,
     file: u32,
     params: &[Param],
 ) -> Result<Vec<ParamRow>, AllocError>
@@ -55,7 +55,7 @@ pub fn param_rows(
 /// The rows of returns, where there are returns.
 pub fn return_rows(
     alloc: Global,
-    source: &Source<'_, '_>,
+    source: &SchemaSource<'_, '_>,
     file: u32,
     returns: Option<&Params>,
 ) -> Result<Option<ParamRows>, AllocError>
@@ -75,7 +75,7 @@ pub fn return_rows(
 /// The shapes of the components of a union.
 fn component_shapes(
     alloc: Global,
-    source: &Source<'_, '_>,
+    source: &SchemaSource<'_, '_>,
     file: u32,
     components: &[TypeSpec],
 ) -> Result<Vec<Shape>, AllocError>
@@ -93,7 +93,7 @@ fn component_shapes(
 /// The row of a struct.
 fn struct_row(
     alloc: Global,
-    source: &Source<'_, '_>,
+    source: &SchemaSource<'_, '_>,
     file: u32,
     item: &StructDecl,
 ) -> Result<TypeRow, AllocError>
@@ -108,7 +108,7 @@ fn struct_row(
 /// The row of a union.
 fn union_row(
     alloc: Global,
-    source: &Source<'_, '_>,
+    source: &SchemaSource<'_, '_>,
     file: u32,
     item: &UnionDecl,
 ) -> Result<TypeRow, AllocError>
@@ -121,7 +121,7 @@ fn union_row(
 }
 
 /// The row of a struct or a union.
-fn type_row(alloc: Global, source: &Source<'_, '_>, id: TypeId) -> Result<TypeRow, AllocError>
+fn type_row(alloc: Global, source: &SchemaSource<'_, '_>, id: TypeId) -> Result<TypeRow, AllocError>
     requires source { IsSource source.now }
     requires clean { IsClean source.now.program.now }
     requires there { IsSome (place_of source.now.program.now (decl_of id)) }
@@ -141,7 +141,7 @@ fn type_row(alloc: Global, source: &Source<'_, '_>, id: TypeId) -> Result<TypeRo
 }
 
 /// The rows of the structs and unions of a program.
-pub fn type_rows(alloc: Global, source: &Source<'_, '_>) -> Result<Vec<TypeRow>, AllocError>
+pub fn type_rows(alloc: Global, source: &SchemaSource<'_, '_>) -> Result<Vec<TypeRow>, AllocError>
     requires source { IsSource source.now }
     requires clean { IsClean source.now.program.now }
     ensures { IfOk result (λ rows. AllZip (λ id. IsTypeRow source.now.program.now (numbering_of source.now.numbers) (decl_of id)) source.now.numbers.types.items rows.items) }

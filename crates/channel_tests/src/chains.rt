@@ -4,7 +4,7 @@ use super::chain_rows::{CHAINS, CHAINS_COUNT};
 use super::given::{note, schema_of};
 use super::lists::history_of;
 use history::History;
-use history_laws::{Held, can_read, chain};
+use law_checks::{Held, can_read, chain};
 use ipdl_base::{Schema, Side};
 use std::alloc::{AllocError, Global};
 use std::test::Fail;

@@ -3,7 +3,7 @@ ghost use Rattle.ipdl_base.specs.Sound.{IsSound};
 
 use super::protocols::PROTOCOLS;
 use history::History;
-use history_laws::{Law, holds};
+use law_checks::{Law, holds};
 use ipdl_base::{MemoryFiles, Schema};
 use std::alloc::{AllocError, Global};
 use std::test::Fail;

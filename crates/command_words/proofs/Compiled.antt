@@ -4,7 +4,7 @@ use Rattle.std.specs.Prelude.{unwrap_or}
 use Rattle.std.proofs.lemmas.Option.{same_Some}
 use Rattle.clap.specs.Words.{all_of, first_of, found_of, rows_of}
 use Rattle.clap.specs.declared.parser.matches.ArgMatches.{ArgMatches}
-use Rattle.command_words.specs.Options.{Choice, EachOnce, Reads, Said, own_words, value_of}
+use Rattle.command_words.specs.Options.{Choice, EachOnce, Reads, WordUse, own_words, value_of}
 use Rattle.command_words.specs.Forms.{own_id}
 use Rattle.command_words.specs.Tables.{IsTable, by_letter}
 use Rattle.command_words.specs.Found.{IsFound, some_of}
@@ -27,11 +27,11 @@ some_list [] = refl
 some_list (w ∷ ws) = refl
 
 -- words say one thing: the values of options, and the other words
-pub same_value : (options : List Choice) (words : List Text) (said other : List Said) → IsTable options → Reads options words said → EachOnce said → Reads options words other → EachOnce other
+pub same_value : (options : List Choice) (words : List Text) (said other : List WordUse) → IsTable options → Reads options words said → EachOnce said → Reads options words other → EachOnce other
     → (name : Text) → name ≢ own_id → value_of name said ≡ value_of name other
 same_value options words said other t reads once reads' once' name ne = sym ((said_found options words said t reads once).0 name ne) ∙ (said_found options words other t reads' once').0 name ne
 
-pub same_words : (options : List Choice) (words : List Text) (said other : List Said) → IsTable options → Reads options words said → EachOnce said → Reads options words other → EachOnce other → own_words said ≡ own_words other
+pub same_words : (options : List Choice) (words : List Text) (said other : List WordUse) → IsTable options → Reads options words said → EachOnce said → Reads options words other → EachOnce other → own_words said ≡ own_words other
 same_words options words said other t reads once reads' once' = some_is (own_words said) (own_words other) (sym (said_found options words said t reads once).1 ∙ (said_found options words other t reads' once').1)
 
 pub no_letter : (l : ℕ) → None ≡ Some l → (l < 128) × (l ≢ 45) × (by_letter [] l ≡ None)

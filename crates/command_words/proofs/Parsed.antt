@@ -6,7 +6,7 @@ use Rattle.clap.specs.Words.{HasKind, Kinds, Text, all_of, fault_of, first_of, f
 use Rattle.clap.specs.declared.error.Error.{Error}
 use Rattle.clap.specs.declared.error.kind.ErrorKind.TheVariants.{OutOfMemory}
 use Rattle.clap.specs.declared.parser.matches.ArgMatches.{ArgMatches}
-use Rattle.command_words.specs.Options.{Choice, EachOnce, Reads, Said, own_words, value_of}
+use Rattle.command_words.specs.Options.{Choice, EachOnce, Reads, WordUse, own_words, value_of}
 use Rattle.command_words.specs.Tables.{IsTable}
 use Rattle.command_words.specs.Forms.{form_of, own_id}
 use Rattle.command_words.specs.Found.{IsFound, some_of}
@@ -20,11 +20,11 @@ are_texts [] = tt
 are_texts (w ∷ ws) = (IsUtf8-string_bytes w, are_texts ws)
 
 -- words that are read, each option once, are taken
-pub read_taken : (options : List Choice) (words : List Text) (said : List Said) → IsTable options → Reads options words said → EachOnce said → fault_of (form_of options) words ≡ []
+pub read_taken : (options : List Choice) (words : List Text) (said : List WordUse) → IsTable options → Reads options words said → EachOnce said → fault_of (form_of options) words ≡ []
 read_taken options words said t reads once = (fresh_words options words said t reads (once_fresh said (read_proper options t words said reads) once)).0
 
 -- so an error is of memory
-pub read_no_usage : (options : List Choice) (words : List Text) (e : Error) → IsTable options → HasKind (fault_of (form_of options) words) e → kind_of e ≢ OutOfMemory → (said : List Said) → Reads options words said → ¬ EachOnce said
+pub read_no_usage : (options : List Choice) (words : List Text) (e : Error) → IsTable options → HasKind (fault_of (form_of options) words) e → kind_of e ≢ OutOfMemory → (said : List WordUse) → Reads options words said → ¬ EachOnce said
 read_no_usage options words e t fails other said reads once =
     elim (subst (λ (k : Kinds). HasKind k e) (read_taken options words said t reads once) fails) [ inl memory ↦ other memory | inr none ↦ none ]
 
@@ -36,7 +36,7 @@ other_id name ne = go (bytes_eq own_id name) refl
     go false e = refl
 
 -- what words say, in the rows that the parser gives
-pub said_found : (options : List Choice) (words : List Text) (said : List Said) → IsTable options → Reads options words said → EachOnce said
+pub said_found : (options : List Choice) (words : List Text) (said : List WordUse) → IsTable options → Reads options words said → EachOnce said
     → ((name : Text) → name ≢ own_id → first_of name (matches_of (form_of options) words) ≡ value_of name said) × (all_of own_id (matches_of (form_of options) words) ≡ some_of (own_words said))
 said_found options words said t reads once =
     let proper = read_proper options t words said reads in

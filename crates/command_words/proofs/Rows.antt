@@ -8,7 +8,7 @@ use Rattle.clap.specs.Walk.{has_row, more_values, reading_by, stronger, with_val
 use Rattle.clap.specs.Kinds.{or_else}
 use Rattle.clap.specs.declared.error.kind.ErrorKind.TheVariants.{ArgumentConflict}
 use Rattle.clap.specs.declared.parser.matches.ValueSource.TheVariants.{CommandLine}
-use Rattle.command_words.specs.Options.{Choice, EachOnce, Reads, Said, Given, Own, apart, ends, joined, own, rest, own_words, value_of}
+use Rattle.command_words.specs.Options.{Choice, EachOnce, Reads, WordUse, Given, Own, apart, ends, joined, own, rest, own_words, value_of}
 use Rattle.command_words.specs.Forms.{own_id}
 use Rattle.command_words.specs.Found.{some_of}
 use Rattle.command_words.specs.Tables.{IsTable}
@@ -17,7 +17,7 @@ use Rattle.command_words.proofs.Lookups.{name_fits, some_none, words_rule}
 use Rattle.command_words.proofs.Walks.{IsFresh, added, all_added, said_fault}
 
 -- an option's name is not by what the other words are known
-abbrev pub IsProper : List Said → Type 0
+abbrev pub IsProper : List WordUse → Type 0
 IsProper [] = Unit {0}
 IsProper (Given name v ∷ said) = (bytes_eq name own_id ≡ false) × IsProper said
 IsProper (Own word ∷ said) = IsProper said
@@ -26,7 +26,7 @@ own_proper : (words : List Text) → IsProper (map (λ word. Own word) words)
 own_proper [] = tt
 own_proper (word ∷ words) = own_proper words
 
-pub read_proper : (options : List Choice) → IsTable options → (words : List Text) (said : List Said) → Reads options words said → IsProper said
+pub read_proper : (options : List Choice) → IsTable options → (words : List Text) (said : List WordUse) → Reads options words said → IsProper said
 read_proper options t _ _ ends = tt
 read_proper options t _ _ (rest words) = own_proper words
 read_proper options t _ _ (own word words said plain reads) = read_proper options t words said reads
@@ -99,7 +99,7 @@ look_own id word (r ∷ rows) other = go (bytes_eq r.id own_id) refl (look_own i
 
 -- ---- the value of an option
 
-values_in : (id : Text) (said : List Said) (rows : List Row) → bytes_eq own_id id ≡ false → IsFresh rows said
+values_in : (id : Text) (said : List WordUse) (rows : List Row) → bytes_eq own_id id ≡ false → IsFresh rows said
     → (look id rows ≡ None → first_of id (all_added rows said) ≡ value_of id said) × ((r : Row) → look id rows ≡ Some r → first_of id (all_added rows said) ≡ slice_get r.values 0)
 values_in id [] rows other fresh = (λ e. ap (λ (o : Option Row). option_and_then (λ r. slice_get r.values 0) o) e, λ r e. ap (λ (o : Option Row). option_and_then (λ r. slice_get r.values 0) o) e)
 values_in id (Own word ∷ said) rows other fresh =
@@ -127,7 +127,7 @@ values_in id (Given name v ∷ said) rows other fresh =
         cases false e = later.0 e
 
 -- the value of an option is found
-pub value_found : (id : Text) (said : List Said) → bytes_eq own_id id ≡ false → IsFresh [] said → first_of id (all_added [] said) ≡ value_of id said
+pub value_found : (id : Text) (said : List WordUse) → bytes_eq own_id id ≡ false → IsFresh [] said → first_of id (all_added [] said) ≡ value_of id said
 value_found id said other fresh = (values_in id said [] other fresh).0 refl
 
 -- ---- the other words
@@ -170,7 +170,7 @@ no_more : (before : Option (List Text)) → with_more before [] ≡ before
 no_more None = refl
 no_more (Some before) = ap (λ (ws : List Text). Some ws) (append-nil before)
 
-others_in : (said : List Said) (rows : List Row) → IsProper said → IsFresh rows said → all_of own_id (all_added rows said) ≡ with_more (all_of own_id rows) (own_words said)
+others_in : (said : List WordUse) (rows : List Row) → IsProper said → IsFresh rows said → all_of own_id (all_added rows said) ≡ with_more (all_of own_id rows) (own_words said)
 others_in [] rows proper fresh = sym (no_more (all_of own_id rows))
 others_in (Given name v ∷ said) rows proper fresh =
     others_in said (added rows (Given name v)) proper.1 fresh.1 ∙ ap (λ (o : Option (List Text)). with_more o (own_words said)) (own_kept name v rows proper.0 (fresh_lacks name v rows fresh.0))
@@ -178,15 +178,15 @@ others_in (Own word ∷ said) rows proper fresh =
     others_in said (added rows (Own word)) proper fresh.1 ∙ ap (λ (o : Option (List Text)). with_more o (own_words said)) (own_more word rows) ∙ then_more (all_of own_id rows) word (own_words said)
 
 -- the other words are found
-pub others_found : (said : List Said) → IsProper said → IsFresh [] said → all_of own_id (all_added [] said) ≡ some_of (own_words said)
+pub others_found : (said : List WordUse) → IsProper said → IsFresh [] said → all_of own_id (all_added [] said) ≡ some_of (own_words said)
 others_found said proper fresh = others_in said [] proper fresh
 
 -- ---- an option once is no fault, and nothing else is
 
-abbrev NotYet : List Row → List Said → Type 0
+abbrev NotYet : List Row → List WordUse → Type 0
 NotYet rows said = (id : Text) → bytes_eq own_id id ≡ false → (r : Row) → look id rows ≡ Some r → value_of id said ≡ None
 
-once_in : (said : List Said) (rows : List Row) → IsProper said → EachOnce said → NotYet rows said → IsFresh rows said
+once_in : (said : List WordUse) (rows : List Row) → IsProper said → EachOnce said → NotYet rows said → IsFresh rows said
 once_in [] rows proper once yet = tt
 once_in (Own word ∷ said) rows proper once yet = (refl, once_in said (added rows (Own word)) proper once (λ id other r e. yet id other r (sym (look_own id word rows other) ∙ e)))
 once_in (Given name v ∷ said) rows proper once yet =
@@ -212,7 +212,7 @@ once_in (Given name v ∷ said) rows proper once yet =
         go true f g = subst (λ (n : Text). value_of n said ≡ None) (text_is name id f) once.0
         go false f g = absurd (some_none r (sym g))
 
-fresh_in : (said : List Said) (rows : List Row) → IsProper said → IsFresh rows said → EachOnce said × NotYet rows said
+fresh_in : (said : List WordUse) (rows : List Row) → IsProper said → IsFresh rows said → EachOnce said × NotYet rows said
 fresh_in [] rows proper fresh = (tt, λ id other r e. refl)
 fresh_in (Own word ∷ said) rows proper fresh =
     let later = fresh_in said (added rows (Own word)) proper fresh.1 in
@@ -229,8 +229,8 @@ fresh_in (Given name v ∷ said) rows proper fresh =
     go id true f none r e later = absurd (some_none r (sym e ∙ ap (λ (n : Text). look n rows) (sym (text_is name id f)) ∙ none))
     go id false f none r e later = later
 
-pub once_fresh : (said : List Said) → IsProper said → EachOnce said → IsFresh [] said
+pub once_fresh : (said : List WordUse) → IsProper said → EachOnce said → IsFresh [] said
 once_fresh said proper once = once_in said [] proper once (λ id other r e. absurd (some_none r (sym e)))
 
-pub fresh_once : (said : List Said) → IsProper said → IsFresh [] said → EachOnce said
+pub fresh_once : (said : List WordUse) → IsProper said → IsFresh [] said → EachOnce said
 fresh_once said proper fresh = (fresh_in said [] proper fresh).0

@@ -11,7 +11,7 @@ use Rattle.clap.specs.Takes.{is_given}
 use Rattle.clap.specs.Kinds.{Kinds, check_kinds, or_else}
 use Rattle.clap.proofs.FaultLemmas.{leaf_fault}
 use Rattle.clap.specs.declared.error.kind.ErrorKind.TheVariants.{InvalidValue, UnknownArgument}
-use Rattle.command_words.specs.Options.{Choice, IsAmong, IsPlain, Reads, Said, Given, Own, apart, ends, joined, own, rest}
+use Rattle.command_words.specs.Options.{Choice, IsAmong, IsPlain, Reads, WordUse, Given, Own, apart, ends, joined, own, rest}
 use Rattle.command_words.specs.Forms.{form_of, own_id}
 use Rattle.command_words.proofs.Comparisons.{same_text}
 use Rattle.command_words.specs.Tables.{IsTable}
@@ -23,56 +23,56 @@ use Rattle.command_words.proofs.Views.{View, is_apart, is_bad, is_end, is_joined
 abbrev pub named : Text → Choice
 named name = record { name = name; letter = None }
 
-abbrev pub added : List Row → Said → List Row
+abbrev pub added : List Row → WordUse → List Row
 added rows (Given name v) = used (option_rule (named name)) (v ∷ []) rows
 added rows (Own word) = used words_rule (word ∷ []) rows
 
-abbrev pub said_fault : List Row → Said → Kinds
+abbrev pub said_fault : List Row → WordUse → Kinds
 said_fault rows (Given name v) = use_fault false (option_rule (named name)) (v ∷ []) rows
 said_fault rows (Own word) = use_fault false words_rule (word ∷ []) rows
 
-abbrev pub all_added : List Row → List Said → List Row
+abbrev pub all_added : List Row → List WordUse → List Row
 all_added rows [] = rows
 all_added rows (s ∷ said) = all_added (added rows s) said
 
 -- nothing that is said is a fault, after the rows
-abbrev pub IsFresh : List Row → List Said → Type 0
+abbrev pub IsFresh : List Row → List WordUse → Type 0
 IsFresh rows [] = Unit {0}
 IsFresh rows (s ∷ said) = (said_fault rows s ≡ []) × IsFresh (added rows s) said
 
 -- what is said and not yet used
-abbrev pending_of : Option Said → Option (Text × List Text)
+abbrev pending_of : Option WordUse → Option (Text × List Text)
 pending_of None = None
 pending_of (Some (Given name v)) = Some (name, v ∷ [])
 pending_of (Some (Own word)) = Some (own_id, word ∷ [])
 
-abbrev then_said : Option Said → List Said → List Said
+abbrev then_said : Option WordUse → List WordUse → List WordUse
 then_said None said = said
 then_said (Some s) said = s ∷ said
 
 -- an option that is said is in the table
-abbrev Known : List Choice → Option Said → Type 0
+abbrev Known : List Choice → Option WordUse → Type 0
 Known options None = Unit {0}
 Known options (Some (Given name v)) = (o : Choice) × IsAmong options o × (o.name ≡ name)
 Known options (Some (Own word)) = Unit {0}
 
-abbrev after_pending : List Row → Option Said → List Row
+abbrev after_pending : List Row → Option WordUse → List Row
 after_pending rows None = rows
 after_pending rows (Some s) = added rows s
 
-abbrev pending_fault : List Row → Option Said → Kinds
+abbrev pending_fault : List Row → Option WordUse → Kinds
 pending_fault rows None = []
 pending_fault rows (Some s) = said_fault rows s
 
-fresh_then : (rows : List Row) (p : Option Said) (said : List Said) → pending_fault rows p ≡ [] → IsFresh (after_pending rows p) said → IsFresh rows (then_said p said)
+fresh_then : (rows : List Row) (p : Option WordUse) (said : List WordUse) → pending_fault rows p ≡ [] → IsFresh (after_pending rows p) said → IsFresh rows (then_said p said)
 fresh_then rows None said f g = g
 fresh_then rows (Some s) said f g = (f, g)
 
-fresh_parts : (rows : List Row) (p : Option Said) (said : List Said) → IsFresh rows (then_said p said) → (pending_fault rows p ≡ []) × IsFresh (after_pending rows p) said
+fresh_parts : (rows : List Row) (p : Option WordUse) (said : List WordUse) → IsFresh rows (then_said p said) → (pending_fault rows p ≡ []) × IsFresh (after_pending rows p) said
 fresh_parts rows None said g = (refl, g)
 fresh_parts rows (Some s) said g = (g.0, g.1)
 
-added_then : (rows : List Row) (p : Option Said) (said : List Said) → all_added rows (then_said p said) ≡ all_added (after_pending rows p) said
+added_then : (rows : List Row) (p : Option WordUse) (said : List WordUse) → all_added rows (then_said p said) ≡ all_added (after_pending rows p) said
 added_then rows None said = refl
 added_then rows (Some s) said = refl
 
@@ -221,13 +221,13 @@ waits_fault options table rows o among e =
     cc
 
 -- what is pending is used as it was said
-settles : (options : List Choice) (table : IsTable options) (rows : List Row) (p : Option Said) → Known options p → settled_rows (full_rules options) (pending_of p) rows ≡ after_pending rows p
+settles : (options : List Choice) (table : IsTable options) (rows : List Row) (p : Option WordUse) → Known options p → settled_rows (full_rules options) (pending_of p) rows ≡ after_pending rows p
 settles options table rows None k = refl
 settles options table rows (Some (Given name v)) k =
     ap (λ (n : Text). used_by_id (arg_by_id (full_rules options) n) (v ∷ []) rows) (sym k.2) ∙ ap (λ a. used_by_id a (v ∷ []) rows) (option_by_id options k.0 table k.1) ∙ ap (λ (n : Text). added rows (Given n v)) k.2
 settles options table rows (Some (Own word)) k = ap (λ a. used_by_id a (word ∷ []) rows) (words_by_id options table)
 
-settles_fault : (options : List Choice) (table : IsTable options) (rows : List Row) (p : Option Said) → Known options p → settle_fault (full_rules options) false (holds rows (pending_of p)) ≡ pending_fault rows p
+settles_fault : (options : List Choice) (table : IsTable options) (rows : List Row) (p : Option WordUse) → Known options p → settle_fault (full_rules options) false (holds rows (pending_of p)) ≡ pending_fault rows p
 settles_fault options table rows None k = refl
 settles_fault options table rows (Some (Given name v)) k =
     ap (λ (n : Text). option_map_or (λ a. use_fault false a (v ∷ []) rows) (arg_by_id (full_rules options) n) []) (sym k.2)
@@ -246,7 +246,7 @@ waits_trailing options table rows o [] among e = waits_fault options table rows 
 waits_trailing options table rows o (word ∷ words) among e =
     waits_fault options table rows o among (turned options (at rows (Some (o.name, [])) (option o.name) true) word _ _ words (trailing_turn options rows (Some (o.name, [])) (option o.name) word) e).0
 
-trailing_fresh : (options : List Choice) (table : IsTable options) (rows : List Row) (p : Option Said) (w : Waiting) (words : List Text) → Known options p
+trailing_fresh : (options : List Choice) (table : IsTable options) (rows : List Row) (p : Option WordUse) (w : Waiting) (words : List Text) → Known options p
     → total options (at rows (pending_of p) w true) words ≡ [] → IsFresh rows (then_said p (map (λ word. Own word) words))
 trailing_fresh options table rows p w [] k e = fresh_then rows p [] (sym (settles_fault options table rows p k) ∙ sym (total_end options (at rows (pending_of p) w true)) ∙ e) tt
 trailing_fresh options table rows p w (word ∷ words) k e =
@@ -258,7 +258,7 @@ trailing_fresh options table rows p w (word ∷ words) k e =
 
 -- a walk between two words: after rows and what is pending, or at an option that waits for its value
 data Stage : Type 0 where
-  between : List Row → Option Said → Bool → Stage
+  between : List Row → Option WordUse → Bool → Stage
   wanting : List Row → Choice → Stage
 
 abbrev IsStage : List Choice → Stage → Type 0
@@ -271,9 +271,9 @@ walk_of (wanting rows o) = at rows (Some (o.name, [])) (option o.name) false
 
 -- the words are read from here on
 abbrev Rest : List Choice → Stage → List Text → Type 0
-Rest options (between rows p b) words = (said : List Said) × Reads options words said × IsFresh rows (then_said p said)
+Rest options (between rows p b) words = (said : List WordUse) × Reads options words said × IsFresh rows (then_said p said)
 Rest options (wanting rows o) [] = ⊥
-Rest options (wanting rows o) (v ∷ words) = IsPlain v × ((said : List Said) × Reads options words said × IsFresh rows (Given o.name v ∷ said))
+Rest options (wanting rows o) (v ∷ words) = IsPlain v × ((said : List WordUse) × Reads options words said × IsFresh rows (Given o.name v ∷ said))
 
 -- one word, where the words behind it are read from whatever walk
 one_word : (options : List Choice) (table : IsTable options) (word : Text) (words : List Text) → IsUtf8 word
@@ -343,17 +343,17 @@ runs_turn options from to word fault words rows turn f r = record {
   last = ap (λ (k : Walk). rows_end options k words) turn.leads ∙ r.last;
 }
 
-runs_end : (options : List Choice) (table : IsTable options) (rows : List Row) (p : Option Said) (w : Waiting) (t : Bool) → Known options p → IsFresh rows (then_said p []) → Runs options (at rows (pending_of p) w t) [] (all_added rows (then_said p []))
+runs_end : (options : List Choice) (table : IsTable options) (rows : List Row) (p : Option WordUse) (w : Waiting) (t : Bool) → Known options p → IsFresh rows (then_said p []) → Runs options (at rows (pending_of p) w t) [] (all_added rows (then_said p []))
 runs_end options table rows p w t k fresh = record {
   none = total_end options (at rows (pending_of p) w t) ∙ settles_fault options table rows p k ∙ (fresh_parts rows p [] fresh).0;
   last = settles options table rows p k ∙ sym (added_then rows p []);
 }
 
 -- the same after the pending thing is used
-runs_after : (options : List Choice) (rows : List Row) (p : Option Said) (said : List Said) (k : Walk) (words : List Text) → Runs options k words (all_added (after_pending rows p) said) → Runs options k words (all_added rows (then_said p said))
+runs_after : (options : List Choice) (rows : List Row) (p : Option WordUse) (said : List WordUse) (k : Walk) (words : List Text) → Runs options k words (all_added (after_pending rows p) said) → Runs options k words (all_added rows (then_said p said))
 runs_after options rows p said k words r = record { none = r.none; last = r.last ∙ sym (added_then rows p said) }
 
-trailing_runs : (options : List Choice) (table : IsTable options) (rows : List Row) (p : Option Said) (w : Waiting) (words : List Text) → Known options p → IsFresh rows (then_said p (map (λ word. Own word) words))
+trailing_runs : (options : List Choice) (table : IsTable options) (rows : List Row) (p : Option WordUse) (w : Waiting) (words : List Text) → Known options p → IsFresh rows (then_said p (map (λ word. Own word) words))
     → Runs options (at rows (pending_of p) w true) words (all_added rows (then_said p (map (λ word. Own word) words)))
 trailing_runs options table rows p w [] k fresh = runs_end options table rows p w true k fresh
 trailing_runs options table rows p w (word ∷ words) k fresh =
@@ -365,7 +365,7 @@ trailing_runs options table rows p w (word ∷ words) k fresh =
     (subst (λ (r : List Row). Runs options (at r (Some (own_id, word ∷ [])) positional true) words (all_added (after_pending rows p) (Own word ∷ map (λ word. Own word) words))) (sym (settles options table rows p k))
     (trailing_runs options table (after_pending rows p) (Some (Own word)) positional words tt parts.1)))
 
-read_runs : (options : List Choice) (table : IsTable options) (words : List Text) (said : List Said) → Reads options words said → (rows : List Row) (p : Option Said) (b : Bool) → Known options p → IsFresh rows (then_said p said)
+read_runs : (options : List Choice) (table : IsTable options) (words : List Text) (said : List WordUse) → Reads options words said → (rows : List Row) (p : Option WordUse) (b : Bool) → Known options p → IsFresh rows (then_said p said)
     → Runs options (at rows (pending_of p) (still b) false) words (all_added rows (then_said p said))
 read_runs options table _ _ ends rows p b k fresh = runs_end options table rows p (still b) false k fresh
 read_runs options table _ _ (rest words) rows p b k fresh =
@@ -451,12 +451,12 @@ matches_is options words =
     ap (λ (rs : List Rule). finished rs (walk rs [] nothing_held words).held) (filled_rules options) ∙ no_defaults options (rows_end options start words)
 
 -- words that are read, with nothing said that is a fault
-pub fresh_words : (options : List Choice) (words : List Text) (said : List Said) → IsTable options → Reads options words said → IsFresh [] said
+pub fresh_words : (options : List Choice) (words : List Text) (said : List WordUse) → IsTable options → Reads options words said → IsFresh [] said
     → (fault_of (form_of options) words ≡ []) × (matches_of (form_of options) words ≡ all_added [] said)
 fresh_words options words said table reads fresh =
     let runs = read_runs options table words said reads [] None false tt fresh in
     (fault_is options words ∙ runs.none, matches_is options words ∙ runs.last)
 
 -- words without fault are read
-pub words_read : (options : List Choice) (words : List Text) → IsTable options → AreTexts words → fault_of (form_of options) words ≡ [] → (said : List Said) × Reads options words said × IsFresh [] said
+pub words_read : (options : List Choice) (words : List Text) → IsTable options → AreTexts words → fault_of (form_of options) words ≡ [] → (said : List WordUse) × Reads options words said × IsFresh [] said
 words_read options words table texts e = all_words options table words texts (between [] None false) tt (sym (fault_is options words) ∙ e)

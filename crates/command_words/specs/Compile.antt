@@ -2,7 +2,7 @@
 use Rattle.std.specs.Prelude.{◌≡◌, ◌≢◌, ℕ, ◌≤◌, ◌⊎◌, not, List, [], ◌∷◌, ◌++◌, Option, Some, None, length, filter, codes}
 use Rattle.std.specs.Str.{bytes_eq}
 use Rattle.std.specs.List.{AllByRecursion, join_with_byte}
-use Rattle.command_words.specs.Options.{Choice, Said, Reads, EachOnce, own_words, value_of}
+use Rattle.command_words.specs.Options.{Choice, WordUse, Reads, EachOnce, own_words, value_of}
 use Rattle.command_words.specs.Keys.{IsKeyOf}
 
 -- the word is in the list
@@ -76,7 +76,7 @@ pub record AreFiles (words files : List (List ℕ)) : Type 0 where
 -- The words are the command that compiles these files by this path, with this sync list.
 pub record IsCompile (words : List (List ℕ)) (list : Option (List ℕ)) (path files : List (List ℕ)) : Type 0 where
   pub chosen : IsForCompile words
-  pub said : List Said
+  pub said : List WordUse
   pub reads : Reads compile_options words said
   pub once : EachOnce said
   pub list_is : list ≡ value_of (codes "sync-msg-list") said

@@ -1,7 +1,7 @@
 -- The command that prints frames: `ipdl frames [-s LIST] [--path DIRS] [--to 2] FILE FRAMES`.
 use Rattle.std.specs.Prelude.{◌≡◌, ℕ, Bool, true, false, List, [], ◌∷◌, ◌++◌, Option, Some, None, codes}
 use Rattle.std.specs.List.{AllByRecursion}
-use Rattle.command_words.specs.Options.{Choice, Said, Reads, EachOnce, own_words, value_of}
+use Rattle.command_words.specs.Options.{Choice, WordUse, Reads, EachOnce, own_words, value_of}
 use Rattle.command_words.specs.Compile.{IsPath, list_option, path_option}
 
 -- the first word that chooses the command
@@ -34,7 +34,7 @@ pub record AreOperands (words : List (List ℕ)) (file frames : List ℕ) : Type
 
 -- what stands behind the first word
 pub record SaysFrames (words : List (List ℕ)) (list : Option (List ℕ)) (path : List (List ℕ)) (file frames : List ℕ) (convert : Bool) : Type 0 where
-  pub said : List Said
+  pub said : List WordUse
   pub reads : Reads frames_options words said
   pub once : EachOnce said
   pub list_is : list ≡ value_of (codes "sync-msg-list") said

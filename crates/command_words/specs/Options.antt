@@ -19,9 +19,9 @@ IsPlain (b ∷ []) = Unit {0}
 IsPlain (b ∷ c ∷ rest) = b ≢ 45
 
 -- What a word of a command is: the value of an option, with the option's name, or a word of its own.
-pub data Said : Type 0 where
-  Given : List ℕ → List ℕ → Said
-  Own : List ℕ → Said
+pub data WordUse : Type 0 where
+  Given : List ℕ → List ℕ → WordUse
+  Own : List ℕ → WordUse
 
 -- the word `--name` or `-l`, whose option has its value in the next word
 abbrev pub IsApart : Choice → List ℕ → Type 0
@@ -39,27 +39,27 @@ IsJoined o value word = (word ≡ codes "--" ++ (o.name ++ 61 ∷ value))
 
 -- What the words say, in their order, where these are the options: each word is one of its own,
 -- gives an option, or ends the options.
-pub data Reads (options : List Choice) : List (List ℕ) → List Said → Type 0 where
+pub data Reads (options : List Choice) : List (List ℕ) → List WordUse → Type 0 where
   ends : Reads options [] []
   rest : (words : List (List ℕ)) → Reads options (codes "--" ∷ words) (map Own words)
-  own : (word : List ℕ) (words : List (List ℕ)) (said : List Said) → IsPlain word → Reads options words said → Reads options (word ∷ words) (Own word ∷ said)
-  apart : (o : Choice) (word value : List ℕ) (words : List (List ℕ)) (said : List Said) → IsAmong options o → IsApart o word → IsPlain value → Reads options words said → Reads options (word ∷ value ∷ words) (Given o.name value ∷ said)
-  joined : (o : Choice) (word value : List ℕ) (words : List (List ℕ)) (said : List Said) → IsAmong options o → IsJoined o value word → Reads options words said → Reads options (word ∷ words) (Given o.name value ∷ said)
+  own : (word : List ℕ) (words : List (List ℕ)) (said : List WordUse) → IsPlain word → Reads options words said → Reads options (word ∷ words) (Own word ∷ said)
+  apart : (o : Choice) (word value : List ℕ) (words : List (List ℕ)) (said : List WordUse) → IsAmong options o → IsApart o word → IsPlain value → Reads options words said → Reads options (word ∷ value ∷ words) (Given o.name value ∷ said)
+  joined : (o : Choice) (word value : List ℕ) (words : List (List ℕ)) (said : List WordUse) → IsAmong options o → IsJoined o value word → Reads options words said → Reads options (word ∷ words) (Given o.name value ∷ said)
 
 -- the words that are values of no option
-abbrev pub own_words : List Said → List (List ℕ)
+abbrev pub own_words : List WordUse → List (List ℕ)
 own_words [] = []
 own_words (Given name value ∷ said) = own_words said
 own_words (Own word ∷ said) = word ∷ own_words said
 
 -- the first value that an option is given
-abbrev pub value_of : List ℕ → List Said → Option (List ℕ)
+abbrev pub value_of : List ℕ → List WordUse → Option (List ℕ)
 value_of name [] = None
 value_of name (Given n value ∷ said) = if bytes_eq n name then Some value else value_of name said
 value_of name (Own word ∷ said) = value_of name said
 
 -- no option is given again behind its first value
-abbrev pub EachOnce : List Said → Type 0
+abbrev pub EachOnce : List WordUse → Type 0
 EachOnce [] = Unit {0}
 EachOnce (Given name value ∷ said) = (value_of name said ≡ None) × EachOnce said
 EachOnce (Own word ∷ said) = EachOnce said

@@ -1,7 +1,7 @@
 ghost use Rattle.std.specs.Prelude.{◌≡◌, List, ℕ, false, IfErr, IfOk, OnErr, map, option_map, string_bytes};
 ghost use Rattle.clap.specs.Words.{app_of, rule_of};
 ghost use Rattle.command_words.specs.Forms.{form_of, rule_for};
-ghost use Rattle.command_words.specs.Options.{EachOnce, Reads, Said};
+ghost use Rattle.command_words.specs.Options.{EachOnce, Reads, WordUse};
 ghost use Rattle.command_words.specs.Tables.{IsTable, choice_of, choices_of};
 ghost use Rattle.command_words.specs.Found.{IsFound};
 
@@ -55,7 +55,7 @@ pub fn read_options<'a>(
 ) -> Result<ArgMatches<'a>, WordsFault>
     requires { IsTable (choices_of options.now) }
     ensures read { IfOk result (λ found. IsFound (choices_of options.entry.now) (map string_bytes words.entry.now) found) }
-    ensures usage { IfErr result (λ fault. fault ≡ WordsFault.Usage → (said : List Said) → Reads (choices_of options.entry.now) (map string_bytes words.entry.now) said → ¬ EachOnce said) }
+    ensures usage { IfErr result (λ fault. fault ≡ WordsFault.Usage → (said : List WordUse) → Reads (choices_of options.entry.now) (map string_bytes words.entry.now) said → ¬ EachOnce said) }
 {
     let command = form(alloc, options)?;
     Ok(command.try_get_matches_from(words)?)

@@ -23,8 +23,8 @@ use Rattle.value_types.specs.Shapes.{component_of, element_of, fields_of, held_b
 use Rattle.value_types.specs.Sizes.{payload_size}
 use Rattle.value_codec.specs.Decoding.{FrameBegins}
 use Rattle.value_codec.specs.Spelling.{value_bytes, held_bytes, elements_bytes, values_bytes, body_bytes, body_flags, frame_bytes, header_bytes, payload_bytes, count, index_bytes, made_bytes, part, struct_byte, word}
-use Rattle.frame_list.specs.declared.list.ListFault.{ListFault}
-use Rattle.frame_list.specs.declared.list.Placed.{Placed}
+use Rattle.frame_list.specs.declared.list.FrameListFault.{FrameListFault}
+use Rattle.frame_list.specs.declared.list.PlacedMessage.{PlacedMessage}
 use Rattle.frame_list.specs.Converted.{new_frame, new_frames}
 use Rattle.frame_list.specs.Frames.{Holds, ends, faults, frame, all_plain, placed_at, layout_at, plain_placed}
 use Rattle.frame_list.specs.Steps.{AreHeld, HasNewFrame, HaveNewFrames}
@@ -89,7 +89,7 @@ frame_plain layout schema m =
     ap (λ payload. with payload (body_flags (message_of schema m.number) (plain_body m.body))) (body_plain layout schema (message_of schema m.number) m.made m.body)
     ∙ ap (λ flags. with (payload_bytes layout schema m) flags) (flags_plain (message_of schema m.number) m.body)
 
-pub new_plain : (schema : Schema) (frames : List Placed) → new_frames schema frames ≡ new_frames schema (all_plain frames)
+pub new_plain : (schema : Schema) (frames : List PlacedMessage) → new_frames schema frames ≡ new_frames schema (all_plain frames)
 new_plain schema [] = refl
 new_plain schema (f ∷ frames) =
     ap (λ bytes. bytes ++ new_frames schema frames) (sym (frame_plain NEW schema f.message))
@@ -107,15 +107,15 @@ first_has boxes four schema bytes m n begins =
     let small : payload_size (layout_at bytes) schema m ≤ (layout_at bytes).most_payload = subst (λ size. size ≤ (layout_at bytes).most_payload) (boxes.payload (layout_at bytes) schema m) begins.frame.small in
     ((boxes.fits schema m).0 begins.frame.fits, at_most four schema m _ small)
 
-same_message : (p q : Placed) (ps qs : List Placed) → p ∷ ps ≡ q ∷ qs → p.message ≡ q.message
+same_message : (p q : PlacedMessage) (ps qs : List PlacedMessage) → p ∷ ps ≡ q ∷ qs → p.message ≡ q.message
 same_message p q ps qs e = cc
 
-same_rest : (p q : Placed) (ps qs : List Placed) → p ∷ ps ≡ q ∷ qs → ps ≡ qs
+same_rest : (p q : PlacedMessage) (ps qs : List PlacedMessage) → p ∷ ps ≡ q ∷ qs → ps ≡ qs
 same_rest p q ps qs e = cc
 
 -- the messages of frames that some bytes hold have new frames
-each_has : BoxesSayNothing → NewIsAtMostFourTimes → (schema : Schema) (offset : ℕ) (bytes : List ℕ) (plain_frames : List Placed) (fault : Option ListFault) → Holds schema offset bytes plain_frames fault
-    → (fs : List Placed) → plain_frames ≡ all_plain fs → AllByRecursion (λ placed. HasNewFrame schema placed.message) fs
+each_has : BoxesSayNothing → NewIsAtMostFourTimes → (schema : Schema) (offset : ℕ) (bytes : List ℕ) (plain_frames : List PlacedMessage) (fault : Option FrameListFault) → Holds schema offset bytes plain_frames fault
+    → (fs : List PlacedMessage) → plain_frames ≡ all_plain fs → AllByRecursion (λ placed. HasNewFrame schema placed.message) fs
 each_has boxes four schema _ _ _ _ (ends offset) [] e = tt
 each_has boxes four schema _ _ _ _ (ends offset) (f ∷ fs) e = absurd (let x : ⊥ = cc in x)
 each_has boxes four schema _ _ _ _ (faults offset bytes fault some it) [] e = tt
@@ -126,15 +126,15 @@ each_has boxes four schema _ _ _ _ (frame offset n bytes m more fault begins res
   each_has boxes four schema (offset + n) (drop n bytes) more fault rest fs (same_rest (placed_at offset m) (plain_placed f) more (all_plain fs) e),
 )
 
-by_place : (P : Placed → Type 0) (fs : List Placed) → AllByRecursion P fs → (k : ℕ) (d : Placed) → k < length fs → P (slice_index_or fs k d)
+by_place : (P : PlacedMessage → Type 0) (fs : List PlacedMessage) → AllByRecursion P fs → (k : ℕ) (d : PlacedMessage) → k < length fs → P (slice_index_or fs k d)
 by_place P [] all k d below = absurd (omega arith)
 by_place P (f ∷ fs) all zero d below = all.0
 by_place P (f ∷ fs) all (suc k) d below = by_place P fs all.1 k d (omega arith)
 
-pub all_have : BoxesSayNothing → NewIsAtMostFourTimes → (schema : Schema) (frames : List Placed) → AreHeld schema frames → HaveNewFrames schema frames
+pub all_have : BoxesSayNothing → NewIsAtMostFourTimes → (schema : Schema) (frames : List PlacedMessage) → AreHeld schema frames → HaveNewFrames schema frames
 all_have boxes four schema frames held = by_place (λ placed. HasNewFrame schema placed.message) frames (each_has boxes four schema held.offset held.bytes (all_plain frames) held.fault held.holds frames refl)
 
 -- one new frame more
-pub one_more : (schema : Schema) (frames : List Placed) (last : Placed) → new_frames schema (frames ++ last ∷ []) ≡ new_frames schema frames ++ new_frame schema last
+pub one_more : (schema : Schema) (frames : List PlacedMessage) (last : PlacedMessage) → new_frames schema (frames ++ last ∷ []) ≡ new_frames schema frames ++ new_frame schema last
 one_more schema [] last = append-nil (new_frame schema last)
 one_more schema (f ∷ frames) last = ap (λ bytes. new_frame schema f ++ bytes) (one_more schema frames last) ∙ sym (append_assoc (new_frame schema f) (new_frames schema frames) (new_frame schema last))

@@ -2,7 +2,7 @@
 use Rattle.std.proofs.Common.{◌≡◌, ◌∙◌, List, [], ◌∷◌, ◌++◌, refl, sym, ap, codes}
 use Rattle.std.specs.Fmt.{decimal}
 use Rattle.std.specs.Option.{option_map_or}
-use Rattle.history.specs.Text.{params_of, returns_of_row}
+use Rattle.ipdl_base.specs.Signatures.{params_of, returns_of_row}
 use Rattle.ipdl_base.specs.declared.message.Body.{Body}
 use Rattle.ipdl_base.specs.declared.message.Body.TheVariants.{Request, Reply, Fault, Goodbye}
 use Rattle.ipdl_base.specs.declared.message.Message.{Message}
@@ -10,7 +10,7 @@ use Rattle.ipdl_base.specs.declared.schema.Schema.{Schema}
 use Rattle.ipdl_base.specs.Plain.{plain_body, plain_message}
 use Rattle.ipdl_base.specs.Sound.{message_of}
 use Rattle.value_types.specs.Laws.{BoxesSayNothing}
-use Rattle.frame_list.specs.declared.list.Placed.{Placed}
+use Rattle.frame_list.specs.declared.list.PlacedMessage.{PlacedMessage}
 use Rattle.frame_list.specs.Frames.{all_plain, plain_placed}
 use Rattle.frame_list.specs.Lines.{addressed, frame_line, frames_lines, made_text, said_text}
 
@@ -21,7 +21,7 @@ said laws schema m (Reply vs) =
 said laws schema m (Fault reason) = refl
 said laws schema m Goodbye = refl
 
-pub plain_lines : BoxesSayNothing → (schema : Schema) (frames : List Placed) → frames_lines schema frames ≡ frames_lines schema (all_plain frames)
+pub plain_lines : BoxesSayNothing → (schema : Schema) (frames : List PlacedMessage) → frames_lines schema frames ≡ frames_lines schema (all_plain frames)
 plain_lines laws schema [] = refl
 plain_lines laws schema (f ∷ frames) =
     ap (λ line. line ++ frames_lines schema frames) (ap (λ text. decimal f.offset ++ codes " " ++ text ++ codes "\n") (sym (said laws schema f.message f.message.body)))

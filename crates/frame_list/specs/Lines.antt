@@ -4,7 +4,8 @@ use Rattle.std.specs.Fmt.{decimal}
 use Rattle.std.specs.List.{flat_map}
 use Rattle.std.specs.Option.{option_map_or}
 use Rattle.std.specs.Ordering.{int_eq}
-use Rattle.history.specs.Text.{listed_values, message_text, numbered, params_of, returns_of_row}
+use Rattle.history.specs.Text.{listed_values, message_text, numbered}
+use Rattle.ipdl_base.specs.Signatures.{params_of, returns_of_row}
 use Rattle.history.specs.Words.{reason_word}
 use Rattle.ipdl_base.specs.declared.message.Body.{Body}
 use Rattle.ipdl_base.specs.declared.message.Body.TheVariants.{Request, Reply, Fault, Goodbye}
@@ -12,9 +13,9 @@ use Rattle.ipdl_base.specs.declared.message.Message.{Message}
 use Rattle.ipdl_base.specs.declared.schema.Schema.{Schema}
 use Rattle.ipdl_base.specs.Rules.{rule_line}
 use Rattle.ipdl_base.specs.Sound.{message_of}
-use Rattle.frame_list.specs.declared.list.ListFault.{ListFault}
-use Rattle.frame_list.specs.declared.list.ListFault.TheVariants.{Short, Broken}
-use Rattle.frame_list.specs.declared.list.Placed.{Placed}
+use Rattle.frame_list.specs.declared.list.FrameListFault.{FrameListFault}
+use Rattle.frame_list.specs.declared.list.FrameListFault.TheVariants.{Short, Broken}
+use Rattle.frame_list.specs.declared.list.PlacedMessage.{PlacedMessage}
 
 -- the actor that a message goes to, and the message
 abbrev pub receiver_text : Schema → Message → List ℕ
@@ -36,14 +37,14 @@ said_text schema m (Fault reason) = addressed schema (codes "reply ") m ++ codes
 said_text schema m Goodbye = codes "goodbye"
 
 -- the line of a frame: its offset, and what its message says
-abbrev pub frame_line : Schema → Placed → List ℕ
+abbrev pub frame_line : Schema → PlacedMessage → List ℕ
 frame_line schema placed = decimal placed.offset ++ codes " " ++ said_text schema placed.message placed.message.body ++ codes "\n"
 
 -- the lines of frames
-abbrev pub frames_lines : Schema → List Placed → List ℕ
+abbrev pub frames_lines : Schema → List PlacedMessage → List ℕ
 frames_lines schema frames = flat_map (frame_line schema) frames
 
 -- why a file of this name is no further list of frames
-abbrev pub fault_line : List ℕ → ListFault → List ℕ
+abbrev pub fault_line : List ℕ → FrameListFault → List ℕ
 fault_line name (Short at missing) = name ++ codes ":" ++ decimal at ++ codes ": short " ++ decimal missing ++ codes "\n"
 fault_line name (Broken at rule) = name ++ codes ":" ++ decimal at ++ codes ": " ++ rule_line rule ++ codes "\n"

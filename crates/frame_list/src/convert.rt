@@ -4,7 +4,7 @@ ghost use Rattle.frame_list.specs.Converted.{new_frame, new_frames};
 ghost use Rattle.frame_list.specs.Frames.{all_plain};
 ghost use Rattle.frame_list.specs.Steps.{AreHeld, HasNewFrame, HaveNewFrames};
 
-use crate::list::Placed;
+use crate::list::PlacedMessage;
 use ipdl_base::Schema;
 use std::alloc::{AllocError, Global};
 use value_codec::{EncodeFault, encode};
@@ -15,7 +15,7 @@ fn push_new(
     out: &mut Vec<u8>,
     alloc: Global,
     schema: &Schema,
-    placed: &Placed,
+    placed: &PlacedMessage,
 ) -> Result<(), AllocError>
     requires sound { IsSound schema.now }
     requires new { HasNewFrame schema.now placed.now.message }
@@ -29,7 +29,7 @@ fn push_new(
 }
 
 /// The new frames of messages that have one.
-fn frames_anew(alloc: Global, schema: &Schema, frames: &[Placed]) -> Result<Vec<u8>, AllocError>
+fn frames_anew(alloc: Global, schema: &Schema, frames: &[PlacedMessage]) -> Result<Vec<u8>, AllocError>
     requires sound { IsSound schema.now }
     requires new { HaveNewFrames schema.now frames.now }
     ensures { IfOk result (λ bytes. bytes.items ≡ new_frames schema.now frames.now) }
@@ -43,7 +43,7 @@ fn frames_anew(alloc: Global, schema: &Schema, frames: &[Placed]) -> Result<Vec<
 
 /// The messages of the frames of a file in new frames, one behind another (docs/frames.md). Each has
 /// one, since a payload takes in the new layout at most four times what it takes in the old one.
-pub fn converted(alloc: Global, schema: &Schema, frames: &[Placed]) -> Result<Vec<u8>, AllocError>
+pub fn convert_frames(alloc: Global, schema: &Schema, frames: &[PlacedMessage]) -> Result<Vec<u8>, AllocError>
     requires sound { IsSound schema.now }
     requires held { AreHeld schema.now frames.now }
     ensures { IfOk result (λ bytes. bytes.items ≡ new_frames schema.now (all_plain frames.now)) }

@@ -7,6 +7,6 @@ mod convert;
 mod list;
 mod text;
 
-pub use convert::converted;
-pub use list::{FrameList, ListFault, Placed, frames_of};
+pub use convert::convert_frames;
+pub use list::{FrameList, FrameListFault, PlacedMessage, frames_of};
 pub use text::{fault_text, frames_text};

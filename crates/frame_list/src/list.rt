@@ -13,14 +13,14 @@ use value_types::MARK;
 
 /// A message, and where its frame begins among the bytes of a file.
 #[derive(Drop)]
-pub struct Placed {
+pub struct PlacedMessage {
     pub offset: usize,
     pub message: Message,
 }
 
 /// Where a file holds no further frames.
 #[derive(Clone, Copy)]
-pub enum ListFault {
+pub enum FrameListFault {
     /// At this offset stands less than a frame: so many bytes are missing.
     Short(usize, usize),
     /// At this offset this rule is broken.
@@ -30,17 +30,17 @@ pub enum ListFault {
 /// The frames of a file, in order, and where it holds no further ones.
 #[derive(Drop)]
 pub struct FrameList {
-    pub frames: Items<Placed>,
-    pub fault: Option<ListFault>,
+    pub frames: Items<PlacedMessage>,
+    pub fault: Option<FrameListFault>,
 }
 
 /// What stands at an offset.
 #[derive(Drop)]
-enum Found {
+enum FrameReading {
     /// A frame of this message, of so many bytes.
     Frame(Message, usize),
     /// No frame.
-    Fault(ListFault),
+    Fault(FrameListFault),
 }
 
 /// Whether bytes begin with the mark of the new layout.
@@ -68,20 +68,20 @@ fn found_at(
     schema: &Schema,
     offset: usize,
     bytes: &[u8],
-) -> Result<Found, AllocError>
+) -> Result<FrameReading, AllocError>
     requires sound { IsSound schema.now }
     requires within { offset + length bytes.now ≤ usize.MAX }
     ensures { IfOk result (IsFound schema.now offset bytes.now) }
 {
     match begun(alloc, schema, bytes) {
-        Decoded::Frame(message, size) => Ok(Found::Frame(message, size)),
-        Decoded::Short(missing) => Ok(Found::Fault(ListFault::Short(offset, missing))),
+        Decoded::Frame(message, size) => Ok(FrameReading::Frame(message, size)),
+        Decoded::Short(missing) => Ok(FrameReading::Fault(FrameListFault::Short(offset, missing))),
         Decoded::Bad(within, number) => {
             let rule = Rule {
                 letter: b'F',
                 number,
             };
-            Ok(Found::Fault(ListFault::Broken(offset + within, rule)))
+            Ok(FrameReading::Fault(FrameListFault::Broken(offset + within, rule)))
         }
         Decoded::NoMemory => Err(AllocError),
     }
@@ -97,13 +97,13 @@ pub fn frames_of(alloc: Global, schema: &Schema, bytes: &[u8]) -> Result<FrameLi
     let mut offset = 0;
     while !rest.is_empty() {
         match found_at(alloc, schema, offset, rest)? {
-            Found::Frame(message, size) => {
-                frames.push(Placed { offset, message })?;
+            FrameReading::Frame(message, size) => {
+                frames.push(PlacedMessage { offset, message })?;
                 let (_, behind) = rest.split_at(size);
                 rest = behind;
                 offset += size;
             }
-            Found::Fault(fault) => {
+            FrameReading::Fault(fault) => {
                 return Ok(FrameList {
                     frames: Items::from_vec(frames),
                     fault: Some(fault),

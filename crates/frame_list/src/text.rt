@@ -4,7 +4,7 @@ ghost use Rattle.ipdl_base.specs.Sound.{IsSound};
 ghost use Rattle.frame_list.specs.Frames.{all_plain};
 ghost use Rattle.frame_list.specs.Lines.{addressed, fault_line, frame_line, frames_lines, made_text, receiver_text, said_text};
 
-use crate::list::{ListFault, Placed};
+use crate::list::{FrameListFault, PlacedMessage};
 use history::{
     params_of, push_listed, push_message, push_numbered, reason_word, returns_of_number,
 };
@@ -91,7 +91,7 @@ fn push_frame(
     out: &mut Vec<u8>,
     alloc: Global,
     schema: &Schema,
-    placed: &Placed,
+    placed: &PlacedMessage,
 ) -> Result<(), AllocError>
     requires { IsSound schema.now }
     ensures { OnOk result (out.new.items ≡ out.old.items ++ frame_line schema.now placed.now) }
@@ -104,7 +104,7 @@ fn push_frame(
 }
 
 /// The lines of frames, as they stand.
-fn lines_of(alloc: Global, schema: &Schema, frames: &[Placed]) -> Result<Vec<u8>, AllocError>
+fn lines_of(alloc: Global, schema: &Schema, frames: &[PlacedMessage]) -> Result<Vec<u8>, AllocError>
     requires { IsSound schema.now }
     ensures { IfOk result (λ text. text.items ≡ frames_lines schema.now frames.now) }
 {
@@ -116,7 +116,7 @@ fn lines_of(alloc: Global, schema: &Schema, frames: &[Placed]) -> Result<Vec<u8>
 }
 
 /// The lines of the frames of a file (docs/frames.md): for each its offset and what its message says.
-pub fn frames_text(alloc: Global, schema: &Schema, frames: &[Placed]) -> Result<Vec<u8>, AllocError>
+pub fn frames_text(alloc: Global, schema: &Schema, frames: &[PlacedMessage]) -> Result<Vec<u8>, AllocError>
     requires { IsSound schema.now }
     ensures { IfOk result (λ text. text.items ≡ frames_lines schema.now (all_plain frames.now)) }
 {
@@ -125,12 +125,12 @@ pub fn frames_text(alloc: Global, schema: &Schema, frames: &[Placed]) -> Result<
 }
 
 /// The line that says why the file of this name holds no further frames (docs/frames.md).
-pub fn fault_text(alloc: Global, name: &[u8], fault: &ListFault) -> Result<Vec<u8>, AllocError>
+pub fn fault_text(alloc: Global, name: &[u8], fault: &FrameListFault) -> Result<Vec<u8>, AllocError>
     ensures { IfOk result (λ text. text.items ≡ fault_line name.now fault.now) }
 {
     let printed = match fault {
-        ListFault::Short(at, missing) => format!(in alloc; ":{at}: short {missing}\n")?,
-        ListFault::Broken(at, rule) => format!(in alloc; ":{at}: {rule}\n")?,
+        FrameListFault::Short(at, missing) => format!(in alloc; ":{at}: short {missing}\n")?,
+        FrameListFault::Broken(at, rule) => format!(in alloc; ":{at}: {rule}\n")?,
     };
     let mut text = Vec::from_slice(alloc, name)?;
     text.extend_from_slice(printed.as_bytes())?;

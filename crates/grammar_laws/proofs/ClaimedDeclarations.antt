@@ -15,7 +15,7 @@ use Rattle.ipdl_syntax.specs.declared.tree.TypeSpec.{TypeSpec}
 use Rattle.ipdl_syntax.specs.declared.tree.UnionDecl.{UnionDecl}
 use Rattle.ipdl_syntax.specs.declared.tree.Using.{Using}
 use Rattle.ipdl_syntax.specs.Parts.{quoted, identifier}
-use Rattle.ipdl_syntax.specs.Grammar.{Section, section, sections, Management, managed_by, manages, more_managers, management, managements, managers_of, managed_of, protocol_semantics, protocol, field, fields, struct_decl, components, union_decl, foreign_name, using_decl, included, include}
+use Rattle.ipdl_syntax.specs.Grammar.{MessageSection, section, sections, Management, managed_by, manages, more_managers, management, managements, managers_of, managed_of, protocol_semantics, protocol, field, fields, struct_decl, components, union_decl, foreign_name, using_decl, included, include}
 use Rattle.ipdl_syntax.specs.Units.{IsIn}
 use Rattle.grammar_laws.proofs.Claims.{Claim, of_words, of_places, Good, OfWord, OfName, OfPlace, OfAttributes, OfType, OfParam, OfMessage, OfNameAt, OfProtocol, OfStruct, OfUnion, OfUsing, OfIncluded, OfInclude}
 use Rattle.grammar_laws.proofs.ClaimedForms.{identifier_tells, at_tells, named_tells, declared_tells, attributes_tell, type_tells, param_told, messages_tell}
@@ -25,11 +25,11 @@ use Rattle.grammar_laws.proofs.Tells.{Tells, tells_more, nothing_tells, token_te
 -- Protocols
 
 -- a section
-section_tells : (c : Claim) (s : Section) → Tells (Good c) (section s) (AllByRecursion (OfMessage c) s.messages)
+section_tells : (c : Claim) (s : MessageSection) → Tells (Good c) (section s) (AllByRecursion (OfMessage c) s.messages)
 section_tells c s = next_tells reserved_tells (next_tells mark_tells (messages_tell c s.direction s.messages))
 
 -- sections
-sections_tell : (c : Claim) (all : List Section) → Tells (Good c) (sections all) (AllByRecursion (OfMessage c) (flat_map (λ s. s.messages) all))
+sections_tell : (c : Claim) (all : List MessageSection) → Tells (Good c) (sections all) (AllByRecursion (OfMessage c) (flat_map (λ s. s.messages) all))
 sections_tell c [] = nothing_tells tt
 sections_tell c (s ∷ rest) =
     tells_more (λ e. both_all (OfMessage c) s.messages (flat_map (λ s. s.messages) rest) e.0 e.1) (both_tell (section_tells c s) (sections_tell c rest))
@@ -74,14 +74,14 @@ protocol_told of_words p a e managers managed held = record { full = e.0; manage
 protocol_told (of_places n) p a e managers managed held = record { place = e.1; managers = managers; manages = managed; messages = held; attributes = a }
 
 -- what the parts of a protocol claim
-abbrev OfBuilt : Claim → ProtocolDecl → List Management → List Section → Type 0
+abbrev OfBuilt : Claim → ProtocolDecl → List Management → List MessageSection → Type 0
 OfBuilt c p ms xs =
     OfAttributes c p.attributes
     × ((OfName c p.full × OfPlace c p.place)
     × ((AllByRecursion (OfNameAt c) (flat_map managers_of ms) × AllByRecursion (OfNameAt c) (flat_map managed_of ms))
     × AllByRecursion (OfMessage c) (flat_map (λ s. s.messages) xs)))
 
-built_tells : (c : Claim) (scope : List (List ℕ)) (p : ProtocolDecl) (ms : List Management) (xs : List Section) → AllByRecursion (OfWord c) scope → Tells (Good c) (built_of scope p ms xs) (OfBuilt c p ms xs)
+built_tells : (c : Claim) (scope : List (List ℕ)) (p : ProtocolDecl) (ms : List Management) (xs : List MessageSection) → AllByRecursion (OfWord c) scope → Tells (Good c) (built_of scope p ms xs) (OfBuilt c p ms xs)
 built_tells c scope p ms xs all =
     both_tell (attributes_tell c p.attributes) (next_tells (semantics_tell c p.semantics) (next_tells reserved_tells
     (both_tell (declared_tells c scope all) (next_tells mark_tells

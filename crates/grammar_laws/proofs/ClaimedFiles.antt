@@ -13,7 +13,7 @@ use Rattle.ipdl_syntax.specs.declared.tree.Unit.{Unit as FileUnit}
 use Rattle.ipdl_syntax.specs.declared.tree.Using.{Using}
 use Rattle.ipdl_syntax.specs.Parts.{Part}
 use Rattle.ipdl_syntax.specs.Grammar.{in_namespace, Inside, inside_end, inside_struct, inside_union, inside_namespace, Outside, outside_end, outside_include, outside_using, outside_struct, outside_union, outside_namespace, Holder, holder_protocol, holder_namespace, inside, outside, holder, protocol_file}
-use Rattle.ipdl_syntax.specs.Program.{Declared, ◌&◌, no_declaration, an_include, a_using, a_struct, a_union, declared_inside, declared_outside, declared_round, protocol_of, unit_of, Tree}
+use Rattle.ipdl_syntax.specs.Program.{Declarations, ◌&◌, no_declaration, an_include, a_using, a_struct, a_union, declared_inside, declared_outside, declared_round, protocol_of, unit_of, Tree}
 use Rattle.grammar_laws.specs.Laws.{NamesHold, PlacesHold}
 use Rattle.grammar_laws.proofs.Claims.{Claim, of_words, of_places, Good, OfWord, OfProtocol, OfStruct, OfUnion, OfUsing, OfInclude, OfDeclared, OfUnit}
 use Rattle.grammar_laws.proofs.ClaimedForms.{word_tells, all_and_one}
@@ -37,7 +37,7 @@ struct_told c s e = record { includes = tt; usings = tt; structs = (e, tt); unio
 union_told : (c : Claim) (u : UnionDecl) → OfUnion c u → OfDeclared c (a_union u)
 union_told c u e = record { includes = tt; usings = tt; structs = tt; unions = (e, tt) }
 
-and_told : (c : Claim) (a b : Declared) → OfDeclared c a → OfDeclared c b → OfDeclared c (a & b)
+and_told : (c : Claim) (a b : Declarations) → OfDeclared c a → OfDeclared c b → OfDeclared c (a & b)
 and_told c a b x y = record {
   includes = both_all (OfInclude c) a.includes b.includes x.includes y.includes;
   usings = both_all (OfUsing c) a.usings b.usings x.usings y.usings;
@@ -90,7 +90,7 @@ holder_tells c room scope (holder_namespace name before held after) all =
     (both_tell (holder_tells c (room - 1) (scope ++ name ∷ []) held inner) (inside_tells c (room - 1) (scope ++ name ∷ []) after inner)))))
 
 -- what a file claims
-unit_told : (c : Claim) (all : Declared) (p : Option ProtocolDecl) → OfDeclared c all → IfSome p (OfProtocol c) → OfUnit c (unit_of all p)
+unit_told : (c : Claim) (all : Declarations) (p : Option ProtocolDecl) → OfDeclared c all → IfSome p (OfProtocol c) → OfUnit c (unit_of all p)
 unit_told of_words all p e h = record { includes = e.includes; structs = e.structs; unions = e.unions; protocol = h }
 unit_told (of_places n) all p e h = record { includes = e.includes; usings = e.usings; structs = e.structs; unions = e.unions; protocol = h }
 

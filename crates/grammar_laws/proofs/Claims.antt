@@ -18,7 +18,7 @@ use Rattle.ipdl_syntax.specs.declared.tree.TypeSpec.{TypeSpec}
 use Rattle.ipdl_syntax.specs.declared.tree.UnionDecl.{UnionDecl}
 use Rattle.ipdl_syntax.specs.declared.tree.Unit.{Unit as FileUnit}
 use Rattle.ipdl_syntax.specs.declared.tree.Using.{Using}
-use Rattle.ipdl_syntax.specs.Program.{Declared}
+use Rattle.ipdl_syntax.specs.Program.{Declarations}
 use Rattle.ipdl_syntax.specs.Units.{BaseHasWords, TypeHasWords, ParamHasWords, MessageHasWords, ProtocolHasWords, StructHasWords, UnionHasWords, IncludeHasWord, HasWords, IsIn, BaseIsIn, TypeIsIn, ParamIsIn, MessageIsIn, ProtocolIsIn, StructIsIn, UnionIsIn, UsingIsIn, HasPlacesOf}
 
 -- that names are words, or that places are in the file of this number
@@ -106,7 +106,7 @@ OfInclude of_words i = IncludeHasWord i.kind i.name
 OfInclude (of_places n) i = IsIn n i.place
 
 -- of declarations
-pub record OfDeclared (claim : Claim) (all : Declared) : Type 0 where
+pub record OfDeclared (claim : Claim) (all : Declarations) : Type 0 where
   pub includes : AllByRecursion (OfInclude claim) all.includes
   pub usings : AllByRecursion (OfUsing claim) all.usings
   pub structs : AllByRecursion (OfStruct claim) all.structs

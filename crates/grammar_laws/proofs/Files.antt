@@ -6,7 +6,7 @@ use Rattle.ipdl_syntax.specs.declared.tree.FileKind.TheVariants as file
 use Rattle.ipdl_syntax.specs.declared.tree.ProtocolDecl.{ProtocolDecl}
 use Rattle.ipdl_syntax.specs.declared.tree.Unit.{Unit as FileUnit}
 use Rattle.ipdl_syntax.specs.Grammar.{Inside, inside_end, inside_struct, inside_union, inside_namespace, Outside, outside_end, outside_include, outside_using, outside_struct, outside_union, outside_namespace, Holder, holder_protocol, holder_namespace, inside, outside, holder}
-use Rattle.ipdl_syntax.specs.Program.{Declared, ◌&◌, an_include, a_using, a_struct, a_union, declared_inside, declared_outside, declared_round, protocol_of, unit_of, Tree}
+use Rattle.ipdl_syntax.specs.Program.{Declarations, ◌&◌, an_include, a_using, a_struct, a_union, declared_inside, declared_outside, declared_round, protocol_of, unit_of, Tree}
 use Rattle.ipdl_syntax.proofs.Declarations.{and_assoc, and_none}
 use Rattle.grammar_laws.specs.Boxes.{unboxed}
 use Rattle.grammar_laws.specs.Laws.{HasOneTree}
@@ -75,23 +75,23 @@ row_round (holder_namespace name before held after) room scopes more from middle
 -- the pieces in a namespace declare what the form declares
 declares_inside : (a : Inside) (more : List Piece) → declared_row (pieces_inside a more) ≡ declared_inside a & declared_row more
 declares_inside inside_end more = refl
-declares_inside (inside_struct s rest) more = ap (λ (x : Declared). a_struct s & x) (declares_inside rest more)
-declares_inside (inside_union u rest) more = ap (λ (x : Declared). a_union u & x) (declares_inside rest more)
+declares_inside (inside_struct s rest) more = ap (λ (x : Declarations). a_struct s & x) (declares_inside rest more)
+declares_inside (inside_union u rest) more = ap (λ (x : Declarations). a_union u & x) (declares_inside rest more)
 declares_inside (inside_namespace name held rest) more =
     declares_inside held (closing ∷ pieces_inside rest more)
-    ∙ ap (λ (x : Declared). declared_inside held & x) (declares_inside rest more)
+    ∙ ap (λ (x : Declarations). declared_inside held & x) (declares_inside rest more)
     ∙ sym (and_assoc (declared_inside held) (declared_inside rest) (declared_row more))
 
 -- so do those outside of all namespaces
 declares_outside : (a : Outside) (more : List Piece) → declared_row (pieces_outside a more) ≡ declared_outside a & declared_row more
 declares_outside outside_end more = refl
-declares_outside (outside_include i rest) more = ap (λ (x : Declared). an_include i & x) (declares_outside rest more)
-declares_outside (outside_using u rest) more = ap (λ (x : Declared). a_using u & x) (declares_outside rest more)
-declares_outside (outside_struct s rest) more = ap (λ (x : Declared). a_struct s & x) (declares_outside rest more)
-declares_outside (outside_union u rest) more = ap (λ (x : Declared). a_union u & x) (declares_outside rest more)
+declares_outside (outside_include i rest) more = ap (λ (x : Declarations). an_include i & x) (declares_outside rest more)
+declares_outside (outside_using u rest) more = ap (λ (x : Declarations). a_using u & x) (declares_outside rest more)
+declares_outside (outside_struct s rest) more = ap (λ (x : Declarations). a_struct s & x) (declares_outside rest more)
+declares_outside (outside_union u rest) more = ap (λ (x : Declarations). a_union u & x) (declares_outside rest more)
 declares_outside (outside_namespace name held rest) more =
     declares_inside held (closing ∷ pieces_outside rest more)
-    ∙ ap (λ (x : Declared). declared_inside held & x) (declares_outside rest more)
+    ∙ ap (λ (x : Declarations). declared_inside held & x) (declares_outside rest more)
     ∙ sym (and_assoc (declared_inside held) (declared_outside rest) (declared_row more))
 
 -- so do those of the protocol and what is round it
@@ -99,9 +99,9 @@ declares_round : (h : Holder) (more : List Piece) → declared_row (pieces_round
 declares_round (holder_protocol p) more = refl
 declares_round (holder_namespace name before held after) more =
     declares_inside before (pieces_round held (pieces_inside after (closing ∷ more)))
-    ∙ ap (λ (x : Declared). declared_inside before & x) (
+    ∙ ap (λ (x : Declarations). declared_inside before & x) (
     declares_round held (pieces_inside after (closing ∷ more))
-    ∙ ap (λ (x : Declared). declared_round held & x) (declares_inside after (closing ∷ more))
+    ∙ ap (λ (x : Declarations). declared_round held & x) (declares_inside after (closing ∷ more))
     ∙ sym (and_assoc (declared_round held) (declared_inside after) (declared_row more)))
     ∙ sym (and_assoc (declared_inside before) (declared_round held & declared_inside after) (declared_row more))
 
@@ -132,8 +132,8 @@ abbrev IsRow : List Token → FileUnit → Type 0
 IsRow tokens unit = (pieces : List Piece) × row [] pieces tokens [] × (unit ≡ row_unit pieces)
 
 -- a file is what it declares and its protocol
-same_unit : (a b : Declared) (p q : Option ProtocolDecl) → a ≡ b → p ≡ q → unit_of a p ≡ unit_of b q
-same_unit a b p q e f = ap (λ (x : Declared). unit_of x p) e ∙ ap (unit_of b) f
+same_unit : (a b : Declarations) (p q : Option ProtocolDecl) → a ≡ b → p ≡ q → unit_of a p ≡ unit_of b q
+same_unit a b p q e f = ap (λ (x : Declarations). unit_of x p) e ∙ ap (unit_of b) f
 
 -- each tree is such a row
 is_row : (kind : FileKind) (tokens : List Token) (unit : FileUnit) → Tree kind tokens unit → IsRow tokens unit
@@ -145,11 +145,11 @@ is_row file.Header tokens unit (all, d, e) = (
 is_row file.Protocol tokens unit (before, one, after, (m, bd, (n, od, ad)), e) =
     let last : List Piece = pieces_outside after [] in
     let pieces : List Piece = pieces_outside before (pieces_round one last) in
-    let all : Declared = declared_outside before & declared_round one & declared_outside after in
+    let all : Declarations = declared_outside before & declared_round one & declared_outside after in
     let same : declared_row pieces ≡ all =
     declares_outside before (pieces_round one last)
-    ∙ ap (λ (x : Declared). declared_outside before & x) (
-    declares_round one last ∙ ap (λ (x : Declared). declared_round one & x) (declares_outside after [] ∙ and_none (declared_outside after))) in
+    ∙ ap (λ (x : Declarations). declared_outside before & x) (
+    declares_round one last ∙ ap (λ (x : Declarations). declared_round one & x) (declares_outside after [] ∙ and_none (declared_outside after))) in
     let held : protocol_in pieces ≡ Some (protocol_of one) = none_outside before (pieces_round one last) ∙ one_round one last in
     (pieces, row_outside before (pieces_round one last) tokens m [] bd (row_round one 16 [] last m n [] od (row_outside after [] n [] [] ad refl)), e ∙ sym (same_unit (declared_row pieces) all (protocol_in pieces) (Some (protocol_of one)) same held))
 

@@ -8,7 +8,7 @@ use Rattle.ipdl_syntax.specs.declared.tree.Unit.{Unit as FileUnit}
 use Rattle.ipdl_syntax.specs.declared.tree.Using.{Using}
 use Rattle.ipdl_syntax.specs.Parts.{Part, nothing, ◌⨾◌, mark, reserved, word}
 use Rattle.ipdl_syntax.specs.Grammar.{protocol, struct_decl, union_decl, using_decl, include}
-use Rattle.ipdl_syntax.specs.Program.{Declared, ◌&◌, no_declaration, an_include, a_using, a_struct, a_union, unit_of}
+use Rattle.ipdl_syntax.specs.Program.{Declarations, ◌&◌, no_declaration, an_include, a_using, a_struct, a_union, unit_of}
 
 -- a declaration, the opening of a namespace of this name, or the closing of one
 pub data Piece : Type 0 where
@@ -46,7 +46,7 @@ row scopes (opening name ∷ rest) = reserved (codes "namespace") ⨾ word name 
 row scopes (closing ∷ rest) = mark (codes "}") ⨾ row (around scopes) rest
 
 -- what pieces declare
-abbrev pub declared_row : List Piece → Declared
+abbrev pub declared_row : List Piece → Declarations
 declared_row [] = no_declaration
 declared_row (the_include i ∷ rest) = an_include i & declared_row rest
 declared_row (the_using u ∷ rest) = a_using u & declared_row rest

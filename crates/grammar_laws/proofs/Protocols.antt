@@ -11,7 +11,7 @@ use Rattle.ipdl_syntax.specs.declared.tree.MessageDecl.{MessageDecl}
 use Rattle.ipdl_syntax.specs.declared.tree.NameAt.{NameAt}
 use Rattle.ipdl_syntax.specs.declared.tree.ProtocolDecl.{ProtocolDecl}
 use Rattle.ipdl_syntax.specs.Parts.{Part, ◌⨾◌, mark, reserved, identifier}
-use Rattle.ipdl_syntax.specs.Grammar.{Section, direction_word, section, sections, Management, managed_by, manages, more_managers, management, managements, managers_of, managed_of, protocol_semantics, protocol, attributes, declared}
+use Rattle.ipdl_syntax.specs.Grammar.{MessageSection, direction_word, section, sections, Management, managed_by, manages, more_managers, management, managements, managers_of, managed_of, protocol_semantics, protocol, attributes, declared}
 use Rattle.grammar_laws.specs.Boxes.{unboxed_message, unboxed_protocol}
 use Rattle.grammar_laws.proofs.Heads.{a_head, Test, always, opposite, is_mark, is_reserved, of_mark, of_reserved}
 use Rattle.grammar_laws.proofs.Settling.{Settles, Begins, begins_nothing, begins_mark, begins_reserved, begins_both, begins_first, begins_either, told, nothing_settles, mark_settles, reserved_settles, identifier_settles, both_settle, next_settle, apart, apart_too, none_some, some_none, either_settles}
@@ -34,7 +34,7 @@ section_begins Child test e f g = begins_reserved f
 section_begins Both test e f g = begins_reserved g
 
 -- sections have the same messages
-section_settles : (s r : Section) → Settles (section s) (section r) past_messages (map unboxed_message s.messages ≡ map unboxed_message r.messages)
+section_settles : (s r : MessageSection) → Settles (section s) (section r) past_messages (map unboxed_message s.messages ≡ map unboxed_message r.messages)
 section_settles s r = told (λ e. e.1.1 e.0) (next_settle (direction_settles s.direction r.direction) (next_settle mark_settles (messages_settle s.direction r.direction s.messages r.messages)))
 
 -- behind the sections of a protocol
@@ -42,13 +42,13 @@ abbrev closed : Test
 closed = is_mark (codes "}")
 
 -- further sections, or what is behind, end the messages before
-sections_begin : (xs : List Section) → Begins (sections xs) closed past_messages
+sections_begin : (xs : List MessageSection) → Begins (sections xs) closed past_messages
 sections_begin [] = begins_nothing (of_mark (codes "}") past_messages refl)
 sections_begin (x ∷ xs) = begins_first (begins_first (section_begins x.direction past_messages refl refl refl))
 
 -- the messages of sections
-abbrev all_messages : List Section → List MessageDecl
-all_messages = flat_map (λ (s : Section). s.messages)
+abbrev all_messages : List MessageSection → List MessageDecl
+all_messages = flat_map (λ (s : MessageSection). s.messages)
 
 -- the messages of two lists that are the same, one behind the other
 more_messages : (m n : List MessageDecl) (xs ys : List MessageDecl) → map unboxed_message m ≡ map unboxed_message n → map unboxed_message xs ≡ map unboxed_message ys → map unboxed_message (m ++ xs) ≡ map unboxed_message (n ++ ys)
@@ -59,7 +59,7 @@ more_messages m n xs ys e f =
     ∙ sym (map-append unboxed_message n ys)
 
 -- all sections have the same messages
-sections_settle : (xs ys : List Section) → Settles (sections xs) (sections ys) closed (map unboxed_message (all_messages xs) ≡ map unboxed_message (all_messages ys))
+sections_settle : (xs ys : List MessageSection) → Settles (sections xs) (sections ys) closed (map unboxed_message (all_messages xs) ≡ map unboxed_message (all_messages ys))
 sections_settle [] [] = nothing_settles refl
 sections_settle [] (y ∷ ys) = none_some (begins_first (begins_first (section_begins y.direction (opposite closed) refl refl refl)))
 sections_settle (x ∷ xs) [] = some_none (begins_first (begins_first (section_begins x.direction (opposite closed) refl refl refl)))
@@ -132,11 +132,11 @@ semantics_begin Sync test e f g = begins_first (begins_reserved e)
 semantics_begin Async test e f g = begins_both (begins_either (begins_nothing (λ h b. b)) (begins_reserved f)) (begins_first (begins_reserved g))
 
 -- a protocol with these managements and sections
-abbrev pub built_of : List (List ℕ) → ProtocolDecl → List Management → List Section → Part
+abbrev pub built_of : List (List ℕ) → ProtocolDecl → List Management → List MessageSection → Part
 built_of scope p managing parts = attributes p.attributes ⨾ protocol_semantics p.semantics ⨾ reserved (codes "protocol") ⨾ declared scope p.full p.place ⨾ mark (codes "{") ⨾ managements managing ⨾ sections parts ⨾ mark (codes "}") ⨾ mark (codes ";")
 
 -- what two protocols tell
-record Told (p q : ProtocolDecl) (ms ns : List Management) (xs ys : List Section) : Type 0 where
+record Told (p q : ProtocolDecl) (ms ns : List Management) (xs ys : List MessageSection) : Type 0 where
   same_attributes : p.attributes ≡ q.attributes
   same_semantics : p.semantics ≡ q.semantics
   same_full : p.full ≡ q.full
@@ -145,7 +145,7 @@ record Told (p q : ProtocolDecl) (ms ns : List Management) (xs ys : List Section
   same_messages : map unboxed_message (all_messages xs) ≡ map unboxed_message (all_messages ys)
 
 -- protocols that are built of managements and sections tell all this
-built_settles : (scope : List (List ℕ)) (p q : ProtocolDecl) (ms ns : List Management) (xs ys : List Section) {behind : Test} → Settles (built_of scope p ms xs) (built_of scope q ns ys) behind (Told p q ms ns xs ys)
+built_settles : (scope : List (List ℕ)) (p q : ProtocolDecl) (ms ns : List Management) (xs ys : List MessageSection) {behind : Test} → Settles (built_of scope p ms xs) (built_of scope q ns ys) behind (Told p q ms ns xs ys)
 built_settles scope p q ms ns xs ys =
     told (λ e. record { same_attributes = e.0; same_semantics = e.1.0; same_full = e.1.1.1.0.0; same_place = e.1.1.1.0.1; same_managements = e.1.1.1.1.1.0; same_messages = e.1.1.1.1.1.1.0 })
     (both_settle (attributes_settle p.attributes q.attributes) (semantics_begin p.semantics past_attributes refl refl refl) (semantics_begin q.semantics past_attributes refl refl refl)
@@ -155,7 +155,7 @@ built_settles scope p q ms ns xs ys =
     (both_settle (sections_settle xs ys) (begins_first (begins_mark refl)) (begins_first (begins_mark refl)) (next_settle mark_settles mark_settles))))))))
 
 -- a protocol is all that is written of it
-same_protocol : (p q : ProtocolDecl) (ms ns : List Management) (xs ys : List Section) → Told p q ms ns xs ys
+same_protocol : (p q : ProtocolDecl) (ms ns : List Management) (xs ys : List MessageSection) → Told p q ms ns xs ys
     → p.managers ≡ flat_map managers_of ms → q.managers ≡ flat_map managers_of ns
     → p.manages ≡ flat_map managed_of ms → q.manages ≡ flat_map managed_of ns
     → p.messages ≡ all_messages xs → q.messages ≡ all_messages ys → unboxed_protocol p ≡ unboxed_protocol q

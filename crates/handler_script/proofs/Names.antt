@@ -10,7 +10,7 @@ use Rattle.ipdl_base.specs.Words.{IsWord, is_word_start, is_word_byte}
 use Rattle.script_reader.proofs.Begins.{word_start}
 use Rattle.script_reader.specs.declared.parts.Bracket.{Bracket}
 use Rattle.script_reader.specs.declared.parts.Bracket.TheVariants as bracket
-use Rattle.script_reader.specs.declared.statement.Call.{Call}
+use Rattle.script_reader.specs.declared.statement.WrittenMessage.{WrittenMessage}
 use Rattle.script_reader.specs.declared.statement.MessageName.{MessageName}
 use Rattle.script_reader.specs.declared.statement.Statement.{Statement}
 use Rattle.script_reader.specs.declared.statement.Statement.TheVariants as forms
@@ -22,8 +22,8 @@ use Rattle.script_reader.specs.declared.written.Atom.{Atom}
 use Rattle.script_reader.specs.declared.written.Atom.TheVariants as atom
 use Rattle.script_reader.specs.declared.written.Who.{Who}
 use Rattle.script_reader.specs.declared.written.Who.TheVariants as whos
-use Rattle.script_reader.specs.declared.written.Written.{Written, Union', Held'}
-use Rattle.script_reader.specs.declared.written.Written.TheVariants as written
+use Rattle.script_reader.specs.declared.written.WrittenValue.{WrittenValue, Union', Held'}
+use Rattle.script_reader.specs.declared.written.WrittenValue.TheVariants as written
 use Rattle.script_reader.specs.declared.written.WrittenValues.{WrittenValues, First'}
 use Rattle.script_reader.specs.declared.written.WrittenValues.TheVariants as values
 use Rattle.script_reader.specs.Grammar.{is_no_name, named, name_of, name, who_named, who_of, who, message, atom_named, atom_of, value, listed, more, arguments, call, behind_keyword}
@@ -50,7 +50,7 @@ AtomNames _ = Unit {0}
 
 -- all whom values speak of by names
 abbrev mutual
-  pub ValueNames : Written → Type 0
+  pub ValueNames : WrittenValue → Type 0
   ValueNames (written.Atom a) = AtomNames a
   ValueNames (written.Struct vs) = ValuesNames vs
   ValueNames (written.Array vs) = ValuesNames vs
@@ -171,7 +171,7 @@ atom_is a (token.Bytes k) h e = let same : atom.Bytes k ≡ a = cc in subst Atom
 atom_is a (token.Mark k) h e = cc
 
 mutual
-  value_names : (v : Written) (from to : List Token) → value v from to → AreWords from → ValueNames v × AreWords to
+  value_names : (v : WrittenValue) (from to : List Token) → value v from to → AreWords from → ValueNames v × AreWords to
   value_names (written.Atom a) from to h ws = (atom_is a h.0 (head_word h.0 from to h.1 ws) h.2, tail_words h.0 from to h.1 ws)
   value_names (written.Struct vs) from to h ws = listed_names bracket.Curly vs h.0 to h.2 (tail_words _ from h.0 h.1 ws)
   value_names (written.Array vs) from to h ws = listed_names bracket.Square vs h.0 to h.2 (tail_words _ from h.0 h.1 ws)
@@ -198,7 +198,7 @@ arguments_names vs from to h ws = listed_names bracket.Round vs h.0 to h.2 (tail
 message_words : (m : MessageName) (from to : List Token) → message m from to → AreWords from → AreWords to
 message_words m from to h ws = tail_words _ h.2.0 to h.2.2 (tail_words _ h.0 h.2.0 h.2.1 (tail_words _ from h.0 h.1 ws))
 
-call_names : (c : Call) (from to : List Token) → call c from to → AreWords from → ValuesNames c.values × AreWords to
+call_names : (c : WrittenMessage) (from to : List Token) → call c from to → AreWords from → ValuesNames c.values × AreWords to
 call_names c from to h ws = arguments_names c.values h.0 to h.2 (message_words c.message from h.0 h.1 ws)
 
 behind_names : (s : Statement) (from to : List Token) → behind_keyword s from to → AreWords from → Names s

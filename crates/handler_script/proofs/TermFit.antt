@@ -12,14 +12,14 @@ use Rattle.script_reader.specs.declared.written.Atom.{Atom}
 use Rattle.script_reader.specs.declared.written.Atom.TheVariants as atom
 use Rattle.script_reader.specs.declared.written.Who.{Who}
 use Rattle.script_reader.specs.declared.written.Who.TheVariants as whos
-use Rattle.script_reader.specs.declared.written.Written.{Written, Union', Held'}
-use Rattle.script_reader.specs.declared.written.Written.TheVariants as written
+use Rattle.script_reader.specs.declared.written.WrittenValue.{WrittenValue, Union', Held'}
+use Rattle.script_reader.specs.declared.written.WrittenValue.TheVariants as written
 use Rattle.script_reader.specs.declared.written.WrittenValues.{WrittenValues, First'}
 use Rattle.script_reader.specs.declared.written.WrittenValues.TheVariants as values
 use Rattle.value_types.specs.HasType.{IsInRange, IsActorOf}
 use Rattle.value_types.specs.Shapes.{range_of, builtin_of, is_bytes, element_of, held_by, fields_of, component_of}
 use Rattle.handler_script.specs.declared.term.Term.TheVariants as term
-use Rattle.handler_script.specs.Blocks.{Standing, in_main, in_handler, given_in}
+use Rattle.handler_script.specs.Blocks.{BlockContext, in_main, in_handler, given_in}
 use Rattle.handler_script.specs.Broken.{is_of_handler, is_made, is_of_constructor}
 use Rattle.handler_script.specs.Mentions.{atom_mentions, mentions, any_mentions}
 use Rattle.handler_script.specs.Messages.{is_constructor}
@@ -28,12 +28,12 @@ use Rattle.handler_script.specs.Valid.{MayName, TermFits, AllTermsFit, EachTermF
 use Rattle.handler_script.proofs.SameTypes.{same_nat, stands}
 use Rattle.handler_script.proofs.Names.{AreBytes, IsNamed, AtomNames, ValueNames, ValuesNames}
 
-abbrev pub is_main : Standing → Bool
+abbrev pub is_main : BlockContext → Bool
 is_main (in_main side) = true
 is_main (in_handler side message) = false
 
 -- One who is spoken of may be: in a main it is not the handled message's, and elsewhere than in a constructor's handler not what was made.
-pub may_name : (b : Standing) (w : Who) → (is_main b ≡ true → is_of_handler w ≡ false) → (is_of_constructor b ≡ false → is_made w ≡ false) → IsNamed w → ((n : ℕ) → whos.Param n ≡ w → MayName b w) → MayName b w
+pub may_name : (b : BlockContext) (w : Who) → (is_main b ≡ true → is_of_handler w ≡ false) → (is_of_constructor b ≡ false → is_made w ≡ false) → IsNamed w → ((n : ℕ) → whos.Param n ≡ w → MayName b w) → MayName b w
 may_name b whos.Top m k n p = tt
 may_name (in_main side) whos.This m k n p = absurd (true≢false (m refl))
 may_name (in_handler side message) whos.This m k n p = refl
@@ -60,7 +60,7 @@ is_below : (a b : ℤ) → ¬ ¬ (a ≤ℤ b) → a ≤ℤ b
 is_below a b h = by_lt_z b a (λ lt. absurd (h (λ le. let no : ⊥ = omega (arith, ints) in no))) (λ le. le)
 
 -- one who fits as a value stands for a term
-who_fits : (schema : Schema) (b : Standing) (shape : Shape) (w : Who) → ¬ ¬ WhoFits (given_in b) shape w → (is_main b ≡ true → is_of_handler w ≡ false) → (is_of_constructor b ≡ false → is_made w ≡ false) → IsNamed w → TermFits schema b shape (who_term w)
+who_fits : (schema : Schema) (b : BlockContext) (shape : Shape) (w : Who) → ¬ ¬ WhoFits (given_in b) shape w → (is_main b ≡ true → is_of_handler w ≡ false) → (is_of_constructor b ≡ false → is_made w ≡ false) → IsNamed w → TermFits schema b shape (who_term w)
 who_fits schema b shape whos.Top h m k n = (is_true (is_actor shape) h, tt)
 who_fits schema b shape whos.This h m k n = (is_true (is_actor shape) h, may_name b whos.This m k n (λ i e. let no : ⊥ = cc in absurd no))
 who_fits schema b shape whos.Made h m k n = (is_true (is_actor shape) h, may_name b whos.Made m k n (λ i e. let no : ⊥ = cc in absurd no))
@@ -93,7 +93,7 @@ eight_bytes (b1 ∷ b2 ∷ b3 ∷ b4 ∷ b5 ∷ b6 ∷ b7 ∷ b8 ∷ []) h e =
 eight_bytes (b1 ∷ b2 ∷ b3 ∷ b4 ∷ b5 ∷ b6 ∷ b7 ∷ b8 ∷ b9 ∷ bs) h e = omega arith
 
 -- the term of bytes in a type of floats, or in one that has bytes
-float_fits : (schema : Schema) (b : Standing) (k : BuiltinType) (bytes : List ℕ) → AreBytes bytes → AreBits (Builtin k) bytes → TermFits schema b (Builtin k) (bytes_term (Some k) bytes)
+float_fits : (schema : Schema) (b : BlockContext) (k : BuiltinType) (bytes : List ℕ) → AreBytes bytes → AreBits (Builtin k) bytes → TermFits schema b (Builtin k) (bytes_term (Some k) bytes)
 float_fits schema b builtin.Float bytes small h =
     let four : length bytes ≡ 4 = omega (arith, h) in
     let P : Bool → Type 0 = λ t. TermFits schema b (Builtin builtin.Float) (if t then term.Bits (number_of bytes) else term.Bytes bytes) in
@@ -104,7 +104,7 @@ float_fits schema b builtin.Double bytes small h =
     subst P (sym (eq-eqb (length bytes) 8 eight)) (eight_bytes bytes small eight)
 float_fits schema b k bytes small h = absurd h
 
-bytes_fit : (schema : Schema) (b : Standing) (shape : Shape) (bytes : List ℕ) → AreBytes bytes → ¬ ¬ (IsTrue (is_bytes shape) ⊎ AreBits shape bytes) → TermFits schema b shape (bytes_term (builtin_of shape) bytes)
+bytes_fit : (schema : Schema) (b : BlockContext) (shape : Shape) (bytes : List ℕ) → AreBytes bytes → ¬ ¬ (IsTrue (is_bytes shape) ⊎ AreBits shape bytes) → TermFits schema b shape (bytes_term (builtin_of shape) bytes)
 bytes_fit schema b (Builtin builtin.Float) bytes small h = float_fits schema b builtin.Float bytes small (same_nat 32 (8 * length bytes) (λ n. h (λ s. elim s [ inl t ↦ true≢false (sym t) | inr e ↦ n e ])))
 bytes_fit schema b (Builtin builtin.Double) bytes small h = float_fits schema b builtin.Double bytes small (same_nat 64 (8 * length bytes) (λ n. h (λ s. elim s [ inl t ↦ true≢false (sym t) | inr e ↦ n e ])))
 bytes_fit schema b (Builtin builtin.NsCString) bytes small h = refl
@@ -130,7 +130,7 @@ number_fits shape i h =
     some_part (λ (range : ℤ × ℤ). (range.0 ≤ℤ i) × (i ≤ℤ range.1)) (λ range. (range.0 ≤ℤ i) × (i ≤ℤ range.1)) (option_and_then range_of (builtin_of shape)) h
     (λ range e s. let both = not_both s in (is_below range.0 i both.0, is_below i range.1 both.1))
 
-atom_fits : (schema : Schema) (b : Standing) (shape : Shape) (a : Atom) → ¬ ¬ AtomFits (given_in b) shape a → (is_main b ≡ true → atom_mentions is_of_handler a ≡ false) → (is_of_constructor b ≡ false → atom_mentions is_made a ≡ false) → AtomNames a → TermFits schema b shape (atom_term shape a)
+atom_fits : (schema : Schema) (b : BlockContext) (shape : Shape) (a : Atom) → ¬ ¬ AtomFits (given_in b) shape a → (is_main b ≡ true → atom_mentions is_of_handler a ≡ false) → (is_of_constructor b ≡ false → atom_mentions is_made a ≡ false) → AtomNames a → TermFits schema b shape (atom_term shape a)
 atom_fits schema b shape (atom.Bool t) h m k n = bool_fits shape h
 atom_fits schema b shape (atom.Number i) h m k n = number_fits shape i h
 atom_fits schema b shape (atom.Text text) h m k n = (text_fits shape (not_both h).0, n)
@@ -140,7 +140,7 @@ atom_fits schema b shape atom.Null h m k n = (refl, null_fits shape h)
 atom_fits schema b shape (atom.Who w) h m k n = who_fits schema b shape w h m k n
 
 mutual
-  pub value_fits : (schema : Schema) (b : Standing) (shape : Shape) (v : Written) → ¬ ¬ Fits schema (given_in b) shape v → (is_main b ≡ true → mentions is_of_handler v ≡ false) → (is_of_constructor b ≡ false → mentions is_made v ≡ false) → ValueNames v → TermFits schema b shape (term_of schema shape v)
+  pub value_fits : (schema : Schema) (b : BlockContext) (shape : Shape) (v : WrittenValue) → ¬ ¬ Fits schema (given_in b) shape v → (is_main b ≡ true → mentions is_of_handler v ≡ false) → (is_of_constructor b ≡ false → mentions is_made v ≡ false) → ValueNames v → TermFits schema b shape (term_of schema shape v)
   value_fits schema b shape (written.Atom a) h m k n = atom_fits schema b shape a h m k n
   value_fits schema b shape (written.Struct vs) h m k n =
       some_part (λ fields. EachFits schema (given_in b) fields vs) (λ fields. EachTermFits schema b fields (terms_of schema (unwrap_or (fields_of schema shape) []) vs)) (fields_of schema shape) h
@@ -155,7 +155,7 @@ mutual
       some_part (λ inner. Fits schema (given_in b) inner v) (λ inner. TermFits schema b inner (term_of schema (unwrap_or (held_by shape) shape) v)) (held_by shape) h
       (λ inner e fit. let P : Option Shape → Type 0 = λ o. TermFits schema b inner (term_of schema (unwrap_or o shape) v) in subst P (sym e) (value_fits schema b inner v fit m k n))
 
-  all_values_fit : (schema : Schema) (b : Standing) (shape : Shape) (vs : WrittenValues) → ¬ ¬ AllFit schema (given_in b) shape vs → (is_main b ≡ true → any_mentions is_of_handler vs ≡ false) → (is_of_constructor b ≡ false → any_mentions is_made vs ≡ false) → ValuesNames vs → AllTermsFit schema b shape (elements_of schema shape vs)
+  all_values_fit : (schema : Schema) (b : BlockContext) (shape : Shape) (vs : WrittenValues) → ¬ ¬ AllFit schema (given_in b) shape vs → (is_main b ≡ true → any_mentions is_of_handler vs ≡ false) → (is_of_constructor b ≡ false → any_mentions is_made vs ≡ false) → ValuesNames vs → AllTermsFit schema b shape (elements_of schema shape vs)
   all_values_fit schema b shape values.Nothing h m k n = tt
   all_values_fit schema b shape (First' _ v _ vs) h m k n =
       let both = not_both h in (
@@ -164,7 +164,7 @@ mutual
       )
 
   -- values that do not fail to fit stand for terms that fit
-  pub each_value_fits : (schema : Schema) (b : Standing) (fields : List ParamRow) (vs : WrittenValues) → ¬ ¬ EachFits schema (given_in b) fields vs → (is_main b ≡ true → any_mentions is_of_handler vs ≡ false) → (is_of_constructor b ≡ false → any_mentions is_made vs ≡ false) → ValuesNames vs → EachTermFits schema b fields (terms_of schema fields vs)
+  pub each_value_fits : (schema : Schema) (b : BlockContext) (fields : List ParamRow) (vs : WrittenValues) → ¬ ¬ EachFits schema (given_in b) fields vs → (is_main b ≡ true → any_mentions is_of_handler vs ≡ false) → (is_of_constructor b ≡ false → any_mentions is_made vs ≡ false) → ValuesNames vs → EachTermFits schema b fields (terms_of schema fields vs)
   each_value_fits schema b [] values.Nothing h m k n = tt
   each_value_fits schema b (field ∷ fields) values.Nothing h m k n = absurd (h (λ no. no))
   each_value_fits schema b [] (First' _ v _ vs) h m k n = absurd (h (λ no. no))

@@ -14,14 +14,14 @@ use Rattle.ipdl_base.specs.Sound.{IsSound, message_of}
 use Rattle.ipdl_base.specs.Words.{short_name}
 use Rattle.ipdl_base.proofs.Numbers as numbers
 use Rattle.script_reader.specs.declared.line.LineReading.{LineReading}
-use Rattle.script_reader.specs.declared.statement.Call.{Call}
+use Rattle.script_reader.specs.declared.statement.WrittenMessage.{WrittenMessage}
 use Rattle.script_reader.specs.declared.statement.MessageName.{MessageName}
 use Rattle.script_reader.specs.declared.statement.Statement.{Statement}
 use Rattle.script_reader.specs.declared.statement.Statement.TheVariants as forms
 use Rattle.script_reader.specs.declared.written.Who.{Who}
 use Rattle.script_reader.specs.declared.written.Who.TheVariants as whos
 use Rattle.script_reader.specs.declared.written.WrittenValues.{WrittenValues}
-use Rattle.handler_script.specs.Blocks.{answers, is_followed, Standing, in_main, in_handler, side_of, given_in, handled_in}
+use Rattle.handler_script.specs.Blocks.{answers, is_followed, BlockContext, in_main, in_handler, side_of, given_in, handled_in}
 use Rattle.handler_script.specs.Broken.{is_of_handler, is_made, is_of_constructor, is_no_actor, is_misplaced, has_no_resolver, has_no_reply, is_other_constructor, is_unresolved, speaks_in_main, speaks_of_made, AreUnfit, NamesNone, BreaksDirection, BreaksCarried, BreaksValues, ValuesBreak, IsNotAllowed}
 use Rattle.handler_script.specs.Mentions.{any_mentions, speaks_of}
 use Rattle.handler_script.specs.Messages.{message_in, protocol_named, message_named, sends, resolves, replies, is_constructor}
@@ -70,18 +70,18 @@ message_numbered schema sound name m e =
     sym (numbers.request_found schema m.number sound row (subst P of_protocol p.1) m (subst Q of_message i.1) even)
 
 -- What is known of a statement in a block that breaks no rule
-pub record IsUnbroken (schema : Schema) (answered : Bool) (b : Standing) (s : Statement) (after : List LineReading) : Type 0 where
+pub record IsUnbroken (schema : Schema) (answered : Bool) (b : BlockContext) (s : Statement) (after : List LineReading) : Type 0 where
   pub known : ¬ NamesNone schema s
   pub direction : ¬ BreaksDirection schema (Some b) s
   pub values : ¬ BreaksValues schema (Some b) s
   pub allowed : ¬ IsNotAllowed schema answered (Some b) s after
   pub carried : ¬ BreaksCarried schema (Some b) s
 
-main_quiet : (b : Standing) (s : Statement) → speaks_in_main b s ≡ false → is_main b ≡ true → speaks_of is_of_handler s ≡ false
+main_quiet : (b : BlockContext) (s : Statement) → speaks_in_main b s ≡ false → is_main b ≡ true → speaks_of is_of_handler s ≡ false
 main_quiet (in_main side) s h e = h
 main_quiet (in_handler side message) s h e = absurd (true≢false (sym e))
 
-made_quiet : (b : Standing) (s : Statement) → speaks_of_made b s ≡ false → is_of_constructor b ≡ false → speaks_of is_made s ≡ false
+made_quiet : (b : BlockContext) (s : Statement) → speaks_of_made b s ≡ false → is_of_constructor b ≡ false → speaks_of is_made s ≡ false
 made_quiet b s h e = elim (and_cases (speaks_of is_made s) (not (is_of_constructor b)) h) [
   | inl quiet ↦ quiet
   | inr made ↦ absurd (true≢false (sym (not-false (is_of_constructor b) made) ∙ e))
@@ -92,20 +92,20 @@ actor_param : (o : Option ParamRow) → ¬ IsTrue (option_map_or (λ param. not 
 actor_param None h = absurd (h refl)
 actor_param (Some param) h = elim (cases_Bool (is_actor param.shape)) [ inl t ↦ t | inr f ↦ absurd (h (ap not f)) ]
 
-param_named : (b : Standing) (w : Who) → ¬ IsTrue (is_no_actor (given_in b) w) → (n : ℕ) → whos.Param n ≡ w → MayName b w
+param_named : (b : BlockContext) (w : Who) → ¬ IsTrue (is_no_actor (given_in b) w) → (n : ℕ) → whos.Param n ≡ w → MayName b w
 param_named b w h n e =
     let P : Who → Type 0 = λ v. ¬ IsTrue (is_no_actor (given_in b) v) in
     let Q : Who → Type 0 = λ v. MayName b v in
     subst Q e (actor_param (param_at (given_in b) n) (subst P (sym e) h))
 
 -- Of a statement in a block that breaks no rule this is known.
-record Known (schema : Schema) (answered : Bool) (b : Standing) (s : Statement) (after : List LineReading) : Type 0 where
+record Known (schema : Schema) (answered : Bool) (b : BlockContext) (s : Statement) (after : List LineReading) : Type 0 where
   pub in_main : is_main b ≡ true → speaks_of is_of_handler s ≡ false
   pub in_other : is_of_constructor b ≡ false → speaks_of is_made s ≡ false
   pub placed : is_misplaced schema answered b s after ≡ false
   pub values : ¬ ValuesBreak schema b s
 
-known_of : (schema : Schema) (answered : Bool) (b : Standing) (s : Statement) (after : List LineReading) → IsUnbroken schema answered b s after → Known schema answered b s after
+known_of : (schema : Schema) (answered : Bool) (b : BlockContext) (s : Statement) (after : List LineReading) → IsUnbroken schema answered b s after → Known schema answered b s after
 known_of schema answered b s after u =
     let all : (speaks_in_main b s || speaks_of_made b s || is_misplaced schema answered b s after) ≡ false = false_from_ne_true _ u.allowed in
     let one = or_parts (speaks_in_main b s || speaks_of_made b s) (is_misplaced schema answered b s after) all in
@@ -113,7 +113,7 @@ known_of schema answered b s after u =
     record { in_main = main_quiet b s two.0; in_other = made_quiet b s two.1; placed = one.1; values = u.values }
 
 -- a message is sent
-sendable : (schema : Schema) (sound : IsSound schema) (b : Standing) (name : MessageName) (vs : WrittenValues) (m : MessageRow) → message_named schema name ≡ Some m
+sendable : (schema : Schema) (sound : IsSound schema) (b : BlockContext) (name : MessageName) (vs : WrittenValues) (m : MessageRow) → message_named schema name ≡ Some m
     → sends (side_of b) m.direction ≡ true → m.carried ≡ true → ¬ ¬ EachFits schema (given_in b) m.params vs
     → (is_main b ≡ true → any_mentions is_of_handler vs ≡ false) → (is_of_constructor b ≡ false → any_mentions is_made vs ≡ false) → ValuesNames vs
     → IsSendable schema b (number_of schema name) (terms_of schema (unwrap_or (option_map (λ message. message.params) (message_named schema name)) []) vs) m × (message_of schema (number_of schema name) ≡ Some m)
@@ -125,16 +125,16 @@ sendable schema sound b name vs m e sent carried fits main other names =
     subst P (sym e) ((refl, sent, carried, each_value_fits schema b m.params vs fits main other names), found)
 
 -- whom a statement names, where it is not broken
-who_valid : (b : Standing) (w : Who) → ¬ IsTrue (is_no_actor (given_in b) w) → (is_main b ≡ true → is_of_handler w ≡ false) → (is_of_constructor b ≡ false → is_made w ≡ false) → IsNamed w → MayName b w
+who_valid : (b : BlockContext) (w : Who) → ¬ IsTrue (is_no_actor (given_in b) w) → (is_main b ≡ true → is_of_handler w ≡ false) → (is_of_constructor b ≡ false → is_made w ≡ false) → IsNamed w → MayName b w
 who_valid b w actor main other named = may_name b w main other named (param_named b w actor)
 
 -- a statement that sends
-record IsCall (schema : Schema) (b : Standing) (w : Who) (c : Call) (m : MessageRow) : Type 0 where
+record IsCall (schema : Schema) (b : BlockContext) (w : Who) (c : WrittenMessage) (m : MessageRow) : Type 0 where
   pub who : MayName b w
   pub sendable : IsSendable schema b (number_of schema c.message) (terms_of schema (unwrap_or (option_map (λ message. message.params) (message_named schema c.message)) []) c.values) m
   pub found : message_of schema (number_of schema c.message) ≡ Some m
 
-call_valid : (schema : Schema) (sound : IsSound schema) (b : Standing) (w : Who) (c : Call) (m : MessageRow) → message_named schema c.message ≡ Some m
+call_valid : (schema : Schema) (sound : IsSound schema) (b : BlockContext) (w : Who) (c : WrittenMessage) (m : MessageRow) → message_named schema c.message ≡ Some m
     → ¬ (IsTrue (is_no_actor (given_in b) w) ⊎ AreUnfit schema (given_in b) (option_map (λ message. message.params) (message_named schema c.message)) c.values)
     → ¬ IsSomeAnd (message_named schema c.message) (λ message. sends (side_of b) message.direction ≡ false) → ¬ IsSomeAnd (message_named schema c.message) (λ message. message.carried ≡ false)
     → (is_main b ≡ true → (is_of_handler w || any_mentions is_of_handler c.values) ≡ false) → (is_of_constructor b ≡ false → (is_made w || any_mentions is_made c.values) ≡ false)
@@ -160,7 +160,7 @@ is_there : {X : Type 0} (o : Option X) (x : X) → o ≡ Some x → IsSome o
 is_there {X} o x e = let P : Option X → Type 0 = λ o. IsSome o in subst P (sym e) refl
 
 -- values that answer, where there are types for them
-answer_valid : (schema : Schema) (b : Standing) (o : Option (List ParamRow)) (vs : WrittenValues) → not (is_some o) ≡ false → ¬ AreUnfit schema (given_in b) o vs
+answer_valid : (schema : Schema) (b : BlockContext) (o : Option (List ParamRow)) (vs : WrittenValues) → not (is_some o) ≡ false → ¬ AreUnfit schema (given_in b) o vs
     → (is_main b ≡ true → any_mentions is_of_handler vs ≡ false) → (is_of_constructor b ≡ false → any_mentions is_made vs ≡ false) → ValuesNames vs
     → IsSomeAnd o (λ returns. EachTermFits schema b returns (terms_of schema (unwrap_or o []) vs))
 answer_valid schema b None vs there values main other names = absurd (true≢false there)
@@ -182,7 +182,7 @@ values_quiet b h = (or_parts false b h).1
 who_quiet : (b : Bool) → (b || false) ≡ false → b ≡ false
 who_quiet b h = (or_parts b false h).0
 
-pub action_valid : (schema : Schema) (sound : IsSound schema) (answered : Bool) (b : Standing) (s : Statement) (after : List LineReading) → IsUnbroken schema answered b s after → Names s → IfSome (action_of schema b s) (IsValidAction schema b)
+pub action_valid : (schema : Schema) (sound : IsSound schema) (answered : Bool) (b : BlockContext) (s : Statement) (after : List LineReading) → IsUnbroken schema answered b s after → Names s → IfSome (action_of schema b s) (IsValidAction schema b)
 action_valid schema sound answered b (forms.Main side) after u n = tt
 action_valid schema sound answered b (forms.On side m) after u n = tt
 action_valid schema sound answered b forms.End after u n = tt
@@ -231,7 +231,7 @@ action_valid schema sound answered b forms.Die after u n = tt
 action_valid schema sound answered b (forms.Return vs) after u n = tt
 
 -- the values that a statement returns
-pub reply_valid : (schema : Schema) (answered : Bool) (b : Standing) (s : Statement) (after : List LineReading) → IsUnbroken schema answered b s after → Names s
+pub reply_valid : (schema : Schema) (answered : Bool) (b : BlockContext) (s : Statement) (after : List LineReading) → IsUnbroken schema answered b s after → Names s
     → IfSome (reply_of schema b s) (λ values. IsSomeAnd (option_and_then replies (handled_in b)) (λ returns. EachTermFits schema b returns values))
 reply_valid schema answered b (forms.Return vs) after u n =
     let k = known_of schema answered b (forms.Return vs) after u in
@@ -239,7 +239,7 @@ reply_valid schema answered b (forms.Return vs) after u n =
 reply_valid schema answered b s after u n = tt
 
 -- whether an action answers is whether its statement does
-pub answers_alike : (schema : Schema) (b : Standing) (s : Statement) → IfSome (action_of schema b s) (λ a. answers_handled a ≡ answers s)
+pub answers_alike : (schema : Schema) (b : BlockContext) (s : Statement) → IfSome (action_of schema b s) (λ a. answers_handled a ≡ answers s)
 answers_alike schema b (forms.Main side) = tt
 answers_alike schema b (forms.On side m) = tt
 answers_alike schema b forms.End = tt
@@ -256,7 +256,7 @@ answers_alike schema b forms.Die = refl
 answers_alike schema b (forms.Return vs) = tt
 
 -- a second answer breaks a rule
-pub answers_once : (schema : Schema) (answered : Bool) (b : Standing) (s : Statement) (after : List LineReading) → IsUnbroken schema answered b s after → answers s ≡ true → answered ≡ false
+pub answers_once : (schema : Schema) (answered : Bool) (b : BlockContext) (s : Statement) (after : List LineReading) → IsUnbroken schema answered b s after → answers s ≡ true → answered ≡ false
 answers_once schema answered b (forms.Resolve vs) after u e = (or_parts (has_no_resolver b) answered (known_of schema answered b (forms.Resolve vs) after u).placed).1
 answers_once schema answered b forms.Reject after u e = (or_parts (has_no_resolver b) answered (known_of schema answered b forms.Reject after u).placed).1
 answers_once schema answered b (forms.Keep name) after u e = (or_parts (has_no_resolver b) answered (known_of schema answered b (forms.Keep name) after u).placed).1

@@ -31,7 +31,7 @@ use Rattle.handler_script.specs.declared.term.Term.{Term, Union', Maybe', Held-T
 use Rattle.handler_script.specs.declared.term.Term.TheVariants as term
 use Rattle.handler_script.specs.declared.term.Terms.{Terms, First'}
 use Rattle.handler_script.specs.declared.term.Terms.TheVariants as terms
-use Rattle.handler_script.specs.Blocks.{closes, answers, opened_by, open_after, open_behind, answered_after, answered_behind, Standing, in_main, in_handler, standing_of, standing_behind, handled_in}
+use Rattle.handler_script.specs.Blocks.{closes, answers, opened_by, open_after, open_behind, answered_after, answered_behind, BlockContext, in_main, in_handler, standing_of, standing_behind, handled_in}
 use Rattle.handler_script.specs.Broken.{line_place, NamesNone, BreaksDirection, BreaksValues, IsNotAllowed, BreaksCarried, LineBreaks, StatementBreaks, is_misdirected, is_uncarried, IsBroken}
 use Rattle.handler_script.specs.Messages.{message_named, receives, resolves, replies, is_constructor}
 use Rattle.handler_script.specs.Plain.{plain_term, plain_held, plain_terms, plain_action, plain_block}
@@ -109,13 +109,13 @@ stays_open current forms.End e = absurd (true≢false e)
 stays_open current s e = refl
 
 -- a statement of a line, in the block that is open
-unbroken : (schema : Schema) (b : Standing) (before : List LineReading) (s : Statement) (after : List LineReading) → standing_behind schema before ≡ Some b → ((r : Rule) → ¬ StatementBreaks schema r before s after)
+unbroken : (schema : Schema) (b : BlockContext) (before : List LineReading) (s : Statement) (after : List LineReading) → standing_behind schema before ≡ Some b → ((r : Rule) → ¬ StatementBreaks schema r before s after)
     → IsUnbroken schema (answered_behind before) b s after
 unbroken schema b before s after e h =
-    let D : Option Standing → Type 0 = λ o. ¬ BreaksDirection schema o s in
-    let V : Option Standing → Type 0 = λ o. ¬ BreaksValues schema o s in
-    let A : Option Standing → Type 0 = λ o. ¬ IsNotAllowed schema (answered_behind before) o s after in
-    let C : Option Standing → Type 0 = λ o. ¬ BreaksCarried schema o s in
+    let D : Option BlockContext → Type 0 = λ o. ¬ BreaksDirection schema o s in
+    let V : Option BlockContext → Type 0 = λ o. ¬ BreaksValues schema o s in
+    let A : Option BlockContext → Type 0 = λ o. ¬ IsNotAllowed schema (answered_behind before) o s after in
+    let C : Option BlockContext → Type 0 = λ o. ¬ BreaksCarried schema o s in
     let known : ¬ NamesNone schema s = λ n. h rule.UNKNOWN_MESSAGE (inr (inl (refl, n))) in
     record {
       known = known;
@@ -131,11 +131,11 @@ abbrev counted : List Action → ℕ
 counted [] = 0
 counted (a ∷ actions) = cond (answers_handled a) (1 + counted actions) (counted actions)
 
-abbrev IsReply : Schema → Standing → Terms → Type 0
+abbrev IsReply : Schema → BlockContext → Terms → Type 0
 IsReply schema b values = IsSomeAnd (option_and_then replies (handled_in b)) (λ returns. EachTermFits schema b returns values)
 
 -- the actions and the reply of statements can be done and given, and at most one of them answers, none where a line did
-record AreValid (schema : Schema) (b : Standing) (answered : Bool) (ss : List Statement) : Type 0 where
+record AreValid (schema : Schema) (b : BlockContext) (answered : Bool) (ss : List Statement) : Type 0 where
   pub actions : AllByRecursion (IsValidAction schema b) (filter_map (action_of schema b) ss)
   pub once : counted (filter_map (action_of schema b) ss) ≤ cond answered 0 1
   pub reply : IfSome (first_of (filter_map (reply_of schema b) ss)) (IsReply schema b)
@@ -164,10 +164,10 @@ once_more (Some a) actions true false h k n = rw h n
 once_more (Some a) actions false true h k n = rw h (omega arith)
 once_more (Some a) actions false false h k n = rw h n
 
-none_valid : (schema : Schema) (b : Standing) (answered : Bool) → AreValid schema b answered []
+none_valid : (schema : Schema) (b : BlockContext) (answered : Bool) → AreValid schema b answered []
 none_valid schema b answered = record { actions = tt; once = omega arith; reply = tt }
 
-more_valid : (schema : Schema) (sound : IsSound schema) (b : Standing) (answered : Bool) (s : Statement) (after : List LineReading) (ss : List Statement) → IsUnbroken schema answered b s after → Names s
+more_valid : (schema : Schema) (sound : IsSound schema) (b : BlockContext) (answered : Bool) (s : Statement) (after : List LineReading) (ss : List Statement) → IsUnbroken schema answered b s after → Names s
     → AreValid schema b (answered || answers s) ss → AreValid schema b answered (s ∷ ss)
 more_valid schema sound b answered s after ss u n v = record {
   actions = cons_valid (IsValidAction schema b) (action_of schema b s) (filter_map (action_of schema b) ss) (action_valid schema sound answered b s after u n) v.actions;
@@ -175,7 +175,7 @@ more_valid schema sound b answered s after ss u n v = record {
   reply = first_valid (IsReply schema b) (reply_of schema b s) (filter_map (reply_of schema b) ss) (reply_valid schema answered b s after u n) v.reply;
 }
 
-inside_valid : (schema : Schema) (sound : IsSound schema) (b : Standing) (first : Statement) → standing_of schema first ≡ Some b → (before rest : List LineReading) → open_behind before ≡ Some first
+inside_valid : (schema : Schema) (sound : IsSound schema) (b : BlockContext) (first : Statement) → standing_of schema first ≡ Some b → (before rest : List LineReading) → open_behind before ≡ Some first
     → AreKept schema before rest → AllNames rest → AreValid schema b (answered_behind before) (inside rest)
 inside_valid schema sound b first st before [] e k n = none_valid schema b (answered_behind before)
 inside_valid schema sound b first st before (line.Silent ∷ rest) e k n =
@@ -205,7 +205,7 @@ inside_valid schema sound b first st before (line.Statement held ∷ rest) e k n
 -- Blocks
 
 -- a block whose actions and reply can be done and given
-pub record IsDoable (schema : Schema) (b : Standing) (block : Block) : Type 0 where
+pub record IsDoable (schema : Schema) (b : BlockContext) (block : Block) : Type 0 where
   pub actions : AllByRecursion (IsValidAction schema b) block.actions
   pub once : counted block.actions ≤ 1
   pub reply : IfSome block.reply (IsReply schema b)
@@ -217,7 +217,7 @@ abbrev pub IsDoableBlock : Schema → Block → Option ℕ → Type 0
 IsDoableBlock schema block None = IsDoable schema (in_main block.side) block
 IsDoableBlock schema block (Some number) = IsSomeAnd (message_of schema number) (IsHandled schema block number)
 
-opens_itself : (schema : Schema) (current : Option Statement) (s : Statement) (b : Standing) → standing_of schema s ≡ Some b → opened_by current s ≡ Some s
+opens_itself : (schema : Schema) (current : Option Statement) (s : Statement) (b : BlockContext) → standing_of schema s ≡ Some b → opened_by current s ≡ Some s
 opens_itself schema current (forms.Main side) b e = refl
 opens_itself schema current (forms.On side m) b e = refl
 opens_itself schema current s b e = absurd (let no : ⊥ = cc in no)
@@ -235,17 +235,17 @@ at_most_one : (answered : Bool) (n : ℕ) → n ≤ cond answered 0 1 → n ≤ 
 at_most_one true n h = omega arith
 at_most_one false n h = h
 
-in_block : (schema : Schema) (sound : IsSound schema) (b : Standing) (s : Statement) → standing_of schema s ≡ Some b → (before rest : List LineReading) → open_behind before ≡ Some s → AreKept schema before rest → AllNames rest
+in_block : (schema : Schema) (sound : IsSound schema) (b : BlockContext) (s : Statement) → standing_of schema s ≡ Some b → (before rest : List LineReading) → open_behind before ≡ Some s → AreKept schema before rest → AllNames rest
     → IsDoable schema b (block_of schema b (inside rest))
 in_block schema sound b s st before rest e k n =
     let v = inside_valid schema sound b s st before rest e k n in
     record { actions = v.actions; once = at_most_one (answered_behind before) _ v.once; reply = v.reply }
 
-block_doable : (schema : Schema) (sound : IsSound schema) (b : Standing) (s : Statement) → standing_of schema s ≡ Some b → (before lines rest : List LineReading) → ((r : Rule) → ¬ StatementBreaks schema r before s rest)
+block_doable : (schema : Schema) (sound : IsSound schema) (b : BlockContext) (s : Statement) → standing_of schema s ≡ Some b → (before lines rest : List LineReading) → ((r : Rule) → ¬ StatementBreaks schema r before s rest)
     → open_behind lines ≡ Some s → AreKept schema lines rest → AllNames rest → IsDoableBlock schema (block_of schema b (inside rest)) (block_of schema b (inside rest)).handles
 block_doable schema sound (in_main side) s st before lines rest h e k n = in_block schema sound (in_main side) s st lines rest e k n
 block_doable schema sound (in_handler side m) s st before lines rest h e k n =
-    let b : Standing = in_handler side m in
+    let b : BlockContext = in_handler side m in
     let known : ¬ NamesNone schema s = λ x. h rule.UNKNOWN_MESSAGE (inr (inl (refl, x))) in
     let named = handler_named schema s side m st in
     let received : receives side m.direction ≡ true =
@@ -263,7 +263,7 @@ append_valid : {X : Type 0} (P : X → Type 0) (xs ys : List X) → AllByRecursi
 append_valid P [] ys h k = k
 append_valid P (x ∷ xs) ys h k = (h.0, append_valid P xs ys h.1 k)
 
-opened_valid : (schema : Schema) (sound : IsSound schema) (o : Option Standing) (s : Statement) → standing_of schema s ≡ o → (before lines rest : List LineReading) → ((r : Rule) → ¬ StatementBreaks schema r before s rest)
+opened_valid : (schema : Schema) (sound : IsSound schema) (o : Option BlockContext) (s : Statement) → standing_of schema s ≡ o → (before lines rest : List LineReading) → ((r : Rule) → ¬ StatementBreaks schema r before s rest)
     → open_behind lines ≡ opened_by (open_behind before) s → AreKept schema lines rest → AllNames rest → AllByRecursion (Doable schema) (option_map_or (λ b. block_of schema b (inside rest) ∷ []) o [])
 opened_valid schema sound None s st before lines rest h e k n = tt
 opened_valid schema sound (Some b) s st before lines rest h e k n = (block_doable schema sound b s st before lines rest h (e ∙ opens_itself schema (open_behind before) s b st) k n, tt)
@@ -279,7 +279,7 @@ blocks_doable schema sound before (line.Statement held ∷ rest) k n =
     (blocks_doable schema sound (before ++ line.Statement held ∷ []) rest k.1 n.1)
 
 -- there are no more blocks than lines
-opened_few : (schema : Schema) (o : Option Standing) (rest : List LineReading) → length (option_map_or (λ b. block_of schema b (inside rest) ∷ []) o []) ≤ 1
+opened_few : (schema : Schema) (o : Option BlockContext) (rest : List LineReading) → length (option_map_or (λ b. block_of schema b (inside rest) ∷ []) o []) ≤ 1
 opened_few schema None rest = omega arith
 opened_few schema (Some b) rest = omega arith
 
@@ -296,7 +296,7 @@ blocks_few schema (line.Statement held ∷ rest) =
 -- Up to where boxes lie
 
 mutual
-  term_boxed : (schema : Schema) (b : Standing) (shape : Shape) (t : Term) → TermFits schema b shape (plain_term t) → TermFits schema b shape t
+  term_boxed : (schema : Schema) (b : BlockContext) (shape : Shape) (t : Term) → TermFits schema b shape (plain_term t) → TermFits schema b shape t
   term_boxed schema b shape (term.Struct ts) h = some_map (λ fields. EachTermFits schema b fields (plain_terms ts)) (λ fields. EachTermFits schema b fields ts) (fields_of schema shape) h (λ fields k. each_boxed schema b fields ts k)
   term_boxed schema b shape (Union' index _ t) h = some_map (λ component. TermFits schema b component (plain_term t)) (λ component. TermFits schema b component t) (component_of schema shape index) h (λ component k. term_boxed schema b component t k)
   term_boxed schema b shape (term.Array ts) h = some_map (λ element. AllTermsFit schema b element (plain_terms ts)) (λ element. AllTermsFit schema b element ts) (element_of shape) h (λ element k. all_boxed schema b element ts k)
@@ -310,24 +310,24 @@ mutual
   term_boxed schema b shape (term.Param n) h = h
   term_boxed schema b shape (term.Who w) h = h
 
-  held_boxed : (schema : Schema) (b : Standing) (shape : Shape) (held : Held-Term-Maybe-0) → HeldTermFits schema b shape (plain_held held) → HeldTermFits schema b shape held
+  held_boxed : (schema : Schema) (b : BlockContext) (shape : Shape) (held : Held-Term-Maybe-0) → HeldTermFits schema b shape (plain_held held) → HeldTermFits schema b shape held
   held_boxed schema b shape None' h = tt
   held_boxed schema b shape (Some' _ t) h = term_boxed schema b shape t h
 
-  all_boxed : (schema : Schema) (b : Standing) (shape : Shape) (ts : Terms) → AllTermsFit schema b shape (plain_terms ts) → AllTermsFit schema b shape ts
+  all_boxed : (schema : Schema) (b : BlockContext) (shape : Shape) (ts : Terms) → AllTermsFit schema b shape (plain_terms ts) → AllTermsFit schema b shape ts
   all_boxed schema b shape terms.Nothing h = tt
   all_boxed schema b shape (First' _ t _ ts) h = (term_boxed schema b shape t h.0, all_boxed schema b shape ts h.1)
 
-  each_boxed : (schema : Schema) (b : Standing) (fields : List ParamRow) (ts : Terms) → EachTermFits schema b fields (plain_terms ts) → EachTermFits schema b fields ts
+  each_boxed : (schema : Schema) (b : BlockContext) (fields : List ParamRow) (ts : Terms) → EachTermFits schema b fields (plain_terms ts) → EachTermFits schema b fields ts
   each_boxed schema b [] terms.Nothing h = tt
   each_boxed schema b (field ∷ fields) terms.Nothing h = absurd h
   each_boxed schema b [] (First' _ t _ ts) h = absurd h
   each_boxed schema b (field ∷ fields) (First' _ t _ ts) h = (term_boxed schema b field.shape t h.0, each_boxed schema b fields ts h.1)
 
-sendable_boxed : (schema : Schema) (b : Standing) (number : ℕ) (values : Terms) (m : MessageRow) → IsSendable schema b number (plain_terms values) m → IsSendable schema b number values m
+sendable_boxed : (schema : Schema) (b : BlockContext) (number : ℕ) (values : Terms) (m : MessageRow) → IsSendable schema b number (plain_terms values) m → IsSendable schema b number values m
 sendable_boxed schema b number values m h = (h.0, h.1, h.2, each_boxed schema b m.params values h.3)
 
-action_boxed : (schema : Schema) (b : Standing) (a : Action) → IsValidAction schema b (plain_action a) → IsValidAction schema b a
+action_boxed : (schema : Schema) (b : BlockContext) (a : Action) → IsValidAction schema b (plain_action a) → IsValidAction schema b a
 action_boxed schema b (action.Send who number values) h = (h.0, some_map (IsSendable schema b number (plain_terms values)) (IsSendable schema b number values) (message_of schema number) h.1 (λ m k. sendable_boxed schema b number values m k))
 action_boxed schema b (action.New name who number values) h = (
   h.0,
@@ -347,7 +347,7 @@ action_boxed schema b (action.RejectNamed name number) h = h
 action_boxed schema b action.Close h = h
 action_boxed schema b action.Die h = h
 
-actions_boxed : (schema : Schema) (b : Standing) (actions : List Action) → AllByRecursion (IsValidAction schema b) (map plain_action actions) → AllByRecursion (IsValidAction schema b) actions
+actions_boxed : (schema : Schema) (b : BlockContext) (actions : List Action) → AllByRecursion (IsValidAction schema b) (map plain_action actions) → AllByRecursion (IsValidAction schema b) actions
 actions_boxed schema b [] h = tt
 actions_boxed schema b (a ∷ actions) h = (action_boxed schema b a h.0, actions_boxed schema b actions h.1)
 
@@ -367,11 +367,11 @@ counted_boxed : (actions : List Action) → counted (map plain_action actions) �
 counted_boxed [] = refl
 counted_boxed (a ∷ actions) = ap (λ t. cond t (1 + counted (map plain_action actions)) (counted (map plain_action actions))) (answers_boxed a) ∙ ap (λ n. cond (answers_handled a) (1 + n) n) (counted_boxed actions)
 
-reply_boxed : (schema : Schema) (b : Standing) (o : Option Terms) → IfSome (option_map plain_terms o) (IsReply schema b) → IfSome o (λ values. IsSomeAnd (option_and_then replies (handled_in b)) (λ returns. EachTermFits schema b returns values))
+reply_boxed : (schema : Schema) (b : BlockContext) (o : Option Terms) → IfSome (option_map plain_terms o) (IsReply schema b) → IfSome o (λ values. IsSomeAnd (option_and_then replies (handled_in b)) (λ returns. EachTermFits schema b returns values))
 reply_boxed schema b None h = tt
 reply_boxed schema b (Some values) h = some_map (λ returns. EachTermFits schema b returns (plain_terms values)) (λ returns. EachTermFits schema b returns values) (option_and_then replies (handled_in b)) h (λ returns k. each_boxed schema b returns values k)
 
-in_boxed : (schema : Schema) (b : Standing) (block : Block) → IsDoable schema b (plain_block block) → IsValidIn schema b block
+in_boxed : (schema : Schema) (b : BlockContext) (block : Block) → IsDoable schema b (plain_block block) → IsValidIn schema b block
 in_boxed schema b block d = record {
   actions = All-from_recursion (IsValidAction schema b) block.actions (actions_boxed schema b block.actions d.actions);
   once = (

@@ -73,30 +73,30 @@ abbrev pub is_closed : List LineReading → Bool
 is_closed lines = list_any closes_line lines
 
 -- A block in which lines are tested: the main of a side, or a handler of a message that there is.
-pub data Standing : Type 0 where
-  in_main : Side → Standing
-  in_handler : Side → MessageRow → Standing
+pub data BlockContext : Type 0 where
+  in_main : Side → BlockContext
+  in_handler : Side → MessageRow → BlockContext
 
 -- the block that a statement opens
-abbrev pub standing_of : Schema → Statement → Option Standing
+abbrev pub standing_of : Schema → Statement → Option BlockContext
 standing_of schema (forms.Main side) = Some (in_main side)
 standing_of schema (forms.On side message) = option_map (in_handler side) (message_named schema message)
 standing_of schema _ = None
 
 -- the block in which the line behind these is tested
-abbrev pub standing_behind : Schema → List LineReading → Option Standing
+abbrev pub standing_behind : Schema → List LineReading → Option BlockContext
 standing_behind schema before = option_and_then (standing_of schema) (open_behind before)
 
-abbrev pub side_of : Standing → Side
+abbrev pub side_of : BlockContext → Side
 side_of (in_main side) = side
 side_of (in_handler side message) = side
 
 -- the parameters of the handled message
-abbrev pub given_in : Standing → List ParamRow
+abbrev pub given_in : BlockContext → List ParamRow
 given_in (in_main side) = []
 given_in (in_handler side message) = message.params
 
 -- the handled message
-abbrev pub handled_in : Standing → Option MessageRow
+abbrev pub handled_in : BlockContext → Option MessageRow
 handled_in (in_main side) = None
 handled_in (in_handler side message) = Some message

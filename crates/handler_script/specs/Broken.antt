@@ -20,7 +20,7 @@ use Rattle.script_reader.specs.declared.written.WrittenValues.{WrittenValues}
 use Rattle.script_reader.specs.Lines.{IsReading}
 use Rattle.findings.specs.Gains.{AtSome}
 use Rattle.findings.specs.Report as report
-use Rattle.handler_script.specs.Blocks.{opens, answers, open_behind, answered_behind, is_followed, is_closed, Standing, in_main, in_handler, standing_of, standing_behind, side_of, given_in, handled_in}
+use Rattle.handler_script.specs.Blocks.{opens, answers, open_behind, answered_behind, is_followed, is_closed, BlockContext, in_main, in_handler, standing_of, standing_behind, side_of, given_in, handled_in}
 use Rattle.handler_script.specs.Mentions.{any_mentions, values_of, who_of, message_of, speaks_of}
 use Rattle.handler_script.specs.Messages.{message_named, receives, sends, resolves, replies, is_constructor}
 use Rattle.handler_script.specs.Served.{is_side}
@@ -62,22 +62,22 @@ sent schema (forms.New n w c) = message_named schema c.message
 sent schema _ = None
 
 -- the side cannot receive the message whose block this is; a main handles none
-abbrev pub is_misdirected : Standing → Bool
+abbrev pub is_misdirected : BlockContext → Bool
 is_misdirected (in_main side) = false
 is_misdirected (in_handler side message) = not (receives side message.direction)
 
-abbrev pub is_uncarried : Standing → Bool
+abbrev pub is_uncarried : BlockContext → Bool
 is_uncarried (in_main side) = false
 is_uncarried (in_handler side message) = not message.carried
 
 -- WRONG_DIRECTION: the side cannot send the message, or cannot receive the one whose block is opened
-abbrev pub BreaksDirection : Schema → Option Standing → Statement → Type 0
+abbrev pub BreaksDirection : Schema → Option BlockContext → Statement → Type 0
 BreaksDirection schema block s =
     IsSomeAnd (standing_of schema s) (λ b. IsTrue (is_misdirected b))
     ⊎ IsSomeAnd block (λ b. IsSomeAnd (sent schema s) (λ message. sends (side_of b) message.direction ≡ false))
 
 -- UNCARRIED_TYPE: the message that is sent, or whose block is opened, is not carried
-abbrev pub BreaksCarried : Schema → Option Standing → Statement → Type 0
+abbrev pub BreaksCarried : Schema → Option BlockContext → Statement → Type 0
 BreaksCarried schema block s =
     IsSomeAnd (standing_of schema s) (λ b. IsTrue (is_uncarried b))
     ⊎ IsSomeAnd block (λ b. IsSomeAnd (sent schema s) (λ message. message.carried ≡ false))
@@ -95,7 +95,7 @@ is_no_actor given (whos.Param n) = option_map_or (λ param. not (is_actor param.
 is_no_actor given _ = false
 
 -- the types that the values of a statement are to fit, where there are any
-abbrev pub types_of : Schema → Standing → Statement → Option (List ParamRow)
+abbrev pub types_of : Schema → BlockContext → Statement → Option (List ParamRow)
 types_of schema b (forms.Send w c) = option_map (λ message. message.params) (message_named schema c.message)
 types_of schema b (forms.New n w c) = option_map (λ message. message.params) (message_named schema c.message)
 types_of schema b (forms.Resolve vs) = option_and_then resolves (handled_in b)
@@ -109,13 +109,13 @@ AreUnfit schema given (Some types) vs = ¬ EachFits schema given types vs
 AreUnfit schema given None vs = IsTrue (any_mentions (is_absent given) vs)
 
 -- in a block, the one to whom the statement goes is no actor, or the values do not fit
-abbrev pub ValuesBreak : Schema → Standing → Statement → Type 0
+abbrev pub ValuesBreak : Schema → BlockContext → Statement → Type 0
 ValuesBreak schema b s =
     IsSomeAnd (who_of s) (λ w. IsTrue (is_no_actor (given_in b) w))
     ⊎ IsSomeAnd (values_of s) (AreUnfit schema (given_in b) (types_of schema b s))
 
 -- UNFIT_VALUES
-abbrev pub BreaksValues : Schema → Option Standing → Statement → Type 0
+abbrev pub BreaksValues : Schema → Option BlockContext → Statement → Type 0
 BreaksValues schema block s = IsSomeAnd block (λ b. ValuesBreak schema b s)
 
 -- What is allowed where
@@ -131,17 +131,17 @@ is_made whos.Made = true
 is_made _ = false
 
 -- those are spoken of in a main
-abbrev pub speaks_in_main : Standing → Statement → Bool
+abbrev pub speaks_in_main : BlockContext → Statement → Bool
 speaks_in_main (in_main side) s = speaks_of is_of_handler s
 speaks_in_main (in_handler side message) s = false
 
 -- the block handles a constructor
-abbrev pub is_of_constructor : Standing → Bool
+abbrev pub is_of_constructor : BlockContext → Bool
 is_of_constructor (in_main side) = false
 is_of_constructor (in_handler side message) = is_constructor message.kind
 
 -- the actor that a constructor built is spoken of elsewhere
-abbrev pub speaks_of_made : Standing → Statement → Bool
+abbrev pub speaks_of_made : BlockContext → Statement → Bool
 speaks_of_made b s = speaks_of is_made s && not (is_of_constructor b)
 
 abbrev pub is_other_constructor : Option MessageRow → Bool
@@ -153,14 +153,14 @@ is_unresolved None = false
 is_unresolved (Some message) = not (is_some (resolves message))
 
 -- the block handles no message that is answered by a resolver, or none to which values are returned
-abbrev pub has_no_resolver : Standing → Bool
+abbrev pub has_no_resolver : BlockContext → Bool
 has_no_resolver b = not (is_some (option_and_then resolves (handled_in b)))
 
-abbrev pub has_no_reply : Standing → Bool
+abbrev pub has_no_reply : BlockContext → Bool
 has_no_reply b = not (is_some (option_and_then replies (handled_in b)))
 
 -- a statement of its own kind stands where it may not, behind lines of which one answered already, or before others
-abbrev pub is_misplaced : Schema → Bool → Standing → Statement → List LineReading → Bool
+abbrev pub is_misplaced : Schema → Bool → BlockContext → Statement → List LineReading → Bool
 is_misplaced schema answered b (forms.New n w c) after = is_other_constructor (message_named schema c.message)
 is_misplaced schema answered b (forms.Return vs) after = has_no_reply b || is_followed after
 is_misplaced schema answered b (forms.ResolveKept n c) after = is_unresolved (message_named schema c.message)
@@ -168,13 +168,13 @@ is_misplaced schema answered b (forms.RejectKept n name) after = is_unresolved (
 is_misplaced schema answered b s after = answers s && (has_no_resolver b || answered)
 
 -- NOT_ALLOWED_HERE
-abbrev pub IsNotAllowed : Schema → Bool → Option Standing → Statement → List LineReading → Type 0
+abbrev pub IsNotAllowed : Schema → Bool → Option BlockContext → Statement → List LineReading → Type 0
 IsNotAllowed schema answered block s after = IsSomeAnd block (λ b. IsTrue (speaks_in_main b s || speaks_of_made b s || is_misplaced schema answered b s after))
 
 -- The report
 
 -- The rule is broken by a statement whose message, if it names one, is there, in a block or in none.
-abbrev pub KnownBreaks : Schema → Rule → Bool → Option Standing → Statement → List LineReading → Type 0
+abbrev pub KnownBreaks : Schema → Rule → Bool → Option BlockContext → Statement → List LineReading → Type 0
 KnownBreaks schema r answered block s after =
     ((r ≡ rule.WRONG_DIRECTION) × BreaksDirection schema block s)
     ⊎ (((r ≡ rule.UNFIT_VALUES) × BreaksValues schema block s)

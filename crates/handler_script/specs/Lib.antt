@@ -1,4 +1,4 @@
-pub mod Asked
+pub mod ValueQuery
 pub mod Blocks
 pub mod Broken
 pub mod Building

@@ -6,8 +6,8 @@ use Rattle.script_reader.specs.declared.statement.MessageName.{MessageName}
 use Rattle.script_reader.specs.declared.written.Atom.{Atom}
 use Rattle.script_reader.specs.declared.written.Atom.TheVariants as atom
 use Rattle.script_reader.specs.declared.written.Who.{Who}
-use Rattle.script_reader.specs.declared.written.Written.{Written, Union', Held'}
-use Rattle.script_reader.specs.declared.written.Written.TheVariants as written
+use Rattle.script_reader.specs.declared.written.WrittenValue.{WrittenValue, Union', Held'}
+use Rattle.script_reader.specs.declared.written.WrittenValue.TheVariants as written
 use Rattle.script_reader.specs.declared.written.WrittenValues.{WrittenValues, First'}
 use Rattle.script_reader.specs.declared.written.WrittenValues.TheVariants as written_values
 
@@ -17,7 +17,7 @@ atom_mentions test _ = false
 
 -- whether a value speaks of one who passes the test
 abbrev mutual
-  pub mentions : (Who → Bool) → Written → Bool
+  pub mentions : (Who → Bool) → WrittenValue → Bool
   mentions test (written.Atom a) = atom_mentions test a
   mentions test (written.Struct vs) = any_mentions test vs
   mentions test (written.Array vs) = any_mentions test vs

@@ -19,7 +19,7 @@ use Rattle.handler_script.specs.declared.script.Point.{Point}
 use Rattle.handler_script.specs.declared.script.Point.TheVariants as point
 use Rattle.handler_script.specs.declared.script.Script.{Script}
 use Rattle.handler_script.specs.declared.term.Terms.{Terms}
-use Rattle.handler_script.specs.Blocks.{closes, Standing, standing_of, side_of, handled_in}
+use Rattle.handler_script.specs.Blocks.{closes, BlockContext, standing_of, side_of, handled_in}
 use Rattle.handler_script.specs.Broken.{types_of, IsBroken}
 use Rattle.handler_script.specs.Messages.{message_named}
 use Rattle.handler_script.specs.Plain.{plain_script}
@@ -37,11 +37,11 @@ abbrev pub number_of : Schema → MessageName → ℕ
 number_of schema name = option_map_or (λ message. message.number) (message_named schema name) 0
 
 -- the terms of a statement's values
-abbrev pub typed : Schema → Standing → Statement → WrittenValues → Terms
+abbrev pub typed : Schema → BlockContext → Statement → WrittenValues → Terms
 typed schema block s values = terms_of schema (unwrap_or (types_of schema block s) []) values
 
 -- the action that a statement in a block is; `return` is none
-abbrev pub action_of : Schema → Standing → Statement → Option Action
+abbrev pub action_of : Schema → BlockContext → Statement → Option Action
 action_of schema block (forms.Send w c) = Some (action.Send w (number_of schema c.message) (typed schema block (forms.Send w c) c.values))
 action_of schema block (forms.New n w c) = Some (action.New n w (number_of schema c.message) (typed schema block (forms.New n w c) c.values))
 action_of schema block (forms.Let n w) = Some (action.Let n w)
@@ -55,7 +55,7 @@ action_of schema block forms.Die = Some action.Die
 action_of schema block _ = None
 
 -- the values that a statement returns
-abbrev pub reply_of : Schema → Standing → Statement → Option Terms
+abbrev pub reply_of : Schema → BlockContext → Statement → Option Terms
 reply_of schema block (forms.Return vs) = Some (typed schema block (forms.Return vs) vs)
 reply_of schema block _ = None
 
@@ -64,7 +64,7 @@ first_of [] = None
 first_of (x ∷ xs) = Some x
 
 -- a block of these statements
-abbrev pub block_of : Schema → Standing → List Statement → Block
+abbrev pub block_of : Schema → BlockContext → List Statement → Block
 block_of schema block statements = record {
   side = side_of block;
   handles = option_map (λ message. message.number) (handled_in block);

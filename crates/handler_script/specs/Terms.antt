@@ -11,8 +11,8 @@ use Rattle.script_reader.specs.declared.written.Atom.{Atom}
 use Rattle.script_reader.specs.declared.written.Atom.TheVariants as atom
 use Rattle.script_reader.specs.declared.written.Who.{Who}
 use Rattle.script_reader.specs.declared.written.Who.TheVariants as whos
-use Rattle.script_reader.specs.declared.written.Written.{Written, Union', Held'}
-use Rattle.script_reader.specs.declared.written.Written.TheVariants as written
+use Rattle.script_reader.specs.declared.written.WrittenValue.{WrittenValue, Union', Held'}
+use Rattle.script_reader.specs.declared.written.WrittenValue.TheVariants as written
 use Rattle.script_reader.specs.declared.written.WrittenValues.{WrittenValues, First'}
 use Rattle.script_reader.specs.declared.written.WrittenValues.TheVariants as written_values
 use Rattle.value_types.specs.HasType.{IsInRange, IsActorOf}
@@ -62,7 +62,7 @@ AtomFits given shape (atom.Who w) = WhoFits given shape w
 
 -- A written value fits a type, where these are the parameters of the handled message.
 abbrev mutual
-  pub Fits : Schema → List ParamRow → Shape → Written → Type 0
+  pub Fits : Schema → List ParamRow → Shape → WrittenValue → Type 0
   Fits schema given shape (written.Atom a) = AtomFits given shape a
   Fits schema given shape (written.Struct vs) = IsSomeAnd (fields_of schema shape) (λ fields. EachFits schema given fields vs)
   Fits schema given shape (written.Array vs) = IsSomeAnd (element_of shape) (λ element. AllFit schema given element vs)
@@ -108,7 +108,7 @@ atom_term shape (atom.Who w) = who_term w
 
 -- The term that a written value stands for in a type that it fits, with every box at one place. (What has no type of its own is taken in the type around it.)
 abbrev mutual
-  pub term_of : Schema → Shape → Written → Term
+  pub term_of : Schema → Shape → WrittenValue → Term
   term_of schema shape (written.Atom a) = atom_term shape a
   term_of schema shape (written.Struct vs) = term.Struct (terms_of schema (unwrap_or (fields_of schema shape) []) vs)
   term_of schema shape (written.Array vs) = term.Array (elements_of schema (unwrap_or (element_of shape) shape) vs)

@@ -22,7 +22,7 @@ use Rattle.handler_script.specs.declared.term.Term.{Term, Union', Maybe', Held-T
 use Rattle.handler_script.specs.declared.term.Term.TheVariants as term
 use Rattle.handler_script.specs.declared.term.Terms.{Terms, First'}
 use Rattle.handler_script.specs.declared.term.Terms.TheVariants as terms
-use Rattle.handler_script.specs.Blocks.{Standing, in_main, in_handler, side_of, given_in, handled_in}
+use Rattle.handler_script.specs.Blocks.{BlockContext, in_main, in_handler, side_of, given_in, handled_in}
 use Rattle.handler_script.specs.Broken.{HasManager}
 use Rattle.handler_script.specs.Messages.{receives, sends, resolves, replies, is_constructor}
 use Rattle.handler_script.specs.Terms.{param_at, is_actor, StandsFor}
@@ -32,7 +32,7 @@ abbrev pub IsName : List ℕ → Type 0
 IsName name = IsWord name × (is_no_name name ≡ false)
 
 -- Who may be spoken of in a block: a parameter is an actor of the handled message, and what a constructor built stands in its handler.
-abbrev pub MayName : Standing → Who → Type 0
+abbrev pub MayName : BlockContext → Who → Type 0
 MayName block whos.Top = Unit {0}
 MayName block whos.This = IsSome (handled_in block)
 MayName block whos.Made = IsSomeAnd (handled_in block) (λ message. IsTrue (is_constructor message.kind))
@@ -41,7 +41,7 @@ MayName block (whos.Name name) = IsName name
 
 -- A term stands for values of a type in a block.
 abbrev mutual
-  pub TermFits : Schema → Standing → Shape → Term → Type 0
+  pub TermFits : Schema → BlockContext → Shape → Term → Type 0
   TermFits schema block shape (term.Bool b) = builtin_of shape ≡ Some builtin.Bool
   TermFits schema block shape (term.Int n) = IsInRange shape n
   TermFits schema block shape (term.Text text) = (builtin_of shape ≡ Some builtin.NsString) × IsUtf8 text
@@ -56,29 +56,29 @@ abbrev mutual
   TermFits schema block shape (term.Who w) = IsTrue (is_actor shape) × MayName block w
 
   -- nothing, or a term of the type
-  pub HeldTermFits : Schema → Standing → Shape → Held-Term-Maybe-0 → Type 0
+  pub HeldTermFits : Schema → BlockContext → Shape → Held-Term-Maybe-0 → Type 0
   HeldTermFits schema block shape None' = Unit {0}
   HeldTermFits schema block shape (Some' _ t) = TermFits schema block shape t
 
   -- each term stands for values of the type
-  pub AllTermsFit : Schema → Standing → Shape → Terms → Type 0
+  pub AllTermsFit : Schema → BlockContext → Shape → Terms → Type 0
   AllTermsFit schema block shape terms.Nothing = Unit {0}
   AllTermsFit schema block shape (First' _ t _ ts) = TermFits schema block shape t × AllTermsFit schema block shape ts
 
   -- as many terms as fields or parameters, each for values of the type of its own
-  pub EachTermFits : Schema → Standing → List ParamRow → Terms → Type 0
+  pub EachTermFits : Schema → BlockContext → List ParamRow → Terms → Type 0
   EachTermFits schema block [] terms.Nothing = Unit {0}
   EachTermFits schema block (field ∷ fields) terms.Nothing = ⊥
   EachTermFits schema block [] (First' _ t _ ts) = ⊥
   EachTermFits schema block (field ∷ fields) (First' _ t _ ts) = TermFits schema block field.shape t × EachTermFits schema block fields ts
 
 -- a carried message of this request's number, that the side sends, takes the terms
-abbrev pub IsSendable : Schema → Standing → ℕ → Terms → MessageRow → Type 0
+abbrev pub IsSendable : Schema → BlockContext → ℕ → Terms → MessageRow → Type 0
 IsSendable schema block number values message =
     (message.number ≡ number) × IsTrue (sends (side_of block) message.direction) × IsTrue message.carried × EachTermFits schema block message.params values
 
 -- an action can be done in a block
-abbrev pub IsValidAction : Schema → Standing → Action → Type 0
+abbrev pub IsValidAction : Schema → BlockContext → Action → Type 0
 IsValidAction schema block (action.Send who number values) = MayName block who × IsSomeAnd (message_of schema number) (IsSendable schema block number values)
 IsValidAction schema block (action.New name who number values) =
     IsName name × MayName block who × IsSomeAnd (message_of schema number) (λ message. IsSendable schema block number values message × IsTrue (is_constructor message.kind))
@@ -100,7 +100,7 @@ answers_handled (action.Keep name) = true
 answers_handled _ = false
 
 -- The actions and the returned values of a block can be done and given, and at most one action answers the handled message.
-pub record IsValidIn (schema : Schema) (standing : Standing) (block : Block) : Type 0 where
+pub record IsValidIn (schema : Schema) (standing : BlockContext) (block : Block) : Type 0 where
   pub actions : All (IsValidAction schema standing) block.actions
   pub once : count_by answers_handled block.actions ≤ 1
   pub reply : IfSome block.reply (λ values. IsSomeAnd (option_and_then replies (handled_in standing)) (λ returns. EachTermFits schema standing returns values))

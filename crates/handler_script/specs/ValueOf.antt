@@ -15,7 +15,7 @@ use Rattle.handler_script.specs.declared.term.Terms.{Terms, First'}
 use Rattle.handler_script.specs.declared.term.Terms.TheVariants as terms
 
 -- what terms are seen with: the handled message's actor, the actor that it built and its parameters, and the ids that names hold
-pub record Seen : Type 0 where
+pub record TermContext : Type 0 where
   pub this : ℤ
   pub made : ℤ
   pub given : Values
@@ -44,7 +44,7 @@ id_in (value.Actor id) = id
 id_in _ = no_id
 
 -- The id of an actor that is spoken of. A name that holds nothing stands for one that never lives.
-abbrev pub id_of : Seen → Who → ℤ
+abbrev pub id_of : TermContext → Who → ℤ
 id_of seen whos.Top = top_id
 id_of seen whos.This = seen.this
 id_of seen whos.Made = seen.made
@@ -53,7 +53,7 @@ id_of seen (whos.Name name) = unwrap_or (seen.held name) no_id
 
 -- the value that a term stands for, with every box at one place
 abbrev mutual
-  pub value_of : Seen → Term → Value
+  pub value_of : TermContext → Term → Value
   value_of seen (term.Bool b) = value.Bool b
   value_of seen (term.Int n) = value.Int n
   value_of seen (term.Text text) = value.Text text
@@ -67,11 +67,11 @@ abbrev mutual
   value_of seen (term.Param n) = given_at seen.given n
   value_of seen (term.Who w) = value.Actor (id_of seen w)
 
-  pub held_of : Seen → Held-Term-Maybe-0 → boxed.Held-Value-Maybe-0
+  pub held_of : TermContext → Held-Term-Maybe-0 → boxed.Held-Value-Maybe-0
   held_of seen None' = boxed.None'
   held_of seen (Some' _ t) = boxed.Some' one_box (value_of seen t)
 
   -- the values that terms stand for
-  pub values_of : Seen → Terms → Values
+  pub values_of : TermContext → Terms → Values
   values_of seen terms.Nothing = values.Nothing
   values_of seen (First' _ t _ ts) = boxed_list.First' one_box (value_of seen t) one_box (values_of seen ts)

@@ -14,7 +14,7 @@ use crate::rules::{Context, context_of, handled_in, side_of, types_of};
 use crate::term::Terms;
 use crate::typed::{copy_who, terms_of};
 use ipdl_base::{Items, Name, Schema};
-use script_reader::{Call, LineReading, MessageName, Statement, Who, WrittenValues};
+use script_reader::{WrittenMessage, LineReading, MessageName, Statement, Who, WrittenValues};
 use std::alloc::{AllocError, Global};
 
 /// The number of a message's request.
@@ -48,7 +48,7 @@ fn sending(
     context: Context<'_>,
     statement: &Statement,
     who: &Who,
-    call: &Call,
+    call: &WrittenMessage,
 ) -> Result<Action, AllocError>
     ensures { IfOk result (λ a. plain_action a ≡ act.Send who.now (script_of.number_of schema.now call.now.message) (script_of.typed schema.now (standing_in context.entry) statement.now call.now.values)) }
 {
@@ -68,7 +68,7 @@ fn making(
     statement: &Statement,
     name: &Name,
     who: &Who,
-    call: &Call,
+    call: &WrittenMessage,
 ) -> Result<Action, AllocError>
     ensures { IfOk result (λ a. plain_action a ≡ act.New name.now who.now (script_of.number_of schema.now call.now.message) (script_of.typed schema.now (standing_in context.entry) statement.now call.now.values)) }
 {
@@ -98,7 +98,7 @@ fn resolving(
     context: Context<'_>,
     statement: &Statement,
     name: &Name,
-    call: &Call,
+    call: &WrittenMessage,
 ) -> Result<Action, AllocError>
     ensures { IfOk result (λ a. plain_action a ≡ act.ResolveNamed name.now (script_of.number_of schema.now call.now.message) (script_of.typed schema.now (standing_in context.entry) statement.now call.now.values)) }
 {

@@ -2,7 +2,7 @@ ghost use Rattle.std.specs.Prelude.{◌≡◌, ◌↔◌, IsTrue, option_map};
 ghost use Rattle.handler_script.specs.Terms as terms;
 
 use ipdl_base::{Builtin, ParamRow, Schema, Shape, Value};
-use script_reader::{Atom, Who, Written, WrittenValues};
+use script_reader::{Atom, Who, WrittenValue, WrittenValues};
 use value_types::{builtin_of, component_of, element_of, fields_of, held_by, is_bytes, value_fits};
 
 /// The parameter of this number, from 1.
@@ -79,24 +79,24 @@ fn atom_fits(atom: &Atom, schema: &Schema, given: &[ParamRow], shape: &Shape) ->
 
 /// Whether a written value fits a type.
 #[cycle(fits)]
-fn fits(value: &Written, schema: &Schema, given: &[ParamRow], shape: &Shape) -> bool
+fn fits(value: &WrittenValue, schema: &Schema, given: &[ParamRow], shape: &Shape) -> bool
     ensures { IsTrue result ↔ terms.Fits schema.now given.now shape.now value.now }
 {
     match value {
-        Written::Atom(atom) => atom_fits(atom, schema, given, shape),
-        Written::Struct(values) => match fields_of(schema, shape) {
+        WrittenValue::Atom(atom) => atom_fits(atom, schema, given, shape),
+        WrittenValue::Struct(values) => match fields_of(schema, shape) {
             Some(fields) => each_fits(values, schema, given, fields),
             None => false,
         },
-        Written::Array(values) => match element_of(shape) {
+        WrittenValue::Array(values) => match element_of(shape) {
             Some(element) => all_fit(values, schema, given, element),
             None => false,
         },
-        Written::Union(index, held) => match component_of(schema, shape, *index) {
+        WrittenValue::Union(index, held) => match component_of(schema, shape, *index) {
             Some(component) => fits(held, schema, given, component),
             None => false,
         },
-        Written::Held(held) => match held_by(shape) {
+        WrittenValue::Held(held) => match held_by(shape) {
             Some(inner) => fits(held, schema, given, inner),
             None => false,
         },

@@ -6,7 +6,7 @@ use script_reader::{LineReading, Statement};
 
 /// What is known behind lines.
 #[derive(Clone, Copy)]
-pub struct Reached<'a> {
+pub struct BlockProgress<'a> {
     /// The statement that opened the block which is open.
     pub opened: Option<&'a Statement>,
     /// Whether a line of that block answers the handled message, or keeps its resolver.
@@ -94,7 +94,7 @@ pub fn is_closed(lines: &[LineReading]) -> bool
     lines.iter().any(|line| closes_line(line))
 }
 
-impl<'a> Reached<'a> {
+impl<'a> BlockProgress<'a> {
     ghost use Rattle.std.specs.Prelude.{List, [], ◌∷◌, ◌++◌};
     ghost use Rattle.script_reader.specs.declared.line.LineReading.{LineReading as LineReadingType};
     ghost use Rattle.std.specs.List.{list_any};
@@ -112,38 +112,38 @@ impl<'a> Reached<'a> {
     }
 
     /// What is known behind one more line.
-    pub fn behind(self, line: &'a LineReading) -> Reached<'a>
+    pub fn behind(self, line: &'a LineReading) -> BlockProgress<'a>
         ensures { (before : List LineReadingType) → Knows before self.entry → Knows (before ++ line.now ∷ []) result }
     {
         let LineReading::Statement(statement) = line else {
             return self;
         };
         match &**statement {
-            Statement::Main(Side::Parent) => Reached {
+            Statement::Main(Side::Parent) => BlockProgress {
                 opened: Some(statement),
                 answered: false,
                 parent: true,
                 child: self.child,
             },
-            Statement::Main(Side::Child) => Reached {
+            Statement::Main(Side::Child) => BlockProgress {
                 opened: Some(statement),
                 answered: false,
                 parent: self.parent,
                 child: true,
             },
-            Statement::On(_, _) => Reached {
+            Statement::On(_, _) => BlockProgress {
                 opened: Some(statement),
                 answered: false,
                 parent: self.parent,
                 child: self.child,
             },
-            Statement::End => Reached {
+            Statement::End => BlockProgress {
                 opened: None,
                 answered: false,
                 parent: self.parent,
                 child: self.child,
             },
-            _ => Reached {
+            _ => BlockProgress {
                 opened: self.opened,
                 answered: self.answered || answers(statement),
                 parent: self.parent,

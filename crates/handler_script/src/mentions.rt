@@ -1,14 +1,14 @@
 ghost use Rattle.std.specs.Prelude.{◌≡◌, option_map};
-ghost use Rattle.handler_script.specs.Asked.{test_of};
+ghost use Rattle.handler_script.specs.ValueQuery.{test_of};
 ghost use Rattle.handler_script.specs.Mentions as mentions;
 
 use crate::fits::param_at;
 use ipdl_base::ParamRow;
-use script_reader::{Atom, MessageName, Statement, Who, Written, WrittenValues};
+use script_reader::{Atom, MessageName, Statement, Who, WrittenValue, WrittenValues};
 
 /// What is asked of those whom values speak of.
 #[derive(Clone, Copy)]
-pub enum Asked<'a> {
+pub enum ValueQuery<'a> {
     /// Whether it is a parameter that is not among these.
     Absent(&'a [ParamRow]),
     /// Whether it is of the handled message.
@@ -18,19 +18,19 @@ pub enum Asked<'a> {
 }
 
 /// Whether this is so of one.
-fn passes(asked: Asked<'_>, who: &Who) -> bool
+fn passes(asked: ValueQuery<'_>, who: &Who) -> bool
     ensures { result ≡ test_of asked.entry who.now }
 {
     match asked {
-        Asked::Absent(given) => match who {
+        ValueQuery::Absent(given) => match who {
             Who::Param(n) => param_at(given, *n).is_none(),
             _ => false,
         },
-        Asked::OfHandler => match who {
+        ValueQuery::OfHandler => match who {
             Who::This | Who::Param(_) => true,
             _ => false,
         },
-        Asked::Made => match who {
+        ValueQuery::Made => match who {
             Who::Made => true,
             _ => false,
         },
@@ -39,22 +39,22 @@ fn passes(asked: Asked<'_>, who: &Who) -> bool
 
 /// Whether it is so of one whom a value speaks of.
 #[cycle(mentions)]
-fn value_mentions(value: &Written, asked: Asked<'_>) -> bool
+fn value_mentions(value: &WrittenValue, asked: ValueQuery<'_>) -> bool
     ensures { result ≡ mentions.mentions (test_of asked.entry) value.now }
 {
     match value {
-        Written::Atom(Atom::Who(who)) => passes(asked, who),
-        Written::Atom(_) => false,
-        Written::Struct(values) => any_mentions(values, asked),
-        Written::Array(values) => any_mentions(values, asked),
-        Written::Union(_, held) => value_mentions(held, asked),
-        Written::Held(held) => value_mentions(held, asked),
+        WrittenValue::Atom(Atom::Who(who)) => passes(asked, who),
+        WrittenValue::Atom(_) => false,
+        WrittenValue::Struct(values) => any_mentions(values, asked),
+        WrittenValue::Array(values) => any_mentions(values, asked),
+        WrittenValue::Union(_, held) => value_mentions(held, asked),
+        WrittenValue::Held(held) => value_mentions(held, asked),
     }
 }
 
 /// Whether it is so of one whom values speak of.
 #[cycle(mentions)]
-pub fn any_mentions(values: &WrittenValues, asked: Asked<'_>) -> bool
+pub fn any_mentions(values: &WrittenValues, asked: ValueQuery<'_>) -> bool
     ensures { result ≡ mentions.any_mentions (test_of asked.entry) values.now }
 {
     match values {
@@ -100,7 +100,7 @@ pub fn message_of(statement: &Statement) -> Option<&MessageName>
 }
 
 /// Whether it is so of one whom a statement speaks of.
-pub fn speaks_of(statement: &Statement, asked: Asked<'_>) -> bool
+pub fn speaks_of(statement: &Statement, asked: ValueQuery<'_>) -> bool
     ensures { result ≡ mentions.speaks_of (test_of asked.entry) statement.now }
 {
     let who = match who_of(statement) {

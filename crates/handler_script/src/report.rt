@@ -8,7 +8,7 @@ ghost use Rattle.handler_script.specs.Blocks.{standing_behind};
 ghost use Rattle.handler_script.specs.Broken as broken;
 ghost use Rattle.handler_script.specs.Knowing.{Knows, standing_in};
 
-use crate::lines::{Reached, lines_behind};
+use crate::lines::{BlockProgress, lines_behind};
 use crate::rules::{
     Context, breaks_allowed, breaks_blocks, breaks_carried, breaks_direction, breaks_values,
     context_of, names_none,
@@ -45,7 +45,7 @@ fn add_if(
 }
 
 /// The block in which a line is tested that stands behind lines of which this is known.
-fn context_behind<'a>(schema: &'a Schema, reached: Reached<'a>) -> Option<Context<'a>>
+fn context_behind<'a>(schema: &'a Schema, reached: BlockProgress<'a>) -> Option<Context<'a>>
     ensures { (before : List LineReadingType) → Knows before reached.entry → option_map standing_in result ≡ standing_behind schema.now before }
 {
     context_of(schema, reached.opened?)
@@ -77,7 +77,7 @@ fn add_known(
 /// Adds the findings of the rules that a statement breaks.
 fn add_statement(
     schema: &Schema,
-    reached: Reached<'_>,
+    reached: BlockProgress<'_>,
     statement: &Statement,
     after: &[LineReading],
     place: Place,
@@ -107,7 +107,7 @@ fn add_statement(
 /// Adds the findings of the rules that a line breaks.
 fn add_line(
     schema: &Schema,
-    reached: Reached<'_>,
+    reached: BlockProgress<'_>,
     reading: &LineReading,
     after: &[LineReading],
     place: Place,
@@ -140,7 +140,7 @@ fn add_lines(
     let mut parent = false;
     let mut child = false;
     for (i, reading) in readings.iter().enumerate() {
-        let reached = Reached {
+        let reached = BlockProgress {
             opened,
             answered,
             parent,

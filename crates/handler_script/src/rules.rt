@@ -5,8 +5,8 @@ ghost use Rattle.handler_script.specs.Broken as broken;
 ghost use Rattle.handler_script.specs.Knowing.{Knows, standing_in};
 
 use crate::fits::{each_fits, is_actor, param_at};
-use crate::lines::{Reached, answers, is_closed, is_followed, opens};
-use crate::mentions::{Asked, any_mentions, message_of, speaks_of, values_of, who_of};
+use crate::lines::{BlockProgress, answers, is_closed, is_followed, opens};
+use crate::mentions::{ValueQuery, any_mentions, message_of, speaks_of, values_of, who_of};
 use crate::messages::{is_constructor, message_named, receives, replies, resolves, sends};
 use ipdl_base::{MessageRow, ParamRow, Schema, Side};
 use script_reader::{LineReading, Statement, Who, WrittenValues};
@@ -191,7 +191,7 @@ fn are_unfit(
 {
     match types {
         Some(types) => !each_fits(values, schema, given, types),
-        None => any_mentions(values, Asked::Absent(given)),
+        None => any_mentions(values, ValueQuery::Absent(given)),
     }
 }
 
@@ -226,7 +226,7 @@ fn speaks_in_main(context: Context<'_>, statement: &Statement) -> bool
     ensures { result ≡ broken.speaks_in_main (standing_in context.entry) statement.now }
 {
     match context {
-        Context::Main(_) => speaks_of(statement, Asked::OfHandler),
+        Context::Main(_) => speaks_of(statement, ValueQuery::OfHandler),
         Context::Handler(_, _) => false,
     }
 }
@@ -239,7 +239,7 @@ fn speaks_of_made(context: Context<'_>, statement: &Statement) -> bool
         Context::Main(_) => false,
         Context::Handler(_, message) => is_constructor(message.kind),
     };
-    speaks_of(statement, Asked::Made) && !is_of_constructor
+    speaks_of(statement, ValueQuery::Made) && !is_of_constructor
 }
 
 /// Whether a message is there, and is not answered by a resolver.
@@ -322,7 +322,7 @@ pub fn breaks_allowed(
 }
 
 /// Whether a statement is a second main of its side.
-fn is_second_main(reached: Reached<'_>, statement: &Statement) -> bool
+fn is_second_main(reached: BlockProgress<'_>, statement: &Statement) -> bool
     ensures { (before : List LineReadingType) → Knows before reached.entry → IsTrue result ↔ broken.IsSecondMain before statement.now }
 {
     match statement {
@@ -332,7 +332,7 @@ fn is_second_main(reached: Reached<'_>, statement: &Statement) -> bool
 }
 
 /// Whether a statement breaks the structure of blocks.
-pub fn breaks_blocks(reached: Reached<'_>, statement: &Statement, after: &[LineReading]) -> bool
+pub fn breaks_blocks(reached: BlockProgress<'_>, statement: &Statement, after: &[LineReading]) -> bool
     ensures { (before : List LineReadingType) → Knows before reached.entry → IsTrue result ↔ broken.BreaksBlocks before statement.now after.now }
 {
     let is_outside = reached.opened.is_none();

@@ -5,7 +5,7 @@ ghost use Rattle.value_types.specs.Shapes as shapes;
 
 use crate::term::{Term, Terms, first_of};
 use ipdl_base::{Builtin, Name, ParamRow, Schema, Shape};
-use script_reader::{Atom, Who, Written, WrittenValues};
+use script_reader::{Atom, Who, WrittenValue, WrittenValues};
 use std::alloc::{AllocError, Global};
 use value_types::{builtin_of, component_of, element_of, fields_of, held_by};
 
@@ -73,7 +73,7 @@ fn atom_term(alloc: Global, shape: &Shape, atom: &Atom) -> Result<Term, AllocErr
 /// The term that a written value stands for in a type.
 #[cycle(typed)]
 fn term_of(
-    value: &Written,
+    value: &WrittenValue,
     alloc: Global,
     schema: &Schema,
     shape: &Shape,
@@ -81,21 +81,21 @@ fn term_of(
     ensures { IfOk result (λ t. plain_term t ≡ terms.term_of schema.now shape.now value.now) }
 {
     match value {
-        Written::Atom(atom) => Ok(atom_term(alloc, shape, atom)?),
-        Written::Struct(values) => {
+        WrittenValue::Atom(atom) => Ok(atom_term(alloc, shape, atom)?),
+        WrittenValue::Struct(values) => {
             let fields = fields_of(schema, shape).unwrap_or(&[]);
             Ok(Term::Struct(terms_of(values, alloc, schema, fields)?))
         }
-        Written::Array(values) => {
+        WrittenValue::Array(values) => {
             let element = element_of(shape).unwrap_or(shape);
             Ok(Term::Array(elements_of(values, alloc, schema, element)?))
         }
-        Written::Union(index, held) => {
+        WrittenValue::Union(index, held) => {
             let component = component_of(schema, shape, *index).unwrap_or(shape);
             let held = term_of(held, alloc, schema, component)?;
             Ok(Term::Union(*index, Box::new(alloc, held)?))
         }
-        Written::Held(held) => {
+        WrittenValue::Held(held) => {
             let inner = held_by(shape).unwrap_or(shape);
             let held = term_of(held, alloc, schema, inner)?;
             Ok(Term::Maybe(Some(Box::new(alloc, held)?)))

@@ -4,7 +4,7 @@ use Rattle.std.specs.Prelude.{OnOk}
 use Rattle.std.proofs.lemmas.List.{take_more, drop_more}
 use Rattle.std.proofs.Math.Path.{fun_ext}
 use Rattle.ipdl_base.specs.declared.schema.Schema.{Schema}
-use Rattle.history.specs.declared.line.Line.{Line}
+use Rattle.ipdl_base.specs.declared.line.Line.{Line}
 use Rattle.history.specs.declared.messages.Messages.{Messages}
 use Rattle.history.specs.Messages.{message_of_number}
 use Rattle.history.specs.Noted.{Knows, noted_at}

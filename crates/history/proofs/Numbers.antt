@@ -1,10 +1,11 @@
 -- What a further line changes of the messages of numbers.
 use Rattle.std.proofs.Common.{◌≡◌, ◌∙◌, ℕ, ℤ, Bool, true, false, if◌then◌else◌, List, [], ◌∷◌, ◌++◌, Option, Some, None, is_some, option_and_then, refl, sym, ap}
 use Rattle.ipdl_base.specs.declared.kinds.Side.{Side}
-use Rattle.history.specs.declared.line.Line.{Line}
+use Rattle.ipdl_base.specs.declared.line.Line.{Line}
 use Rattle.std.specs.Ordering.{int_eq}
 use Rattle.history.specs.declared.messages.Messages.{Messages}
-use Rattle.history.specs.Messages.{given, message_at, message_of_number, same_side}
+use Rattle.history.specs.Messages.{given, message_at, message_of_number}
+use Rattle.ipdl_base.specs.Lines.{same_side}
 use Rattle.history.specs.Noted.{Gives, Knows}
 
 -- the first of two that is there

@@ -21,9 +21,9 @@ use Rattle.ipdl_base.specs.declared.value.Value.TheVariants as value
 use Rattle.ipdl_base.specs.declared.value.Values.{Values, First'}
 use Rattle.ipdl_base.specs.declared.value.Values.TheVariants.{Nothing}
 use Rattle.ipdl_base.specs.Plain.{one_box}
-use Rattle.history.specs.declared.line.Line.{Line}
-use Rattle.history.specs.declared.line.What.{What}
-use Rattle.history.specs.declared.line.What.TheVariants as what
+use Rattle.ipdl_base.specs.declared.line.Line.{Line}
+use Rattle.ipdl_base.specs.declared.line.What.{What}
+use Rattle.ipdl_base.specs.declared.line.What.TheVariants as what
 use Rattle.history.specs.Text.{transcript_text}
 
 abbrev message : ℕ → List ℕ → Kind → List ParamRow → Option (List ParamRow) → MessageRow

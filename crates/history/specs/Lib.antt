@@ -1,4 +1,4 @@
-pub mod Kept
+pub mod HistoryView
 pub mod Messages
 pub mod Noted
 pub mod Text

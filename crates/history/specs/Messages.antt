@@ -3,9 +3,9 @@ use Rattle.std.specs.Prelude.{ℕ, ℤ, Bool, true, false, if◌then◌else◌, 
 use Rattle.std.specs.Ordering.{int_eq}
 use Rattle.ipdl_base.specs.declared.kinds.Side.{Side}
 use Rattle.ipdl_base.specs.declared.kinds.Side.TheVariants as side
-use Rattle.history.specs.declared.line.Line.{Line}
-use Rattle.history.specs.declared.line.What.{What}
-use Rattle.history.specs.declared.line.What.TheVariants as what
+use Rattle.ipdl_base.specs.declared.line.Line.{Line}
+use Rattle.ipdl_base.specs.declared.line.What.{What}
+use Rattle.ipdl_base.specs.declared.line.What.TheVariants as what
 
 abbrev pub same_side : Side → Side → Bool
 same_side side.Parent side.Parent = true

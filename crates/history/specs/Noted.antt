@@ -4,9 +4,10 @@ use Rattle.std.specs.HashMap.{get}
 use Rattle.std.specs.Ordering.{int_eq}
 use Rattle.ipdl_base.specs.declared.kinds.Side.{Side}
 use Rattle.ipdl_base.specs.declared.kinds.Side.TheVariants as side
-use Rattle.history.specs.declared.line.Line.{Line}
+use Rattle.ipdl_base.specs.declared.line.Line.{Line}
 use Rattle.history.specs.declared.messages.Messages.{Messages}
-use Rattle.history.specs.Messages.{message_of_number, same_side}
+use Rattle.history.specs.Messages.{message_of_number}
+use Rattle.ipdl_base.specs.Lines.{same_side}
 
 -- the message that is noted for a number at an end
 abbrev pub noted_at : Messages → Side → ℤ → Option ℕ

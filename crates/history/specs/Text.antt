@@ -10,9 +10,9 @@ use Rattle.ipdl_base.specs.declared.schema.ParamRow.{ParamRow}
 use Rattle.ipdl_base.specs.declared.schema.Schema.{Schema}
 use Rattle.ipdl_base.specs.declared.value.Values.{Values}
 use Rattle.value_types.specs.ValueText.{values_text}
-use Rattle.history.specs.declared.line.Line.{Line}
-use Rattle.history.specs.declared.line.What.{What}
-use Rattle.history.specs.declared.line.What.TheVariants as what
+use Rattle.ipdl_base.specs.declared.line.Line.{Line}
+use Rattle.ipdl_base.specs.declared.line.What.{What}
+use Rattle.ipdl_base.specs.declared.line.What.TheVariants as what
 use Rattle.history.specs.Messages.{message_of_number}
 use Rattle.history.specs.Words.{side_word, refusal_word, reason_word, destroy_word}
 

@@ -1,6 +1,6 @@
 ghost use Rattle.std.specs.Prelude.{◌≡◌, ◌+◌, ◌<◌, ◌≤◌, [], ◌∷◌, ◌++◌, OnOk, OnErr, IsOk};
 
-use crate::line::Line;
+use ipdl_base::Line;
 use std::alloc::{AllocError, Global};
 use std::marker::Model;
 
@@ -13,11 +13,11 @@ pub struct History {
 
 impl Model for History {
     ghost use Rattle.std.specs.Prelude.{◌-◌, vec_len, vec_capacity};
-    ghost use Rattle.history.specs.Kept.{Kept};
+    ghost use Rattle.history.specs.HistoryView.{HistoryView};
     ghost use Rattle.ipdl_base.specs.contracts.value.Values as values;
     ghost use Rattle.std.specs.Coded.{codes};
 
-    ghost Value = { Kept };
+    ghost Value = { HistoryView };
 
     ghost coded = { Prim.hlevel (codes, values.the_row.coded) };
 

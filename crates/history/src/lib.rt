@@ -3,13 +3,12 @@
 #![tactic(auto)]
 
 mod history;
-mod line;
 mod messages;
 mod text;
 mod words;
 
 pub use history::History;
-pub use line::{Line, What};
+pub use ipdl_base::{Line, What};
 pub use text::{
     history_text, is_effect, params_of, push_listed, push_message, push_numbered, returns_of_number,
 };

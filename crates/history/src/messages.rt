@@ -4,7 +4,7 @@ ghost use Rattle.std.specs.Ordering.{int_eq};
 ghost use Rattle.history.specs.Messages.{given};
 ghost use Rattle.history.specs.Noted.{Gives, Knows, noted_at};
 
-use crate::line::{Line, What};
+use ipdl_base::{Line, What};
 use indexmap::IndexMap;
 use ipdl_base::Side;
 use std::alloc::{AllocError, Global};

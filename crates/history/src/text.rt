@@ -6,7 +6,7 @@ ghost use Rattle.history.specs.Noted.{Knows, noted_at};
 ghost use Rattle.history.specs.Text as text;
 
 use crate::history::History;
-use crate::line::{Line, What};
+use ipdl_base::{Line, What};
 use crate::messages::Messages;
 use crate::words::{destroy_word, reason_word, refusal_word, side_word};
 use ipdl_base::{MessageRow, ParamRow, Schema, SendRefusal, Side, Values, short_name};

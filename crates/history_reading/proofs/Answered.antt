@@ -4,30 +4,30 @@ use Rattle.std.proofs.Math.Seq.{take-suc, take-suc-set}
 use lib.Seq.{take-length}
 use Rattle.std.proofs.lemmas.List.{reverse-append, length-set, get_or_default}
 use Rattle.std.proofs.lemmas.Bool.{cases_order}
-use Rattle.history_reading.specs.declared.parts.Frame.{Frame}
-use Rattle.history_reading.specs.declared.parts.Frame.TheVariants.{Dispatch}
-use Rattle.history_reading.specs.Half.{is_wait_for}
+use Rattle.history_reading.specs.declared.parts.CallFrame.{CallFrame}
+use Rattle.history_reading.specs.declared.parts.CallFrame.TheVariants.{Dispatch}
+use Rattle.history_reading.specs.EndReading.{is_wait_for}
 use Rattle.history_reading.specs.Reading.{answered, answered_frame}
 
 -- some frame, for a read past the end
-abbrev vacant : Frame
+abbrev vacant : CallFrame
 vacant = Dispatch (record { seq = pos 0; route = pos 0; number = 0 })
 
 -- the innermost of one more frame comes first, and so after a write in its place
-inward-suc : (xs : List Frame) (n : ℕ) (d : Frame) → n < length xs → reverse (take (suc n) xs) ≡ get_or xs n d ∷ reverse (take n xs)
+inward-suc : (xs : List CallFrame) (n : ℕ) (d : CallFrame) → n < length xs → reverse (take (suc n) xs) ≡ get_or xs n d ∷ reverse (take n xs)
 inward-suc xs n d h = ap reverse (take-suc xs n d h) ∙ reverse-append (take n xs) (get_or xs n d ∷ [])
 
-inward-set : (xs : List Frame) (n : ℕ) (y : Frame) → n < length xs → reverse (take (suc n) (set xs n y)) ≡ y ∷ reverse (take n xs)
+inward-set : (xs : List CallFrame) (n : ℕ) (y : CallFrame) → n < length xs → reverse (take (suc n) (set xs n y)) ≡ y ∷ reverse (take n xs)
 inward-set xs n y h = ap reverse (take-suc-set xs n y h) ∙ reverse-append (take n xs) (y ∷ [])
 
-hit : (n : ℤ) (frame : Frame) (below : List Frame) → is_wait_for n frame ≡ true → answered n (frame ∷ below) ≡ answered_frame frame ∷ below
+hit : (n : ℤ) (frame : CallFrame) (below : List CallFrame) → is_wait_for n frame ≡ true → answered n (frame ∷ below) ≡ answered_frame frame ∷ below
 hit n frame below h = ap (λ b. cond b (answered_frame frame ∷ below) (frame ∷ answered n below)) h
 
-miss : (n : ℤ) (frame : Frame) (below : List Frame) → is_wait_for n frame ≡ false → answered n (frame ∷ below) ≡ frame ∷ answered n below
+miss : (n : ℤ) (frame : CallFrame) (below : List CallFrame) → is_wait_for n frame ≡ false → answered n (frame ∷ below) ≡ frame ∷ answered n below
 miss n frame below h = ap (λ b. cond b (answered_frame frame ∷ below) (frame ∷ answered n below)) h
 
 -- where no frame is the wait, nothing is answered
-none_below : (m : ℤ) (xs : List Frame) (n : ℕ) → n ≤ length xs → ((k : ℕ) (d : Frame) → k < n → is_wait_for m (get_or xs k d) ≡ false) → reverse (take n xs) ≡ answered m (reverse (take n xs))
+none_below : (m : ℤ) (xs : List CallFrame) (n : ℕ) → n ≤ length xs → ((k : ℕ) (d : CallFrame) → k < n → is_wait_for m (get_or xs k d) ≡ false) → reverse (take n xs) ≡ answered m (reverse (take n xs))
 none_below m xs zero h none = refl
 none_below m xs (suc n) h none =
     let step = inward-suc xs n vacant (omega arith) in
@@ -36,7 +36,7 @@ none_below m xs (suc n) h none =
     step ∙ ap (λ ys. get_or xs n vacant ∷ ys) rest ∙ sym other ∙ ap (answered m) (sym step)
 
 -- where no frame above it is the wait, the one in the place i is answered
-set_at : (m : ℤ) (xs : List Frame) (i n : ℕ) → i < n → n ≤ length xs → is_wait_for m (get_or xs i vacant) ≡ true → ((k : ℕ) (d : Frame) → i < k → k < n → is_wait_for m (get_or xs k d) ≡ false) → reverse (take n (set xs i (answered_frame (get_or xs i vacant)))) ≡ answered m (reverse (take n xs))
+set_at : (m : ℤ) (xs : List CallFrame) (i n : ℕ) → i < n → n ≤ length xs → is_wait_for m (get_or xs i vacant) ≡ true → ((k : ℕ) (d : CallFrame) → i < k → k < n → is_wait_for m (get_or xs k d) ≡ false) → reverse (take n (set xs i (answered_frame (get_or xs i vacant)))) ≡ answered m (reverse (take n xs))
 set_at m xs i zero lt h waits none = absurd (omega arith)
 set_at m xs i (suc n) lt h waits none =
     let y = answered_frame (get_or xs i vacant) in
@@ -59,7 +59,7 @@ set_at m xs i (suc n) lt h waits none =
     (cases_order i n)
 
 -- the same as the loop knows it, with its reads at any default
-pub answered_at : (m : ℤ) (now was : List Frame) (d e y : Frame) (i : ℕ) → now ≡ was → i < length now → is_wait_for m (get_or now i d) ≡ true → y ≡ answered_frame (get_or now i e) → ((k : ℕ) (f : Frame) → i < k → k < length now → is_wait_for m (get_or now k f) ≡ false) → reverse (set now i y) ≡ answered m (reverse was)
+pub answered_at : (m : ℤ) (now was : List CallFrame) (d e y : CallFrame) (i : ℕ) → now ≡ was → i < length now → is_wait_for m (get_or now i d) ≡ true → y ≡ answered_frame (get_or now i e) → ((k : ℕ) (f : CallFrame) → i < k → k < length now → is_wait_for m (get_or now k f) ≡ false) → reverse (set now i y) ≡ answered m (reverse was)
 answered_at m now was d e y i same lt waits at none =
     let read_d = get_or_default now i vacant d lt in
     let read_e = get_or_default now i e vacant lt in
@@ -67,6 +67,6 @@ answered_at m now was d e y i same lt waits at none =
     let whole : take (length now) (set now i (answered_frame (get_or now i vacant))) ≡ set now i (answered_frame (get_or now i vacant)) = ap (λ n. take n (set now i (answered_frame (get_or now i vacant)))) (sym (length-set now i (answered_frame (get_or now i vacant)))) ∙ take-length (set now i (answered_frame (get_or now i vacant))) in
     ap (λ g. reverse (set now i g)) (at ∙ ap answered_frame read_e) ∙ ap reverse (sym whole) ∙ found ∙ ap (λ ys. answered m (reverse ys)) (take-length now ∙ same)
 
-pub answered_none : (m : ℤ) (now was : List Frame) → now ≡ was → ((k : ℕ) (f : Frame) → k < length now → is_wait_for m (get_or now k f) ≡ false) → reverse now ≡ answered m (reverse was)
+pub answered_none : (m : ℤ) (now was : List CallFrame) → now ≡ was → ((k : ℕ) (f : CallFrame) → k < length now → is_wait_for m (get_or now k f) ≡ false) → reverse now ≡ answered m (reverse was)
 answered_none m now was same none =
     ap reverse (sym (take-length now)) ∙ none_below m now (length now) (omega arith) none ∙ ap (λ ys. answered m (reverse ys)) (take-length now ∙ same)

@@ -1,2 +1,4 @@
 pub mod Answered
 pub mod SentLemmas
+pub mod WantedLemmas
+mod WorkedLaws

@@ -4,8 +4,8 @@ use Rattle.std.specs.List.{list_any}
 use Rattle.std.specs.Ordering.{int_eq}
 use Rattle.ipdl_base.specs.declared.kinds.Side.{Side}
 use Rattle.ipdl_base.specs.declared.kinds.Side.TheVariants.{Parent, Child}
-use Rattle.history_reading.specs.declared.parts.Seen.{Seen}
-use Rattle.history_reading.specs.declared.parts.Seen.TheVariants as seen
+use Rattle.history_reading.specs.declared.parts.PacketKind.{PacketKind}
+use Rattle.history_reading.specs.declared.parts.PacketKind.TheVariants as seen
 
 -- a list has this number
 abbrev pub has : List ℤ → ℤ → Bool
@@ -17,13 +17,13 @@ id_of Parent k = pos (4 * k + 2)
 id_of Child k = pos (4 * k)
 
 -- whether both show the same packet
-abbrev pub same_seen : Seen → Seen → Bool
-same_seen (seen.Request m) (seen.Request n) = int_eq m n
-same_seen (seen.Reply m) (seen.Reply n) = int_eq m n
-same_seen seen.Goodbye seen.Goodbye = true
-same_seen seen.Broken seen.Broken = true
-same_seen _ _ = false
+abbrev pub same_packet : PacketKind → PacketKind → Bool
+same_packet (seen.Request m) (seen.Request n) = int_eq m n
+same_packet (seen.Reply m) (seen.Reply n) = int_eq m n
+same_packet seen.Goodbye seen.Goodbye = true
+same_packet seen.Broken seen.Broken = true
+same_packet _ _ = false
 
 -- a list has this packet
-abbrev pub has_seen : List Seen → Seen → Bool
-has_seen packets one = list_any (λ p. same_seen p one) packets
+abbrev pub has_packet : List PacketKind → PacketKind → Bool
+has_packet packets one = list_any (λ p. same_packet p one) packets

@@ -9,198 +9,198 @@ use Rattle.ipdl_base.specs.declared.kinds.Side.{Side}
 use Rattle.ipdl_base.specs.declared.kinds.Side.TheVariants as side
 use Rattle.ipdl_base.specs.declared.schema.Schema.{Schema}
 use Rattle.ipdl_base.specs.declared.value.Values.{Values}
-use Rattle.history.specs.declared.line.Line.{Line}
-use Rattle.history.specs.declared.line.What.{What}
-use Rattle.history.specs.declared.line.What.TheVariants as what
-use Rattle.history.specs.Text.{is_effect}
-use Rattle.history_reading.specs.declared.parts.Actor.{Actor}
+use Rattle.ipdl_base.specs.declared.line.Line.{Line}
+use Rattle.ipdl_base.specs.declared.line.What.{What}
+use Rattle.ipdl_base.specs.declared.line.What.TheVariants as what
+use Rattle.ipdl_base.specs.Lines.{is_effect}
+use Rattle.history_reading.specs.declared.parts.BuiltActor.{BuiltActor}
 use Rattle.history_reading.specs.declared.parts.Call.{Call}
 use Rattle.history_reading.specs.declared.parts.Cause.{Cause}
 use Rattle.history_reading.specs.declared.parts.Cause.TheVariants as cause
-use Rattle.history_reading.specs.declared.parts.Event.{Event}
-use Rattle.history_reading.specs.declared.parts.Event.TheVariants as event
-use Rattle.history_reading.specs.declared.parts.Frame.{Frame}
-use Rattle.history_reading.specs.declared.parts.Frame.TheVariants as frame
-use Rattle.history_reading.specs.declared.parts.Seen.{Seen}
-use Rattle.history_reading.specs.declared.parts.Seen.TheVariants as seen
-use Rattle.history_reading.specs.declared.parts.Standing.{Standing}
-use Rattle.history_reading.specs.declared.parts.State.{State}
-use Rattle.history_reading.specs.declared.parts.State.TheVariants as state
-use Rattle.history_reading.specs.Half.{Half, opening, is_sync_request, is_wait_for}
-use Rattle.history_reading.specs.Numbers.{same_seen}
+use Rattle.history_reading.specs.declared.parts.EventKind.{EventKind}
+use Rattle.history_reading.specs.declared.parts.EventKind.TheVariants as event
+use Rattle.history_reading.specs.declared.parts.CallFrame.{CallFrame}
+use Rattle.history_reading.specs.declared.parts.CallFrame.TheVariants as frame
+use Rattle.history_reading.specs.declared.parts.PacketKind.{PacketKind}
+use Rattle.history_reading.specs.declared.parts.PacketKind.TheVariants as seen
+use Rattle.history_reading.specs.declared.parts.ActorPlace.{ActorPlace}
+use Rattle.ipdl_base.specs.declared.kinds.EndState.{EndState}
+use Rattle.ipdl_base.specs.declared.kinds.EndState.TheVariants as state
+use Rattle.history_reading.specs.EndReading.{EndReading, opening, is_sync_request, is_wait_for}
+use Rattle.history_reading.specs.Numbers.{same_packet}
 use Rattle.history_reading.specs.Rows.{is_sync_number, wants_number, is_constructor, delete_cause}
-use Rattle.history_reading.specs.Told as told
-use Rattle.history_reading.specs.Told.{Told, Request, Said, requests_of}
+use Rattle.history_reading.specs.SentPacket as told
+use Rattle.history_reading.specs.SentPacket.{SentPacket, Request, ReplyContent, requests_of}
 
 -- an event begins: nobody has fallen in it
-abbrev pub begun : Event → Cause → Half → Half
-begun event cause half = record half { event = event; cause = cause; falls = [] }
+abbrev pub begun : EventKind → Cause → EndReading → EndReading
+begun event cause own = record own { event = event; cause = cause; falls = [] }
 
 -- an event in which nobody falls
-abbrev pub quiet : Half → Half
-quiet half = begun event.Other cause.Nobody half
+abbrev pub quiet : EndReading → EndReading
+quiet own = begun event.Other cause.Nobody own
 
 -- a packet goes last in what was sent
-abbrev pub telling : Told → Half → Half
-telling packet half = record half { sent = half.sent ++ packet ∷ [] }
+abbrev pub telling : SentPacket → EndReading → EndReading
+telling packet own = record own { sent = own.sent ++ packet ∷ [] }
 
 -- a frame goes on top
-abbrev pub pushing : Frame → Half → Half
-pushing top half = record half { stack = top ∷ half.stack }
+abbrev pub pushing : CallFrame → EndReading → EndReading
+pushing top own = record own { stack = top ∷ own.stack }
 
 -- how many actors an end has constructed behind one more request
 abbrev pub made_after : Schema → ℕ → ℕ → ℕ
 made_after schema number made = if is_constructor schema number then made + 1 else made
 
-abbrev pub request_after : Schema → ℤ → ℤ → ℤ → ℕ → Values → Half → Request
-request_after schema n transaction route number values half =
-    record { seq = n; transaction = transaction; sync = is_sync_number schema number; wants = wants_number schema number; route = route; number = number; made = if is_constructor schema number then half.made + 1 else 0; values = values }
+abbrev pub request_after : Schema → ℤ → ℤ → ℤ → ℕ → Values → EndReading → Request
+request_after schema n transaction route number values own =
+    record { seq = n; transaction = transaction; sync = is_sync_number schema number; wants = wants_number schema number; route = route; number = number; made = if is_constructor schema number then own.made + 1 else 0; values = values }
 
 -- a request is sent
-abbrev pub sending : Schema → ℤ → ℤ → ℤ → ℕ → Values → Half → Half
-sending schema n transaction route number values half = record (telling (told.request (request_after schema n transaction route number values half)) half) { made = made_after schema number half.made }
+abbrev pub sending : Schema → ℤ → ℤ → ℤ → ℕ → Values → EndReading → EndReading
+sending schema n transaction route number values own = record (telling (told.request (request_after schema n transaction route number values own)) own) { made = made_after schema number own.made }
 
 -- a packet is delivered, and one that arrives is there until it leaves
-abbrev pub delivering : Seen → Half → Half
-delivering packet half = record half { delivered = half.delivered ++ packet ∷ [] }
+abbrev pub delivering : PacketKind → EndReading → EndReading
+delivering packet own = record own { delivered = own.delivered ++ packet ∷ [] }
 
-abbrev pub arriving : Seen → Half → Half
-arriving packet half = record half { delivered = half.delivered ++ packet ∷ []; arrived = half.arrived ++ packet ∷ [] }
+abbrev pub arriving : PacketKind → EndReading → EndReading
+arriving packet own = record own { delivered = own.delivered ++ packet ∷ []; arrived = own.arrived ++ packet ∷ [] }
 
 -- the first that shows the packet leaves
-unfoldable pub without_first : Seen → List Seen → List Seen
-without_first packet packets = option_map_or (remove packets) (position (λ p. same_seen p packet) packets) packets
+unfoldable pub without_first : PacketKind → List PacketKind → List PacketKind
+without_first packet packets = option_map_or (remove packets) (position (λ p. same_packet p packet) packets) packets
 
-abbrev pub leaving : Seen → Half → Half
-leaving packet half = record half { arrived = without_first packet half.arrived }
+abbrev pub leaving : PacketKind → EndReading → EndReading
+leaving packet own = record own { arrived = without_first packet own.arrived }
 
 -- a wait with its answer
-abbrev pub answered_frame : Frame → Frame
+abbrev pub answered_frame : CallFrame → CallFrame
 answered_frame (frame.Dispatch d) = frame.Dispatch d
 answered_frame (frame.Unanswered c) = frame.Answered c
 answered_frame (frame.Answered c) = frame.Answered c
 
 -- the innermost unanswered wait of a number is answered
-abbrev pub answered : ℤ → List Frame → List Frame
+abbrev pub answered : ℤ → List CallFrame → List CallFrame
 answered n [] = []
 answered n (top ∷ below) = if is_wait_for n top then answered_frame top ∷ below else top ∷ answered n below
 
-abbrev pub answering : ℤ → Half → Half
-answering n half = record half { stack = answered n half.stack }
+abbrev pub answering : ℤ → EndReading → EndReading
+answering n own = record own { stack = answered n own.stack }
 
 -- a reply arrives: that to a sync request answers its wait
-abbrev pub replying : ℤ → Half → Half
-replying n half = if is_sync_request half n then answering n (delivering (seen.Reply n) half) else arriving (seen.Reply n) half
+abbrev pub replying : ℤ → EndReading → EndReading
+replying n own = if is_sync_request own n then answering n (delivering (seen.Reply n) own) else arriving (seen.Reply n) own
 
 -- the end of the channel arrives
-abbrev pub draining : Seen → Half → Half
-draining packet half = record (arriving packet half) { state = state.Draining; ended = true }
+abbrev pub draining : PacketKind → EndReading → EndReading
+draining packet own = record (arriving packet own) { state = state.Draining; ended = true }
 
 -- a request leaves the arrived ones for good
-abbrev pub going : ℤ → Half → Half
-going n half = record (leaving (seen.Request n) half) { gone = half.gone ++ n ∷ [] }
+abbrev pub going : ℤ → EndReading → EndReading
+going n own = record (leaving (seen.Request n) own) { gone = own.gone ++ n ∷ [] }
 
 -- the end closes
-abbrev pub closing : Destroy → Half → Half
-closing why half = record (begun event.Closes (cause.Closing why) half) { state = state.Closed; over = true; arrived = [] }
+abbrev pub closing : Destroy → EndReading → EndReading
+closing why own = record (begun event.Closes (cause.Closing why) own) { state = state.Closed; over = true; arrived = [] }
 
 -- and does so by its own act: it sends the goodbye
-abbrev pub closing_by_act : Half → Half
-closing_by_act half = record (closing NormalShutdown (telling told.goodbye half)) { ended = true }
+abbrev pub closing_by_act : EndReading → EndReading
+closing_by_act own = record (closing NormalShutdown (telling told.goodbye own)) { ended = true }
 
 -- the end dies, and the mark of that is sent where no end was
-abbrev pub dying : Half → Half
-dying half = record (quiet half) { state = state.Dead; stack = []; arrived = []; sent = if half.ended then half.sent else half.sent ++ told.broken ∷ [] }
+abbrev pub dying : EndReading → EndReading
+dying own = record (quiet own) { state = state.Dead; stack = []; arrived = []; sent = if own.ended then own.sent else own.sent ++ told.broken ∷ [] }
 
 -- the frames below the top one, and why actors fall when that comes off
-abbrev pub below_top : List Frame → List Frame
+abbrev pub below_top : List CallFrame → List CallFrame
 below_top [] = []
 below_top (top ∷ below) = below
 
-abbrev pub return_cause : Schema → List Frame → Cause
+abbrev pub return_cause : Schema → List CallFrame → Cause
 return_cause schema (frame.Dispatch d ∷ below) = delete_cause schema d.number d.route
 return_cause schema _ = cause.Nobody
 
-abbrev pub popping : Cause → Half → Half
-popping cause half = record (begun event.Other cause half) { stack = below_top half.stack }
+abbrev pub popping : Cause → EndReading → EndReading
+popping cause own = record (begun event.Other cause own) { stack = below_top own.stack }
 
 -- the actor of an event: that to which a request goes or at which it is handled
-abbrev pub route_of : Event → ℤ
+abbrev pub route_of : EventKind → ℤ
 route_of (event.Sends n route) = route
 route_of (event.Takes n route) = route
 route_of event.Ends = pos 0
 route_of event.Closes = pos 0
 route_of event.Other = pos 0
 
-abbrev pub building : ℤ → Half → Half
-building id half = record half { built = half.built ++ record { id = id; manager = route_of half.event } ∷ [] }
+abbrev pub building : ℤ → EndReading → EndReading
+building id own = record own { built = own.built ++ record { id = id; manager = route_of own.event } ∷ [] }
 
 -- the manager of an actor, 0 where it was not built
-abbrev pub manager_of : List Actor → ℤ → ℤ
+abbrev pub manager_of : List BuiltActor → ℤ → ℤ
 manager_of built id = unwrap_or (option_map (λ a. a.manager) (find (λ a. int_eq a.id id) built)) (pos 0)
 
 -- where an actor stands among those that were built
-unfoldable pub standing_of : List Actor → ℤ → Standing
-standing_of built id = record { place = unwrap_or (position (λ a. int_eq a.id id) built) (length built); manager = manager_of built id }
+unfoldable pub actor_place : List BuiltActor → ℤ → ActorPlace
+actor_place built id = record { place = unwrap_or (position (λ a. int_eq a.id id) built) (length built); manager = manager_of built id }
 
-abbrev pub falling : ℤ → Half → Half
-falling id half = record half { fallen = half.fallen ++ id ∷ []; falls = half.falls ++ standing_of half.built id ∷ [] }
+abbrev pub falling : ℤ → EndReading → EndReading
+falling id own = record own { fallen = own.fallen ++ id ∷ []; falls = own.falls ++ actor_place own.built id ∷ [] }
 
 -- a reply is taken, a request is replaced, a call fails, a promise is settled
-abbrev pub taking_reply : ℤ → Half → Half
-taking_reply n half = quiet (record (leaving (seen.Reply n) half) { replies = half.replies ++ n ∷ [] })
+abbrev pub taking_reply : ℤ → EndReading → EndReading
+taking_reply n own = quiet (record (leaving (seen.Reply n) own) { replies = own.replies ++ n ∷ [] })
 
-abbrev pub replacing : ℤ → Half → Half
-replacing n half = record (leaving (seen.Request n) half) { replaced = half.replaced ++ n ∷ [] }
+abbrev pub replacing : ℤ → EndReading → EndReading
+replacing n own = record (leaving (seen.Request n) own) { replaced = own.replaced ++ n ∷ [] }
 
-abbrev pub failing : ℤ → Half → Half
-failing n half = record (answering n half) { failed = half.failed ++ n ∷ [] }
+abbrev pub failing : ℤ → EndReading → EndReading
+failing n own = record (answering n own) { failed = own.failed ++ n ∷ [] }
 
-abbrev pub settling : ℤ → Half → Half
-settling n half = record half { settled = half.settled ++ n ∷ [] }
+abbrev pub settling : ℤ → EndReading → EndReading
+settling n own = record own { settled = own.settled ++ n ∷ [] }
 
 -- The half of an end behind one more line of it, which stands at a place in the history.
-abbrev pub after_what : Schema → ℕ → What → Half → Half
-after_what schema place (what.Send n route number values) half = begun (event.Sends n route) (delete_cause schema number route) (sending schema n (pos 0) route number values half)
-after_what schema place (what.Call n transaction route number values) half =
-    begun (event.Sends n route) cause.Nobody (pushing (frame.Unanswered (record { seq = n; transaction = transaction; number = number; place = place })) (sending schema n transaction route number values half))
-after_what schema place (what.RefusedSend refusal number) half = quiet half
-after_what schema place (what.RefusedClose refusal) half = quiet half
-after_what schema place (what.RefusedResolve refusal) half = quiet half
-after_what schema place (what.RefusedReject refusal) half = quiet half
-after_what schema place (what.Resolve n values) half = quiet (telling (told.said n (told.resolved values)) half)
-after_what schema place (what.Reject n) half = quiet (telling (told.said n told.rejected) half)
-after_what schema place (what.Keep n name) half = quiet half
-after_what schema place (what.Let name id) half = quiet half
-after_what schema place what.Close half = closing_by_act half
-after_what schema place what.Die half = dying half
-after_what schema place (what.DeliverRequest n) half = quiet (arriving (seen.Request n) half)
-after_what schema place (what.DeliverReply n) half = quiet (replying n half)
-after_what schema place what.DeliverGoodbye half = begun event.Ends cause.Nobody (draining seen.Goodbye half)
-after_what schema place what.DeliverBroken half = begun event.Ends cause.Nobody (draining seen.Broken half)
-after_what schema place (what.Take n route number values) half =
-    begun (event.Takes n route) cause.Nobody (pushing (frame.Dispatch (record { seq = n; route = route; number = number })) (going n half))
-after_what schema place (what.Drop n route number id) half = quiet (going n half)
-after_what schema place (what.TakeReply n) half = taking_reply n half
-after_what schema place what.ShutNormal half = closing NormalShutdown half
-after_what schema place what.ShutAbnormal half = closing AbnormalShutdown half
-after_what schema place (what.Return n) half = popping (return_cause schema half.stack) half
-after_what schema place (what.ResumeOk n values) half = popping cause.Nobody half
-after_what schema place (what.ResumeFault n reason) half = popping cause.Nobody half
-after_what schema place (what.Flush count) half = quiet half
-after_what schema place (what.Built id protocol) half = building id half
-after_what schema place (what.Replaced n) half = replacing n half
-after_what schema place (what.AnswerOk n values) half = telling (told.said n (told.ok values)) half
-after_what schema place (what.AnswerFault n reason) half = telling (told.said n (told.fault reason)) half
-after_what schema place (what.Fails n) half = failing n half
-after_what schema place (what.Resolved n values) half = settling n half
-after_what schema place (what.Rejected n reason) half = settling n half
-after_what schema place (what.Fall id destroy) half = falling id half
+abbrev pub after_what : Schema → ℕ → What → EndReading → EndReading
+after_what schema place (what.Send n route number values) own = begun (event.Sends n route) (delete_cause schema number route) (sending schema n (pos 0) route number values own)
+after_what schema place (what.Call n transaction route number values) own =
+    begun (event.Sends n route) cause.Nobody (pushing (frame.Unanswered (record { seq = n; transaction = transaction; number = number; place = place })) (sending schema n transaction route number values own))
+after_what schema place (what.RefusedSend refusal number) own = quiet own
+after_what schema place (what.RefusedClose refusal) own = quiet own
+after_what schema place (what.RefusedResolve refusal) own = quiet own
+after_what schema place (what.RefusedReject refusal) own = quiet own
+after_what schema place (what.Resolve n values) own = quiet (telling (told.said n (told.resolved values)) own)
+after_what schema place (what.Reject n) own = quiet (telling (told.said n told.rejected) own)
+after_what schema place (what.Keep n name) own = quiet own
+after_what schema place (what.Let name id) own = quiet own
+after_what schema place what.Close own = closing_by_act own
+after_what schema place what.Die own = dying own
+after_what schema place (what.DeliverRequest n) own = quiet (arriving (seen.Request n) own)
+after_what schema place (what.DeliverReply n) own = quiet (replying n own)
+after_what schema place what.DeliverGoodbye own = begun event.Ends cause.Nobody (draining seen.Goodbye own)
+after_what schema place what.DeliverBroken own = begun event.Ends cause.Nobody (draining seen.Broken own)
+after_what schema place (what.Take n route number values) own =
+    begun (event.Takes n route) cause.Nobody (pushing (frame.Dispatch (record { seq = n; route = route; number = number })) (going n own))
+after_what schema place (what.Drop n route number id) own = quiet (going n own)
+after_what schema place (what.TakeReply n) own = taking_reply n own
+after_what schema place what.ShutNormal own = closing NormalShutdown own
+after_what schema place what.ShutAbnormal own = closing AbnormalShutdown own
+after_what schema place (what.Return n) own = popping (return_cause schema own.stack) own
+after_what schema place (what.ResumeOk n values) own = popping cause.Nobody own
+after_what schema place (what.ResumeFault n reason) own = popping cause.Nobody own
+after_what schema place (what.Flush count) own = quiet own
+after_what schema place (what.Built id protocol) own = building id own
+after_what schema place (what.Replaced n) own = replacing n own
+after_what schema place (what.AnswerOk n values) own = telling (told.said n (told.ok values)) own
+after_what schema place (what.AnswerFault n reason) own = telling (told.said n (told.fault reason)) own
+after_what schema place (what.Fails n) own = failing n own
+after_what schema place (what.Resolved n values) own = settling n own
+after_what schema place (what.Rejected n reason) own = settling n own
+after_what schema place (what.Fall id destroy) own = falling id own
 
 -- Both halves, the end of the last event, and how many lines there were.
 pub record Reading : Type 0 where
-  pub parent : Half
-  pub child : Half
+  pub parent : EndReading
+  pub child : EndReading
   pub last : Option Side
   pub lines : ℕ
 
@@ -208,11 +208,11 @@ abbrev pub opening_reading : Reading
 opening_reading = record { parent = opening; child = opening; last = None; lines = 0 }
 
 -- the half of an end, and that of the other
-abbrev pub half_of : Side → Reading → Half
-half_of side.Parent reading = reading.parent
-half_of side.Child reading = reading.child
+abbrev pub end_reading_of : Side → Reading → EndReading
+end_reading_of side.Parent reading = reading.parent
+end_reading_of side.Child reading = reading.child
 
-abbrev pub other_of : Side → Reading → Half
+abbrev pub other_of : Side → Reading → EndReading
 other_of side.Parent reading = reading.child
 other_of side.Child reading = reading.parent
 

@@ -1,7 +1,7 @@
 //! What is read from the lines of a history: a half for each end (docs/laws.md).
 #![tactic(auto)]
 
-mod half;
+mod end_reading;
 mod note;
 mod numbers;
 mod parts;
@@ -9,14 +9,13 @@ mod reading;
 mod rows;
 mod sent;
 mod stack;
-mod told;
+mod sent_packet;
 
-pub use half::{Half, standing_of};
-pub use history::is_effect;
+pub use end_reading::{EndReading, actor_place};
 pub use numbers::NumberList;
-pub use parts::{Actor, Call, Cause, Event, Frame, Handled, Seen, Standing, State};
+pub use parts::{BuiltActor, Call, Cause, EventKind, CallFrame, HandledRequest, PacketKind, ActorPlace, EndState};
 pub use reading::Reading;
 pub use rows::{is_request_number, params_of, returns_of};
 pub use sent::SentList;
 pub use stack::CallStack;
-pub use told::{Request, Said, Told};
+pub use sent_packet::{Request, ReplyContent, SentPacket};

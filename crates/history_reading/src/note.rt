@@ -2,30 +2,30 @@ ghost use Rattle.std.specs.Prelude.{◌≡◌, pos, OnOk, [], ◌∷◌};
 ghost use Rattle.ipdl_base.specs.Sound.{IsSound};
 ghost use Rattle.ipdl_base.specs.declared.kinds.Destroy.TheVariants.{NormalShutdown};
 ghost use Rattle.history_reading.specs.declared.parts.Cause.TheVariants as cause;
-ghost use Rattle.history_reading.specs.declared.parts.Event.TheVariants as event;
-ghost use Rattle.history_reading.specs.declared.parts.Frame.TheVariants as frame;
-ghost use Rattle.history_reading.specs.declared.parts.Seen.TheVariants as seen;
-ghost use Rattle.history_reading.specs.Half.{is_sync_request};
-ghost use Rattle.history_reading.specs.Halves.{half_view};
-ghost use Rattle.history_reading.specs.Kept.{request_view, said_view};
+ghost use Rattle.history_reading.specs.declared.parts.EventKind.TheVariants as event;
+ghost use Rattle.history_reading.specs.declared.parts.CallFrame.TheVariants as frame;
+ghost use Rattle.history_reading.specs.declared.parts.PacketKind.TheVariants as seen;
+ghost use Rattle.history_reading.specs.EndReading.{is_sync_request};
+ghost use Rattle.history_reading.specs.EndReadings.{end_view};
+ghost use Rattle.history_reading.specs.Views.{request_view, reply_view};
 ghost use Rattle.history_reading.specs.Reading as read;
 ghost use Rattle.history_reading.specs.Rows.{delete_cause};
-ghost use Rattle.history_reading.specs.Told as told;
+ghost use Rattle.history_reading.specs.SentPacket as told;
 
-use crate::half::Half;
-use crate::parts::{Call, Cause, Event, Frame, Handled, Seen};
+use crate::end_reading::EndReading;
+use crate::parts::{Call, Cause, EventKind, CallFrame, HandledRequest, PacketKind};
 use crate::rows::{delete_cause, is_constructor, is_sync_number, wants_number};
-use crate::told::{Request, Said, Told};
-use history::What;
+use crate::sent_packet::{Request, ReplyContent, SentPacket};
+use ipdl_base::What;
 use ipdl_base::{Destroy, Schema, Values};
 use std::alloc::AllocError;
 
-impl<'h> Half<'h> {
+impl<'h> EndReading<'h> {
     /// An event in which nobody falls.
     fn quiet(&mut self)
-        ensures { half_view self.new ≡ read.quiet (half_view self.old) }
+        ensures { end_view self.new ≡ read.quiet (end_view self.old) }
     {
-        self.begin(Event::Other, Cause::Nobody);
+        self.begin(EventKind::Other, Cause::Nobody);
     }
 
     /// A request is sent that makes no actor, or the next one.
@@ -39,12 +39,12 @@ impl<'h> Half<'h> {
         values: &'h Values,
     ) -> Result<(), AllocError>
         requires { IsSound schema.now }
-        ensures { OnOk result (half_view self.new ≡ read.sending schema.now seq transaction route number values.now (half_view self.old)) }
+        ensures { OnOk result (end_view self.new ≡ read.sending schema.now seq transaction route number values.now (end_view self.old)) }
     {
         let more = self.made.checked_add(1).ok_or(AllocError)?;
         let constructs = is_constructor(schema, number);
         let made = if constructs { more } else { 0 };
-        self.tell(Told::Request(Request {
+        self.tell(SentPacket::Request(Request {
             seq,
             transaction,
             sync: is_sync_number(schema, number),
@@ -69,11 +69,11 @@ impl<'h> Half<'h> {
         values: &'h Values,
     ) -> Result<(), AllocError>
         requires { IsSound schema.now }
-        ensures { OnOk result (half_view self.new ≡ read.begun (event.Sends seq route) (delete_cause schema.now number route) (read.sending schema.now seq (pos 0) route number values.now (half_view self.old))) }
+        ensures { OnOk result (end_view self.new ≡ read.begun (event.Sends seq route) (delete_cause schema.now number route) (read.sending schema.now seq (pos 0) route number values.now (end_view self.old))) }
     {
         self.send(schema, seq, 0, route, number, values)?;
         self.begin(
-            Event::Sends(seq, route),
+            EventKind::Sends(seq, route),
             delete_cause(schema, number, route),
         );
         Ok(())
@@ -87,7 +87,7 @@ impl<'h> Half<'h> {
         values: &'h Values,
     ) -> Result<(), AllocError>
         requires { IsSound schema.now }
-        ensures { OnOk result (half_view self.new ≡ read.begun (event.Sends call.seq route) cause.Nobody (read.pushing (frame.Unanswered call) (read.sending schema.now call.seq call.transaction route call.number values.now (half_view self.old)))) }
+        ensures { OnOk result (end_view self.new ≡ read.begun (event.Sends call.seq route) cause.Nobody (read.pushing (frame.Unanswered call) (read.sending schema.now call.seq call.transaction route call.number values.now (end_view self.old)))) }
     {
         self.send(
             schema,
@@ -97,45 +97,45 @@ impl<'h> Half<'h> {
             call.number,
             values,
         )?;
-        self.push(Frame::Unanswered(call))?;
-        self.begin(Event::Sends(call.seq, route), Cause::Nobody);
+        self.push(CallFrame::Unanswered(call))?;
+        self.begin(EventKind::Sends(call.seq, route), Cause::Nobody);
         Ok(())
     }
 
-    fn note_said(&mut self, n: i32, said: Said<'h>) -> Result<(), AllocError>
-        ensures { OnOk result (half_view self.new ≡ read.telling (told.said n (said_view said.entry)) (half_view self.old)) }
+    fn note_said(&mut self, n: i32, said: ReplyContent<'h>) -> Result<(), AllocError>
+        ensures { OnOk result (end_view self.new ≡ read.telling (told.said n (reply_view said.entry)) (end_view self.old)) }
     {
-        self.tell(Told::Said(n, said))
+        self.tell(SentPacket::Reply(n, said))
     }
 
-    fn note_quiet_said(&mut self, n: i32, said: Said<'h>) -> Result<(), AllocError>
-        ensures { OnOk result (half_view self.new ≡ read.quiet (read.telling (told.said n (said_view said.entry)) (half_view self.old))) }
+    fn note_quiet_said(&mut self, n: i32, said: ReplyContent<'h>) -> Result<(), AllocError>
+        ensures { OnOk result (end_view self.new ≡ read.quiet (read.telling (told.said n (reply_view said.entry)) (end_view self.old))) }
     {
-        self.tell(Told::Said(n, said))?;
+        self.tell(SentPacket::Reply(n, said))?;
         self.quiet();
         Ok(())
     }
 
     fn note_close(&mut self) -> Result<(), AllocError>
-        ensures { OnOk result (half_view self.new ≡ read.closing_by_act (half_view self.old)) }
+        ensures { OnOk result (end_view self.new ≡ read.closing_by_act (end_view self.old)) }
     {
-        self.tell(Told::Goodbye)?;
+        self.tell(SentPacket::Goodbye)?;
         self.close(Destroy::NormalShutdown);
         self.ended = true;
         Ok(())
     }
 
     fn note_request(&mut self, n: i32) -> Result<(), AllocError>
-        ensures { OnOk result (half_view self.new ≡ read.quiet (read.arriving (seen.Request n) (half_view self.old))) }
+        ensures { OnOk result (end_view self.new ≡ read.quiet (read.arriving (seen.Request n) (end_view self.old))) }
     {
-        self.arrive(Seen::Request(n))?;
+        self.arrive(PacketKind::Request(n))?;
         self.quiet();
         Ok(())
     }
 
     /// Whether the end's request of a number is sync.
     pub fn is_sync_request(&self, n: i32) -> bool
-        ensures { result ≡ is_sync_request (half_view self.now) n }
+        ensures { result ≡ is_sync_request (end_view self.now) n }
     {
         match self.sent.request(n) {
             Some(request) => request.sync,
@@ -144,44 +144,44 @@ impl<'h> Half<'h> {
     }
 
     fn note_reply(&mut self, n: i32) -> Result<(), AllocError>
-        ensures { OnOk result (half_view self.new ≡ read.replying n (half_view self.old)) }
+        ensures { OnOk result (end_view self.new ≡ read.replying n (end_view self.old)) }
     {
         if self.is_sync_request(n) {
-            self.deliver(Seen::Reply(n))?;
+            self.deliver(PacketKind::Reply(n))?;
             self.answer(n);
         } else {
-            self.arrive(Seen::Reply(n))?;
+            self.arrive(PacketKind::Reply(n))?;
         }
         Ok(())
     }
 
     fn note_quiet_reply(&mut self, n: i32) -> Result<(), AllocError>
-        ensures { OnOk result (half_view self.new ≡ read.quiet (read.replying n (half_view self.old))) }
+        ensures { OnOk result (end_view self.new ≡ read.quiet (read.replying n (end_view self.old))) }
     {
         self.note_reply(n)?;
         self.quiet();
         Ok(())
     }
 
-    fn note_end(&mut self, packet: Seen) -> Result<(), AllocError>
-        ensures { OnOk result (half_view self.new ≡ read.begun event.Ends cause.Nobody (read.draining packet (half_view self.old))) }
+    fn note_end(&mut self, packet: PacketKind) -> Result<(), AllocError>
+        ensures { OnOk result (end_view self.new ≡ read.begun event.Ends cause.Nobody (read.draining packet (end_view self.old))) }
     {
         self.drain(packet)?;
-        self.begin(Event::Ends, Cause::Nobody);
+        self.begin(EventKind::Ends, Cause::Nobody);
         Ok(())
     }
 
-    fn note_take(&mut self, handled: Handled) -> Result<(), AllocError>
-        ensures { OnOk result (half_view self.new ≡ read.begun (event.Takes handled.seq handled.route) cause.Nobody (read.pushing (frame.Dispatch handled) (read.going handled.seq (half_view self.old)))) }
+    fn note_take(&mut self, handled: HandledRequest) -> Result<(), AllocError>
+        ensures { OnOk result (end_view self.new ≡ read.begun (event.Takes handled.seq handled.route) cause.Nobody (read.pushing (frame.Dispatch handled) (read.going handled.seq (end_view self.old)))) }
     {
         self.go(handled.seq)?;
-        self.push(Frame::Dispatch(handled))?;
-        self.begin(Event::Takes(handled.seq, handled.route), Cause::Nobody);
+        self.push(CallFrame::Dispatch(handled))?;
+        self.begin(EventKind::Takes(handled.seq, handled.route), Cause::Nobody);
         Ok(())
     }
 
     fn note_drop(&mut self, n: i32) -> Result<(), AllocError>
-        ensures { OnOk result (half_view self.new ≡ read.quiet (read.going n (half_view self.old))) }
+        ensures { OnOk result (end_view self.new ≡ read.quiet (read.going n (end_view self.old))) }
     {
         self.go(n)?;
         self.quiet();
@@ -189,9 +189,9 @@ impl<'h> Half<'h> {
     }
 
     fn note_take_reply(&mut self, n: i32) -> Result<(), AllocError>
-        ensures { OnOk result (half_view self.new ≡ read.taking_reply n (half_view self.old)) }
+        ensures { OnOk result (end_view self.new ≡ read.taking_reply n (end_view self.old)) }
     {
-        self.leave(Seen::Reply(n));
+        self.leave(PacketKind::Reply(n));
         self.replies.push(n)?;
         self.quiet();
         Ok(())
@@ -199,41 +199,41 @@ impl<'h> Half<'h> {
 
     fn note_return(&mut self, schema: &Schema)
         requires { IsSound schema.now }
-        ensures { half_view self.new ≡ read.popping (read.return_cause schema.now (half_view self.old).stack) (half_view self.old) }
+        ensures { end_view self.new ≡ read.popping (read.return_cause schema.now (end_view self.old).stack) (end_view self.old) }
     {
         let cause = match self.stack.top() {
-            Some(Frame::Dispatch(handled)) => delete_cause(schema, handled.number, handled.route),
+            Some(CallFrame::Dispatch(handled)) => delete_cause(schema, handled.number, handled.route),
             _ => Cause::Nobody,
         };
         self.pop(cause);
     }
 
     fn note_replaced(&mut self, n: i32) -> Result<(), AllocError>
-        ensures { OnOk result (half_view self.new ≡ read.replacing n (half_view self.old)) }
+        ensures { OnOk result (end_view self.new ≡ read.replacing n (end_view self.old)) }
     {
-        self.leave(Seen::Request(n));
+        self.leave(PacketKind::Request(n));
         self.replaced.push(n)
     }
 
     fn note_fails(&mut self, n: i32) -> Result<(), AllocError>
-        ensures { OnOk result (half_view self.new ≡ read.failing n (half_view self.old)) }
+        ensures { OnOk result (end_view self.new ≡ read.failing n (end_view self.old)) }
     {
         self.answer(n);
         self.failed.push(n)
     }
 
     fn note_settled(&mut self, n: i32) -> Result<(), AllocError>
-        ensures { OnOk result (half_view self.new ≡ read.settling n (half_view self.old)) }
+        ensures { OnOk result (end_view self.new ≡ read.settling n (end_view self.old)) }
     {
         self.settled.push(n)
     }
 }
 
-impl<'h> Half<'h> {
+impl<'h> EndReading<'h> {
     /// The half behind one more line of the end, which stands at a place in the history.
     pub fn note(&mut self, schema: &Schema, place: usize, what: &'h What) -> Result<(), AllocError>
         requires { IsSound schema.now }
-        ensures { OnOk result (half_view self.new ≡ read.after_what schema.now place what.now (half_view self.old)) }
+        ensures { OnOk result (end_view self.new ≡ read.after_what schema.now place what.now (end_view self.old)) }
     {
         match what {
             What::Send(n, route, number, values) => {
@@ -248,16 +248,16 @@ impl<'h> Half<'h> {
                 };
                 self.note_call(schema, call, *route, values)
             }
-            What::Resolve(n, values) => self.note_quiet_said(*n, Said::Resolved(values)),
-            What::Reject(n) => self.note_quiet_said(*n, Said::Rejected),
+            What::Resolve(n, values) => self.note_quiet_said(*n, ReplyContent::Resolved(values)),
+            What::Reject(n) => self.note_quiet_said(*n, ReplyContent::Rejected),
             What::Close => self.note_close(),
             What::Die => self.die(),
             What::DeliverRequest(n) => self.note_request(*n),
             What::DeliverReply(n) => self.note_quiet_reply(*n),
-            What::DeliverGoodbye => self.note_end(Seen::Goodbye),
-            What::DeliverBroken => self.note_end(Seen::Broken),
+            What::DeliverGoodbye => self.note_end(PacketKind::Goodbye),
+            What::DeliverBroken => self.note_end(PacketKind::Broken),
             What::Take(n, route, number, _) => {
-                let handled = Handled {
+                let handled = HandledRequest {
                     seq: *n,
                     route: *route,
                     number: *number,
@@ -284,8 +284,8 @@ impl<'h> Half<'h> {
             }
             What::Built(id, _) => self.build(*id),
             What::Replaced(n) => self.note_replaced(*n),
-            What::AnswerOk(n, values) => self.note_said(*n, Said::Ok(values)),
-            What::AnswerFault(n, reason) => self.note_said(*n, Said::Fault(*reason)),
+            What::AnswerOk(n, values) => self.note_said(*n, ReplyContent::Ok(values)),
+            What::AnswerFault(n, reason) => self.note_said(*n, ReplyContent::Fault(*reason)),
             What::Fails(n) => self.note_fails(*n),
             What::Resolved(n, _) | What::Rejected(n, _) => self.note_settled(*n),
             What::Fall(id, _) => self.fall(*id),

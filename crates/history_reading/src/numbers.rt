@@ -14,7 +14,7 @@ pub struct NumberList {
 
 impl Model for NumberList {
     ghost use Rattle.std.specs.Prelude.{List, ℤ};
-    ghost use Rattle.history_reading.specs.Kept.{AreMembers};
+    ghost use Rattle.history_reading.specs.Views.{AreMembers};
 
     ghost Value = { List ℤ };
 

@@ -2,7 +2,7 @@ use ipdl_base::Destroy;
 
 /// The state of an end.
 #[derive(Clone, Copy, PartialEq, Eq)]
-pub enum State {
+pub enum EndState {
     Open,
     Draining,
     Closed,
@@ -11,7 +11,7 @@ pub enum State {
 
 /// What a line of a delivery shows of a packet: its kind, with the number of its request.
 #[derive(Clone, Copy)]
-pub enum Seen {
+pub enum PacketKind {
     Request(i32),
     Reply(i32),
     Goodbye,
@@ -20,21 +20,21 @@ pub enum Seen {
 
 /// An actor that was built at an end, with the actor under which it was.
 #[derive(Clone, Copy)]
-pub struct Actor {
+pub struct BuiltActor {
     pub id: i32,
     pub manager: i32,
 }
 
 /// Where an actor stands among those that were built, and the actor that manages it.
 #[derive(Clone, Copy)]
-pub struct Standing {
+pub struct ActorPlace {
     pub place: usize,
     pub manager: i32,
 }
 
 /// A request that is handled: its number, its actor and its message.
 #[derive(Clone, Copy)]
-pub struct Handled {
+pub struct HandledRequest {
     pub seq: i32,
     pub route: i32,
     pub number: u32,
@@ -51,15 +51,15 @@ pub struct Call {
 
 /// A frame of the stack of an end.
 #[derive(Clone, Copy)]
-pub enum Frame {
-    Dispatch(Handled),
+pub enum CallFrame {
+    Dispatch(HandledRequest),
     Unanswered(Call),
     Answered(Call),
 }
 
 /// What the laws look at of an event of an end.
 #[derive(Clone, Copy)]
-pub enum Event {
+pub enum EventKind {
     /// A request of this number is sent to this actor.
     Sends(i32, i32),
     /// The other end's request of this number is handled at this actor.

@@ -1,11 +1,11 @@
 ghost use Rattle.std.specs.Prelude.{◌≡◌, OnOk, IfOk};
 ghost use Rattle.ipdl_base.specs.Sound.{IsSound};
-ghost use Rattle.history_reading.specs.Halves.{half_view};
+ghost use Rattle.history_reading.specs.EndReadings.{end_view};
 ghost use Rattle.history_reading.specs.Reading as read;
 ghost use Rattle.history_reading.specs.Readings.{reading_view};
 
-use crate::half::Half;
-use history::{Line, What, is_effect};
+use crate::end_reading::EndReading;
+use ipdl_base::{Line, What, is_effect};
 use ipdl_base::{Schema, Side};
 use std::alloc::{AllocError, Global};
 
@@ -13,8 +13,8 @@ use std::alloc::{AllocError, Global};
 /// many lines there were.
 #[derive(Drop)]
 pub struct Reading<'h> {
-    pub parent: Half<'h>,
-    pub child: Half<'h>,
+    pub parent: EndReading<'h>,
+    pub child: EndReading<'h>,
     pub last: Option<Side>,
     pub lines: usize,
 }
@@ -25,16 +25,16 @@ impl<'h> Reading<'h> {
         ensures { IfOk result (λ reading. reading_view reading ≡ read.opening_reading) }
     {
         Ok(Reading {
-            parent: Half::new(alloc)?,
-            child: Half::new(alloc)?,
+            parent: EndReading::new(alloc)?,
+            child: EndReading::new(alloc)?,
             last: None,
             lines: 0,
         })
     }
 
     /// The half of an end.
-    pub fn half(&self, side: Side) -> &Half<'h>
-        ensures { half_view result.now ≡ read.half_of side (reading_view self.now) }
+    pub fn own(&self, side: Side) -> &EndReading<'h>
+        ensures { end_view result.now ≡ read.end_reading_of side (reading_view self.now) }
     {
         match side {
             Side::Parent => &self.parent,
@@ -43,8 +43,8 @@ impl<'h> Reading<'h> {
     }
 
     /// The half of the other end.
-    pub fn other(&self, side: Side) -> &Half<'h>
-        ensures { half_view result.now ≡ read.other_of side (reading_view self.now) }
+    pub fn other(&self, side: Side) -> &EndReading<'h>
+        ensures { end_view result.now ≡ read.other_of side (reading_view self.now) }
     {
         match side {
             Side::Parent => &self.child,

@@ -1,10 +1,10 @@
 ghost use Rattle.std.specs.Prelude.{◌≡◌, ◌∷◌, ◌++◌, [], OnOk, OnErr, List, option_map};
 ghost use Rattle.std.specs.HashMap.{IsUnchanged};
-ghost use Rattle.history_reading.specs.declared.told.Told as declared;
-ghost use Rattle.history_reading.specs.Kept.{AreRequests, InsertsFirst, request_view, sent_view};
-ghost use Rattle.history_reading.specs.Told.{request_of};
+ghost use Rattle.history_reading.specs.declared.sent_packet.SentPacket as declared;
+ghost use Rattle.history_reading.specs.Views.{AreRequests, InsertsFirst, request_view, sent_view};
+ghost use Rattle.history_reading.specs.SentPacket.{request_of};
 
-use crate::told::{Request, Told};
+use crate::sent_packet::{Request, SentPacket};
 use std::alloc::{AllocError, Global};
 use std::collections::HashMap;
 use std::marker::Model;
@@ -13,7 +13,7 @@ use std::marker::Model;
 /// the first request of a number.
 #[derive(Drop)]
 pub struct SentList<'h> {
-    all: Vec<Told<'h>>,
+    all: Vec<SentPacket<'h>>,
     requests: HashMap<i32, Request<'h>>,
 }
 
@@ -21,10 +21,10 @@ impl<'h> Model for SentList<'h> {
     ghost use Rattle.std.specs.Prelude.{List};
     ghost use Rattle.std.specs.Coded.{codes};
     ghost use Rattle.ipdl_base.specs.contracts.value.Values as values;
-    ghost use Rattle.history_reading.specs.declared.told.Told.{Told};
-    ghost use Rattle.history_reading.specs.Kept.{AreRequests};
+    ghost use Rattle.history_reading.specs.declared.sent_packet.SentPacket.{SentPacket};
+    ghost use Rattle.history_reading.specs.Views.{AreRequests};
 
-    ghost Value = { List Told };
+    ghost Value = { List SentPacket };
 
     ghost coded = { Prim.hlevel (codes, values.the_row.coded) };
 
@@ -45,7 +45,7 @@ impl<'h> SentList<'h> {
     }
 
     /// Puts a packet last.
-    pub fn push(&mut self, told: Told<'h>) -> Result<(), AllocError>
+    pub fn push(&mut self, told: SentPacket<'h>) -> Result<(), AllocError>
         ensures { OnOk result (self.new ≡ self.old ++ told.entry ∷ []) }
     {
         self.all.reserve(1)?;
@@ -57,7 +57,7 @@ impl<'h> SentList<'h> {
     }
 
     /// The packets, the oldest first.
-    pub fn as_slice(&self) -> &[Told<'h>]
+    pub fn as_slice(&self) -> &[SentPacket<'h>]
         ensures { result.now ≡ self.now }
     {
         self.all.as_slice()
@@ -88,13 +88,13 @@ fn insert_first<'h>(
 /// Puts the request that a packet is into a map that has none of its number.
 fn note_request<'h>(
     requests: &mut HashMap<i32, Request<'h>>,
-    told: &Told<'h>,
+    told: &SentPacket<'h>,
 ) -> Result<(), AllocError>
-    ensures ok { OnOk result ((all : List declared.Told) → AreRequests all requests.old → AreRequests (all ++ told.now ∷ []) requests.new) }
+    ensures ok { OnOk result ((all : List declared.SentPacket) → AreRequests all requests.old → AreRequests (all ++ told.now ∷ []) requests.new) }
     ensures err { OnErr result (IsUnchanged requests.old requests.new) }
 {
     match told {
-        Told::Request(request) => insert_first(requests, request),
+        SentPacket::Request(request) => insert_first(requests, request),
         _ => Ok(()),
     }
 }

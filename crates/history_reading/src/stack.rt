@@ -1,18 +1,18 @@
 ghost use Rattle.std.specs.Prelude.{◌≡◌, ◌∷◌, [], OnOk, OnErr, find, slice_get, option_map, reverse};
 ghost use Rattle.std.specs.List.{list_any};
-ghost use Rattle.history_reading.specs.Half.{awaited, awaits, frame_seq, has_unanswered, is_unanswered, is_wait_for};
+ghost use Rattle.history_reading.specs.EndReading.{awaited, awaits, frame_seq, has_unanswered, is_unanswered, is_wait_for};
 ghost use Rattle.history_reading.specs.Reading.{answered, answered_frame, below_top};
 
-use crate::parts::{Call, Frame};
+use crate::parts::{Call, CallFrame};
 use std::alloc::{AllocError, Global};
 use std::marker::Model;
 
-impl Frame {
+impl CallFrame {
     /// Whether the frame is a wait that is not answered.
     pub fn is_unanswered(&self) -> bool
         ensures { result ≡ is_unanswered self.now }
     {
-        matches!(self, Frame::Unanswered(_))
+        matches!(self, CallFrame::Unanswered(_))
     }
 
     /// The number of the frame's request.
@@ -20,8 +20,8 @@ impl Frame {
         ensures { result ≡ frame_seq self.now }
     {
         match self {
-            Frame::Dispatch(handled) => handled.seq,
-            Frame::Unanswered(call) | Frame::Answered(call) => call.seq,
+            CallFrame::Dispatch(handled) => handled.seq,
+            CallFrame::Unanswered(call) | CallFrame::Answered(call) => call.seq,
         }
     }
 
@@ -30,19 +30,19 @@ impl Frame {
         ensures { result ≡ is_wait_for n self.now }
     {
         match self {
-            Frame::Unanswered(call) => call.seq == n,
+            CallFrame::Unanswered(call) => call.seq == n,
             _ => false,
         }
     }
 }
 
-impl Frame {
+impl CallFrame {
     /// The frame, answered where it is a wait.
-    fn answered(self) -> Frame
+    fn answered(self) -> CallFrame
         ensures { result ≡ answered_frame self }
     {
         match self {
-            Frame::Unanswered(call) => Frame::Answered(call),
+            CallFrame::Unanswered(call) => CallFrame::Answered(call),
             frame => frame,
         }
     }
@@ -52,14 +52,14 @@ impl Frame {
 #[derive(Drop)]
 pub struct CallStack {
     /// The frames, the outermost first.
-    frames: Vec<Frame>,
+    frames: Vec<CallFrame>,
 }
 
 impl Model for CallStack {
     ghost use Rattle.std.specs.Prelude.{List, reverse};
-    ghost use Rattle.history_reading.specs.declared.parts.Frame.{Frame};
+    ghost use Rattle.history_reading.specs.declared.parts.CallFrame.{CallFrame};
 
-    ghost Value = { List Frame };
+    ghost Value = { List CallFrame };
 
     ghost view = { λ a. reverse a.frames.items };
 }
@@ -75,7 +75,7 @@ impl CallStack {
     }
 
     /// Puts a frame on top.
-    pub fn push(&mut self, frame: Frame) -> Result<(), AllocError>
+    pub fn push(&mut self, frame: CallFrame) -> Result<(), AllocError>
         ensures { OnOk result (self.new ≡ frame ∷ self.old) }
     {
         self.frames.push(frame)?;
@@ -83,14 +83,14 @@ impl CallStack {
     }
 
     /// The frame on top.
-    pub fn top(&self) -> Option<Frame>
+    pub fn top(&self) -> Option<CallFrame>
         ensures { result ≡ slice_get self.now 0 }
     {
         self.frames.last().copied()
     }
 
     /// The frames, the outermost first.
-    pub fn outward(&self) -> &[Frame]
+    pub fn outward(&self) -> &[CallFrame]
         ensures { reverse result.now ≡ self.now }
     {
         self.frames.as_slice()
@@ -133,7 +133,7 @@ impl CallStack {
 }
 
 /// The number of the last unanswered wait.
-fn awaited(frames: &[Frame]) -> Option<i32>
+fn awaited(frames: &[CallFrame]) -> Option<i32>
     ensures { result ≡ awaited (reverse frames.now) }
 {
     let found = frames.iter().rev().find(|frame| frame.is_unanswered());
@@ -141,7 +141,7 @@ fn awaited(frames: &[Frame]) -> Option<i32>
 }
 
 /// Whether the last unanswered wait is that of this number.
-fn awaits(frames: &[Frame], n: i32) -> bool
+fn awaits(frames: &[CallFrame], n: i32) -> bool
     ensures { result ≡ awaits (reverse frames.now) n }
 {
     match awaited(frames) {
@@ -151,14 +151,14 @@ fn awaits(frames: &[Frame], n: i32) -> bool
 }
 
 /// Whether some wait is not answered.
-fn has_unanswered(frames: &[Frame]) -> bool
+fn has_unanswered(frames: &[CallFrame]) -> bool
     ensures { result ≡ has_unanswered (reverse frames.now) }
 {
     frames.iter().rev().any(|frame| frame.is_unanswered())
 }
 
 /// Answers the last unanswered wait of a number, where there is one.
-fn answer(frames: &mut [Frame], n: i32)
+fn answer(frames: &mut [CallFrame], n: i32)
     ensures { reverse frames.new ≡ answered n (reverse frames.old) }
 {
     for index in (0..frames.len()).rev() {

@@ -6,8 +6,8 @@ use Rattle.std.specs.Option.{option_and_then, option_or}
 use Rattle.std.proofs.lemmas.Bool.{cases_lt}
 use Rattle.std.proofs.lemmas.Option.{same_Some, slice_get_within, get_or_from_slice_get}
 use Rattle.ipdl_base.specs.Outside.{FileMap}
-use Rattle.include_graph.specs.declared.read.Source.{Source}
-use Rattle.include_graph.specs.declared.walk.Reached.{Reached}
+use Rattle.include_graph.specs.declared.read.SourceFile.{SourceFile}
+use Rattle.include_graph.specs.declared.walk.ReachedFile.{ReachedFile}
 use Rattle.include_graph.specs.Keys.{key_of, is_same}
 use Rattle.include_graph.specs.Reading.{IsContent, IsSource}
 use Rattle.include_graph.specs.Sources.{in_directory, word_of, name_on_path}
@@ -55,7 +55,7 @@ module _ (key : List ℕ) (w : IsWhole key) (m m' : FileMap) (agree : (name : Li
   same_held (Some n) h = agree n (h n refl)
 
   -- and give one source
-  pub same_source : (number : ℕ) (words path : List (List ℕ)) (source : Source) → IsSource number key m (option_or (word_of words key) (name_on_path m path key)) source → IsSource number key m' (option_or (word_of words key) (name_on_path m' path key)) source
+  pub same_source : (number : ℕ) (words path : List (List ℕ)) (source : SourceFile) → IsSource number key m (option_or (word_of words key) (name_on_path m path key)) source → IsSource number key m' (option_or (word_of words key) (name_on_path m' path key)) source
   same_source number words path source s =
       let name = option_or (word_of words key) (name_on_path m path key) in
       let held = same_held name (λ n e. name_found m words path key n w (word_of words key) refl e) in
@@ -68,20 +68,20 @@ there_is (x ∷ xs) zero h = (x, refl)
 there_is (x ∷ xs) (suc n) h = there_is xs n (omega arith)
 
 -- what came of a key by a map
-abbrev By : List (List ℕ) → List (List ℕ) → ℕ → List ℕ → Reached → FileMap → Type 0
+abbrev By : List (List ℕ) → List (List ℕ) → ℕ → List ℕ → ReachedFile → FileMap → Type 0
 By words path number key file m = IsSource number key m (option_or (word_of words key) (name_on_path m path key)) file.source
 
-module _ (words path list : List (List ℕ)) (files : List Reached)
+module _ (words path list : List (List ℕ)) (files : List ReachedFile)
     (room : length files ≤ length list) (once : AllPairs (λ one other. one ≢ other) list)
     (whole : (number : ℕ) (key : List ℕ) → slice_get list number ≡ Some key → IsWhole key)
-    (each : (number : ℕ) (key : List ℕ) (file : Reached) → slice_get list number ≡ Some key → slice_get files number ≡ Some file → (m : FileMap) × By words path number key file m) where
+    (each : (number : ℕ) (key : List ℕ) (file : ReachedFile) → slice_get list number ≡ Some key → slice_get files number ≡ Some file → (m : FileMap) × By words path number key file m) where
   -- two keys of the list differ
   apart : (i j : ℕ) (one other : List ℕ) → i < j → slice_get list i ≡ Some one → slice_get list j ≡ Some other → one ≢ other
   apart i j one other before a b e =
       once i j one before (slice_get_within list j other b) (get_or_from_slice_get list i one one a ∙ (e ∙ sym (get_or_from_slice_get list j other one b)))
 
   -- one map for the first keys
-  pub together : (n : ℕ) → n ≤ length files → (m : FileMap) × ((number : ℕ) (key : List ℕ) (file : Reached) → number < n → slice_get list number ≡ Some key → slice_get files number ≡ Some file → By words path number key file m)
+  pub together : (n : ℕ) → n ≤ length files → (m : FileMap) × ((number : ℕ) (key : List ℕ) (file : ReachedFile) → number < n → slice_get list number ≡ Some key → slice_get files number ≡ Some file → By words path number key file m)
   together zero within = ((λ _. None), λ number key file before. absurd (let none : ⊥ = omega arith in none))
   together (suc n) within =
       let rest = together n (omega arith) in
@@ -101,6 +101,6 @@ module _ (words path list : List (List ℕ)) (files : List Reached)
               same_source key (whole number key a) own.0 both
               (λ name is. let e : is_same (key_of name) k.0 ≡ true = subst (λ x. is_same (key_of name) x ≡ true) (is ∙ sym key_is) (is_itself (key_of name)) in rw e refl)
               number words path file.source
-              (subst (λ i. By words path i key file own.0) n_is (subst (λ x. By words path n x file own.0) key_is (subst (λ (g : Reached). By words path n k.0 g own.0) file_is own.1)))
+              (subst (λ i. By words path i key file own.0) n_is (subst (λ x. By words path n x file own.0) key_is (subst (λ (g : ReachedFile). By words path n k.0 g own.0) file_is own.1)))
         ],
       )

@@ -18,15 +18,15 @@ use Rattle.ipdl_syntax.specs.Programs.{ending, named_key}
 use Rattle.grammar_laws.specs.Boxes.{unboxed, unboxed_held}
 use Rattle.include_graph.specs.declared.content.Content.{Content}
 use Rattle.include_graph.specs.declared.content.Content.TheVariants.{Absent, Large, BadToken, SyntaxFault, Read}
-use Rattle.include_graph.specs.declared.walk.Reached.{Reached}
+use Rattle.include_graph.specs.declared.walk.ReachedFile.{ReachedFile}
 use Rattle.include_graph.specs.declared.walk.Target.{Target}
 use Rattle.include_graph.specs.declared.walk.Target.TheVariants.{Nothing, LeftOut, File}
-use Rattle.include_graph.specs.Found.{finding_at, is_absent, is_absent_at, IsFoundFor, IsFoundAmong, IsFoundOfName, IsFoundIn, IsFoundOf}
+use Rattle.include_graph.specs.Additions.{finding_at, is_absent, is_absent_at, IsFoundFor, IsFoundAmong, IsFoundOfName, IsFoundIn, IsFoundOf}
 use Rattle.include_graph.specs.Growth.{HasWords}
 use Rattle.include_graph.specs.Reading.{IsContent, IsTarget, AreTargets, AreRead, IsReached}
 use Rattle.include_graph.specs.Reach.{IsUnitOf}
 use Rattle.include_graph.specs.Rules.{whole_file, HasBadToken, HasSyntaxFault, IncludesAt, IsMisnamedAt, IsBroken, OfUnit}
-use Rattle.include_graph.specs.Sources.{Given, word_of, content, IsAbsent}
+use Rattle.include_graph.specs.Sources.{LoadInput, word_of, content, IsAbsent}
 use Rattle.include_graph.proofs.Combined.{there_is}
 use Rattle.include_graph.proofs.Contents.{OneAnswer, absent_is, large_is, bad_is, fault_is, unit_is}
 use Rattle.include_graph.proofs.Places.{the_one}
@@ -47,9 +47,9 @@ from_one {P} keys k e a =
 from_none : {P : List ℕ → Type 0} (keys : List (List ℕ)) → keys ≡ [] → Any P keys → ⊥
 from_none {P} keys e a = let b : Any P [] = subst (Any P) e a in let h = b.2 in omega arith
 
-module _ (laws : OneAnswer) (given : Given) (keys : List (List ℕ)) (files : List Reached) (first firsts : List (List ℕ)) (h : HasWords given.words first firsts) (r : AreRead given keys files) where
+module _ (laws : OneAnswer) (given : LoadInput) (keys : List (List ℕ)) (files : List ReachedFile) (first firsts : List (List ℕ)) (h : HasWords given.words first firsts) (r : AreRead given keys files) where
   -- the file of a number
-  pub file_of : (number : ℕ) (key : List ℕ) → slice_get keys number ≡ Some key → (f : Reached) × (slice_get files number ≡ Some f) × IsReached given keys number key f
+  pub file_of : (number : ℕ) (key : List ℕ) → slice_get keys number ≡ Some key → (f : ReachedFile) × (slice_get files number ≡ Some f) × IsReached given keys number key f
   file_of number key e =
       let within = slice_get_within keys number key e in
       let size = r.size in
@@ -72,13 +72,13 @@ module _ (laws : OneAnswer) (given : Given) (keys : List (List ℕ)) (files : Li
   absent_file number key e none =
       let f = file_of number key e in
       let c = absent_is laws number key (content given key) f.0.source.content f.2.source.content none in
-      ap (λ (o : Option Reached). option_map_or (λ (g : Reached). is_absent g.source.content) o false) f.1 ∙ ap is_absent c
+      ap (λ (o : Option ReachedFile). option_map_or (λ (g : ReachedFile). is_absent g.source.content) o false) f.1 ∙ ap is_absent c
 
   -- and an absent file has an absent key
   file_absent : (number : ℕ) (key : List ℕ) → slice_get keys number ≡ Some key → is_absent_at files number ≡ true → IsAbsent given key
   file_absent number key e t =
       let f = file_of number key e in
-      let is : is_absent f.0.source.content ≡ true = sym (ap (λ (o : Option Reached). option_map_or (λ (g : Reached). is_absent g.source.content) o false) f.1) ∙ t in
+      let is : is_absent f.0.source.content ≡ true = sym (ap (λ (o : Option ReachedFile). option_map_or (λ (g : ReachedFile). is_absent g.source.content) o false) f.1) ∙ t in
       held f.0.source.content is f.2.source.content
     where
       held : (c : Content) → is_absent c ≡ true → IsContent number key (content given key) c → content given key ≡ None

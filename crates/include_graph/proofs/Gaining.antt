@@ -6,9 +6,9 @@ use Rattle.std.proofs.lemmas.Bool.{cases_lt}
 use Rattle.std.proofs.lemmas.Option.{same_Some}
 use Rattle.ipdl_base.specs.declared.finding.Finding.{Finding}
 use Rattle.ipdl_syntax.specs.declared.tree.Include.{Include}
-use Rattle.include_graph.specs.declared.walk.Reached.{Reached}
+use Rattle.include_graph.specs.declared.walk.ReachedFile.{ReachedFile}
 use Rattle.include_graph.specs.declared.walk.Target.{Target}
-use Rattle.include_graph.specs.Found.{Gains, Below, IsFoundFor, IsFoundAt, IsFoundIn, IsFoundOf}
+use Rattle.include_graph.specs.Additions.{Gains, Below, IsFoundFor, IsFoundAt, IsFoundIn, IsFoundOf}
 
 pub gains_like : {P Q : Finding → Type 0} {a b : List Finding} → ((f : Finding) → P f → Q f) → ((f : Finding) → Q f → P f) → Gains P a b → Gains Q a b
 gains_like to from g = record {
@@ -42,7 +42,7 @@ pub below_all : {P : ℕ → Finding → Type 0} (n : ℕ) {a b : List Finding} 
 below_all n within g = gains_like (λ f p. (p.0, p.2)) (λ f p. (p.0, within p.0 f p.1, p.1)) g
 
 -- what comes of the include of an index
-pub found_at : (files : List Reached) (includes : List Include) (targets : List Target) (n : ℕ) (i : Include) (t : Target) {a b : List Finding}
+pub found_at : (files : List ReachedFile) (includes : List Include) (targets : List Target) (n : ℕ) (i : Include) (t : Target) {a b : List Finding}
     → slice_get includes n ≡ Some i → slice_get targets n ≡ Some t → Gains (IsFoundFor files i t) a b → Gains (IsFoundAt files includes targets n) a b
 found_at files includes targets n i t here there g = gains_like
     (λ f p. (i, t, here, there, p))
@@ -60,7 +60,7 @@ one_answer false true h k = h.1 (k.0 refl)
 one_answer false false h k = refl
 
 -- what comes of the file of a number
-pub found_of : (words : ℕ) (keys : List (List ℕ)) (files : List Reached) (n : ℕ) (word : Bool) (key : List ℕ) (file : Reached) {a b : List Finding}
+pub found_of : (words : ℕ) (keys : List (List ℕ)) (files : List ReachedFile) (n : ℕ) (word : Bool) (key : List ℕ) (file : ReachedFile) {a b : List Finding}
     → (IsTrue word ↔ (n < words)) → slice_get keys n ≡ Some key → slice_get files n ≡ Some file
     → Gains (IsFoundIn files n word key file.source.content file.targets.items) a b → Gains (IsFoundOf words keys files n) a b
 found_of words keys files n word key file is here there g = gains_like
@@ -71,7 +71,7 @@ found_of words keys files n word key file is here there g = gains_like
     let three : p.2 ≡ file = same_Some _ _ (sym p.5 ∙ there) in
     subst (λ (w : Bool). IsFoundIn files n w key file.source.content file.targets.items f) one
     (subst (λ (k : List ℕ). IsFoundIn files n p.0 k file.source.content file.targets.items f) two
-    (subst (λ (r : Reached). IsFoundIn files n p.0 p.1 r.source.content r.targets.items f) three p.6)))
+    (subst (λ (r : ReachedFile). IsFoundIn files n p.0 p.1 r.source.content r.targets.items f) three p.6)))
     g
 
 -- a list that gained from nothing has exactly what it gained

@@ -21,17 +21,17 @@ use Rattle.findings.specs.Report.{IsReport}
 use Rattle.findings.proofs.Reports.{report_of}
 use Rattle.include_graph.specs.declared.content.Content.{Content}
 use Rattle.include_graph.specs.declared.content.Content.TheVariants.{Absent, Large, BadToken, SyntaxFault, Read}
-use Rattle.include_graph.specs.declared.walk.Reached.{Reached}
+use Rattle.include_graph.specs.declared.walk.ReachedFile.{ReachedFile}
 use Rattle.include_graph.specs.declared.walk.Target.{Target}
 use Rattle.include_graph.specs.declared.walk.Target.TheVariants.{Nothing, LeftOut, File}
-use Rattle.include_graph.specs.Found.{finding_at, IsFoundOf}
+use Rattle.include_graph.specs.Additions.{finding_at, IsFoundOf}
 use Rattle.include_graph.specs.Growth.{HasWords}
 use Rattle.include_graph.specs.Keys.{is_same}
 use Rattle.include_graph.specs.Load.{keys_of, IsEntryOf, IsProgramOf, IsReportOf}
 use Rattle.include_graph.specs.Reading.{IsContent, IsTarget, AreTargets, AreRead, IsGathered, IsReached, IsOfTree, IsEntryFrom, AreEntriesFrom, row_of, rows_of, numbers_of}
 use Rattle.include_graph.specs.Reach.{IsUnitOf, Names, AreNamed, IsReach, all_named}
 use Rattle.include_graph.specs.Rules.{whole_file, IsBroken}
-use Rattle.include_graph.specs.Sources.{Given, word_of, read_name, content, text_of, IsAbsent}
+use Rattle.include_graph.specs.Sources.{LoadInput, word_of, read_name, content, text_of, IsAbsent}
 use Rattle.include_graph.proofs.Combined.{there_is}
 use Rattle.include_graph.proofs.Contents.{OneAnswer, unit_is}
 use Rattle.include_graph.proofs.Ends.{by_test, same_is, other_is}
@@ -48,7 +48,7 @@ pub record Laws : Type 0 where
   pub places : PlacesHold
 
 -- a key that files name is named by one of them
-named_by : (files : List Reached) (key : List ℕ) → Contains (all_named (rows_of files)) key → (n : ℕ) × (f : Reached) × (slice_get files n ≡ Some f) × Contains (row_of f.source.content) key
+named_by : (files : List ReachedFile) (key : List ℕ) → Contains (all_named (rows_of files)) key → (n : ℕ) × (f : ReachedFile) × (slice_get files n ≡ Some f) × Contains (row_of f.source.content) key
 named_by [] key c = absurd (in_none key c)
 named_by (f ∷ files) key c = elim (Contains-append_cases (row_of f.source.content) (all_named (rows_of files)) key c) [
   | inl here ↦ (0, f, refl, here)
@@ -88,7 +88,7 @@ read_is files None key bytes e = absurd (let none : ⊥ = cc in none)
 read_is files (Some name) key bytes e = refl
 
 -- the keys of a program
-keys_same : (keys : List (List ℕ)) (files : List Reached) (program : List Entry) → AreEntriesFrom keys files program → keys_of program ≡ keys
+keys_same : (keys : List (List ℕ)) (files : List ReachedFile) (program : List Entry) → AreEntriesFrom keys files program → keys_of program ≡ keys
 keys_same [] [] [] m = refl
 keys_same [] [] (e ∷ es) m = elim m [ ]
 keys_same [] (f ∷ fs) es m = elim m [ ]
@@ -97,8 +97,8 @@ keys_same (k ∷ ks) (f ∷ fs) [] m = elim m [ ]
 keys_same (k ∷ ks) (f ∷ fs) (e ∷ es) m = ap (λ x. x ∷ keys_of es) m.0.has_key ∙ ap (λ xs. k ∷ xs) (keys_same ks fs es m.1)
 
 -- an entry of a program
-entry_at : (keys : List (List ℕ)) (files : List Reached) (program : List Entry) (n : ℕ) (entry : Entry) → AreEntriesFrom keys files program → slice_get program n ≡ Some entry
-    → (key : List ℕ) × (f : Reached) × (slice_get keys n ≡ Some key) × (slice_get files n ≡ Some f) × IsEntryFrom key f entry
+entry_at : (keys : List (List ℕ)) (files : List ReachedFile) (program : List Entry) (n : ℕ) (entry : Entry) → AreEntriesFrom keys files program → slice_get program n ≡ Some entry
+    → (key : List ℕ) × (f : ReachedFile) × (slice_get keys n ≡ Some key) × (slice_get files n ≡ Some f) × IsEntryFrom key f entry
 entry_at [] [] [] n entry m e = absurd (let none : ⊥ = cc in none)
 entry_at [] [] (x ∷ es) n entry m e = elim m [ ]
 entry_at [] (f ∷ fs) es n entry m e = elim m [ ]
@@ -123,14 +123,14 @@ numbers keys (i ∷ is) (File n ∷ ts) h none =
       (slice_get_within keys n h.0.0 h.0.2, rest.1),
     )
 
-module _ (laws : Laws) (given : Given) (keys : List (List ℕ)) (files : List Reached) (first firsts : List (List ℕ)) (h : HasWords given.words first firsts) (r : AreRead given keys files) where
+module _ (laws : Laws) (given : LoadInput) (keys : List (List ℕ)) (files : List ReachedFile) (first firsts : List (List ℕ)) (h : HasWords given.words first firsts) (r : AreRead given keys files) where
   -- the rows of the files are what they name
   rows_named : AreNamed given keys (rows_of files)
   rows_named = record {
-    size = length-map files (λ (f : Reached). row_of f.source.content) ∙ r.size;
+    size = length-map files (λ (f : ReachedFile). row_of f.source.content) ∙ r.size;
     each = λ number key row a b.
         let f = file_of laws.answer given keys files first firsts h r number key a in
-        let is : row_of f.0.source.content ≡ row = same_Some _ _ (sym (slice_get-map (λ (g : Reached). row_of g.source.content) files number ∙ ap (option_map (λ (g : Reached). row_of g.source.content)) f.1) ∙ b) in
+        let is : row_of f.0.source.content ≡ row = same_Some _ _ (sym (slice_get-map (λ (g : ReachedFile). row_of g.source.content) files number ∙ ap (option_map (λ (g : ReachedFile). row_of g.source.content)) f.1) ∙ b) in
         subst (Names number key (content given key)) is (named number key f.0.source.content f.2.source.content);
   }
     where
@@ -148,13 +148,13 @@ module _ (laws : Laws) (given : Given) (keys : List (List ℕ)) (files : List Re
   the_reach = record { rows = rows_of files; named = rows_named; reached = r.reached }
 
   -- how a report calls the files
-  pub texts_are : map (λ (f : Reached). f.source.text) files ≡ map (text_of given) keys
-  texts_are = same_lists (map (λ (f : Reached). f.source.text) files) (map (text_of given) keys) (length-map files (λ (f : Reached). f.source.text) ∙ (r.size ∙ sym (length-map keys (text_of given)))) (λ n x e.
-      let within : n < length files = (let a = slice_get_within (map (λ (f : Reached). f.source.text) files) n x e in omega (arith, length-map files (λ (f : Reached). f.source.text))) in
+  pub texts_are : map (λ (f : ReachedFile). f.source.text) files ≡ map (text_of given) keys
+  texts_are = same_lists (map (λ (f : ReachedFile). f.source.text) files) (map (text_of given) keys) (length-map files (λ (f : ReachedFile). f.source.text) ∙ (r.size ∙ sym (length-map keys (text_of given)))) (λ n x e.
+      let within : n < length files = (let a = slice_get_within (map (λ (f : ReachedFile). f.source.text) files) n x e in omega (arith, length-map files (λ (f : ReachedFile). f.source.text))) in
       let f = there_is files n within in
       let size = r.size in
       let k = there_is keys n (omega arith) in
-      let text : f.0.source.text ≡ x = same_Some _ _ (sym (slice_get-map (λ (g : Reached). g.source.text) files n ∙ ap (option_map (λ (g : Reached). g.source.text)) f.1) ∙ e) in
+      let text : f.0.source.text ≡ x = same_Some _ _ (sym (slice_get-map (λ (g : ReachedFile). g.source.text) files n ∙ ap (option_map (λ (g : ReachedFile). g.source.text)) f.1) ∙ e) in
       slice_get-map (text_of given) keys n ∙ ap (option_map (text_of given)) k.1 ∙ ap Some (sym (r.each n k.0 f.0 k.1 f.1).source.called ∙ text))
 
   module _ (clean : (f : Finding) → ¬ IsBroken given keys f) where
@@ -194,7 +194,7 @@ module _ (laws : Laws) (given : Given) (keys : List (List ℕ)) (files : List Re
     tree_at number key (Read unit) at g = (unit, refl)
 
     pub trees : AllByRecursion (λ f. IsOfTree f.source.content) files
-    trees = recursion_from_All (λ (f : Reached). IsOfTree f.source.content) files (λ n d within.
+    trees = recursion_from_All (λ (f : ReachedFile). IsOfTree f.source.content) files (λ n d within.
         let size = r.size in
         let k = there_is keys n (omega arith) in
         let at = slice_get-get_or files n d within in
@@ -205,7 +205,7 @@ module _ (laws : Laws) (given : Given) (keys : List (List ℕ)) (files : List Re
       all_keys = keys_same keys files program made
 
       -- the entry of a number, with what came of its key
-      entry_is : (number : ℕ) (entry : Entry) → slice_get program number ≡ Some entry → (f : Reached) × (slice_get keys number ≡ Some entry.key) × IsReached given keys number entry.key f × IsEntryFrom entry.key f entry
+      entry_is : (number : ℕ) (entry : Entry) → slice_get program number ≡ Some entry → (f : ReachedFile) × (slice_get keys number ≡ Some entry.key) × IsReached given keys number entry.key f × IsEntryFrom entry.key f entry
       entry_is number entry e =
           let x = entry_at keys files program number entry made e in
           let key = x.4.has_key in (
@@ -298,7 +298,7 @@ module _ (laws : Laws) (given : Given) (keys : List (List ℕ)) (files : List Re
       bear = recursion_from_All (λ (y : Entry). IfSome y.unit.protocol (λ p. y.key ≡ short_name p.full ++ ending file.Protocol)) program (λ n d within. bears n (get_or program n d) (slice_get-get_or program n d within))
 
 -- the findings of what is gathered are the broken rules
-exact : Laws → (given : Given) (count : ℕ) (keys : List (List ℕ)) (files : List Reached) → IsGathered given count keys files → (found : List Finding) → ((f : Finding) → Contains found f ↔ ((n : ℕ) × IsFoundOf count keys files n f))
+exact : Laws → (given : LoadInput) (count : ℕ) (keys : List (List ℕ)) (files : List ReachedFile) → IsGathered given count keys files → (found : List Finding) → ((f : Finding) → Contains found f ↔ ((n : ℕ) × IsFoundOf count keys files n f))
     → (f : Finding) → Contains found f ↔ IsBroken given keys f
 exact laws given count keys files g found is f = (
   λ c. sound laws.answer given keys files g.first g.firsts g.words g.read f (subst (λ m. (n : ℕ) × IsFoundOf m keys files n f) (sym g.counted) ((is f).0 c)),
@@ -306,7 +306,7 @@ exact laws given count keys files g found is f = (
 )
 
 -- where none is found no rule is broken
-pub clean_of : Laws → (given : Given) (count : ℕ) (keys : List (List ℕ)) (files : List Reached) → IsGathered given count keys files → (found : List Finding) → ((f : Finding) → Contains found f ↔ ((n : ℕ) × IsFoundOf count keys files n f))
+pub clean_of : Laws → (given : LoadInput) (count : ℕ) (keys : List (List ℕ)) (files : List ReachedFile) → IsGathered given count keys files → (found : List Finding) → ((f : Finding) → Contains found f ↔ ((n : ℕ) × IsFoundOf count keys files n f))
     → found ≡ [] → (f : Finding) → ¬ IsBroken given keys f
 clean_of laws given count keys files g found is none f b =
     let c : Contains [] f = subst (λ (fs : List Finding). Contains fs f) none ((exact laws given count keys files g found is f).1 b) in
@@ -314,8 +314,8 @@ clean_of laws given count keys files g found is none f b =
     omega arith
 
 -- where some are found the report has these
-pub report_is : Laws → (given : Given) (count : ℕ) (keys : List (List ℕ)) (files : List Reached) → IsGathered given count keys files → (found : List Finding) → ((f : Finding) → Contains found f ↔ ((n : ℕ) × IsFoundOf count keys files n f))
-    → 0 < length found → (report : List Finding) → IsReport (Contains found) report → IsReportOf given report (map (λ (f : Reached). f.source.text) files)
+pub report_is : Laws → (given : LoadInput) (count : ℕ) (keys : List (List ℕ)) (files : List ReachedFile) → IsGathered given count keys files → (found : List Finding) → ((f : Finding) → Contains found f ↔ ((n : ℕ) × IsFoundOf count keys files n f))
+    → 0 < length found → (report : List Finding) → IsReport (Contains found) report → IsReportOf given report (map (λ (f : ReachedFile). f.source.text) files)
 report_is laws given count keys files g found is some report sorted = record {
   keys = keys;
   reach = the_reach laws given keys files g.first g.firsts g.words g.read;

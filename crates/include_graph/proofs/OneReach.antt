@@ -7,7 +7,7 @@ use Rattle.std.proofs.lemmas.List.Elements.{All-contains, Contains-append_cases,
 use Rattle.std.proofs.lemmas.Grind.{flat_map-append}
 use Rattle.std.proofs.lemmas.Option.{slice_get-get_or}
 use Rattle.include_graph.specs.Keys.{word_keys}
-use Rattle.include_graph.specs.Sources.{Given, content}
+use Rattle.include_graph.specs.Sources.{LoadInput, content}
 use Rattle.include_graph.specs.Reach.{AreNamed, IsLeftOut, IsReachBy, all_named, first_place}
 use Rattle.include_graph.specs.Laws.{OneReach}
 use Rattle.include_graph.proofs.OneUnit.{AtMostOne, names_one}
@@ -39,7 +39,7 @@ slice_seam front key behind =
     slice_get-get_or (front ++ key ∷ behind) (length front) key (omega (arith, length-append front (key ∷ behind))) ∙ ap Some (get_or-append_seam front key behind key)
 
 -- what the files of keys name, where two lists have the same keys in front
-rows_same : AtMostOne → (given : Given) (front behind beside : Keys) (rows others : List Keys)
+rows_same : AtMostOne → (given : LoadInput) (front behind beside : Keys) (rows others : List Keys)
     → AreNamed given (front ++ behind) rows → AreNamed given (front ++ beside) others → take (length front) rows ≡ take (length front) others
 rows_same laws given front behind beside rows others named called =
     same_lists (take (length front) rows) (take (length front) others)
@@ -165,7 +165,7 @@ heads_same words front key behind next beside keys list rows others a =
     place_one early key next here there (omega (arith, one_key, one_next, other_key, other_next, less, more))
 
 -- two reaches with the same keys in front, with what the files of these name
-alike : AtMostOne → (given : Given) (front behind beside keys list : Keys) (rows others : List Keys) → AreNamed given keys rows → AreNamed given list others
+alike : AtMostOne → (given : LoadInput) (front behind beside keys list : Keys) (rows others : List Keys) → AreNamed given keys rows → AreNamed given list others
     → (one : IsReachBy given.words keys rows) (other : IsReachBy given.words list others) → one.further ≡ front ++ behind → other.further ≡ front ++ beside
     → Alike given.words front behind beside keys list rows others
 alike laws given front behind beside keys list rows others named called one other split parts =
@@ -182,7 +182,7 @@ alike laws given front behind beside keys list rows others named called one othe
     }
 
 -- and all that follows is the same
-agree : AtMostOne → (given : Given) (front behind beside keys list : Keys) (rows others : List Keys) → AreNamed given keys rows → AreNamed given list others
+agree : AtMostOne → (given : LoadInput) (front behind beside keys list : Keys) (rows others : List Keys) → AreNamed given keys rows → AreNamed given list others
     → (one : IsReachBy given.words keys rows) (other : IsReachBy given.words list others) → one.further ≡ front ++ behind → other.further ≡ front ++ beside → behind ≡ beside
 agree laws given front [] [] keys list rows others named called one other split parts = refl
 agree laws given front (key ∷ behind) [] keys list rows others named called one other split parts =

@@ -9,9 +9,9 @@ use Rattle.std.proofs.lemmas.List.Folds.{find-append}
 use Rattle.std.proofs.lemmas.List.Elements.{Contains-append_left, Contains-push}
 use Rattle.ipdl_base.specs.Outside.{FileMap}
 use Rattle.include_graph.specs.declared.content.Content.TheVariants as content
-use Rattle.include_graph.specs.declared.read.Found.{Found}
-use Rattle.include_graph.specs.declared.read.Found.TheVariants.{Bytes, Large, Absent}
-use Rattle.include_graph.specs.declared.read.Source.{Source}
+use Rattle.include_graph.specs.declared.read.FileBytes.{FileBytes}
+use Rattle.include_graph.specs.declared.read.FileBytes.TheVariants.{Bytes, Large, Absent}
+use Rattle.include_graph.specs.declared.read.SourceFile.{SourceFile}
 use Rattle.include_graph.specs.Keys.{is_same}
 use Rattle.include_graph.specs.Load.{ForMap}
 use Rattle.include_graph.specs.Reading.{IsContent, IsFound, IsSource}
@@ -27,7 +27,7 @@ more_than_read : (xs : List ℕ) × (length xs ≡ 1048577)
 more_than_read = long 1048577
 
 -- something has what a read found
-pub some_held : (found : Found) → (held : Option (List ℕ)) × IsFound held found
+pub some_held : (found : FileBytes) → (held : Option (List ℕ)) × IsFound held found
 some_held (Bytes bytes) = (Some bytes.items, refl)
 some_held Large = (Some more_than_read.0, record { bytes = more_than_read.0; has = refl; large = omega (arith, more_than_read.1) })
 some_held Absent = (None, refl)
@@ -42,7 +42,7 @@ for_some None p = p
 for_some (Some files) p = (files, p)
 
 -- a key that is read under a word
-pub of_word : (told : Option FileMap) (number : ℕ) (key word : List ℕ) (found : Found) (source : Source) → source.text ≡ word
+pub of_word : (told : Option FileMap) (number : ℕ) (key word : List ℕ) (found : FileBytes) (source : SourceFile) → source.text ≡ word
     → ((held : Option (List ℕ)) → IsFound held found → IsContent number key held source.content)
     → IfSome told (λ files. IsFound (files word) found)
     → ForMap told (λ files. IsSource number key files (Some word) source)
@@ -80,7 +80,7 @@ path_past files path more key name found =
     ∙ ap (λ o. option_or o (find (λ n. is_some (files n)) (map (λ d. in_directory d key) more))) found
 
 -- a file is found, unless it is absent
-held_some : (held : Option (List ℕ)) (found : Found) → found ≢ Absent → IsFound held found → (bytes : List ℕ) × (held ≡ Some bytes)
+held_some : (held : Option (List ℕ)) (found : FileBytes) → found ≢ Absent → IsFound held found → (bytes : List ℕ) × (held ≡ Some bytes)
 held_some held (Bytes bytes) there h = (bytes.items, h)
 held_some held Large there h = (h.bytes, h.has)
 held_some held Absent there h = absurd (there refl)
@@ -99,18 +99,18 @@ only_first name bytes (x ∷ xs) c = by_test (is_same x name)
     (λ e. rw e (only_first name bytes xs (in_tail x xs name c (λ h. true≢false (sym (rw h (is_itself name)) ∙ e)))))
 
 -- so of a key that is read under this name
-of_name : (number : ℕ) (key : List ℕ) (files : FileMap) (name : Option (List ℕ)) (source : Source) (n : List ℕ) → name ≡ Some n → source.text ≡ n → IsContent number key (files n) source.content → IsSource number key files name source
+of_name : (number : ℕ) (key : List ℕ) (files : FileMap) (name : Option (List ℕ)) (source : SourceFile) (n : List ℕ) → name ≡ Some n → source.text ≡ n → IsContent number key (files n) source.content → IsSource number key files name source
 of_name number key files name source n is called has = subst (λ o. IsSource number key files o source) (sym is) (record { called = called; content = has })
 
 -- a directory in which there is no file of the key
-pub none_step : (told : Option FileMap) (path : List (List ℕ)) (directory key : List ℕ) (found : Found) → found ≡ Absent
+pub none_step : (told : Option FileMap) (path : List (List ℕ)) (directory key : List ℕ) (found : FileBytes) → found ≡ Absent
     → IfSome told (λ files. name_on_path files path key ≡ None) → IfSome told (λ files. IsFound (files (in_directory directory key)) found)
     → IfSome told (λ files. name_on_path files (path ++ directory ∷ []) key ≡ None)
 none_step None path directory key found is none h = tt
 none_step (Some files) path directory key found is none h = none_more files path directory key none (subst (IsFound (files (in_directory directory key))) is h)
 
 -- the first directory in which there is one
-pub found_first : (told : Option FileMap) (number : ℕ) (path more : List (List ℕ)) (directory key : List ℕ) (found : Found) (source : Source) → found ≢ Absent → source.text ≡ in_directory directory key
+pub found_first : (told : Option FileMap) (number : ℕ) (path more : List (List ℕ)) (directory key : List ℕ) (found : FileBytes) (source : SourceFile) → found ≢ Absent → source.text ≡ in_directory directory key
     → ((held : Option (List ℕ)) → IsFound held found → IsContent number key held source.content)
     → IfSome told (λ files. name_on_path files path key ≡ None) → IfSome told (λ files. IsFound (files (in_directory directory key)) found)
     → ForMap told (λ files. IsSource number key files (name_on_path files ((path ++ directory ∷ []) ++ more) key) source)
@@ -136,7 +136,7 @@ never [] key = refl
 never (d ∷ path) key = never path key
 
 -- no directory in which there is one
-pub found_nowhere : (told : Option FileMap) (number : ℕ) (path : List (List ℕ)) (key : List ℕ) (source : Source) → source.text ≡ key → source.content ≡ content.Absent
+pub found_nowhere : (told : Option FileMap) (number : ℕ) (path : List (List ℕ)) (key : List ℕ) (source : SourceFile) → source.text ≡ key → source.content ≡ content.Absent
     → IfSome told (λ files. name_on_path files path key ≡ None) → ForMap told (λ files. IsSource number key files (name_on_path files path key) source)
 found_nowhere None number path key source called is none =
     let files : FileMap = λ _. None in

@@ -9,12 +9,12 @@ use Rattle.std.proofs.lemmas.List.Elements.{All-from_recursion, All-contains}
 use Rattle.std.proofs.lemmas.Option.{slice_get_within, slice_get-map, slice_get_read, slice_get_past, get_or_from_slice_get, same_Some}
 use Rattle.std.proofs.lemmas.Slice.Zip.{AllZip-long}
 use Rattle.ipdl_base.specs.Outside.{FileMap}
-use Rattle.include_graph.specs.declared.walk.Reached.{Reached}
+use Rattle.include_graph.specs.declared.walk.ReachedFile.{ReachedFile}
 use Rattle.include_graph.specs.Growth.{HasWords}
 use Rattle.include_graph.specs.Keys.{key_of, word_keys, IsFileWord, AreFileWords}
 use Rattle.include_graph.specs.Load.{ForMap}
 use Rattle.include_graph.specs.Reach.{IsReachBy}
-use Rattle.include_graph.specs.declared.read.Source.{Source}
+use Rattle.include_graph.specs.declared.read.SourceFile.{SourceFile}
 use Rattle.include_graph.specs.Reading.{AreRead, IsSource, rows_of}
 use Rattle.include_graph.specs.Sources.{word_of, name_on_path}
 use Rattle.include_graph.proofs.Combined.{together, there_is}
@@ -104,7 +104,7 @@ past_first words first firsts n h none =
     clash e = cc
 
 -- where all keys have their files, these are read, by the map that is told or by some map
-pub walk_end : (told : Option FileMap) (words path list : List (List ℕ)) (files : List Reached) → Walking told words path list files → length list ≤ length files
+pub walk_end : (told : Option FileMap) (words path list : List (List ℕ)) (files : List ReachedFile) → Walking told words path list files → length list ≤ length files
     → ForMap told (λ m. AreRead (record { files = m; words = words; path = path }) list files)
 walk_end told words path list files w all = whole told w
   where
@@ -137,7 +137,7 @@ walk_end told words path list files w all = whole told w
     }
 
 -- what came of a key, told of the same key in other words
-pub same_key : {t t' : Option FileMap} {n n' : ℕ} {k k' : List ℕ} {o o' : Option (List ℕ)} (path : List (List ℕ)) (source : Source) → t ≡ t' → n ≡ n' → k ≡ k' → o ≡ o'
+pub same_key : {t t' : Option FileMap} {n n' : ℕ} {k k' : List ℕ} {o o' : Option (List ℕ)} (path : List (List ℕ)) (source : SourceFile) → t ≡ t' → n ≡ n' → k ≡ k' → o ≡ o'
     → ForMap t (λ m. IsSource n k m (option_or o (name_on_path m path k)) source) → ForMap t' (λ m. IsSource n' k' m (option_or o' (name_on_path m path k')) source)
 same_key {t} {t'} {n} {n'} {k} {k'} {o} {o'} path source a b c d h =
     subst (λ x. ForMap t' (λ m. IsSource n' k' m (option_or x (name_on_path m path k')) source)) d

@@ -13,7 +13,7 @@ use Rattle.ipdl_lex.specs.Laws.{WordsHold}
 use Rattle.grammar_laws.specs.Laws.{NamesHold}
 use Rattle.include_graph.specs.declared.content.Content.{Content}
 use Rattle.include_graph.specs.declared.content.Content.TheVariants.{Absent, Large, BadToken, SyntaxFault, Read}
-use Rattle.include_graph.specs.declared.walk.Reached.{Reached}
+use Rattle.include_graph.specs.declared.walk.ReachedFile.{ReachedFile}
 use Rattle.include_graph.specs.declared.walk.Target.{Target}
 use Rattle.include_graph.specs.Growth.{add_key, add_keys}
 use Rattle.include_graph.specs.Keys.{is_same, word_keys}
@@ -29,16 +29,16 @@ use Rattle.include_graph.proofs.Targets.{get_append, targets_more}
 use Rattle.include_graph.proofs.WholeKeys.{IsWhole, keys_whole}
 
 -- what came of the key of a number
-pub record IsWalked (told : Option FileMap) (words path list : List (List ℕ)) (number : ℕ) (key : List ℕ) (file : Reached) : Type 0 where
+pub record IsWalked (told : Option FileMap) (words path list : List (List ℕ)) (number : ℕ) (key : List ℕ) (file : ReachedFile) : Type 0 where
   pub source : ForMap told (λ files. IsSource number key files (option_or (word_of words key) (name_on_path files path key)) file.source)
   pub targets : AreTargets list file.source.content file.targets.items
 
 -- The files of the first keys are read, and the keys are those that these name.
-pub record Walking (told : Option FileMap) (words path list : List (List ℕ)) (files : List Reached) : Type 0 where
+pub record Walking (told : Option FileMap) (words path list : List (List ℕ)) (files : List ReachedFile) : Type 0 where
   pub grown : Grown (word_keys words) list (all_named (rows_of files))
   pub earlier : (number : ℕ) (key : List ℕ) → slice_get list number ≡ Some key → Contains (word_keys words) key ⊎ Contains (all_named (take number (rows_of files))) key
   pub room : length files ≤ length list
-  pub each : (number : ℕ) (key : List ℕ) (file : Reached) → slice_get list number ≡ Some key → slice_get files number ≡ Some file → IsWalked told words path list number key file
+  pub each : (number : ℕ) (key : List ℕ) (file : ReachedFile) → slice_get list number ≡ Some key → slice_get files number ≡ Some file → IsWalked told words path list number key file
   pub whole : (number : ℕ) (key : List ℕ) → slice_get list number ≡ Some key → IsWhole key
   pub plain : (number : ℕ) (key : List ℕ) → slice_get list number ≡ Some key → length (word_keys words) ≤ number → IsAscii key
 
@@ -104,10 +104,10 @@ row_whole words names number key held (Read unit) h k c =
     let spelled = (words number h.bytes h.lexed h.tokens).0 in
     keys_whole unit.includes (names h.kind h.lexed.tokens unit spelled h.tree).includes k c
 
-rows_push : (files : List Reached) (file : Reached) → rows_of (files ++ file ∷ []) ≡ rows_of files ++ row_of file.source.content ∷ []
-rows_push files file = map-append (λ (f : Reached). row_of f.source.content) files (file ∷ [])
+rows_push : (files : List ReachedFile) (file : ReachedFile) → rows_of (files ++ file ∷ []) ≡ rows_of files ++ row_of file.source.content ∷ []
+rows_push files file = map-append (λ (f : ReachedFile). row_of f.source.content) files (file ∷ [])
 
-named_push : (files : List Reached) (file : Reached) → all_named (rows_of (files ++ file ∷ [])) ≡ all_named (rows_of files) ++ row_of file.source.content
+named_push : (files : List ReachedFile) (file : ReachedFile) → all_named (rows_of (files ++ file ∷ [])) ≡ all_named (rows_of files) ++ row_of file.source.content
 named_push files file =
     ap all_named (rows_push files file) ∙ flat_map-append (λ row. row) (rows_of files) (row_of file.source.content ∷ [])
     ∙ ap (λ ks. all_named (rows_of files) ++ ks) (append-nil (row_of file.source.content))
@@ -123,13 +123,13 @@ take_named (row ∷ rows) more (suc n) key c = elim (Contains-append_cases row (
 ]
 
 -- one more file is read
-pub walk_more : WordsHold → NamesHold → (told : Option FileMap) (words path list new : List (List ℕ)) (files all : List Reached) (key : List ℕ) (file : Reached)
+pub walk_more : WordsHold → NamesHold → (told : Option FileMap) (words path list new : List (List ℕ)) (files all : List ReachedFile) (key : List ℕ) (file : ReachedFile)
     → Walking told words path list files → slice_get list (length files) ≡ Some key
     → ForMap told (λ map'. IsSource (length files) key map' (option_or (word_of words key) (name_on_path map' path key)) file.source)
     → new ≡ add_keys list (row_of file.source.content) → AreTargets new file.source.content file.targets.items → all ≡ files ++ file ∷ []
     → Walking told words path new all
 walk_more words_law names_law told words path list new files all key file w at source grows targets is =
-    subst (λ (fs : List Reached). Walking told words path new fs) (sym is) (subst (λ ks. Walking told words path ks (files ++ file ∷ [])) (sym grows) step)
+    subst (λ (fs : List ReachedFile). Walking told words path new fs) (sym is) (subst (λ ks. Walking told words path ks (files ++ file ∷ [])) (sym grows) step)
   where
     row : List (List ℕ)
     row = row_of file.source.content
@@ -140,11 +140,11 @@ walk_more words_law names_law told words path list new files all key file w at s
     within : length files < length list
     within = slice_get_within list (length files) key at
 
-    last_walked : (number : ℕ) (k : List ℕ) (f : Reached) → number ≡ length files → file ≡ f → slice_get (add_keys list row) number ≡ Some k → IsWalked told words path (add_keys list row) number k f
+    last_walked : (number : ℕ) (k : List ℕ) (f : ReachedFile) → number ≡ length files → file ≡ f → slice_get (add_keys list row) number ≡ Some k → IsWalked told words path (add_keys list row) number k f
     last_walked number k f n same e =
         let k_is : key ≡ k = same_Some _ _ (sym (key_more list row (length files) key at) ∙ (ap (slice_get (add_keys list row)) (sym n) ∙ e)) in
         let here : IsWalked told words path (add_keys list row) (length files) key file = record { source = source; targets = subst (λ ks. AreTargets ks file.source.content file.targets.items) grows targets } in
-        subst (λ (g : Reached). IsWalked told words path (add_keys list row) number k g) same
+        subst (λ (g : ReachedFile). IsWalked told words path (add_keys list row) number k g) same
         (subst (λ m. IsWalked told words path (add_keys list row) m k file) (sym n)
         (subst (λ x. IsWalked told words path (add_keys list row) (length files) x file) k_is here))
 
@@ -157,7 +157,7 @@ walk_more words_law names_law told words path list new files all key file w at s
           | inr named ↦ inr (subst (λ rs. Contains (all_named (take number rs)) k) (sym (rows_push files file)) (take_named (rows_of files) (row ∷ []) number k named))
         ]
         | inr late ↦ inr (
-            let past : length (rows_of (files ++ file ∷ [])) ≤ number = (let a = late.0 in omega (arith, within, length-map (files ++ file ∷ []) (λ (f : Reached). row_of f.source.content), length-append files (file ∷ []))) in
+            let past : length (rows_of (files ++ file ∷ [])) ≤ number = (let a = late.0 in omega (arith, within, length-map (files ++ file ∷ []) (λ (f : ReachedFile). row_of f.source.content), length-append files (file ∷ []))) in
             subst (λ rs. Contains (all_named rs) k) (sym (take_all number (rows_of (files ++ file ∷ [])) past))
             (subst (λ ks. Contains ks k) (sym (named_push files file)) (Contains-append_right (all_named (rows_of files)) row k late.1)))
       ];

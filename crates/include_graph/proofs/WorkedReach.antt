@@ -8,7 +8,7 @@ use Rattle.std.proofs.lemmas.Option.{same_Some, slice_get_within, get_or_from_sl
 use Rattle.ipdl_base.specs.Outside.{FileMap}
 use Rattle.include_graph.specs.Keys.{key_of, is_same, word_keys}
 use Rattle.include_graph.specs.Reach.{all_named, first_place, IsReachBy}
-use Rattle.include_graph.specs.Sources.{Given, in_directory, read_name, content, text_of}
+use Rattle.include_graph.specs.Sources.{LoadInput, in_directory, read_name, content, text_of}
 
 -- Keys
 
@@ -30,7 +30,7 @@ the_dot = refl
 abbrev two : FileMap
 two name = if is_same name (codes "two/PY.ipdl") then Some (codes "y") else None
 
-abbrev given : Given
+abbrev given : LoadInput
 given = record { files = two; words = codes "one/PX.ipdl" ∷ []; path = codes "one" ∷ codes "two" ∷ codes "." ∷ [] }
 
 -- a word is the name of its key, though there is no such file, and though the path might have one

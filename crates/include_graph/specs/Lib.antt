@@ -1,9 +1,9 @@
-pub mod Found
+pub mod Additions
 pub mod Growth
 pub mod Keys
 pub mod Laws
 pub mod Load
-pub mod Outcome
+pub mod LoadOutcome
 pub mod Reach
 pub mod Reading
 pub mod Rules

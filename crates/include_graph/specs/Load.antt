@@ -6,7 +6,7 @@ use Rattle.ipdl_syntax.specs.declared.program.Entry.{Entry}
 use Rattle.findings.specs.Report.{IsReport}
 use Rattle.include_graph.specs.declared.loader.LoadFault.{LoadFault}
 use Rattle.include_graph.specs.declared.loader.LoadFault.TheVariants.{Broken, ReadFault, NoMemory}
-use Rattle.include_graph.specs.Sources.{Given, IsReadUnder, content, text_of}
+use Rattle.include_graph.specs.Sources.{LoadInput, IsReadUnder, content, text_of}
 use Rattle.include_graph.specs.Reach.{IsUnitOf, IsReach}
 use Rattle.include_graph.specs.Rules.{IsBroken}
 
@@ -20,18 +20,18 @@ abbrev pub keys_of : List Entry → List (List ℕ)
 keys_of program = map (λ e. e.key) program
 
 -- the entry of this number is that of the file of its key
-pub record IsEntryOf (given : Given) (number : ℕ) (entry : Entry) : Type 0 where
+pub record IsEntryOf (given : LoadInput) (number : ℕ) (entry : Entry) : Type 0 where
   pub name : IsReadUnder given entry.key entry.name
   pub unit : IsUnitOf number entry.key (content given entry.key) entry.unit
 
 -- The program of the reach, by which no rule is broken.
-pub record IsProgramOf (given : Given) (program : List Entry) : Type 0 where
+pub record IsProgramOf (given : LoadInput) (program : List Entry) : Type 0 where
   pub reach : IsReach given (keys_of program)
   pub clean : (f : Finding) → ¬ IsBroken given (keys_of program) f
   pub entries : (number : ℕ) (entry : Entry) → slice_get program number ≡ Some entry → IsEntryOf given number entry
 
 -- The report, which is not empty, on the files of the reach, and how it calls each of them.
-pub record IsReportOf (given : Given) (findings : List Finding) (texts : List (List ℕ)) : Type 0 where
+pub record IsReportOf (given : LoadInput) (findings : List Finding) (texts : List (List ℕ)) : Type 0 where
   pub keys : List (List ℕ)
   pub reach : IsReach given keys
   pub report : IsReport (IsBroken given keys) findings
@@ -39,11 +39,11 @@ pub record IsReportOf (given : Given) (findings : List Finding) (texts : List (L
   pub called : texts ≡ map (text_of given) keys
 
 -- why there is no program: the report on the files; a failed read and want of memory have causes of their own
-abbrev pub IsFaultOf : Given → LoadFault → Type 0
+abbrev pub IsFaultOf : LoadInput → LoadFault → Type 0
 IsFaultOf given (Broken findings texts) = IsReportOf given findings texts
 IsFaultOf given ReadFault = Unit {0}
 IsFaultOf given NoMemory = Unit {0}
 
 -- The answer: the program where no rule is broken, and else the report.
-abbrev pub IsAnswer : Given → Result (List Entry) LoadFault → Type 0
+abbrev pub IsAnswer : LoadInput → Result (List Entry) LoadFault → Type 0
 IsAnswer given answer = MatchResult answer (IsProgramOf given) (IsFaultOf given)

@@ -8,7 +8,7 @@ use Rattle.ipdl_syntax.specs.declared.tree.Unit.{Unit as FileUnit}
 use Rattle.ipdl_syntax.specs.Program.{Tree}
 use Rattle.ipdl_syntax.specs.Programs.{named_keys}
 use Rattle.include_graph.specs.Keys.{HasKind, is_same, word_keys}
-use Rattle.include_graph.specs.Sources.{Given, content}
+use Rattle.include_graph.specs.Sources.{LoadInput, content}
 
 -- The file of this key has this tree, where it is read as the file of this number and holds these bytes, if any.
 pub record IsUnitOf (number : ℕ) (key : List ℕ) (held : Option (List ℕ)) (unit : FileUnit) : Type 0 where
@@ -28,7 +28,7 @@ Names number key held named =
     ⊎ (((unit : FileUnit) → ¬ IsUnitOf number key held unit) × (named ≡ []))
 
 -- each row is what the file of the key at its place names
-pub record AreNamed (given : Given) (keys : List (List ℕ)) (rows : List (List (List ℕ))) : Type 0 where
+pub record AreNamed (given : LoadInput) (keys : List (List ℕ)) (rows : List (List (List ℕ))) : Type 0 where
   pub size : length rows ≡ length keys
   pub each : (number : ℕ) (key : List ℕ) (row : List (List ℕ)) → slice_get keys number ≡ Some key → slice_get rows number ≡ Some row → Names number key (content given key) row
 
@@ -58,7 +58,7 @@ pub record IsReachBy (words keys : List (List ℕ)) (rows : List (List (List ℕ
   pub whole : (key : List ℕ) → Contains (all_named rows) key → Contains keys key ⊎ IsLeftOut keys further (all_named rows) key
 
 -- The keys are the reach: what the words reach by what the files of the keys name.
-pub record IsReach (given : Given) (keys : List (List ℕ)) : Type 0 where
+pub record IsReach (given : LoadInput) (keys : List (List ℕ)) : Type 0 where
   pub rows : List (List (List ℕ))
   pub named : AreNamed given keys rows
   pub reached : IsReachBy given.words keys rows

@@ -13,14 +13,14 @@ use Rattle.ipdl_syntax.specs.Programs.{named_key, named_keys}
 use Rattle.ipdl_parse.specs.Place.{HasTree, IsSyntaxPlace, IsPlaceAt}
 use Rattle.include_graph.specs.declared.content.Content.{Content}
 use Rattle.include_graph.specs.declared.content.Content.TheVariants.{Absent, Large, BadToken, SyntaxFault, Read}
-use Rattle.include_graph.specs.declared.read.Found.{Found}
-use Rattle.include_graph.specs.declared.read.Found.TheVariants as found
-use Rattle.include_graph.specs.declared.read.Source.{Source}
-use Rattle.include_graph.specs.declared.walk.Reached.{Reached}
+use Rattle.include_graph.specs.declared.read.FileBytes.{FileBytes}
+use Rattle.include_graph.specs.declared.read.FileBytes.TheVariants as found
+use Rattle.include_graph.specs.declared.read.SourceFile.{SourceFile}
+use Rattle.include_graph.specs.declared.walk.ReachedFile.{ReachedFile}
 use Rattle.include_graph.specs.declared.walk.Target.{Target}
 use Rattle.include_graph.specs.declared.walk.Target.TheVariants.{Nothing, LeftOut, File}
 use Rattle.include_graph.specs.Growth.{HasWords}
-use Rattle.include_graph.specs.Sources.{Given, word_of, name_on_path, content}
+use Rattle.include_graph.specs.Sources.{LoadInput, word_of, name_on_path, content}
 use Rattle.include_graph.specs.Reach.{IsUnitOf, IsReachBy}
 use Rattle.include_graph.specs.Rules.{HasBadToken, HasSyntaxFault, IsLarge}
 
@@ -41,13 +41,13 @@ IsContent number key held (SyntaxFault place) = HasSyntaxFault number key held p
 IsContent number key held (Read unit) = IsUnitOf number key held unit
 
 -- what a read of a name found, by what the name has
-abbrev pub IsFound : Option (List ℕ) → Found → Type 0
+abbrev pub IsFound : Option (List ℕ) → FileBytes → Type 0
 IsFound held (found.Bytes bytes) = held ≡ Some bytes.items
 IsFound held found.Large = IsLarge held
 IsFound held found.Absent = held ≡ None
 
 -- what came of a key that is read under this name, if any
-pub record IsSource (number : ℕ) (key : List ℕ) (files : FileMap) (name : Option (List ℕ)) (source : Source) : Type 0 where
+pub record IsSource (number : ℕ) (key : List ℕ) (files : FileMap) (name : Option (List ℕ)) (source : SourceFile) : Type 0 where
   pub called : source.text ≡ unwrap_or name key
   pub content : IsContent number key (option_and_then files name) source.content
 
@@ -74,22 +74,22 @@ row_of (SyntaxFault place) = []
 row_of (Read unit) = named_keys unit.includes
 
 -- the keys that files name
-abbrev pub rows_of : List Reached → List (List (List ℕ))
+abbrev pub rows_of : List ReachedFile → List (List (List ℕ))
 rows_of files = map (λ f. row_of f.source.content) files
 
 -- what came of the key of this number among these keys
-pub record IsReached (given : Given) (keys : List (List ℕ)) (number : ℕ) (key : List ℕ) (file : Reached) : Type 0 where
+pub record IsReached (given : LoadInput) (keys : List (List ℕ)) (number : ℕ) (key : List ℕ) (file : ReachedFile) : Type 0 where
   pub source : IsSource number key given.files (option_or (word_of given.words key) (name_on_path given.files given.path key)) file.source
   pub targets : AreTargets keys file.source.content file.targets.items
 
 -- the files of these keys are read, and the keys are the reach
-pub record AreRead (given : Given) (keys : List (List ℕ)) (files : List Reached) : Type 0 where
+pub record AreRead (given : LoadInput) (keys : List (List ℕ)) (files : List ReachedFile) : Type 0 where
   pub size : length files ≡ length keys
-  pub each : (number : ℕ) (key : List ℕ) (file : Reached) → slice_get keys number ≡ Some key → slice_get files number ≡ Some file → IsReached given keys number key file
+  pub each : (number : ℕ) (key : List ℕ) (file : ReachedFile) → slice_get keys number ≡ Some key → slice_get files number ≡ Some file → IsReached given keys number key file
   pub reached : IsReachBy given.words keys (rows_of files)
 
 -- the files of these keys are read, and so many keys are those of words
-pub record IsGathered (given : Given) (count : ℕ) (keys : List (List ℕ)) (files : List Reached) : Type 0 where
+pub record IsGathered (given : LoadInput) (count : ℕ) (keys : List (List ℕ)) (files : List ReachedFile) : Type 0 where
   pub first : List (List ℕ)
   pub firsts : List (List ℕ)
   pub words : HasWords given.words first firsts
@@ -111,14 +111,14 @@ abbrev pub IsOfTree : Content → Type 0
 IsOfTree content = (unit : FileUnit) × (content ≡ Read unit)
 
 -- the entry is made of the key and what came of it
-pub record IsEntryFrom (key : List ℕ) (file : Reached) (entry : Entry) : Type 0 where
+pub record IsEntryFrom (key : List ℕ) (file : ReachedFile) (entry : Entry) : Type 0 where
   pub has_key : entry.key ≡ key
   pub name : entry.name ≡ file.source.text
   pub unit : file.source.content ≡ Read entry.unit
   pub includes : entry.includes ≡ numbers_of file.targets.items
 
 -- each entry is made of the key and the file at its place
-abbrev pub AreEntriesFrom : List (List ℕ) → List Reached → List Entry → Type 0
+abbrev pub AreEntriesFrom : List (List ℕ) → List ReachedFile → List Entry → Type 0
 AreEntriesFrom [] [] [] = Unit {0}
 AreEntriesFrom (key ∷ keys) (file ∷ files) (entry ∷ program) = IsEntryFrom key file entry × AreEntriesFrom keys files program
 AreEntriesFrom _ _ _ = ⊥

@@ -15,7 +15,7 @@ use Rattle.ipdl_syntax.specs.declared.tree.Unit.{Unit as FileUnit}
 use Rattle.ipdl_syntax.specs.Programs.{ending, named_key}
 use Rattle.ipdl_parse.specs.Place.{HasTree, IsSyntaxPlace, IsPlaceAt}
 use Rattle.include_graph.specs.Keys.{HasKind}
-use Rattle.include_graph.specs.Sources.{Given, word_of, content, IsAbsent}
+use Rattle.include_graph.specs.Sources.{LoadInput, word_of, content, IsAbsent}
 use Rattle.include_graph.specs.Reach.{IsUnitOf}
 
 -- a file as a whole
@@ -64,7 +64,7 @@ abbrev pub OfFile : List (List ℕ) → (ℕ → List ℕ → Type 0) → Type 0
 OfFile keys Holds = (number : ℕ) × (key : List ℕ) × (slice_get keys number ≡ Some key) × Holds number key
 
 -- this holds of the key of one of the files and of its tree
-abbrev pub OfUnit : Given → List (List ℕ) → (List ℕ → FileUnit → Type 0) → Type 0
+abbrev pub OfUnit : LoadInput → List (List ℕ) → (List ℕ → FileUnit → Type 0) → Type 0
 OfUnit given keys Holds = OfFile keys (λ number key. (unit : FileUnit) × IsUnitOf number key (content given key) unit × Holds key unit)
 
 -- an include at this place names a key of which this holds
@@ -76,31 +76,31 @@ abbrev pub IsMisnamedAt : Place → List ℕ → FileUnit → Type 0
 IsMisnamedAt place key unit = IsSomeAnd unit.protocol (λ p. (p.place ≡ place) × (short_name p.full ++ ending file.Protocol ≢ key))
 
 -- a file has no tokens
-abbrev pub IsBadToken : Given → List (List ℕ) → Place → Type 0
+abbrev pub IsBadToken : LoadInput → List (List ℕ) → Place → Type 0
 IsBadToken given keys place = OfFile keys (λ number key. HasBadToken number (content given key) place)
 
 -- a file has tokens that have no tree
-abbrev pub IsSyntaxFault : Given → List (List ℕ) → Place → Type 0
+abbrev pub IsSyntaxFault : LoadInput → List (List ℕ) → Place → Type 0
 IsSyntaxFault given keys place = OfFile keys (λ number key. HasSyntaxFault number key (content given key) place)
 
 -- A word names no file, or an include names a key of the list that has none.
-abbrev pub IsNotFound : Given → List (List ℕ) → Place → Type 0
+abbrev pub IsNotFound : LoadInput → List (List ℕ) → Place → Type 0
 IsNotFound given keys place =
     OfFile keys (λ number key. IsSome (word_of given.words key) × IsAbsent given key × (place ≡ whole_file number))
     ⊎ OfUnit given keys (λ _. IncludesAt place (λ key. Contains keys key × IsAbsent given key))
 
 -- a protocol has another name than its file
-abbrev pub IsMisnamed : Given → List (List ℕ) → Place → Type 0
+abbrev pub IsMisnamed : LoadInput → List (List ℕ) → Place → Type 0
 IsMisnamed given keys place = OfUnit given keys (IsMisnamedAt place)
 
 -- A file has more bytes than are read, or an include names a key that is not in the list.
-abbrev pub IsTooLarge : Given → List (List ℕ) → Place → Type 0
+abbrev pub IsTooLarge : LoadInput → List (List ℕ) → Place → Type 0
 IsTooLarge given keys place =
     OfFile keys (λ number key. IsLarge (content given key) × (place ≡ whole_file number))
     ⊎ OfUnit given keys (λ _. IncludesAt place (λ key. ¬ Contains keys key))
 
 -- the finding holds of the files of these keys: its rule is broken at its place
-abbrev pub IsBroken : Given → List (List ℕ) → Finding → Type 0
+abbrev pub IsBroken : LoadInput → List (List ℕ) → Finding → Type 0
 IsBroken given keys f =
     ((f.rule ≡ rule.BAD_TOKEN) × IsBadToken given keys f.place)
     ⊎ (((f.rule ≡ rule.SYNTAX_FAULT) × IsSyntaxFault given keys f.place)

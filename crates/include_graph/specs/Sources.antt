@@ -5,7 +5,7 @@ use Rattle.ipdl_base.specs.Outside.{FileMap}
 use Rattle.include_graph.specs.Keys.{key_of, is_same}
 
 -- what a load is given: what each name has, the words of the command, and the path
-pub record Given : Type 0 where
+pub record LoadInput : Type 0 where
   pub files : FileMap
   pub words : List (List ℕ)
   pub path : List (List ℕ)
@@ -24,20 +24,20 @@ name_on_path files path key = find (λ name. is_some (files name)) (map (λ dire
 
 -- the name under which a key is read: the word that has the key, whether or not there is such a file; where no word
 -- has it, the first name on the path at which there is one
-abbrev pub read_name : Given → List ℕ → Option (List ℕ)
+abbrev pub read_name : LoadInput → List ℕ → Option (List ℕ)
 read_name given key = option_or (word_of given.words key) (name_on_path given.files given.path key)
 
-abbrev pub IsReadUnder : Given → List ℕ → List ℕ → Type 0
+abbrev pub IsReadUnder : LoadInput → List ℕ → List ℕ → Type 0
 IsReadUnder given key name = read_name given key ≡ Some name
 
 -- what the file of a key has
-abbrev pub content : Given → List ℕ → Option (List ℕ)
+abbrev pub content : LoadInput → List ℕ → Option (List ℕ)
 content given key = option_and_then given.files (read_name given key)
 
 -- the key has no file
-abbrev pub IsAbsent : Given → List ℕ → Type 0
+abbrev pub IsAbsent : LoadInput → List ℕ → Type 0
 IsAbsent given key = content given key ≡ None
 
 -- how a report calls the file of a key: by the name under which it is read, or by the key where there is none
-abbrev pub text_of : Given → List ℕ → List ℕ
+abbrev pub text_of : LoadInput → List ℕ → List ℕ
 text_of given key = unwrap_or (read_name given key) key

@@ -4,8 +4,8 @@ ghost use Rattle.ipdl_syntax.specs.Programs.{IsProgram, BearTheirNames};
 ghost use Rattle.include_graph.specs.Keys.{AreFileWords};
 ghost use Rattle.include_graph.specs.Load.{ForMap, IsAnswer};
 
-use crate::outcome::{Outcome, outcome_of};
-use crate::read::Stop;
+use crate::outcome::{LoadOutcome, outcome_of};
+use crate::read::ReadStop;
 use crate::walk::gather;
 use ipdl_base::{Files, Findings, Texts};
 use ipdl_syntax::Program;
@@ -49,11 +49,11 @@ pub fn load<F: Files>(
 {
     match gather(alloc, files, names, path) {
         Ok(gathered) => match outcome_of(alloc, gathered) {
-            Ok(Outcome::Whole(program)) => Ok(program),
-            Ok(Outcome::Report(findings, texts)) => Err(LoadFault::Broken(findings, texts)),
+            Ok(LoadOutcome::Whole(program)) => Ok(program),
+            Ok(LoadOutcome::Report(findings, texts)) => Err(LoadFault::Broken(findings, texts)),
             Err(_) => Err(LoadFault::NoMemory),
         },
-        Err(Stop::ReadFault) => Err(LoadFault::ReadFault),
-        Err(Stop::NoMemory) => Err(LoadFault::NoMemory),
+        Err(ReadStop::ReadFault) => Err(LoadFault::ReadFault),
+        Err(ReadStop::NoMemory) => Err(LoadFault::NoMemory),
     }
 }

@@ -4,8 +4,8 @@ ghost use Rattle.include_graph.specs.declared.content.Content.TheVariants.{Read}
 ghost use Rattle.include_graph.specs.Reading.{numbers_of as the_numbers_of, IsOfTree, IsEntryFrom, AreEntriesFrom};
 
 use crate::content::Content;
-use crate::read::Source;
-use crate::walk::{Reached, Target};
+use crate::read::SourceFile;
+use crate::walk::{ReachedFile, Target};
 use indexmap::IndexSet;
 use ipdl_base::{Items, Name, Numbers, Texts};
 use ipdl_syntax::{Entry, Program, Unit};
@@ -36,13 +36,13 @@ fn unit_of(content: Content) -> Unit
 }
 
 /// The entry of a key by what came of it, which has a tree.
-fn entry_of(alloc: Global, key: Name, file: Reached) -> Result<Entry, AllocError>
+fn entry_of(alloc: Global, key: Name, file: ReachedFile) -> Result<Entry, AllocError>
     requires { IsOfTree file.source.content }
     ensures { IfOk result (IsEntryFrom key file) }
 {
-    let Reached { source, targets } = file;
+    let ReachedFile { source, targets } = file;
     let includes = numbers_of(alloc, targets.as_slice())?;
-    let Source { text, content } = source;
+    let SourceFile { text, content } = source;
     Ok(Entry {
         key,
         name: text,
@@ -55,7 +55,7 @@ fn entry_of(alloc: Global, key: Name, file: Reached) -> Result<Entry, AllocError
 pub fn program_of(
     alloc: Global,
     keys: IndexSet<Name>,
-    files: Vec<Reached>,
+    files: Vec<ReachedFile>,
 ) -> Result<Program, AllocError>
     requires size { length files.items ≡ length keys.keys }
     requires trees { AllByRecursion (λ f. IsOfTree f.source.content) files.items }
@@ -75,16 +75,16 @@ pub fn program_of(
 }
 
 /// How a report calls a file.
-fn text_of(file: Reached) -> Name
+fn text_of(file: ReachedFile) -> Name
     ensures { result ≡ file.source.text }
 {
-    let Reached { source, .. } = file;
-    let Source { text, .. } = source;
+    let ReachedFile { source, .. } = file;
+    let SourceFile { text, .. } = source;
     text
 }
 
 /// How a report calls the files.
-pub fn texts_of(alloc: Global, files: Vec<Reached>) -> Result<Texts, AllocError>
+pub fn texts_of(alloc: Global, files: Vec<ReachedFile>) -> Result<Texts, AllocError>
     ensures { IfOk result (λ texts. texts ≡ map (λ f. f.source.text) files.items) }
 {
     let mut texts = Vec::new(alloc);

@@ -13,26 +13,26 @@ use std::alloc::{AllocError, Global};
 
 /// Why files are read no further.
 #[derive(Clone, Copy)]
-pub enum Stop {
+pub enum ReadStop {
     /// A read failed.
     ReadFault,
     /// Memory ran out.
     NoMemory,
 }
 
-impl From<AllocError> for Stop {
-    ghost use Rattle.include_graph.specs.declared.read.Stop.TheVariants.{NoMemory};
+impl From<AllocError> for ReadStop {
+    ghost use Rattle.include_graph.specs.declared.read.ReadStop.TheVariants.{NoMemory};
 
     ghost from_gives = { λ _ stop. stop ≡ NoMemory };
 
-    fn from(_error: AllocError) -> Stop {
-        Stop::NoMemory
+    fn from(_error: AllocError) -> ReadStop {
+        ReadStop::NoMemory
     }
 }
 
 /// What stands at a name.
 #[derive(Drop)]
-pub enum Found {
+pub enum FileBytes {
     /// A file with these bytes.
     Bytes(Vec<u8>),
     /// A file with more bytes than are read.
@@ -43,25 +43,25 @@ pub enum Found {
 
 /// What came of a key.
 #[derive(Drop)]
-pub struct Source {
+pub struct SourceFile {
     /// The name under which it was read, or the key where it was read under none.
     pub text: Name,
     pub content: Content,
 }
 
 /// Reads a name.
-fn read_name<F: Files>(alloc: Global, files: &mut F, name: &str) -> Result<Found, Stop>
+fn read_name<F: Files>(alloc: Global, files: &mut F, name: &str) -> Result<FileBytes, ReadStop>
     ensures found { IfOk result (λ found. IfSome (F.told files.old) (λ map'. IsFound (map' name.now) found)) }
     ensures told { F.told files.new ≡ F.told files.old }
     ensures count { F.faults files.old ≤ F.faults files.new }
-    ensures read_fault { result ≡ Err Stop.ReadFault → Rose (F.faults files.old) (F.faults files.new) }
+    ensures read_fault { result ≡ Err ReadStop.ReadFault → Rose (F.faults files.old) (F.faults files.new) }
 {
     match files.read(alloc, name, MOST_BYTES) {
-        ReadAnswer::Bytes(bytes) => Ok(Found::Bytes(bytes)),
-        ReadAnswer::Larger => Ok(Found::Large),
-        ReadAnswer::Absent => Ok(Found::Absent),
-        ReadAnswer::Failed => Err(Stop::ReadFault),
-        ReadAnswer::NoMemory => Err(Stop::NoMemory),
+        ReadAnswer::Bytes(bytes) => Ok(FileBytes::Bytes(bytes)),
+        ReadAnswer::Larger => Ok(FileBytes::Large),
+        ReadAnswer::Absent => Ok(FileBytes::Absent),
+        ReadAnswer::Failed => Err(ReadStop::ReadFault),
+        ReadAnswer::NoMemory => Err(ReadStop::NoMemory),
     }
 }
 
@@ -70,15 +70,15 @@ fn content_of_found(
     alloc: Global,
     number: u32,
     key: &[u8],
-    found: &Found,
+    found: &FileBytes,
 ) -> Result<Content, AllocError>
     requires { IsFileWord key.now }
     ensures { IfOk result (λ content. (held : Option (List ℕ)) → IsFound held found.now → IsContent number key.now held content) }
 {
     match found {
-        Found::Bytes(bytes) => content_of_bytes(alloc, number, key, bytes.as_slice()),
-        Found::Large => Ok(Content::Large),
-        Found::Absent => Ok(Content::Absent),
+        FileBytes::Bytes(bytes) => content_of_bytes(alloc, number, key, bytes.as_slice()),
+        FileBytes::Large => Ok(Content::Large),
+        FileBytes::Absent => Ok(Content::Absent),
     }
 }
 
@@ -89,16 +89,16 @@ fn read_word<F: Files>(
     word: &str,
     key: &[u8],
     number: u32,
-) -> Result<Source, Stop>
+) -> Result<SourceFile, ReadStop>
     requires { IsFileWord key.now }
     ensures source { IfOk result (λ source. ForMap (F.told files.old) (λ files'. IsSource number key.now files' (Some word.now) source)) }
     ensures told { F.told files.new ≡ F.told files.old }
     ensures count { F.faults files.old ≤ F.faults files.new }
-    ensures read_fault { result ≡ Err Stop.ReadFault → Rose (F.faults files.old) (F.faults files.new) }
+    ensures read_fault { result ≡ Err ReadStop.ReadFault → Rose (F.faults files.old) (F.faults files.new) }
 {
     let found = read_name(alloc, files, word)?;
     let content = content_of_found(alloc, number, key, &found)?;
-    Ok(Source {
+    Ok(SourceFile {
         text: Items::from_vec(Vec::from_slice(alloc, word.as_bytes())?),
         content,
     })
@@ -124,13 +124,13 @@ fn read_on_path<F: Files>(
     path: &[String],
     key: &[u8],
     number: u32,
-) -> Result<Source, Stop>
+) -> Result<SourceFile, ReadStop>
     requires word { IsFileWord key.now }
     requires utf8 { IsUtf8 key.now }
     ensures source { IfOk result (λ source. ForMap (F.told files.old) (λ files'. IsSource number key.now files' (name_on_path files' (map string_bytes path.now) key.now) source)) }
     ensures told { F.told files.new ≡ F.told files.old }
     ensures count { F.faults files.old ≤ F.faults files.new }
-    ensures read_fault { result ≡ Err Stop.ReadFault → Rose (F.faults files.old) (F.faults files.new) }
+    ensures read_fault { result ≡ Err ReadStop.ReadFault → Rose (F.faults files.old) (F.faults files.new) }
 {
     let Ok(text) = str::from_utf8(key) else {
         unreachable!()
@@ -138,17 +138,17 @@ fn read_on_path<F: Files>(
     for directory in path {
         let name = in_directory(alloc, directory.as_str(), text)?;
         match read_name(alloc, files, name.as_str())? {
-            Found::Absent => {}
+            FileBytes::Absent => {}
             found => {
                 let content = content_of_found(alloc, number, key, &found)?;
-                return Ok(Source {
+                return Ok(SourceFile {
                     text: Items::from_vec(name.into_bytes()),
                     content,
                 });
             }
         }
     }
-    Ok(Source {
+    Ok(SourceFile {
         text: Items::from_vec(Vec::from_slice(alloc, key)?),
         content: Content::Absent,
     })
@@ -162,13 +162,13 @@ pub fn read_key<F: Files>(
     path: &[String],
     key: &[u8],
     number: u32,
-) -> Result<Source, Stop>
+) -> Result<SourceFile, ReadStop>
     requires word { IsFileWord key.now }
     requires utf8 { option_copied word ≡ None → IsUtf8 key.now }
     ensures source { IfOk result (λ source. ForMap (F.told files.old) (λ files'. IsSource number key.now files' (option_or (option_copied word.entry) (name_on_path files' (map string_bytes path.now) key.now)) source)) }
     ensures told { F.told files.new ≡ F.told files.old }
     ensures count { F.faults files.old ≤ F.faults files.new }
-    ensures read_fault { result ≡ Err Stop.ReadFault → Rose (F.faults files.old) (F.faults files.new) }
+    ensures read_fault { result ≡ Err ReadStop.ReadFault → Rose (F.faults files.old) (F.faults files.new) }
 {
     match word {
         Some(word) => read_word(alloc, files, word, key, number),

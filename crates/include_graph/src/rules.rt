@@ -1,12 +1,12 @@
 ghost use Rattle.std.specs.Prelude.{◌≡◌, ◌↔◌, ◌≤◌, ℕ, IfOk, OnOk, IsTrue, length};
 ghost use Rattle.std.specs.List.{Contains};
 ghost use Rattle.ipdl_base.specs.declared.finding.Finding.{Finding};
-ghost use Rattle.include_graph.specs.Found.{finding_at, Gains, is_absent_at, IsFoundFor, IsFoundAmong, IsFoundOfName, IsFoundIn, IsFoundOf};
+ghost use Rattle.include_graph.specs.Additions.{finding_at, Gains, is_absent_at, IsFoundFor, IsFoundAmong, IsFoundOfName, IsFoundIn, IsFoundOf};
 ghost use Rattle.include_graph.specs.Rules.{whole_file as the_whole_file};
 
 use crate::content::Content;
 use crate::keys::bears_name;
-use crate::walk::{Reached, Target};
+use crate::walk::{ReachedFile, Target};
 use ipdl_base::{Finding, Name, Place, Rule};
 use ipdl_syntax::{Include, Unit};
 use std::alloc::{AllocError, Global};
@@ -47,7 +47,7 @@ fn add_of_name(key: &[u8], unit: &Unit, found: &mut Vec<Finding>) -> Result<(), 
 }
 
 /// Whether the file of this number is absent.
-fn is_absent_at(files: &[Reached], number: u32) -> bool
+fn is_absent_at(files: &[ReachedFile], number: u32) -> bool
     ensures { result ≡ is_absent_at files.now number }
 {
     match files.get(number as usize) {
@@ -60,7 +60,7 @@ fn is_absent_at(files: &[Reached], number: u32) -> bool
 fn add_for(
     include: &Include,
     target: Target,
-    files: &[Reached],
+    files: &[ReachedFile],
     found: &mut Vec<Finding>,
 ) -> Result<(), AllocError>
     ensures { OnOk result (Gains (IsFoundFor files.now include.now target) found.old.items found.new.items) }
@@ -82,7 +82,7 @@ fn add_for(
 fn add_among(
     includes: &[Include],
     targets: &[Target],
-    files: &[Reached],
+    files: &[ReachedFile],
     found: &mut Vec<Finding>,
 ) -> Result<(), AllocError>
     ensures { OnOk result (Gains (IsFoundAmong files.now includes.now targets.now) found.old.items found.new.items) }
@@ -98,8 +98,8 @@ fn add_in(
     number: u32,
     word: bool,
     key: &[u8],
-    file: &Reached,
-    files: &[Reached],
+    file: &ReachedFile,
+    files: &[ReachedFile],
     found: &mut Vec<Finding>,
 ) -> Result<(), AllocError>
     ensures { OnOk result (Gains (IsFoundIn files.now number word key.now file.now.source.content file.now.targets.items) found.old.items found.new.items) }
@@ -132,7 +132,7 @@ pub fn found_in(
     alloc: Global,
     words: usize,
     keys: &[Name],
-    files: &[Reached],
+    files: &[ReachedFile],
 ) -> Result<Vec<Finding>, AllocError>
     requires size { length files.now ≡ length keys.now }
     requires few { length keys.now ≤ 4096 }

@@ -9,7 +9,7 @@ ghost use Rattle.include_graph.specs.Reading.{IsTarget, AreTargets, AreRead, IsG
 
 use crate::content::Content;
 use crate::keys::{key_of, named_key_of};
-use crate::read::{Source, Stop, read_key};
+use crate::read::{SourceFile, ReadStop, read_key};
 use grammar_laws::names_hold;
 use indexmap::IndexSet;
 use ipdl_base::{Files, Items, Name};
@@ -33,8 +33,8 @@ pub enum Target {
 
 /// A file that is reached.
 #[derive(Drop)]
-pub struct Reached {
-    pub source: Source,
+pub struct ReachedFile {
+    pub source: SourceFile,
     /// What each include of its tree leads to.
     pub targets: Vec<Target>,
 }
@@ -124,13 +124,13 @@ fn walk<F: Files>(
     firsts: &[&str],
     path: &[String],
     keys: &mut IndexSet<Name>,
-) -> Result<Vec<Reached>, Stop>
+) -> Result<Vec<ReachedFile>, ReadStop>
     requires words { AreFileWords (map string_bytes words.now) }
     requires keys { HasWords (map string_bytes words.now) keys.old.keys (map (λ first. first.now) firsts.now) }
     ensures read { IfOk result (λ reached. ForMap (F.told files.old) (λ files'. AreRead (record { files = files'; words = map string_bytes words.now; path = map string_bytes path.now }) keys.new.keys reached.items)) }
     ensures told { F.told files.new ≡ F.told files.old }
     ensures count { F.faults files.old ≤ F.faults files.new }
-    ensures read_fault { result ≡ Err Stop.ReadFault → Rose (F.faults files.old) (F.faults files.new) }
+    ensures read_fault { result ≡ Err ReadStop.ReadFault → Rose (F.faults files.old) (F.faults files.new) }
 {
     words_hold();
     names_hold();
@@ -141,7 +141,7 @@ fn walk<F: Files>(
         let source = read_key(alloc, files, word, path, key.as_slice(), number as u32)?;
         let targets = add_named(alloc, &source.content, keys)?;
         reached
-            .push(Reached { source, targets })
+            .push(ReachedFile { source, targets })
             .map_err(AllocError::from)?;
     }
     Ok(reached)
@@ -149,12 +149,12 @@ fn walk<F: Files>(
 
 /// What is kept of the files that are reached.
 #[derive(Drop)]
-pub struct Gathered {
+pub struct FileSet {
     /// How many keys are those of words. They come first.
     pub words: usize,
     pub keys: IndexSet<Name>,
     /// What came of each key.
-    pub files: Vec<Reached>,
+    pub files: Vec<ReachedFile>,
 }
 
 /// Reads all files that the words reach, each once, in the order of the reach.
@@ -163,21 +163,21 @@ pub fn gather<F: Files>(
     files: &mut F,
     words: &[String],
     path: &[String],
-) -> Result<Gathered, Stop>
+) -> Result<FileSet, ReadStop>
     requires { AreFileWords (map string_bytes words.now) }
     ensures gathered { IfOk result (λ g. ForMap (F.told files.old) (λ files'. IsGathered (record { files = files'; words = map string_bytes words.now; path = map string_bytes path.now }) g.words g.keys.keys g.files.items)) }
     ensures told { F.told files.new ≡ F.told files.old }
     ensures count { F.faults files.old ≤ F.faults files.new }
-    ensures read_fault { result ≡ Err Stop.ReadFault → Rose (F.faults files.old) (F.faults files.new) }
+    ensures read_fault { result ≡ Err ReadStop.ReadFault → Rose (F.faults files.old) (F.faults files.new) }
 {
     let mut keys = IndexSet::new(alloc);
     let mut firsts = Vec::new(alloc);
     match add_words(alloc, words, &mut keys, &mut firsts) {
         Ok(()) => {}
-        Err(_) => return Err(Stop::NoMemory),
+        Err(_) => return Err(ReadStop::NoMemory),
     }
     match walk(alloc, files, words, firsts.as_slice(), path, &mut keys) {
-        Ok(files) => Ok(Gathered {
+        Ok(files) => Ok(FileSet {
             words: firsts.len(),
             keys,
             files,

@@ -8,8 +8,8 @@ use Rattle.std.proofs.lemmas.List.Sums.{AllPass-from_list_all, list_all-from_All
 use Rattle.ipdl_base.specs.Words.{is_word_start, is_word_byte, is_word, IsWord}
 use Rattle.ipdl_base.specs.declared.token.TokenKind.{TokenKind}
 use Rattle.ipdl_base.specs.declared.token.TokenKind.TheVariants.{Word, Reserved, Quoted, Mark}
-use Rattle.ipdl_lex.specs.declared.scan.Class.{Class}
-use Rattle.ipdl_lex.specs.declared.scan.Class.TheVariants as class
+use Rattle.ipdl_lex.specs.declared.scan.PieceClass.{PieceClass}
+use Rattle.ipdl_lex.specs.declared.scan.PieceClass.TheVariants as class
 use Rattle.ipdl_lex.specs.Pieces.{is_blank, is_mark, reserved_words, IsQuoted, IsMark, IsLineComment, IsBlockComment, IsPieceOf}
 use Rattle.ipdl_lex.specs.Scan.{class_of}
 
@@ -20,7 +20,7 @@ each_in P (c ∷ cs) all b h =
     ⊎_elim (λ e. subst P (eqb-true c b e) all.0) (λ e. each_in P cs all.1 b e) (or_cases (c == b) (list_any (λ d. d == b) cs) h)
 
 -- the class by the five tests
-abbrev class_from : Bool → Bool → Bool → Bool → Bool → Class
+abbrev class_from : Bool → Bool → Bool → Bool → Bool → PieceClass
 class_from blank slash quote mark letter =
     cond blank class.Blank (cond slash class.Slash (cond quote class.Quote (cond mark class.Mark (cond letter class.Letter class.Other))))
 
@@ -138,7 +138,7 @@ IsWord-from_reserved bytes h = All-contains IsWord reserved_words bytes (AllPass
 
 -- which class the first byte of a piece of each kind has
 
-abbrev allows : Option TokenKind → Class → Bool
+abbrev allows : Option TokenKind → PieceClass → Bool
 allows None class.Blank = true
 allows None class.Slash = true
 allows None class.Quote = false
@@ -179,7 +179,7 @@ kind_allows (Some Quoted) b bs h = allows_at (Some Quoted) b 34 bs (h.inner ++ 3
 kind_allows (Some Mark) b bs h = mark_allows b bs h
 
 -- a piece of a kind that the class of its first byte does not allow is none
-disallowed : (k : Option TokenKind) (b : ℕ) (bs : List ℕ) (c : Class) → class_of b ≡ c → allows k c ≡ false → IsPieceOf k (b ∷ bs) → ⊥
+disallowed : (k : Option TokenKind) (b : ℕ) (bs : List ℕ) (c : PieceClass) → class_of b ≡ c → allows k c ≡ false → IsPieceOf k (b ∷ bs) → ⊥
 disallowed k b bs c e refused h = false≢true (sym refused ∙ ap (allows k) (sym e) ∙ kind_allows k b bs h)
 
 -- what a piece is by the class of its first byte
@@ -247,7 +247,7 @@ piece_nonempty (Some Quoted) h = let is = h.spelled in cc
 piece_nonempty (Some Mark) h = ⊎_elim (λ double. cc) (λ one. let is = one.2 in cc) h
 
 -- no class allows both kinds
-abbrev neither : Option TokenKind → Option TokenKind → Class → Bool
+abbrev neither : Option TokenKind → Option TokenKind → PieceClass → Bool
 neither k l c = not (allows k c && allows l c)
 
 abbrev are_apart : Option TokenKind → Option TokenKind → Bool
@@ -258,7 +258,7 @@ are_apart k l =
 not_both : (x y : Bool) → not (x && y) ≡ true → x ≡ true → y ≡ true → ⊥
 not_both x y n h i = both_ways (x && y) (not-true (x && y) n) (and_from x y h i)
 
-neither_at : (k l : Option TokenKind) → are_apart k l ≡ true → (c : Class) → neither k l c ≡ true
+neither_at : (k l : Option TokenKind) → are_apart k l ≡ true → (c : PieceClass) → neither k l c ≡ true
 neither_at k l a =
     let p = and_parts _ _ a in
     let q = and_parts _ _ p.1 in

@@ -7,7 +7,7 @@ use Rattle.std.proofs.lemmas.List.{append-nil, length-take-le, append_assoc, tak
 use Rattle.std.proofs.lemmas.List.Elements.{All-from_recursion, recursion_from_All}
 use Rattle.ipdl_base.specs.declared.token.TokenKind.{TokenKind}
 use Rattle.ipdl_base.specs.declared.token.TokenKind.TheVariants.{Quoted, Mark}
-use Rattle.ipdl_lex.specs.declared.scan.Class.TheVariants as class
+use Rattle.ipdl_lex.specs.declared.scan.PieceClass.TheVariants as class
 use Rattle.ipdl_base.specs.Words.{is_word_start, is_word_byte, IsWord}
 use Rattle.ipdl_lex.specs.Pieces.{is_line_feed, IsBlockComment, Spells, IsPieceOf}
 use Rattle.ipdl_lex.specs.Tokens.{Begins, IsStuck, IsOpenComment, IsOpenString, IsBadByte, IsTooLong}

@@ -4,14 +4,14 @@ use Rattle.std.specs.List.{list_any}
 use Rattle.std.specs.Str.{bytes_eq}
 use Rattle.ipdl_base.specs.declared.finding.Place.{Place}
 use Rattle.ipdl_base.specs.declared.token.TokenKind.{TokenKind}
-use Rattle.ipdl_lex.specs.declared.scan.Class.{Class}
-use Rattle.ipdl_lex.specs.declared.scan.Class.TheVariants as class
+use Rattle.ipdl_lex.specs.declared.scan.PieceClass.{PieceClass}
+use Rattle.ipdl_lex.specs.declared.scan.PieceClass.TheVariants as class
 use Rattle.ipdl_base.specs.Words.{is_word_start}
 use Rattle.ipdl_lex.specs.Pieces.{is_blank, is_line_feed, is_mark, reserved_words}
 use Rattle.ipdl_lex.specs.Tokens.{Begins}
 
 -- what a piece that begins with the byte may be
-abbrev pub class_of : ℕ → Class
+abbrev pub class_of : ℕ → PieceClass
 class_of b =
     if is_blank b then class.Blank
     else (if b == 47 then class.Slash

@@ -15,7 +15,7 @@ use std::alloc::{AllocError, Global};
 
 /// What a piece that begins with a byte may be.
 #[derive(Clone, Copy)]
-enum Class {
+enum PieceClass {
     Blank,
     Slash,
     Quote,
@@ -27,7 +27,7 @@ enum Class {
 /// The piece at the front of a text: the kind of its token, or none for a blank or a comment, and
 /// the number of its bytes.
 #[derive(Clone, Copy)]
-struct Found {
+struct PieceFront {
     kind: Option<TokenKind>,
     len: usize,
 }
@@ -94,21 +94,21 @@ pub fn is_reserved(word: &[u8]) -> bool
     is_among(reserved_of_length(word.len()), word)
 }
 
-fn class_of(b: u8) -> Class
+fn class_of(b: u8) -> PieceClass
     ensures { result ≡ class_of b }
 {
     if is_word_start(b) {
-        Class::Letter
+        PieceClass::Letter
     } else if is_blank(b) {
-        Class::Blank
+        PieceClass::Blank
     } else if b == b'/' {
-        Class::Slash
+        PieceClass::Slash
     } else if b == b'"' {
-        Class::Quote
+        PieceClass::Quote
     } else if is_mark(b) {
-        Class::Mark
+        PieceClass::Mark
     } else {
-        Class::Other
+        PieceClass::Other
     }
 }
 
@@ -160,21 +160,21 @@ fn word_kind(word: &[u8]) -> TokenKind
 }
 
 /// The word at the front.
-fn word(text: &[u8]) -> Found
-    requires { class_of (slice_index text.now 0) ≡ Class.Letter }
+fn word(text: &[u8]) -> PieceFront
+    requires { class_of (slice_index text.now 0) ≡ PieceClass.Letter }
     ensures { IsFront text.now result.kind result.len }
 {
     let len = word_end(text).unwrap_or(text.len());
     let kind = word_kind(&text[..len]);
-    Found {
+    PieceFront {
         kind: Some(kind),
         len,
     }
 }
 
 /// The comment at the front.
-fn comment(text: &[u8], here: Place) -> Result<Found, LexFault>
-    requires { class_of (slice_index text.now 0) ≡ Class.Slash }
+fn comment(text: &[u8], here: Place) -> Result<PieceFront, LexFault>
+    requires { class_of (slice_index text.now 0) ≡ PieceClass.Slash }
     ensures front { IfOk result (λ found. IsFront text.now found.kind found.len) }
     ensures fault { IfErr result (FailsAt text.now here) }
 {
@@ -185,7 +185,7 @@ fn comment(text: &[u8], here: Place) -> Result<Found, LexFault>
     match text[1] {
         b'/' => {
             let len = line_end(inner).unwrap_or(inner.len());
-            Ok(Found {
+            Ok(PieceFront {
                 kind: None,
                 len: 2 + len,
             })
@@ -194,7 +194,7 @@ fn comment(text: &[u8], here: Place) -> Result<Found, LexFault>
             let Some(close) = close_at(inner) else {
                 return Err(LexFault::OpenComment(here));
             };
-            Ok(Found {
+            Ok(PieceFront {
                 kind: None,
                 len: close + 4,
             })
@@ -204,8 +204,8 @@ fn comment(text: &[u8], here: Place) -> Result<Found, LexFault>
 }
 
 /// The quoted text at the front.
-fn quoted(text: &[u8], here: Place) -> Result<Found, LexFault>
-    requires { class_of (slice_index text.now 0) ≡ Class.Quote }
+fn quoted(text: &[u8], here: Place) -> Result<PieceFront, LexFault>
+    requires { class_of (slice_index text.now 0) ≡ PieceClass.Quote }
     ensures front { IfOk result (λ found. IsFront text.now found.kind found.len) }
     ensures fault { IfErr result (FailsAt text.now here) }
 {
@@ -216,41 +216,41 @@ fn quoted(text: &[u8], here: Place) -> Result<Found, LexFault>
     if inner[end] != b'"' {
         return Err(LexFault::OpenString(here));
     }
-    Ok(Found {
+    Ok(PieceFront {
         kind: Some(TokenKind::Quoted),
         len: end + 2,
     })
 }
 
 /// The mark at the front.
-fn mark(text: &[u8]) -> Found
-    requires { class_of (slice_index text.now 0) ≡ Class.Mark }
+fn mark(text: &[u8]) -> PieceFront
+    requires { class_of (slice_index text.now 0) ≡ PieceClass.Mark }
     ensures { IsFront text.now result.kind result.len }
 {
-    Found {
+    PieceFront {
         kind: Some(TokenKind::Mark),
         len: if text.starts_with(b"::") { 2 } else { 1 },
     }
 }
 
 /// The piece at the front of a text that begins at this place.
-fn front(text: &[u8], here: Place) -> Result<Found, LexFault>
+fn front(text: &[u8], here: Place) -> Result<PieceFront, LexFault>
     requires { 0 < length text.now }
     ensures front { IfOk result (λ found. IsFront text.now found.kind found.len) }
     ensures fault { IfErr result (FailsAt text.now here) }
 {
     match class_of(text[0]) {
-        Class::Blank => Ok(Found { kind: None, len: 1 }),
-        Class::Slash => comment(text, here),
-        Class::Quote => quoted(text, here),
-        Class::Mark => Ok(mark(text)),
-        Class::Letter => Ok(word(text)),
-        Class::Other => Err(LexFault::BadByte(here)),
+        PieceClass::Blank => Ok(PieceFront { kind: None, len: 1 }),
+        PieceClass::Slash => comment(text, here),
+        PieceClass::Quote => quoted(text, here),
+        PieceClass::Mark => Ok(mark(text)),
+        PieceClass::Letter => Ok(word(text)),
+        PieceClass::Other => Err(LexFault::BadByte(here)),
     }
 }
 
 /// The piece at the front, whose token, if it is one, has at most 256 bytes.
-fn short_front(text: &[u8], here: Place) -> Result<Found, LexFault>
+fn short_front(text: &[u8], here: Place) -> Result<PieceFront, LexFault>
     requires { 0 < length text.now }
     ensures front { IfOk result (λ found. IsFront text.now found.kind found.len) }
     ensures short { IfOk result (λ found. IsShortOf found.kind (take found.len text.now)) }

@@ -11,7 +11,7 @@ use Rattle.ipdl_syntax.specs.declared.tree.Base.{Named, Unique'}
 use Rattle.ipdl_syntax.specs.declared.tree.IncludeKind.TheVariants as include_kind
 use Rattle.ipdl_syntax.specs.declared.tree.Suffix.TheVariants.{Array, Maybe}
 use Rattle.ipdl_syntax.specs.Parts.{Part, ◌⨾◌, either, reserved}
-use Rattle.ipdl_syntax.specs.Grammar.{attributes, Section, direction_word, sections, managed_by, manages, whole_name}
+use Rattle.ipdl_syntax.specs.Grammar.{attributes, MessageSection, direction_word, sections, managed_by, manages, whole_name}
 use Rattle.tree_reader.specs.Ending.{Ending}
 use Rattle.tree_reader.specs.Ending as ending
 use Rattle.tree_reader.specs.declared.symbol.Symbol.{Symbol}
@@ -222,7 +222,7 @@ closed_of t rest to is (m, (u, ue, us), eq) = subst (λ (x : List Token). closed
 
 -- the sections from here on
 abbrev pub Sectioned : Part
-Sectioned from to = (ss : List Section) × (sections ss ⨾ closed) from to
+Sectioned from to = (ss : List MessageSection) × (sections ss ⨾ closed) from to
 
 section_of : (d : Direction) (t : Token) (rest to : List Token) → reserved (direction_word d) (t ∷ rest) rest → TakeAll (take Colon ∷ messaged d ∷ []) rest to → Sectioned (t ∷ rest) to
 section_of d t rest to wd (m, (u, ue, us), (m2, (ms, ss, (m3, msd, (m4, sd, cd))), eq)) =

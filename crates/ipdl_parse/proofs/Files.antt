@@ -4,7 +4,7 @@ use Rattle.ipdl_base.specs.Words.{joined}
 use Rattle.ipdl_base.specs.declared.token.Token.{Token}
 use Rattle.ipdl_syntax.specs.declared.tree.Attribute.{Attribute}
 use Rattle.ipdl_syntax.specs.Parts.{Part, nothing, ◌⨾◌, either, mark, reserved, word, at}
-use Rattle.ipdl_syntax.specs.Grammar.{attributes, Section, sections, Management, managements, fields, components, foreign_name, include, declared, protocol_semantics, managers_of, managed_of, protocol, struct_decl, union_decl, using_decl, Inside, inside_end, inside_struct, inside_union, inside_namespace, Outside, outside_end, outside_include, outside_using, outside_struct, outside_union, outside_namespace, Holder, holder_protocol, holder_namespace, inside, outside, holder, protocol_file}
+use Rattle.ipdl_syntax.specs.Grammar.{attributes, MessageSection, sections, Management, managements, fields, components, foreign_name, include, declared, protocol_semantics, managers_of, managed_of, protocol, struct_decl, union_decl, using_decl, Inside, inside_end, inside_struct, inside_union, inside_namespace, Outside, outside_end, outside_include, outside_using, outside_struct, outside_union, outside_namespace, Holder, holder_protocol, holder_namespace, inside, outside, holder, protocol_file}
 use Rattle.tree_reader.specs.Machine.{Form, Stand, stand, stepped}
 use Rattle.std.specs.List.{flat_map}
 use Rattle.ipdl_syntax.specs.declared.tree.Include.{Include as IncludeDecl}
@@ -27,7 +27,7 @@ bare_using u = reserved (codes "using") ⨾ either nothing (either (reserved (co
 
 abbrev pub bare_protocol : ProtocolDecl → Part
 bare_protocol p from to =
-    (statements : List Management) × (parts : List Section)
+    (statements : List Management) × (parts : List MessageSection)
     × (p.managers ≡ flat_map managers_of statements) × (p.manages ≡ flat_map managed_of statements) × (p.messages ≡ flat_map (λ s. s.messages) parts)
     × (protocol_semantics p.semantics ⨾ reserved (codes "protocol") ⨾ declared [] p.full p.place ⨾ mark (codes "{") ⨾ managements statements ⨾ sections parts ⨾ closed) from to
 

@@ -13,7 +13,7 @@ use Rattle.ipdl_syntax.specs.declared.tree.Param.{Param}
 use Rattle.ipdl_syntax.specs.declared.tree.Suffix.{Suffix}
 use Rattle.ipdl_syntax.specs.declared.tree.TypeSpec.{TypeSpec}
 use Rattle.ipdl_syntax.specs.Parts.{Part, nothing, ◌⨾◌, either, token, mark, reserved, identifier, at}
-use Rattle.ipdl_syntax.specs.Grammar.{words, qualified, argument, value, attribute, more_attributes, suffixes, type_round, base, param, more_params, params, returns, semantics_word, messages, Section, sections, Management, more_managers, managements, fields, components, foreign_name, included}
+use Rattle.ipdl_syntax.specs.Grammar.{words, qualified, argument, value, attribute, more_attributes, suffixes, type_round, base, param, more_params, params, returns, semantics_word, messages, MessageSection, sections, Management, more_managers, managements, fields, components, foreign_name, included}
 use Rattle.tree_reader.specs.Ending.{Ending}
 use Rattle.tree_reader.specs.Ending as ending
 use Rattle.tree_reader.specs.Symbols.{symbol}
@@ -48,8 +48,8 @@ Takes parameters from to = (ps : List Param) × (params ps ⨾ mark (codes ")"))
 Takes more_parameters from to = (ps : List Param) × (more_params ps ⨾ mark (codes ")")) from to
 Takes behind_parameters from to = (answers : Option (List Param)) × (returns answers ⨾ mark (codes ";")) from to
 Takes one_message from to = (how : Semantics) × (name : List ℕ) × (place : Place) × (ps : List Param) × (answers : Option (List Param)) × bare_message how name place ps answers from to
-Takes (messaged d) from to = (ms : List MessageDecl) × (ss : List Section) × (messages d ms ⨾ sections ss ⨾ closed) from to
-Takes managing from to = (ms : List Management) × (ss : List Section) × (managements ms ⨾ sections ss ⨾ closed) from to
+Takes (messaged d) from to = (ms : List MessageDecl) × (ss : List MessageSection) × (messages d ms ⨾ sections ss ⨾ closed) from to
+Takes managing from to = (ms : List Management) × (ss : List MessageSection) × (managements ms ⨾ sections ss ⨾ closed) from to
 Takes more_managing from to = (ns : List NameAt) × (more_managers ns ⨾ mark (codes ";")) from to
 Takes fielded from to = (fs : List Param) × (fields fs ⨾ closed) from to
 Takes componented from to = (cs : List TypeSpec) × (components cs ⨾ closed) from to

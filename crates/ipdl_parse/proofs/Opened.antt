@@ -10,7 +10,7 @@ use Rattle.ipdl_syntax.specs.declared.tree.Base.{Named, Unique'}
 use Rattle.ipdl_syntax.specs.declared.tree.IncludeKind.TheVariants as include_kind
 use Rattle.ipdl_syntax.specs.declared.tree.Suffix.TheVariants.{Array, Maybe}
 use Rattle.ipdl_syntax.specs.Parts.{Part, ◌⨾◌, mark, reserved, at}
-use Rattle.ipdl_syntax.specs.Grammar.{attributes, suffixes, base, Section, direction_word, sections, managed_by, manages}
+use Rattle.ipdl_syntax.specs.Grammar.{attributes, suffixes, base, MessageSection, direction_word, sections, managed_by, manages}
 use Rattle.tree_reader.specs.Ending.{Ending}
 use Rattle.tree_reader.specs.Ending as ending
 use Rattle.tree_reader.specs.declared.symbol.Symbol.{Symbol}
@@ -206,7 +206,7 @@ message_opened d (a ∷ list) from middle behind_it to (r, (t, te, tk), ad) od m
 
 -- the sections from here on
 abbrev Sectioned : Part
-Sectioned from to = (ss : List Section) × (sections ss ⨾ closed) from to
+Sectioned from to = (ss : List MessageSection) × (sections ss ⨾ closed) from to
 
 -- what has the table of sections
 abbrev HasSections : Form → Type 0

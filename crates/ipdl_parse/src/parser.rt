@@ -7,7 +7,7 @@ use grammar_laws::one_tree;
 use ipdl_base::{Place, Token};
 use ipdl_syntax::{FileKind, Unit};
 use std::alloc::Global;
-use tree_reader::{Refusal, read_file};
+use tree_reader::{TreeRefusal, read_file};
 
 /// Why tokens have no tree.
 #[derive(Clone, Copy, Debug, PartialEq, Eq)]
@@ -38,8 +38,8 @@ pub fn parse(
     one_tree();
     match read_file(alloc, tokens, kind) {
         Ok(unit) => Ok(unit),
-        Err(Refusal::Left(left)) => Err(fault(tokens, end, left)),
-        Err(Refusal::NoMemory) => Err(SyntaxFault::NoMemory),
+        Err(TreeRefusal::Left(left)) => Err(fault(tokens, end, left)),
+        Err(TreeRefusal::NoMemory) => Err(SyntaxFault::NoMemory),
     }
 }
 

@@ -1,10 +1,10 @@
 -- Declarations one behind the other.
 use Rattle.std.proofs.Common.{◌≡◌, append_assoc}
 use Rattle.std.proofs.lemmas.List.{append-nil}
-use Rattle.ipdl_syntax.specs.Program.{Declared, ◌&◌, no_declaration}
+use Rattle.ipdl_syntax.specs.Program.{Declarations, ◌&◌, no_declaration}
 
 -- three lots of declarations are in one order
-pub and_assoc : (a b c : Declared) → ((a & b) & c) ≡ (a & b & c)
+pub and_assoc : (a b c : Declarations) → ((a & b) & c) ≡ (a & b & c)
 and_assoc a b c = λ i. record {
   includes = append_assoc a.includes b.includes c.includes i;
   usings = append_assoc a.usings b.usings c.usings i;
@@ -13,5 +13,5 @@ and_assoc a b c = λ i. record {
 }
 
 -- what is declared before nothing more
-pub and_none : (a : Declared) → (a & no_declaration) ≡ a
+pub and_none : (a : Declarations) → (a & no_declaration) ≡ a
 and_none a = λ i. record { includes = append-nil a.includes i; usings = append-nil a.usings i; structs = append-nil a.structs i; unions = append-nil a.unions i }

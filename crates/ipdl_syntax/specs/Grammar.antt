@@ -138,7 +138,7 @@ messages direction (m ∷ rest) = message direction m ⨾ messages direction res
 -- Protocols
 
 -- a section: who receives, and its messages
-pub record Section : Type 0 where
+pub record MessageSection : Type 0 where
   pub direction : Direction
   pub messages : List MessageDecl
 
@@ -147,10 +147,10 @@ direction_word Parent = codes "parent"
 direction_word Child = codes "child"
 direction_word Both = codes "both"
 
-abbrev pub section : Section → Part
+abbrev pub section : MessageSection → Part
 section s = reserved (direction_word s.direction) ⨾ mark (codes ":") ⨾ messages s.direction s.messages
 
-abbrev pub sections : List Section → Part
+abbrev pub sections : List MessageSection → Part
 sections [] = nothing
 sections (s ∷ rest) = section s ⨾ sections rest
 
@@ -189,7 +189,7 @@ protocol_semantics Async = either nothing (reserved (codes "async"))
 -- a protocol in these namespaces
 abbrev pub protocol : List (List ℕ) → ProtocolDecl → Part
 protocol scope p from to =
-    (managing : List Management) × (parts : List Section)
+    (managing : List Management) × (parts : List MessageSection)
     × (p.managers ≡ flat_map managers_of managing) × (p.manages ≡ flat_map managed_of managing) × (p.messages ≡ flat_map (λ s. s.messages) parts)
     × (attributes p.attributes ⨾ protocol_semantics p.semantics ⨾ reserved (codes "protocol") ⨾ declared scope p.full p.place ⨾ mark (codes "{") ⨾ managements managing ⨾ sections parts ⨾ mark (codes "}") ⨾ mark (codes ";")) from to
 

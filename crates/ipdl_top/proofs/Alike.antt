@@ -13,10 +13,10 @@ use Rattle.ipdl_syntax.specs.Programs.{IsProgram, named_keys}
 use Rattle.grammar_laws.specs.Boxes.{unboxed}
 use Rattle.include_graph.specs.Load.{IsEntryOf, IsProgramOf, keys_of}
 use Rattle.include_graph.specs.Reach.{IsUnitOf}
-use Rattle.include_graph.specs.Sources.{Given, IsReadUnder, content}
+use Rattle.include_graph.specs.Sources.{LoadInput, IsReadUnder, content}
 use Rattle.include_graph.proofs.OneReach.{one_reach}
 use Rattle.include_graph.proofs.OneUnit.{AtMostOne, kind_one}
-use Rattle.program_laws.specs.Laws.{unboxed_entry, unboxed_program, AreAlike}
+use Rattle.answer_laws.specs.Programs.{unboxed_entry, unboxed_program, AreProgramsAlike}
 
 -- two trees of a file are the same up to boxes
 one_unit : AtMostOne → (number : ℕ) (key : List ℕ) (held : Option (List ℕ)) (one other : FileUnit) → IsUnitOf number key held one → IsUnitOf number key held other → unboxed one ≡ unboxed other
@@ -60,12 +60,12 @@ same_indices keys (k ∷ named) (i ∷ is) (j ∷ js) once p q =
     cc
 
 -- the entry of this number, of a program of these keys
-pub record IsEntryAt (given : Given) (keys : List (List ℕ)) (number : ℕ) (entry : Entry) : Type 0 where
+pub record IsEntryAt (given : LoadInput) (keys : List (List ℕ)) (number : ℕ) (entry : Entry) : Type 0 where
   pub of : IsEntryOf given number entry
   pub includes : map (λ i. slice_get keys i) entry.includes ≡ map Some (named_keys entry.unit.includes)
 
 -- two entries of one number and key are alike
-alike_entries : AtMostOne → (given : Given) (keys : List (List ℕ)) → AllPairs (λ a b. a ≢ b) keys → (number : ℕ) (a b : Entry) → IsEntryAt given keys number a → IsEntryAt given keys number b → a.key ≡ b.key → unboxed_entry a ≡ unboxed_entry b
+alike_entries : AtMostOne → (given : LoadInput) (keys : List (List ℕ)) → AllPairs (λ a b. a ≢ b) keys → (number : ℕ) (a b : Entry) → IsEntryAt given keys number a → IsEntryAt given keys number b → a.key ≡ b.key → unboxed_entry a ≡ unboxed_entry b
 alike_entries laws given keys once number a b x y key =
     let name : a.name ≡ b.name = same_Some _ _ (sym x.of.name ∙ subst (λ (k : List ℕ). IsReadUnder given k b.name) (sym key) y.of.name) in
     let other : IsUnitOf number a.key (content given a.key) b.unit = subst (λ (k : List ℕ). IsUnitOf number k (content given k) b.unit) (sym key) y.of.unit in
@@ -88,11 +88,11 @@ zipped (a ∷ p) (b ∷ q) E step keys f g =
     cc
 
 -- two programs of one reading have the same keys
-pub same_keys : AtMostOne → (given : Given) (p q : List Entry) → IsProgramOf given p → IsProgramOf given q → keys_of p ≡ keys_of q
+pub same_keys : AtMostOne → (given : LoadInput) (p q : List Entry) → IsProgramOf given p → IsProgramOf given q → keys_of p ≡ keys_of q
 same_keys laws given p q x y = one_reach laws given (keys_of p) (keys_of q) x.reach y.reach
 
 -- and are alike
-pub alike : AtMostOne → (given : Given) (p q : List Entry) → IsProgramOf given p → IsProgramOf given q → IsProgram p → IsProgram q → AreAlike p q
+pub alike : AtMostOne → (given : LoadInput) (p q : List Entry) → IsProgramOf given p → IsProgramOf given q → IsProgram p → IsProgram q → AreProgramsAlike p q
 alike laws given p q x y whole other =
     let keys = same_keys laws given p q x y in
     zipped p q (IsEntryAt given (keys_of p)) (alike_entries laws given (keys_of p) x.reach.reached.once) keys

@@ -9,13 +9,13 @@ use Rattle.command_words.specs.Command.{OneCommand}
 use Rattle.findings.specs.Report.{IsReport}
 use Rattle.findings.proofs.Reports.{same_report}
 use Rattle.include_graph.specs.Load.{keys_of}
-use Rattle.include_graph.specs.Sources.{Given, text_of}
+use Rattle.include_graph.specs.Sources.{LoadInput, text_of}
 use Rattle.include_graph.proofs.OneReach.{one_reach}
 use Rattle.include_graph.proofs.OneUnit.{AtMostOne}
-use Rattle.program_laws.specs.Laws.{BreakAlike, AreListedAlike, HaveSchemasAlike, AreAlike}
-use Rattle.schema_laws.specs.Laws.{OneSchema, plain_schema}
-use Rattle.frame_laws.specs.Laws.{FramesAlike, OneListOfFrames}
-use Rattle.frame_list.specs.declared.list.Placed.{Placed}
+use Rattle.answer_laws.specs.Programs.{BreakAlike, AreListedAlike, HaveSchemasAlike, AreProgramsAlike}
+use Rattle.program_schema.specs.Laws.{OneSchema, plain_schema}
+use Rattle.answer_laws.specs.Frames.{FramesAlike, OneListOfFrames}
+use Rattle.frame_list.specs.declared.list.PlacedMessage.{PlacedMessage}
 use Rattle.frame_list.specs.Converted.{new_frames}
 use Rattle.frame_list.specs.Frames.{Holds, all_plain}
 use Rattle.frame_list.specs.Lines.{frames_lines}
@@ -26,12 +26,12 @@ use Rattle.value_types.specs.Laws.{BoxesSayNothing}
 use Rattle.sync_list.specs.declared.list.Section.{Section}
 use Rattle.sync_list.specs.Lists.{IsListOf}
 use Rattle.sync_list.specs.Laws.{OneList}
-use Rattle.ipdl_top.specs.declared.answer.Answer.{Answer}
-use Rattle.ipdl_top.specs.Answer.{IsBrokenFile, BreaksRules, IsFileReport, IsReading, IsRuleReport, IsSaidOf, IsCompilation, IsCommandAnswer, IsFramesAnswer, SaysTables, given_by, report_answer, table_answer}
+use Rattle.ipdl_top.specs.declared.answer.CommandAnswer.{CommandAnswer}
+use Rattle.ipdl_top.specs.CommandAnswer.{IsBrokenFile, BreaksRules, IsFileReport, IsReading, IsRuleReport, IsSaidOf, IsCompilation, IsCommandAnswer, IsFramesAnswer, SaysTables, given_by, report_answer, table_answer}
 use Rattle.ipdl_top.specs.Frames.{SaysBytes, SaysFrames, frames_answer, frames_out}
 use Rattle.ipdl_top.specs.Laws.{OneAnswer}
 use Rattle.ipdl_top.specs.Lists.{AreSections, list_names}
-use Rattle.ipdl_top.specs.Seen.{Seen}
+use Rattle.ipdl_top.specs.FileViews.{FileViews}
 use Rattle.ipdl_top.proofs.Alike.{alike, same_keys}
 use Rattle.ipdl_top.proofs.Compilations.{names_called, no_fault}
 use Rattle.ipdl_top.proofs.TableTexts.{one_text}
@@ -70,7 +70,7 @@ empty [] none h = refl
 empty (f ∷ report) none h = absurd (none f ((h.exact f).0 (zero, omega arith, refl)))
 
 -- files that break rules are not read as a program
-not_read : TheLaws → (given : Given) (lists : FileMap) (list : Option (List ℕ)) (answer : Answer) (program : List Entry) (sections : Option (List Section)) → IsFileReport given lists list answer → IsReading given lists list program sections → ⊥
+not_read : TheLaws → (given : LoadInput) (lists : FileMap) (list : Option (List ℕ)) (answer : CommandAnswer) (program : List Entry) (sections : Option (List Section)) → IsFileReport given lists list answer → IsReading given lists list program sections → ⊥
 not_read laws given lists list answer program sections x y =
     let keys : x.keys ≡ keys_of program = one_reach laws.texts given x.keys (keys_of program) x.reach y.is_program.reach in
     let none : (f : Finding) → ¬ IsBrokenFile given lists list (keys_of program) f =
@@ -78,7 +78,7 @@ not_read laws given lists list answer program sections x y =
     x.some (empty x.report none (subst (λ (ks : List (List ℕ)). IsReport (IsBrokenFile given lists list ks) x.report) keys x.is_report))
 
 -- files have one report
-file_reports : TheLaws → (given : Given) (lists : FileMap) (list : Option (List ℕ)) (one other : Answer) → IsFileReport given lists list one → IsFileReport given lists list other → one ≡ other
+file_reports : TheLaws → (given : LoadInput) (lists : FileMap) (list : Option (List ℕ)) (one other : CommandAnswer) → IsFileReport given lists list one → IsFileReport given lists list other → one ≡ other
 file_reports laws given lists list one other x y =
     let keys : y.keys ≡ x.keys = one_reach laws.texts given y.keys x.keys y.reach x.reach in
     let report : x.report ≡ y.report = same_report x.report y.report x.is_report (subst (λ (ks : List (List ℕ)). IsReport (IsBrokenFile given lists list ks) y.report) keys y.is_report) in
@@ -88,7 +88,7 @@ file_reports laws given lists list one other x y =
 -- Programs
 
 -- what one of two alike breaks, the other does
-breaks_alike : TheLaws → (p q : List Entry) (sections : Option (List Section)) (f : Finding) → AreAlike p q → BreaksRules p sections f → BreaksRules q sections f
+breaks_alike : TheLaws → (p q : List Entry) (sections : Option (List Section)) (f : Finding) → AreProgramsAlike p q → BreaksRules p sections f → BreaksRules q sections f
 breaks_alike laws p q sections f same (inl h) = inl ((laws.rules p q f same).0 h)
 breaks_alike laws p q sections f same (inr (inl (inl h))) = inr (inl (inl ((laws.rules p q f same).1 h)))
 breaks_alike laws p q sections f same (inr (inl (inr h))) = inr (inl (inr ((laws.rules p q f same).2 h)))
@@ -96,13 +96,13 @@ breaks_alike laws p q None f same (inr (inr h)) = absurd h
 breaks_alike laws p q (Some list) f same (inr (inr h)) = inr (inr (laws.listed p q list f same h))
 
 -- two readings are of programs that are alike and break the same rules
-read_alike : TheLaws → (given : Given) (lists : FileMap) (list : Option (List ℕ)) (p q : List Entry) (s t : Option (List Section)) → IsReading given lists list p s → IsReading given lists list q t → (f : Finding) → BreaksRules p s f → BreaksRules q t f
+read_alike : TheLaws → (given : LoadInput) (lists : FileMap) (list : Option (List ℕ)) (p q : List Entry) (s t : Option (List Section)) → IsReading given lists list p s → IsReading given lists list q t → (f : Finding) → BreaksRules p s f → BreaksRules q t f
 read_alike laws given lists list p q s t x y f h =
     let same = one_sections laws lists list s t x.are_sections y.are_sections in
     subst (λ (o : Option (List Section)). BreaksRules q o f) same (breaks_alike laws p q s f (alike laws.texts given p q x.is_program y.is_program x.whole y.whole) h)
 
 -- a program has one report
-rule_reports : TheLaws → (given : Given) (lists : FileMap) (list : Option (List ℕ)) (one other : Answer) → IsRuleReport given lists list one → IsRuleReport given lists list other → one ≡ other
+rule_reports : TheLaws → (given : LoadInput) (lists : FileMap) (list : Option (List ℕ)) (one other : CommandAnswer) → IsRuleReport given lists list one → IsRuleReport given lists list other → one ≡ other
 rule_reports laws given lists list one other x y =
     let to = read_alike laws given lists list x.program y.program x.sections y.sections x.reading y.reading in
     let back = read_alike laws given lists list y.program x.program y.sections x.sections y.reading x.reading in
@@ -119,21 +119,21 @@ rule_reports laws given lists list one other x y =
     ∙ ap (λ (ns : List (List ℕ)). report_answer (ns ++ list_names list) y.report) names ∙ sym y.says
 
 -- a program of whose schema something is said breaks no rule
-not_said : TheLaws → (Says : Schema → Answer → Type 0) (given : Given) (lists : FileMap) (list : Option (List ℕ)) (one other : Answer) → IsRuleReport given lists list one → IsSaidOf Says given lists list other → ⊥
+not_said : TheLaws → (Says : Schema → CommandAnswer → Type 0) (given : LoadInput) (lists : FileMap) (list : Option (List ℕ)) (one other : CommandAnswer) → IsRuleReport given lists list one → IsSaidOf Says given lists list other → ⊥
 not_said laws Says given lists list one other x y =
     let read = y.read in
     let to = read_alike laws given lists list x.program read.program x.sections read.sections x.reading read.reading in
     x.some (empty x.report (λ f h. read.clean f (to f h)) x.is_report)
 
 -- one thing is said of schemas that are the same up to boxes
-abbrev SaysOne : (Schema → Answer → Type 0) → Type 0
-SaysOne Says = (a b : Schema) → plain_schema a ≡ plain_schema b → (one other : Answer) → Says a one → Says b other → one ≡ other
+abbrev SaysOne : (Schema → CommandAnswer → Type 0) → Type 0
+SaysOne Says = (a b : Schema) → plain_schema a ≡ plain_schema b → (one other : CommandAnswer) → Says a one → Says b other → one ≡ other
 
 tables_one : SaysOne SaysTables
 tables_one a b same one other x y = x ∙ ap table_answer (one_text a b same) ∙ sym y
 
 -- the text for frames
-out_one : TheLaws → (convert : Bool) (a b : Schema) → plain_schema a ≡ plain_schema b → (frames others : List Placed) → all_plain frames ≡ all_plain others → frames_out convert a frames ≡ frames_out convert b others
+out_one : TheLaws → (convert : Bool) (a b : Schema) → plain_schema a ≡ plain_schema b → (frames others : List PlacedMessage) → all_plain frames ≡ all_plain others → frames_out convert a frames ≡ frames_out convert b others
 out_one laws true a b same frames others e = new_plain a frames ∙ ap (new_frames a) e ∙ sym (new_plain a others) ∙ laws.frames_alike.anew a b same others
 out_one laws false a b same frames others e =
     plain_lines laws.boxes a frames ∙ ap (frames_lines a) e ∙ sym (plain_lines laws.boxes a others) ∙ laws.frames_alike.lines a b same others
@@ -153,7 +153,7 @@ frames_one laws name convert (Some bytes) a b same one other (inr x) (inl y) = a
 frames_one laws name convert (Some bytes) a b same one other (inr x) (inr y) = bytes_one laws name convert bytes a b same one other x.1 y.1
 
 -- and so of a program
-said : TheLaws → (Says : Schema → Answer → Type 0) → SaysOne Says → (given : Given) (lists : FileMap) (list : Option (List ℕ)) (one other : Answer) → IsSaidOf Says given lists list one → IsSaidOf Says given lists list other → one ≡ other
+said : TheLaws → (Says : Schema → CommandAnswer → Type 0) → SaysOne Says → (given : LoadInput) (lists : FileMap) (list : Option (List ℕ)) (one other : CommandAnswer) → IsSaidOf Says given lists list one → IsSaidOf Says given lists list other → one ≡ other
 said laws Says unique given lists list one other x y =
     let p = x.read in
     let q = y.read in
@@ -164,7 +164,7 @@ said laws Says unique given lists list one other x y =
 -- Answers
 
 -- a compilation has one answer
-compilations : TheLaws → (Says : Schema → Answer → Type 0) → SaysOne Says → (given : Given) (lists : FileMap) (list : Option (List ℕ)) (one other : Answer) → IsCompilation Says given lists list one → IsCompilation Says given lists list other → one ≡ other
+compilations : TheLaws → (Says : Schema → CommandAnswer → Type 0) → SaysOne Says → (given : LoadInput) (lists : FileMap) (list : Option (List ℕ)) (one other : CommandAnswer) → IsCompilation Says given lists list one → IsCompilation Says given lists list other → one ≡ other
 compilations laws Says unique given lists list one other (inl x) (inl y) = file_reports laws given lists list one other x y
 compilations laws Says unique given lists list one other (inl x) (inr (inl y)) = absurd (not_read laws given lists list one y.program y.sections x y.reading)
 compilations laws Says unique given lists list one other (inl x) (inr (inr y)) = absurd (not_read laws given lists list one y.read.program y.read.sections x y.read.reading)
@@ -176,7 +176,7 @@ compilations laws Says unique given lists list one other (inr (inr x)) (inr (inl
 compilations laws Says unique given lists list one other (inr (inr x)) (inr (inr y)) = said laws Says unique given lists list one other x y
 
 -- so has the command that compiles
-commands : TheLaws → (seen : Seen) (words : List (List ℕ)) (one other : Answer) → IsCommandAnswer seen words one → IsCommandAnswer seen words other → one ≡ other
+commands : TheLaws → (seen : FileViews) (words : List (List ℕ)) (one other : CommandAnswer) → IsCommandAnswer seen words one → IsCommandAnswer seen words other → one ≡ other
 commands laws seen words one other x y =
     let same = (laws.command words).compile y.list x.list y.path x.path y.names x.names y.command x.command in
     let listed : IsCompilation SaysTables (given_by seen.files y.path y.names) seen.list x.list other = subst (λ (l : Option (List ℕ)). IsCompilation SaysTables (given_by seen.files y.path y.names) seen.list l other) same.0 y.compilation in
@@ -185,7 +185,7 @@ commands laws seen words one other x y =
     compilations laws SaysTables tables_one (given_by seen.files x.path x.names) seen.list x.list one other x.compilation named
 
 -- and the one that prints frames
-frames_commands : TheLaws → (seen : Seen) (words : List (List ℕ)) (one other : Answer) → IsFramesAnswer seen words one → IsFramesAnswer seen words other → one ≡ other
+frames_commands : TheLaws → (seen : FileViews) (words : List (List ℕ)) (one other : CommandAnswer) → IsFramesAnswer seen words one → IsFramesAnswer seen words other → one ≡ other
 frames_commands laws seen words one other x y =
     let same = (laws.command words).frames y.list x.list y.path x.path y.file x.file y.frames x.frames y.convert x.convert y.command x.command in
     let Of : Option (List ℕ) → List (List ℕ) → List ℕ → List ℕ → Bool → Type 0 =
@@ -198,13 +198,13 @@ frames_commands laws seen words one other x y =
     compilations laws (SaysFrames x.frames x.convert (seen.frames x.frames)) (frames_one laws x.frames x.convert (seen.frames x.frames)) (given_by seen.files x.path (x.file ∷ [])) seen.list x.list one other x.compilation whole
 
 -- words are one command or none
-pub determined : TheLaws → OneAnswer
-determined laws seen words one other (inl x) (inl y) = commands laws seen words one other x y
-determined laws seen words one other (inl x) (inr (inl y)) = absurd ((laws.command words).apart x.list y.list x.path y.path x.names y.file y.frames y.convert x.command y.command)
-determined laws seen words one other (inl x) (inr (inr y)) = absurd (y.0.0 x.list x.path x.names x.command)
-determined laws seen words one other (inr (inl x)) (inl y) = absurd ((laws.command words).apart y.list x.list y.path x.path y.names x.file x.frames x.convert y.command x.command)
-determined laws seen words one other (inr (inl x)) (inr (inl y)) = frames_commands laws seen words one other x y
-determined laws seen words one other (inr (inl x)) (inr (inr y)) = absurd (y.0.1 x.list x.path x.file x.frames x.convert x.command)
-determined laws seen words one other (inr (inr x)) (inl y) = absurd (x.0.0 y.list y.path y.names y.command)
-determined laws seen words one other (inr (inr x)) (inr (inl y)) = absurd (x.0.1 y.list y.path y.file y.frames y.convert y.command)
-determined laws seen words one other (inr (inr x)) (inr (inr y)) = x.1 ∙ sym y.1
+pub answer_is_determined : TheLaws → OneAnswer
+answer_is_determined laws seen words one other (inl x) (inl y) = commands laws seen words one other x y
+answer_is_determined laws seen words one other (inl x) (inr (inl y)) = absurd ((laws.command words).apart x.list y.list x.path y.path x.names y.file y.frames y.convert x.command y.command)
+answer_is_determined laws seen words one other (inl x) (inr (inr y)) = absurd (y.0.0 x.list x.path x.names x.command)
+answer_is_determined laws seen words one other (inr (inl x)) (inl y) = absurd ((laws.command words).apart y.list x.list y.path x.path y.names x.file x.frames x.convert y.command x.command)
+answer_is_determined laws seen words one other (inr (inl x)) (inr (inl y)) = frames_commands laws seen words one other x y
+answer_is_determined laws seen words one other (inr (inl x)) (inr (inr y)) = absurd (y.0.1 x.list x.path x.file x.frames x.convert x.command)
+answer_is_determined laws seen words one other (inr (inr x)) (inl y) = absurd (x.0.0 y.list y.path y.names y.command)
+answer_is_determined laws seen words one other (inr (inr x)) (inr (inl y)) = absurd (x.0.1 y.list y.path y.file y.frames y.convert y.command)
+answer_is_determined laws seen words one other (inr (inr x)) (inr (inr y)) = x.1 ∙ sym y.1

@@ -13,17 +13,17 @@ use Rattle.ipdl_syntax.specs.Programs.{IsProgram}
 use Rattle.findings.specs.Order.{IsIncreasing}
 use Rattle.findings.specs.Report.{IsReport}
 use Rattle.include_graph.specs.Load.{IsProgramOf, IsReportOf, keys_of}
-use Rattle.include_graph.specs.Sources.{Given, IsReadUnder, text_of}
+use Rattle.include_graph.specs.Sources.{LoadInput, IsReadUnder, text_of}
 use Rattle.sync_list.specs.declared.list.Section.{Section}
 use Rattle.sync_list.specs.declared.list.ListFault.TheVariants.{Line}
 use Rattle.sync_list.specs.Lists.{IsFault}
 use Rattle.sync_list.proofs.Unique.{one_fault, never_both}
-use Rattle.ipdl_top.specs.declared.answer.Answer.{Answer}
-use Rattle.ipdl_top.specs.declared.list.Listed.{Listed}
-use Rattle.ipdl_top.specs.declared.list.Listed.TheVariants.{Sections, Broken}
-use Rattle.ipdl_top.specs.declared.checked.Checked.{Checked}
-use Rattle.ipdl_top.specs.declared.checked.Checked.TheVariants.{Report, Clean}
-use Rattle.ipdl_top.specs.Answer.{IsCompilation, IsFileReport, IsRuleReport, report_answer}
+use Rattle.ipdl_top.specs.declared.answer.CommandAnswer.{CommandAnswer}
+use Rattle.ipdl_top.specs.declared.list.SyncListFile.{SyncListFile}
+use Rattle.ipdl_top.specs.declared.list.SyncListFile.TheVariants.{Sections, Broken}
+use Rattle.ipdl_top.specs.declared.checked.CheckResult.{CheckResult}
+use Rattle.ipdl_top.specs.declared.checked.CheckResult.TheVariants.{Report, Clean}
+use Rattle.ipdl_top.specs.CommandAnswer.{IsCompilation, IsFileReport, IsRuleReport, report_answer}
 use Rattle.ipdl_top.specs.Lists.{IsListFault, IsFaultOfList, AreSections, list_names}
 use Rattle.ipdl_top.specs.Steps.{IsChecked, IsFilesAnswer, IsListed, IsListedChecked, IsProgramChecked, IsRuleChecked, IsToldOf, names_of}
 
@@ -91,7 +91,7 @@ one_finding finding = record {
 -- Names
 
 -- a report calls a file by the name under which it is read
-pub names_called : (given : Given) (program : List Entry) → ((number : ℕ) (entry : Entry) → slice_get program number ≡ Some entry → IsReadUnder given entry.key entry.name) → map (text_of given) (keys_of program) ≡ map (λ e. e.name) program
+pub names_called : (given : LoadInput) (program : List Entry) → ((number : ℕ) (entry : Entry) → slice_get program number ≡ Some entry → IsReadUnder given entry.key entry.name) → map (text_of given) (keys_of program) ≡ map (λ e. e.name) program
 names_called given [] h = refl
 names_called given (entry ∷ program) h =
     let head : text_of given entry.key ≡ entry.name = ap (λ (o : Option (List ℕ)). unwrap_or o entry.key) (h 0 entry refl) in
@@ -101,7 +101,7 @@ names_called given (entry ∷ program) h =
 -- Answers
 
 -- the answer for the program of the reach, where the list breaks a rule
-of_broken : (given : Given) (lists : FileMap) (list : Option (List ℕ)) (program : List Entry) (finding : Finding) (answer : Answer) → IsProgramOf given program → IsFaultOfList lists list (length program) finding → answer ≡ report_answer (names_of program list) (finding ∷ []) → IsFileReport given lists list answer
+of_broken : (given : LoadInput) (lists : FileMap) (list : Option (List ℕ)) (program : List Entry) (finding : Finding) (answer : CommandAnswer) → IsProgramOf given program → IsFaultOfList lists list (length program) finding → answer ≡ report_answer (names_of program list) (finding ∷ []) → IsFileReport given lists list answer
 of_broken given lists list program finding answer p broken says =
     let keys = keys_of program in
     let long : length keys ≡ length program = length-map program (λ (e : Entry). e.key) in
@@ -127,7 +127,7 @@ of_broken given lists list program finding answer p broken says =
     }
 
 -- and where it has sections
-of_sections : (given : Given) (lists : FileMap) (list : Option (List ℕ)) (program : List Entry) (sections : Option (List Section)) (checked : Checked) → IsProgramOf given program → IsProgram program → AreSections lists list sections → IsRuleChecked program sections (names_of program list) checked → IsChecked given lists list checked
+of_sections : (given : LoadInput) (lists : FileMap) (list : Option (List ℕ)) (program : List Entry) (sections : Option (List Section)) (checked : CheckResult) → IsProgramOf given program → IsProgram program → AreSections lists list sections → IsRuleChecked program sections (names_of program list) checked → IsChecked given lists list checked
 of_sections given lists list program sections (Report answer) p whole are r = inr (record {
   program = program;
   sections = sections;
@@ -148,23 +148,23 @@ of_sections given lists list program sections (Clean schema) p whole are t = (
   t.sound,
 )
 
-of_listed : (given : Given) (lists : FileMap) (list : Option (List ℕ)) (program : List Entry) (listed : Listed) (checked : Checked) → IsProgramOf given program → IsProgram program → IsListed lists list (length program) listed → IsListedChecked program listed (names_of program list) checked → IsChecked given lists list checked
+of_listed : (given : LoadInput) (lists : FileMap) (list : Option (List ℕ)) (program : List Entry) (listed : SyncListFile) (checked : CheckResult) → IsProgramOf given program → IsProgram program → IsListed lists list (length program) listed → IsListedChecked program listed (names_of program list) checked → IsChecked given lists list checked
 of_listed given lists list program (Sections sections) checked p whole h found = of_sections given lists list program sections checked p whole h found
 of_listed given lists list program (Broken finding) (Report answer) p whole h found = inl (of_broken given lists list program finding answer p h found)
 of_listed given lists list program (Broken finding) (Clean schema) p whole h found = absurd found
 
 -- so what is found of the program of the reach is found of the files
-pub of_program : (given : Given) (lists : FileMap) (list : Option (List ℕ)) (program : List Entry) (checked : Checked) → IsProgramOf given program → IsProgram program → IsProgramChecked lists list program checked → IsChecked given lists list checked
+pub of_program : (given : LoadInput) (lists : FileMap) (list : Option (List ℕ)) (program : List Entry) (checked : CheckResult) → IsProgramOf given program → IsProgram program → IsProgramChecked lists list program checked → IsChecked given lists list checked
 of_program given lists list program checked p whole h = of_listed given lists list program h.listed checked p whole h.is_listed h.found
 
 -- an answer by what was found is that of the compilation
-pub of_told : (Says : Schema → Answer → Type 0) (given : Given) (lists : FileMap) (list : Option (List ℕ)) (checked : Checked) (answer : Answer) → IsChecked given lists list checked → IsToldOf Says checked answer → IsCompilation Says given lists list answer
+pub of_told : (Says : Schema → CommandAnswer → Type 0) (given : LoadInput) (lists : FileMap) (list : Option (List ℕ)) (checked : CheckResult) (answer : CommandAnswer) → IsChecked given lists list checked → IsToldOf Says checked answer → IsCompilation Says given lists list answer
 of_told Says given lists list (Report report) answer (inl h) e = inl (subst (IsFileReport given lists list) (sym e) h)
 of_told Says given lists list (Report report) answer (inr h) e = inr (inl (subst (IsRuleReport given lists list) (sym e) h))
 of_told Says given lists list (Clean schema) answer h says = inr (inr (record { schema = schema; read = h.0; says = says }))
 
 -- what was found of the list is what the list breaks
-listed_fault : (lists : FileMap) (list : Option (List ℕ)) (number : ℕ) (listed : Listed) (f : Finding) → IsListed lists list number listed → IsFaultOfList lists list number f ↔ (listed ≡ Broken f)
+listed_fault : (lists : FileMap) (list : Option (List ℕ)) (number : ℕ) (listed : SyncListFile) (f : Finding) → IsListed lists list number listed → IsFaultOfList lists list number f ↔ (listed ≡ Broken f)
 listed_fault lists list number (Sections sections) f h = (λ fault. absurd (no_fault lists list sections number f h fault), λ e. absurd (let no : ⊥ = cc in no))
 listed_fault lists list number (Broken finding) f h = (
   λ fault. ap Broken (one_list_fault lists list number finding f h fault),
@@ -177,7 +177,7 @@ some_of [] report some to = absurd (some refl)
 some_of (f ∷ findings) report some to = some_element report f (to f (zero, omega arith, refl))
 
 -- the answer for the files of the reach, where they break rules, is the report on them
-pub of_files : (given : Given) (lists : FileMap) (list : Option (List ℕ)) (findings : List Finding) (texts : List (List ℕ)) (answer : Answer) → IsReportOf given findings texts → IsFilesAnswer lists list findings texts answer → IsFileReport given lists list answer
+pub of_files : (given : LoadInput) (lists : FileMap) (list : Option (List ℕ)) (findings : List Finding) (texts : List (List ℕ)) (answer : CommandAnswer) → IsReportOf given findings texts → IsFilesAnswer lists list findings texts answer → IsFileReport given lists list answer
 of_files given lists list findings texts answer r h =
     let long : length texts ≡ length r.keys = ap length r.called ∙ length-map r.keys (text_of given) in
     let listed : IsListed lists list (length r.keys) h.listed = subst (λ n. IsListed lists list n h.listed) long h.is_listed in

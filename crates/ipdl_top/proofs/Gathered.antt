@@ -8,11 +8,11 @@ use Rattle.ipdl_base.specs.declared.finding.Finding.{Finding}
 use Rattle.ipdl_syntax.specs.declared.program.Entry.{Entry}
 use Rattle.ipdl_syntax.specs.Programs.{IsProgram, BearTheirNames}
 use Rattle.findings.specs.Report.{IsReport}
-use Rattle.schema_laws.specs.Clean.{IsClean}
+use Rattle.program_schema.specs.Clean.{IsClean}
 use Rattle.sync_list.specs.declared.list.Section.{Section}
-use Rattle.ipdl_top.specs.declared.list.Listed.{Listed}
-use Rattle.ipdl_top.specs.declared.list.Listed.TheVariants.{Sections, Broken}
-use Rattle.ipdl_top.specs.Answer.{BreaksRules}
+use Rattle.ipdl_top.specs.declared.list.SyncListFile.{SyncListFile}
+use Rattle.ipdl_top.specs.declared.list.SyncListFile.TheVariants.{Sections, Broken}
+use Rattle.ipdl_top.specs.CommandAnswer.{BreaksRules}
 
 -- the list has exactly the findings of which this holds
 abbrev pub Has : List Finding → (Finding → Type 0) → Type 0
@@ -71,5 +71,5 @@ with_broken findings finding f = (
 )
 
 -- a list with sections adds none
-pub without : (findings : List Finding) (listed : Listed) (sections : Option (List Section)) → listed ≡ Sections sections → Has findings (λ f. Contains findings f ⊎ (listed ≡ Broken f))
+pub without : (findings : List Finding) (listed : SyncListFile) (sections : Option (List Section)) → listed ≡ Sections sections → Has findings (λ f. Contains findings f ⊎ (listed ≡ Broken f))
 without findings listed sections is f = (λ h. inl h, λ h. elim h [ inl x ↦ x | inr e ↦ absurd (let no : ⊥ = cc in no) ])

@@ -5,7 +5,7 @@ use Rattle.std.specs.Option.{IfSome}
 use Rattle.std.proofs.lemmas.Option.{same_Some}
 use Rattle.ipdl_base.specs.Outside.{FileMap}
 use Rattle.include_graph.specs.Load as load
-use Rattle.ipdl_top.specs.Seen.{Seen, ForMap, steady}
+use Rattle.ipdl_top.specs.FileViews.{FileViews, ForMap, steady}
 
 -- what follows for the map that is told, and holds for some map
 pub for_map : (told : Option FileMap) (P Q : FileMap → Type 0) → ((map : FileMap) → P map → Q map) → IfSome told P → (map : FileMap) → Q map → load.ForMap told Q
@@ -23,17 +23,17 @@ for_all None P h = (λ name. None, h (λ name. None))
 for_all (Some told) P h = h told
 
 -- what holds whatever is seen
-pub for_all_seen : (told : Option FileMap) (P : Seen → Type 0) → ((seen : Seen) → P seen) → ForMap told P
+pub for_all_seen : (told : Option FileMap) (P : FileViews → Type 0) → ((seen : FileViews) → P seen) → ForMap told P
 for_all_seen None P h = (steady (λ name. None), h (steady (λ name. None)))
 for_all_seen (Some told) P h = h (steady told)
 
 -- what follows of all that is seen
-pub for_each_seen : (told : Option FileMap) (P Q : Seen → Type 0) → ((seen : Seen) → P seen → Q seen) → ForMap told P → ForMap told Q
+pub for_each_seen : (told : Option FileMap) (P Q : FileViews → Type 0) → ((seen : FileViews) → P seen → Q seen) → ForMap told P → ForMap told Q
 for_each_seen None P Q to (seen, h) = (seen, to seen h)
 for_each_seen (Some told) P Q to h = to (steady told) h
 
 -- what follows of the map of the program's files and of that of the list
-pub for_both : (told again : Option FileMap) (P Q : FileMap → Type 0) (R : Seen → Type 0) → again ≡ told
+pub for_both : (told again : Option FileMap) (P Q : FileMap → Type 0) (R : FileViews → Type 0) → again ≡ told
     → ((files lists : FileMap) → P files → Q lists → R (record { files = files; list = lists; frames = lists }))
     → load.ForMap told P → load.ForMap again Q → ForMap told R
 for_both None None P Q R e to (files, h) (lists, k) = (record { files = files; list = lists; frames = lists }, to files lists h k)
@@ -42,8 +42,8 @@ for_both (Some map) None P Q R e to h k = absurd (let no : ⊥ = cc in no)
 for_both (Some told) (Some again) P Q R e to h k = to told told h (subst Q (same_Some again told e) k)
 
 -- what follows of all that is seen, and of the map of the frames
-pub for_frames : (told again : Option FileMap) (P : Seen → Type 0) (Q : FileMap → Type 0) (R : Seen → Type 0) → again ≡ told
-    → ((seen : Seen) (frames : FileMap) → P seen → Q frames → R (record seen { frames = frames }))
+pub for_frames : (told again : Option FileMap) (P : FileViews → Type 0) (Q : FileMap → Type 0) (R : FileViews → Type 0) → again ≡ told
+    → ((seen : FileViews) (frames : FileMap) → P seen → Q frames → R (record seen { frames = frames }))
     → ForMap told P → load.ForMap again Q → ForMap told R
 for_frames None None P Q R e to (seen, h) (frames, k) = (record seen { frames = frames }, to seen frames h k)
 for_frames None (Some map) P Q R e to h k = absurd (let no : ⊥ = cc in no)

@@ -10,7 +10,7 @@ use Rattle.ipdl_base.specs.declared.schema.Schema.{Schema}
 use Rattle.ipdl_base.specs.declared.schema.Shape.{Shape, Builtin, Using, Actor, Named, Array', Maybe', Unique', Endpoint}
 use Rattle.ipdl_base.specs.declared.schema.TypeRow.{TypeRow}
 use Rattle.ipdl_base.specs.declared.schema.TypeRow.TheVariants.{Struct, Union}
-use Rattle.schema_laws.specs.Laws.{plain_param_row, plain_message_row, plain_protocol_row, plain_type_row, plain_schema}
+use Rattle.program_schema.specs.Laws.{plain_param_row, plain_message_row, plain_protocol_row, plain_type_row, plain_schema}
 use Rattle.actor_tables.specs.TableText.{name_of_protocol, name_of_type, protocol_name, type_name, shape_text, listed, param_text, params_text, returns_text, message_text, manager_text, managed_text, protocol_text, protocols_text, type_text, types_text, table_text}
 
 -- names

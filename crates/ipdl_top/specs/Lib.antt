@@ -1,4 +1,4 @@
-pub mod Answer
+pub mod CommandAnswer
 pub mod Codes
 pub mod Frames
 pub mod Command
@@ -6,6 +6,6 @@ pub mod Laws
 pub mod Lists
 pub mod Outcome
 pub mod Report
-pub mod Seen
+pub mod FileViews
 pub mod Steps
 pub mod Written

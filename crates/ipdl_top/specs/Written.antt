@@ -1,7 +1,7 @@
 -- What is written of an answer.
 use Rattle.std.specs.Prelude.{◌≡◌, ◌≢◌, ◌⊎◌, ℕ, List, [], ◌++◌, Option}
 use Rattle.ipdl_base.specs.Outside.{Appends}
-use Rattle.ipdl_top.specs.declared.answer.Answer.{Answer}
+use Rattle.ipdl_top.specs.declared.answer.CommandAnswer.{CommandAnswer}
 
 -- What is written so far to a sink, before a call and after it, where it is told.
 pub record Writing : Type 0 where
@@ -17,11 +17,11 @@ pub record AppendsFront (old new : Option (List ℕ)) (text : List ℕ) : Type 0
   pub appended : Appends old new front
 
 -- all of the answer was written
-pub record WritesAll (answer : Answer) (out err : Writing) : Type 0 where
+pub record WritesAll (answer : CommandAnswer) (out err : Writing) : Type 0 where
   pub out_text : Appends out.old out.new answer.out
   pub err_text : Appends err.old err.new answer.err
 
 -- a front was written of the text for `out` and then the text for `err`: nothing to `err` unless all of the one went to `out`
-abbrev pub WritesFront : Answer → Writing → Writing → Type 0
+abbrev pub WritesFront : CommandAnswer → Writing → Writing → Type 0
 WritesFront answer out err =
     (AppendsFront out.old out.new answer.out × Appends err.old err.new []) ⊎ (Appends out.old out.new answer.out × AppendsFront err.old err.new answer.err)

@@ -11,7 +11,7 @@ const USAGE: &[u8] =
 
 /// What the program answers: how it ends, and the texts that it writes.
 #[derive(Debug, Drop)]
-pub struct Answer {
+pub struct CommandAnswer {
     pub status: Status,
     /// The text for standard output.
     pub out: Items<u8>,
@@ -48,15 +48,15 @@ impl<T: Drop> From<AllocFailed<T>> for Failure {
     }
 }
 
-impl Answer {
-    ghost use Rattle.ipdl_top.specs.Answer.{table_answer, report_answer, usage_answer};
+impl CommandAnswer {
+    ghost use Rattle.ipdl_top.specs.CommandAnswer.{table_answer, report_answer, usage_answer};
     ghost use Rattle.ipdl_top.specs.Frames.{bad_frames_answer};
 
     /// The answer of a command that did its work: this text.
-    pub fn of_table(alloc: Global, text: Vec<u8>) -> Answer
+    pub fn of_table(alloc: Global, text: Vec<u8>) -> CommandAnswer
         ensures { result ≡ table_answer text.items }
     {
-        Answer {
+        CommandAnswer {
             status: Status::Done,
             out: Items::from_vec(text),
             err: Items::from_vec(Vec::new(alloc)),
@@ -64,10 +64,10 @@ impl Answer {
     }
 
     /// The answer that a file is no list of frames: what stands before the fault, and the line that says why.
-    pub fn of_bad_frames(before: Vec<u8>, line: Vec<u8>) -> Answer
+    pub fn of_bad_frames(before: Vec<u8>, line: Vec<u8>) -> CommandAnswer
         ensures { result ≡ bad_frames_answer before.items line.items }
     {
-        Answer {
+        CommandAnswer {
             status: Status::BadFrames,
             out: Items::from_vec(before),
             err: Items::from_vec(line),
@@ -75,12 +75,12 @@ impl Answer {
     }
 
     /// The answer that files break rules: the text of the report on them, which calls each by its name in this list.
-    pub fn of_report(alloc: Global, names: &[&[u8]], report: &[Finding]) -> Result<Answer, Failure>
+    pub fn of_report(alloc: Global, names: &[&[u8]], report: &[Finding]) -> Result<CommandAnswer, Failure>
         ensures answer { IfOk result (λ answer. answer ≡ report_answer (map (λ n. n.now) names.now) report.now) }
         ensures memory { IsOkUnless result Failure.NoMemory }
     {
         let text = text_of_report(alloc, names, report)?;
-        Ok(Answer {
+        Ok(CommandAnswer {
             status: Status::Broken,
             out: Items::from_vec(Vec::new(alloc)),
             err: Items::from_vec(text),
@@ -88,12 +88,12 @@ impl Answer {
     }
 
     /// The answer to words that are no command: how the program is called.
-    pub fn of_no_command(alloc: Global) -> Result<Answer, Failure>
+    pub fn of_no_command(alloc: Global) -> Result<CommandAnswer, Failure>
         ensures answer { IfOk result (λ answer. answer ≡ usage_answer) }
         ensures memory { IsOkUnless result Failure.NoMemory }
     {
         let text = Vec::from_slice(alloc, USAGE)?;
-        Ok(Answer {
+        Ok(CommandAnswer {
             status: Status::Usage,
             out: Items::from_vec(Vec::new(alloc)),
             err: Items::from_vec(text),

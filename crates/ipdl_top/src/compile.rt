@@ -5,14 +5,14 @@ ghost use Rattle.findings.specs.Report.{IsReport};
 ghost use Rattle.ipdl_syntax.specs.Programs.{IsProgram, BearTheirNames};
 ghost use Rattle.include_graph.specs.Keys.{AreFileWords};
 ghost use Rattle.include_graph.specs.Load as load;
-ghost use Rattle.ipdl_top.specs.Answer.{IsCompilation, SaysTables, given_by};
+ghost use Rattle.ipdl_top.specs.CommandAnswer.{IsCompilation, SaysTables, given_by};
 ghost use Rattle.ipdl_top.specs.Lists.{list_names};
-ghost use Rattle.ipdl_top.specs.Seen.{ForMap};
+ghost use Rattle.ipdl_top.specs.FileViews.{ForMap};
 ghost use Rattle.ipdl_top.specs.Steps.{AreFilesReported, IsChecked, IsFilesAnswer, IsListedChecked, IsProgramChecked, IsToldOf, names_of};
 
-use crate::answer::{Answer, Failure};
-use crate::checked::Checked;
-use crate::list::{Listed, read_listed};
+use crate::answer::{CommandAnswer, Failure};
+use crate::checked::CheckResult;
+use crate::list::{SyncListFile, read_listed};
 use crate::rules::rule_checked;
 use actor_tables::table_text;
 use findings::sorted;
@@ -64,16 +64,16 @@ fn text_names<'n>(
 }
 
 /// The report of these findings and of what the list breaks.
-fn files_report(findings: Findings, listed: &Listed) -> Result<Findings, AllocError>
-    ensures { IfOk result (IsReport (λ f. Contains findings f ⊎ (listed.now ≡ Listed.Broken f))) }
+fn files_report(findings: Findings, listed: &SyncListFile) -> Result<Findings, AllocError>
+    ensures { IfOk result (IsReport (λ f. Contains findings f ⊎ (listed.now ≡ SyncListFile.Broken f))) }
 {
     let mut found = findings.into_vec();
     match listed {
-        Listed::Broken(finding) => {
+        SyncListFile::Broken(finding) => {
             found.push(*finding)?;
             Ok(sorted(found))
         }
-        Listed::Sections(_) => Ok(sorted(found)),
+        SyncListFile::Sections(_) => Ok(sorted(found)),
     }
 }
 
@@ -83,14 +83,14 @@ fn texts_answer(
     findings: Findings,
     texts: &[Name],
     list: &Option<String>,
-    listed: Listed,
-) -> Result<Answer, Failure>
+    listed: SyncListFile,
+) -> Result<CommandAnswer, Failure>
     ensures answer { IfOk result (AreFilesReported findings listed (texts.now ++ list_names (option_map string_bytes list.now))) }
     ensures memory { IsOkUnless result Failure.NoMemory }
 {
     let names = text_names(alloc, texts, list)?;
     let report = files_report(findings, &listed)?;
-    Answer::of_report(alloc, names.as_slice(), report.as_slice())
+    CommandAnswer::of_report(alloc, names.as_slice(), report.as_slice())
 }
 
 /// The answer for files that break these rules and are called so, and for the list behind them.
@@ -100,7 +100,7 @@ fn files_answer<F: Files>(
     list: &Option<String>,
     findings: Findings,
     texts: &[Name],
-) -> Result<Answer, Failure>
+) -> Result<CommandAnswer, Failure>
     requires { length texts.now ≤ 4096 }
     ensures answer { load.ForMap (F.told files.old) (λ lists. IfOk result (IsFilesAnswer lists (option_map string_bytes list.now) findings texts.now)) }
     ensures told { F.told files.new ≡ F.told files.old }
@@ -115,19 +115,19 @@ fn files_answer<F: Files>(
 fn named_checked(
     alloc: Global,
     program: &Program,
-    listed: Listed,
+    listed: SyncListFile,
     names: &[&[u8]],
-) -> Result<Checked, Failure>
+) -> Result<CheckResult, Failure>
     requires program { IsProgram program.now }
     requires named { BearTheirNames program.now }
     ensures found { IfOk result (IsListedChecked program.now listed (map (λ n. n.now) names.now)) }
     ensures memory { IsOkUnless result Failure.NoMemory }
 {
     match listed {
-        Listed::Sections(sections) => rule_checked(alloc, program, &sections, names),
-        Listed::Broken(finding) => {
-            let report = Answer::of_report(alloc, names, &[finding])?;
-            Ok(Checked::Report(report))
+        SyncListFile::Sections(sections) => rule_checked(alloc, program, &sections, names),
+        SyncListFile::Broken(finding) => {
+            let report = CommandAnswer::of_report(alloc, names, &[finding])?;
+            Ok(CheckResult::Report(report))
         }
     }
 }
@@ -137,8 +137,8 @@ fn listed_checked(
     alloc: Global,
     program: &Program,
     list: &Option<String>,
-    listed: Listed,
-) -> Result<Checked, Failure>
+    listed: SyncListFile,
+) -> Result<CheckResult, Failure>
     requires program { IsProgram program.now }
     requires named { BearTheirNames program.now }
     ensures found { IfOk result (IsListedChecked program.now listed (names_of program.now (option_map string_bytes list.now))) }
@@ -154,7 +154,7 @@ fn program_checked<F: Files>(
     files: &mut F,
     list: &Option<String>,
     program: &Program,
-) -> Result<Checked, Failure>
+) -> Result<CheckResult, Failure>
     requires program { IsProgram program.now }
     requires named { BearTheirNames program.now }
     ensures found { load.ForMap (F.told files.old) (λ lists. IfOk result (IsProgramChecked lists (option_map string_bytes list.now) program.now)) }
@@ -174,7 +174,7 @@ pub fn checked<F: Files>(
     list: &Option<String>,
     path: &[String],
     names: &[String],
-) -> Result<Checked, Failure>
+) -> Result<CheckResult, Failure>
     requires { AreFileWords (map string_bytes names.now) }
     ensures found { ForMap (F.told files.old) (λ seen. IfOk result
         (IsChecked (given_by seen.files (map string_bytes path.now) (map string_bytes names.now)) seen.list (option_map string_bytes list.now))) }
@@ -186,7 +186,7 @@ pub fn checked<F: Files>(
         Ok(program) => program_checked(alloc, files, list, &program),
         Err(LoadFault::Broken(findings, texts)) => {
             match files_answer(alloc, files, list, findings, texts.as_slice()) {
-                Ok(report) => Ok(Checked::Report(report)),
+                Ok(report) => Ok(CheckResult::Report(report)),
                 Err(failure) => Err(failure),
             }
         }
@@ -196,13 +196,13 @@ pub fn checked<F: Files>(
 }
 
 /// The answer of the command that compiles: the report, or the tables of the schema.
-fn tables_of(alloc: Global, checked: Checked) -> Result<Answer, Failure>
+fn tables_of(alloc: Global, checked: CheckResult) -> Result<CommandAnswer, Failure>
     ensures answer { IfOk result (IsToldOf SaysTables checked) }
     ensures memory { IsOkUnless result Failure.NoMemory }
 {
     match checked {
-        Checked::Report(report) => Ok(report),
-        Checked::Clean(schema) => Ok(Answer::of_table(alloc, table_text(alloc, &schema)?)),
+        CheckResult::Report(report) => Ok(report),
+        CheckResult::Clean(schema) => Ok(CommandAnswer::of_table(alloc, table_text(alloc, &schema)?)),
     }
 }
 
@@ -214,7 +214,7 @@ pub fn compile<F: Files>(
     list: &Option<String>,
     path: &[String],
     names: &[String],
-) -> Result<Answer, Failure>
+) -> Result<CommandAnswer, Failure>
     requires { AreFileWords (map string_bytes names.now) }
     ensures answer { ForMap (F.told files.old) (λ seen. IfOk result
         (IsCompilation SaysTables (given_by seen.files (map string_bytes path.now) (map string_bytes names.now)) seen.list (option_map string_bytes list.now))) }

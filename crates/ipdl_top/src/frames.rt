@@ -5,15 +5,15 @@ ghost use Rattle.include_graph.specs.Keys.{AreFileWords};
 ghost use Rattle.include_graph.specs.Load as load;
 ghost use Rattle.frame_list.specs.Frames.{all_plain};
 ghost use Rattle.frame_list.specs.Steps.{AreHeld};
-ghost use Rattle.ipdl_top.specs.Answer.{IsCompilation, given_by};
+ghost use Rattle.ipdl_top.specs.CommandAnswer.{IsCompilation, given_by};
 ghost use Rattle.ipdl_top.specs.Frames.{SaysBytes, SaysFrames, bad_frames_answer, frames_answer, frames_out};
-ghost use Rattle.ipdl_top.specs.Seen.{ForMap};
+ghost use Rattle.ipdl_top.specs.FileViews.{ForMap};
 ghost use Rattle.ipdl_top.specs.Steps.{IsHeld, IsSoundChecked, IsToldOf};
 
-use crate::answer::{Answer, Failure};
-use crate::checked::Checked;
+use crate::answer::{CommandAnswer, Failure};
+use crate::checked::CheckResult;
 use crate::compile::checked;
-use frame_list::{ListFault, Placed, converted, fault_text, frames_of, frames_text};
+use frame_list::{ListFault, PlacedMessage, convert_frames, fault_text, frames_of, frames_text};
 use ipdl_base::{Files, ReadAnswer, Schema};
 use std::alloc::{AllocError, Global};
 use std::slice::from_ref;
@@ -23,7 +23,7 @@ const MOST_BYTES: usize = 1_048_576;
 
 /// What a file of frames was found to be.
 #[derive(Drop)]
-pub enum Held {
+pub enum FramesFile {
     /// There is none.
     Absent,
     /// It has more bytes than are read.
@@ -34,7 +34,7 @@ pub enum Held {
 
 /// The file to print frames of, and how.
 #[derive(Drop)]
-pub struct Wanted<'w> {
+pub struct FramesRequest<'w> {
     /// The name of the file of frames.
     pub name: &'w str,
     /// Whether the frames are written anew.
@@ -42,25 +42,25 @@ pub struct Wanted<'w> {
 }
 
 /// What a file of these bytes is.
-fn held_of_bytes(bytes: Vec<u8>) -> Held
+fn held_of_bytes(bytes: Vec<u8>) -> FramesFile
     ensures { IsHeld (Some bytes.items) result }
 {
     if bytes.len() > MOST_BYTES {
-        Held::Larger
+        FramesFile::Larger
     } else {
-        Held::Bytes(bytes)
+        FramesFile::Bytes(bytes)
     }
 }
 
 /// Reads the file of frames of this name.
-fn read_held<F: Files>(alloc: Global, files: &mut F, name: &str) -> Result<Held, Failure>
+fn read_held<F: Files>(alloc: Global, files: &mut F, name: &str) -> Result<FramesFile, Failure>
     ensures held { load.ForMap (F.told files.old) (λ frames. IfOk result (IsHeld (frames name.now))) }
     ensures read_fault { result ≡ Err Failure.ReadFault → Rose (F.faults files.old) (F.faults files.new) }
 {
     match files.read(alloc, name, MOST_BYTES) {
         ReadAnswer::Bytes(bytes) => Ok(held_of_bytes(bytes)),
-        ReadAnswer::Absent => Ok(Held::Absent),
-        ReadAnswer::Larger => Ok(Held::Larger),
+        ReadAnswer::Absent => Ok(FramesFile::Absent),
+        ReadAnswer::Larger => Ok(FramesFile::Larger),
         ReadAnswer::Failed => Err(Failure::ReadFault),
         ReadAnswer::NoMemory => Err(Failure::NoMemory),
     }
@@ -71,14 +71,14 @@ fn out_of(
     alloc: Global,
     schema: &Schema,
     convert: bool,
-    frames: &[Placed],
+    frames: &[PlacedMessage],
 ) -> Result<Vec<u8>, AllocError>
     requires sound { IsSound schema.now }
     requires held { AreHeld schema.now frames.now }
     ensures { IfOk result (λ text. text.items ≡ frames_out convert schema.now (all_plain frames.now)) }
 {
     if convert {
-        converted(alloc, schema, frames)
+        convert_frames(alloc, schema, frames)
     } else {
         frames_text(alloc, schema, frames)
     }
@@ -90,15 +90,15 @@ fn answer_of(
     name: &str,
     out: Vec<u8>,
     fault: &Option<ListFault>,
-) -> Result<Answer, AllocError>
+) -> Result<CommandAnswer, AllocError>
     ensures { IfOk result (λ answer. answer ≡ frames_answer name.now out.items fault.now) }
 {
     match fault {
         Some(fault) => {
             let line = fault_text(alloc, name.as_bytes(), fault)?;
-            Ok(Answer::of_bad_frames(out, line))
+            Ok(CommandAnswer::of_bad_frames(out, line))
         }
-        None => Ok(Answer::of_table(alloc, out)),
+        None => Ok(CommandAnswer::of_table(alloc, out)),
     }
 }
 
@@ -106,9 +106,9 @@ fn answer_of(
 fn bytes_answer(
     alloc: Global,
     schema: &Schema,
-    wanted: &Wanted<'_>,
+    wanted: &FramesRequest<'_>,
     bytes: &[u8],
-) -> Result<Answer, AllocError>
+) -> Result<CommandAnswer, AllocError>
     requires { IsSound schema.now }
     ensures { IfOk result (SaysBytes wanted.now.name.now wanted.now.convert bytes.now schema.now) }
 {
@@ -118,44 +118,44 @@ fn bytes_answer(
 }
 
 /// The answer that there is no file of frames to read, with this word for it.
-fn unread_answer(alloc: Global, name: &str, word: &str) -> Result<Answer, AllocError>
+fn unread_answer(alloc: Global, name: &str, word: &str) -> Result<CommandAnswer, AllocError>
     ensures { IfOk result (λ answer. answer ≡ bad_frames_answer [] (name.now ++ word.now)) }
 {
     let mut line = Vec::from_slice(alloc, name.as_bytes())?;
     line.extend_from_slice(word.as_bytes())?;
-    Ok(Answer::of_bad_frames(Vec::new(alloc), line))
+    Ok(CommandAnswer::of_bad_frames(Vec::new(alloc), line))
 }
 
 /// The answer for a file of frames by what was found of it.
 fn held_answer(
     alloc: Global,
     schema: &Schema,
-    wanted: &Wanted<'_>,
-    held: &Held,
-) -> Result<Answer, AllocError>
+    wanted: &FramesRequest<'_>,
+    held: &FramesFile,
+) -> Result<CommandAnswer, AllocError>
     requires { IsSound schema.now }
     ensures { IfOk result (λ answer. (file : Option (List ℕ)) → IsHeld file held.now → SaysFrames wanted.now.name.now wanted.now.convert file schema.now answer) }
 {
     match held {
-        Held::Absent => unread_answer(alloc, wanted.name, ":0: absent\n"),
-        Held::Larger => unread_answer(alloc, wanted.name, ":0: larger\n"),
-        Held::Bytes(bytes) => bytes_answer(alloc, schema, wanted, bytes.as_slice()),
+        FramesFile::Absent => unread_answer(alloc, wanted.name, ":0: absent\n"),
+        FramesFile::Larger => unread_answer(alloc, wanted.name, ":0: larger\n"),
+        FramesFile::Bytes(bytes) => bytes_answer(alloc, schema, wanted, bytes.as_slice()),
     }
 }
 
 /// The answer by what was found of the files of a command and of the file of frames.
 fn checked_answer(
     alloc: Global,
-    checked: Checked,
-    wanted: &Wanted<'_>,
-    held: &Held,
-) -> Result<Answer, AllocError>
+    checked: CheckResult,
+    wanted: &FramesRequest<'_>,
+    held: &FramesFile,
+) -> Result<CommandAnswer, AllocError>
     requires { IsSoundChecked checked }
     ensures { IfOk result (λ answer. (file : Option (List ℕ)) → IsHeld file held.now → IsToldOf (SaysFrames wanted.now.name.now wanted.now.convert file) checked answer) }
 {
     match checked {
-        Checked::Report(report) => Ok(report),
-        Checked::Clean(schema) => held_answer(alloc, &schema, wanted, held),
+        CheckResult::Report(report) => Ok(report),
+        CheckResult::Clean(schema) => held_answer(alloc, &schema, wanted, held),
     }
 }
 
@@ -163,9 +163,9 @@ fn checked_answer(
 fn answer_with<F: Files>(
     alloc: Global,
     files: &mut F,
-    checked: Checked,
-    wanted: &Wanted<'_>,
-) -> Result<Answer, Failure>
+    checked: CheckResult,
+    wanted: &FramesRequest<'_>,
+) -> Result<CommandAnswer, Failure>
     requires { IsSoundChecked checked }
     ensures answer { load.ForMap (F.told files.old) (λ frames. IfOk result (IsToldOf (SaysFrames wanted.now.name.now wanted.now.convert (frames wanted.now.name.now)) checked)) }
     ensures read_fault { result ≡ Err Failure.ReadFault → Rose (F.faults files.old) (F.faults files.new) }
@@ -182,8 +182,8 @@ pub fn frames<F: Files>(
     list: &Option<String>,
     path: &[String],
     file: &String,
-    wanted: &Wanted<'_>,
-) -> Result<Answer, Failure>
+    wanted: &FramesRequest<'_>,
+) -> Result<CommandAnswer, Failure>
     requires { AreFileWords (string_bytes file.now ∷ []) }
     ensures answer { ForMap (F.told files.old) (λ seen. IfOk result
         (IsCompilation (SaysFrames wanted.now.name.now wanted.now.convert (seen.frames wanted.now.name.now)) (given_by seen.files (map string_bytes path.now) (string_bytes file.now ∷ [])) seen.list (option_map string_bytes list.now))) }

@@ -1,17 +1,17 @@
 ghost use Rattle.ipdl_top.specs.Laws.{OneAnswer};
 
 use command_words::one_command;
-use frame_laws::{frames_alike, one_list_of_frames};
+use answer_laws::{frames_alike, one_list_of_frames};
 use grammar_laws::one_tree;
 use ipdl_lex::one_answer;
-use program_laws::{break_alike, listed_alike, schemas_alike};
-use schema_laws::one_schema;
+use answer_laws::{break_alike, listed_alike, schemas_alike};
+use program_schema::one_schema;
 use sync_list::one_list;
 use value_types::boxes_say_nothing;
 
 /// The law of the answer: for the same files, words have at most one. So the files and the words
 /// determine an answer's status, its text for `out` and its text for `err`.
-pub fn determined()
+pub fn answer_is_determined()
     ensures { OneAnswer }
 {
     one_answer();

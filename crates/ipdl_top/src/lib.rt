@@ -13,6 +13,6 @@ mod rules;
 mod status;
 mod write;
 
-pub use laws::determined;
+pub use laws::answer_is_determined;
 pub use program::ipdl;
 pub use status::Status;

@@ -14,7 +14,7 @@ const MOST_BYTES: usize = 1_048_576;
 
 /// What a sync list that a command may name was found to be.
 #[derive(Drop)]
-pub enum Listed {
+pub enum SyncListFile {
     /// Its sections; none where no list is named.
     Sections(Option<SyncList>),
     /// It breaks a rule on files.
@@ -22,19 +22,19 @@ pub enum Listed {
 }
 
 /// The list as a whole breaks a rule, as the file of this number.
-fn broken_whole(rule: Rule, number: u32) -> Listed
-    ensures { result ≡ Listed.Broken (record { place = record { file = number; line = 0; column = 0 }; rule = rule }) }
+fn broken_whole(rule: Rule, number: u32) -> SyncListFile
+    ensures { result ≡ SyncListFile.Broken (record { place = record { file = number; line = 0; column = 0 }; rule = rule }) }
 {
     let place = Place {
         file: number,
         line: 0,
         column: 0,
     };
-    Listed::Broken(Finding { place, rule })
+    SyncListFile::Broken(Finding { place, rule })
 }
 
 /// What a list of these bytes is, as the file of this number.
-fn listed_of_bytes(alloc: Global, bytes: &[u8], number: u32) -> Result<Listed, Failure>
+fn listed_of_bytes(alloc: Global, bytes: &[u8], number: u32) -> Result<SyncListFile, Failure>
     ensures listed { IfOk result (IsFound (Some bytes.now) number) }
     ensures memory { IfErr result (λ failure. failure ≡ Failure.NoMemory) }
 {
@@ -42,14 +42,14 @@ fn listed_of_bytes(alloc: Global, bytes: &[u8], number: u32) -> Result<Listed, F
         return Ok(broken_whole(Rule::TOO_LARGE, number));
     }
     match read_list(alloc, bytes) {
-        Ok(sections) => Ok(Listed::Sections(Some(sections))),
+        Ok(sections) => Ok(SyncListFile::Sections(Some(sections))),
         Err(ListFault::Line(line)) => {
             let place = Place {
                 file: number,
                 line,
                 column: 1,
             };
-            Ok(Listed::Broken(Finding {
+            Ok(SyncListFile::Broken(Finding {
                 place,
                 rule: Rule::SYNTAX_FAULT,
             }))
@@ -64,7 +64,7 @@ fn read_named<F: Files>(
     files: &mut F,
     name: &str,
     number: u32,
-) -> Result<Listed, Failure>
+) -> Result<SyncListFile, Failure>
     ensures listed { ForMap (F.told files.old) (λ lists. IfOk result (IsFound (lists name.now) number)) }
     ensures told { F.told files.new ≡ F.told files.old }
     ensures count { F.faults files.old ≤ F.faults files.new }
@@ -85,7 +85,7 @@ pub fn read_listed<F: Files>(
     files: &mut F,
     list: &Option<String>,
     number: u32,
-) -> Result<Listed, Failure>
+) -> Result<SyncListFile, Failure>
     ensures listed { ForMap (F.told files.old) (λ lists. IfOk result (IsListed lists (option_map string_bytes list.now) number)) }
     ensures told { F.told files.new ≡ F.told files.old }
     ensures count { F.faults files.old ≤ F.faults files.new }
@@ -93,6 +93,6 @@ pub fn read_listed<F: Files>(
 {
     match list {
         Some(name) => read_named(alloc, files, name.as_str(), number),
-        None => Ok(Listed::Sections(None)),
+        None => Ok(SyncListFile::Sections(None)),
     }
 }

@@ -1,14 +1,14 @@
 ghost use Rattle.std.specs.Prelude.{◌≡◌, ◌≢◌, ◌⊎◌, IfOk, map, string_bytes};
 ghost use Rattle.ipdl_base.specs.Outside.{Rose};
-ghost use Rattle.ipdl_top.specs.Answer.{IsAnswer, usage_answer};
+ghost use Rattle.ipdl_top.specs.CommandAnswer.{IsAnswer, usage_answer};
 ghost use Rattle.command_words.specs.Command.{IsNoCommand};
 ghost use Rattle.ipdl_top.specs.Outcome.{IsOutcome};
-ghost use Rattle.ipdl_top.specs.Seen.{ForMap};
+ghost use Rattle.ipdl_top.specs.FileViews.{ForMap};
 ghost use Rattle.ipdl_top.specs.Written.{WritesAll};
 
-use crate::answer::{Answer, Failure};
+use crate::answer::{CommandAnswer, Failure};
 use crate::compile::compile;
-use crate::frames::{Wanted, frames};
+use crate::frames::{FramesRequest, frames};
 use crate::status::Status;
 use crate::write::write_answer;
 use command_words::{Command, WordsFault, read_words};
@@ -16,7 +16,7 @@ use ipdl_base::{Files, Sink};
 use std::alloc::Global;
 
 /// The answer to the words of a call.
-fn answer_to<F: Files>(alloc: Global, words: &[String], files: &mut F) -> Result<Answer, Failure>
+fn answer_to<F: Files>(alloc: Global, words: &[String], files: &mut F) -> Result<CommandAnswer, Failure>
     ensures answer { ForMap (F.told files.old) (λ map'. IfOk result (IsAnswer map' (map string_bytes words.now))) }
     ensures no_command { IsNoCommand (map string_bytes words.now) → result ≢ Err Failure.ReadFault }
     ensures read_fault { result ≡ Err Failure.ReadFault → Rose (F.faults files.old) (F.faults files.new) }
@@ -38,13 +38,13 @@ fn answer_to<F: Files>(alloc: Global, words: &[String], files: &mut F) -> Result
                 convert,
             },
         ) => {
-            let wanted = Wanted {
+            let wanted = FramesRequest {
                 name: name.as_str(),
                 convert,
             };
             frames(alloc, files, &list, path.as_slice(), &file, &wanted)
         }
-        Err(WordsFault::Usage) => Answer::of_no_command(alloc),
+        Err(WordsFault::Usage) => CommandAnswer::of_no_command(alloc),
         Err(WordsFault::NoMemory) => Err(Failure::NoMemory),
     }
 }

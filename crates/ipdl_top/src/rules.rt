@@ -3,11 +3,11 @@ ghost use Rattle.std.specs.List.{Contains};
 ghost use Rattle.ipdl_base.specs.declared.finding.Finding.{Finding};
 ghost use Rattle.ipdl_syntax.specs.Programs.{IsProgram, BearTheirNames};
 ghost use Rattle.findings.specs.Report.{IsReport};
-ghost use Rattle.ipdl_top.specs.Answer.{BreaksRules};
+ghost use Rattle.ipdl_top.specs.CommandAnswer.{BreaksRules};
 ghost use Rattle.ipdl_top.specs.Steps.{IsRuleChecked};
 
-use crate::answer::{Answer, Failure};
-use crate::checked::Checked;
+use crate::answer::{CommandAnswer, Failure};
+use crate::checked::CheckResult;
 use actor_tables::schema;
 use findings::sorted;
 use ipdl_base::{Finding, Findings};
@@ -61,7 +61,7 @@ pub fn rule_checked(
     program: &Program,
     list: &Option<SyncList>,
     files: &[&[u8]],
-) -> Result<Checked, Failure>
+) -> Result<CheckResult, Failure>
     requires program { IsProgram program.now }
     requires named { BearTheirNames program.now }
     ensures found { IfOk result (IsRuleChecked program.now list.now (map (λ n. n.now) files.now)) }
@@ -70,9 +70,9 @@ pub fn rule_checked(
     let names = Names::build(alloc, program)?;
     let report = rule_findings(alloc, program, &names, list)?;
     if report.is_empty() {
-        Ok(Checked::Clean(schema(alloc, program, &names)?))
+        Ok(CheckResult::Clean(schema(alloc, program, &names)?))
     } else {
-        let report = Answer::of_report(alloc, files, report.as_slice())?;
-        Ok(Checked::Report(report))
+        let report = CommandAnswer::of_report(alloc, files, report.as_slice())?;
+        Ok(CheckResult::Report(report))
     }
 }

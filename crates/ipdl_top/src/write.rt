@@ -2,15 +2,15 @@ ghost use Rattle.std.specs.Prelude.{◌≡◌, ◌⊎◌, OnOk, OnErr};
 ghost use Rattle.ipdl_base.specs.Outside.{Appends, Rose};
 ghost use Rattle.ipdl_top.specs.Written.{AppendsFront, WritesAll, WritesFront};
 
-use crate::answer::Answer;
+use crate::answer::CommandAnswer;
 use ipdl_base::{Sink, WriteAnswer};
 
 /// A write failed.
 #[derive(Clone, Copy, Debug, PartialEq, Eq)]
-pub struct WriteFailed;
+pub struct WriteFault;
 
 /// Writes all of a text, piece by piece, or a front of it where a write fails.
-fn write_all<S: Sink>(sink: &mut S, text: &[u8]) -> Result<(), WriteFailed>
+fn write_all<S: Sink>(sink: &mut S, text: &[u8]) -> Result<(), WriteFault>
     ensures ok { OnOk result (Appends (S.written sink.old) (S.written sink.new) text.now) }
     ensures front { OnErr result (AppendsFront (S.written sink.old) (S.written sink.new) text.now) }
     ensures failed { OnErr result (Rose (S.faults sink.old) (S.faults sink.new)) }
@@ -22,7 +22,7 @@ fn write_all<S: Sink>(sink: &mut S, text: &[u8]) -> Result<(), WriteFailed>
                 let (_, left) = rest.split_at(n);
                 rest = left;
             }
-            WriteAnswer::Failed => return Err(WriteFailed),
+            WriteAnswer::Failed => return Err(WriteFault),
         }
     }
     Ok(())
@@ -31,10 +31,10 @@ fn write_all<S: Sink>(sink: &mut S, text: &[u8]) -> Result<(), WriteFailed>
 /// Writes an answer: its text for `out`, and then its text for `err`. Where a write fails, nothing
 /// is written from there on.
 pub fn write_answer<O: Sink, E: Sink>(
-    answer: &Answer,
+    answer: &CommandAnswer,
     out: &mut O,
     err: &mut E,
-) -> Result<(), WriteFailed>
+) -> Result<(), WriteFault>
     ensures all { OnOk result (WritesAll answer.now
         (record { old = O.written out.old; new = O.written out.new })
         (record { old = E.written err.old; new = E.written err.new })) }

@@ -10,9 +10,9 @@ use Rattle.ipdl_syntax.specs.declared.tree.NameAt.{NameAt}
 use Rattle.ipdl_syntax.specs.declared.tree.ProtocolDecl.{ProtocolDecl}
 use Rattle.name_table.specs.Decls.{FindsOneProtocol, protocol_of}
 use Rattle.name_table.proofs.Places.{read_more}
-use Rattle.manager_rules.specs.declared.rows.Row.{Row}
-use Rattle.manager_rules.specs.declared.side.Side.{Side}
-use Rattle.manager_rules.specs.declared.side.Side.TheVariants.{Managers}
+use Rattle.manager_rules.specs.declared.rows.ManagerRow.{ManagerRow}
+use Rattle.manager_rules.specs.declared.side.Relation.{Relation}
+use Rattle.manager_rules.specs.declared.side.Relation.TheVariants.{Managers}
 use Rattle.manager_rules.specs.Managers.{HasManager}
 use Rattle.manager_rules.specs.Rows.{IsRow, AreRows}
 use Rattle.manager_rules.specs.Sides.{names_on, names_in, NamesOn, HasBond}
@@ -30,15 +30,15 @@ protocol_within program file p there = go (slice_get program file) refl there
     go (Some entry) e h = slice_get_within program file entry e
 
 -- some name of a protocol that there may be is one of it
-some_names : {P : NameAt → Type 0} (side : Side) (o : Option ProtocolDecl) → Any P (option_map_or (names_on side) o []) → (p : ProtocolDecl) × (o ≡ Some p) × Any P (names_on side p)
+some_names : {P : NameAt → Type 0} (side : Relation) (o : Option ProtocolDecl) → Any P (option_map_or (names_on side) o []) → (p : ProtocolDecl) × (o ≡ Some p) × Any P (names_on side p)
 some_names side None any = absurd (omega (arith, any.2))
 some_names side (Some p) any = (p, refl, any)
 
-names_some : {P : NameAt → Type 0} (side : Side) (o : Option ProtocolDecl) (p : ProtocolDecl) → o ≡ Some p → Any P (names_on side p) → Any P (option_map_or (names_on side) o [])
+names_some : {P : NameAt → Type 0} (side : Relation) (o : Option ProtocolDecl) (p : ProtocolDecl) → o ≡ Some p → Any P (names_on side p) → Any P (option_map_or (names_on side) o [])
 names_some {P} side o p e any = let Q : Option ProtocolDecl → Type 0 = λ o. Any P (option_map_or (names_on side) o []) in subst Q (sym e) any
 
 -- the row of the names of an entry's protocol is that of the file
-row_like : (side : Side) (program : List Entry) (file : ℕ) (entry : Entry) (row : Row) → slice_get program file ≡ Some entry → IsRow (λ other. Any (λ n. FindsOneProtocol program file n.name other) (names_in side entry)) row → IsRow (HasBond side program file) row
+row_like : (side : Relation) (program : List Entry) (file : ℕ) (entry : Entry) (row : ManagerRow) → slice_get program file ≡ Some entry → IsRow (λ other. Any (λ n. FindsOneProtocol program file n.name other) (names_in side entry)) row → IsRow (HasBond side program file) row
 row_like side program file entry row at is =
     let Finds : ℕ → NameAt → Type 0 = λ other n. FindsOneProtocol program file n.name other in
     let to : (other : ℕ) → Any (Finds other) (names_in side entry) → HasBond side program file other =
@@ -51,20 +51,20 @@ row_like side program file entry row at is =
     }
 
 -- one row more
-pub rows_more : (side : Side) (program : List Entry) (old : List Row) (file : ℕ) (entry : Entry) (one : Row) (new : List Row) → slice_get program file ≡ Some entry → length old ≡ file → new ≡ old ++ one ∷ [] → ((k : ℕ) (row : Row) → slice_get old k ≡ Some row → IsRow (HasBond side program k) row)
-    → IsRow (λ other. Any (λ n. FindsOneProtocol program file n.name other) (names_in side entry)) one → (k : ℕ) (row : Row) → slice_get new k ≡ Some row → IsRow (HasBond side program k) row
+pub rows_more : (side : Relation) (program : List Entry) (old : List ManagerRow) (file : ℕ) (entry : Entry) (one : ManagerRow) (new : List ManagerRow) → slice_get program file ≡ Some entry → length old ≡ file → new ≡ old ++ one ∷ [] → ((k : ℕ) (row : ManagerRow) → slice_get old k ≡ Some row → IsRow (HasBond side program k) row)
+    → IsRow (λ other. Any (λ n. FindsOneProtocol program file n.name other) (names_in side entry)) one → (k : ℕ) (row : ManagerRow) → slice_get new k ≡ Some row → IsRow (HasBond side program k) row
 rows_more side program old file entry one new at long e before is k row there =
-    elim (read_more old one k row (sym (ap (λ (rows : List Row). slice_get rows k) e) ∙ there)) [
+    elim (read_more old one k row (sym (ap (λ (rows : List ManagerRow). slice_get rows k) e) ∙ there)) [
       | inl h ↦ before k row h
       | inr h ↦ (
           let P : ℕ → Type 0 = λ n. IsRow (HasBond side program n) row in
-          let Q : Row → Type 0 = λ r. IsRow (HasBond side program file) r in
+          let Q : ManagerRow → Type 0 = λ r. IsRow (HasBond side program file) r in
           subst P (sym (h.0 ∙ long)) (subst Q h.1 (row_like side program file entry one at is))
           )
     ]
 
 -- a file without a row names none
-pub no_row : (side : Side) (program : List Entry) (rows : List Row) (file other : ℕ) → AreRows side program rows → slice_get rows file ≡ None → ¬ HasBond side program file other
+pub no_row : (side : Relation) (program : List Entry) (rows : List ManagerRow) (file other : ℕ) → AreRows side program rows → slice_get rows file ≡ None → ¬ HasBond side program file other
 no_row side program rows file other are none bond =
     elim (slice_get_cases rows file).1 [
       | inl h ↦ (let e = sym none ∙ h.2 in let x : ⊥ = cc in x)
@@ -79,7 +79,7 @@ pub manager_of : (program : List Entry) (file other : ℕ) → HasBond Managers 
 manager_of program file other h = record { protocol = h.protocol; there = h.there; names = h.names }
 
 -- a file's protocol names another on a side where there is such a bond
-pub bond_names : (side : Side) (program : List Entry) (file other : ℕ) (p : ProtocolDecl) (told : Bool) → protocol_of program file ≡ Some p → Decides told (HasBond side program file other) → Decides told (NamesOn side program file p other)
+pub bond_names : (side : Relation) (program : List Entry) (file other : ℕ) (p : ProtocolDecl) (told : Bool) → protocol_of program file ≡ Some p → Decides told (HasBond side program file other) → Decides told (NamesOn side program file p other)
 bond_names side program file other p told there decides =
     Decides-like told
     (λ bond. let P : ProtocolDecl → Type 0 = λ q. NamesOn side program file q other in subst P (same_Some bond.protocol p (sym bond.there ∙ there)) bond.names)

@@ -7,7 +7,7 @@ use Rattle.ipdl_base.specs.declared.finding.Rule.{Rule}
 use Rattle.ipdl_base.specs.declared.finding.TheConstants.Rule as rule
 use Rattle.ipdl_syntax.specs.declared.program.Entry.{Entry}
 use Rattle.ipdl_syntax.specs.declared.tree.ProtocolDecl.{ProtocolDecl}
-use Rattle.manager_rules.specs.declared.breach.Breach.TheVariants.{Stronger, Unconstructed}
+use Rattle.manager_rules.specs.declared.breach.ManagerBreach.TheVariants.{Stronger, Unconstructed}
 use Rattle.manager_rules.specs.Broken.{SomeProtocol, BrokenAt}
 use Rattle.manager_rules.specs.InProtocol.{BreaksAt, UnknownIn, UnansweredIn, CycleIn, UndestroyedIn, UnmanagedIn, RepeatedIn, NamesBroken, RestBroken, BrokenIn}
 

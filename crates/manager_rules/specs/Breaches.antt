@@ -7,29 +7,29 @@ use Rattle.ipdl_syntax.specs.declared.tree.NameAt.{NameAt}
 use Rattle.ipdl_syntax.specs.declared.tree.ProtocolDecl.{ProtocolDecl}
 use Rattle.name_table.specs.Decls.{FindsNoProtocol}
 use Rattle.name_table.specs.Kinds.{strength_of_protocol, Converts}
-use Rattle.manager_rules.specs.declared.breach.Breach.{Breach}
-use Rattle.manager_rules.specs.declared.breach.Breach.TheVariants.{Unknown, Unanswered, Stronger, Unconstructed}
-use Rattle.manager_rules.specs.declared.side.Side.{Side}
-use Rattle.manager_rules.specs.declared.side.Side.TheVariants.{Managers, Managed}
+use Rattle.manager_rules.specs.declared.breach.ManagerBreach.{ManagerBreach}
+use Rattle.manager_rules.specs.declared.breach.ManagerBreach.TheVariants.{Unknown, Unanswered, Stronger, Unconstructed}
+use Rattle.manager_rules.specs.declared.side.Relation.{Relation}
+use Rattle.manager_rules.specs.declared.side.Relation.TheVariants.{Managers, Managed}
 use Rattle.manager_rules.specs.Broken.{FindsWith, HasMessage}
 use Rattle.manager_rules.specs.Sides.{NamesOn, other_side}
 
 -- the rule that is broken
-abbrev pub rule_of : Breach → Rule
+abbrev pub rule_of : ManagerBreach → Rule
 rule_of (Unknown side) = rule.UNKNOWN_PROTOCOL
 rule_of (Unanswered side) = rule.MANAGER_DISAGREEMENT
 rule_of Stronger = rule.STRONGER_PROTOCOL
 rule_of Unconstructed = rule.MISSING_CONSTRUCTOR
 
 -- the names that can break it
-abbrev pub side_of : Breach → Side
+abbrev pub side_of : ManagerBreach → Relation
 side_of (Unknown side) = side
 side_of (Unanswered side) = side
 side_of Stronger = Managers
 side_of Unconstructed = Managed
 
 -- in a protocol, which is that of a file, a name breaks it
-abbrev pub Breaks : Breach → List Entry → ℕ → ProtocolDecl → NameAt → Type 0
+abbrev pub Breaks : ManagerBreach → List Entry → ℕ → ProtocolDecl → NameAt → Type 0
 Breaks (Unknown side) program file p n = FindsNoProtocol program file n.name
 Breaks (Unanswered side) program file p n = FindsWith (λ other q. ¬ NamesOn (other_side side) program other q file) program file n.name
 Breaks Stronger program file p n = FindsWith (λ other m. ¬ Converts (strength_of_protocol p) (strength_of_protocol m)) program file n.name

@@ -9,16 +9,16 @@ use Rattle.ipdl_syntax.specs.declared.program.Entry.{Entry}
 use Rattle.ipdl_syntax.specs.declared.tree.MessageDecl.{MessageDecl}
 use Rattle.ipdl_syntax.specs.declared.tree.ProtocolDecl.{ProtocolDecl}
 use Rattle.findings.specs.Repeats.{IsRepeatedAt}
-use Rattle.manager_rules.specs.declared.breach.Breach.{Breach}
-use Rattle.manager_rules.specs.declared.breach.Breach.TheVariants.{Unknown, Unanswered, Stronger, Unconstructed}
-use Rattle.manager_rules.specs.declared.side.Side.TheVariants.{Managers, Managed}
+use Rattle.manager_rules.specs.declared.breach.ManagerBreach.{ManagerBreach}
+use Rattle.manager_rules.specs.declared.breach.ManagerBreach.TheVariants.{Unknown, Unanswered, Stronger, Unconstructed}
+use Rattle.manager_rules.specs.declared.side.Relation.TheVariants.{Managers, Managed}
 use Rattle.manager_rules.specs.Breaches.{side_of, Breaks}
 use Rattle.manager_rules.specs.Broken.{AtName, FindsWith, HasMessage, names_at, messages_at}
 use Rattle.manager_rules.specs.Managers.{Manages, IsInCycle}
 use Rattle.manager_rules.specs.Sides.{names_on}
 
 -- a name at this place does this
-abbrev pub BreaksAt : Breach → List Entry → ℕ → ProtocolDecl → Place → Type 0
+abbrev pub BreaksAt : ManagerBreach → List Entry → ℕ → ProtocolDecl → Place → Type 0
 BreaksAt breach program file p place = AtName (Breaks breach program file p) place (names_on (side_of breach) p)
 
 -- B8

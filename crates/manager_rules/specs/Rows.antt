@@ -3,16 +3,16 @@ use Rattle.std.specs.Prelude.{◌≡◌, ◌↔◌, ℕ, List, Some, IsTrue, len
 use Rattle.std.specs.HashSet.{contains}
 use Rattle.std.specs.List.{Contains}
 use Rattle.ipdl_syntax.specs.declared.program.Entry.{Entry}
-use Rattle.manager_rules.specs.declared.rows.Row.{Row}
-use Rattle.manager_rules.specs.declared.side.Side.{Side}
+use Rattle.manager_rules.specs.declared.rows.ManagerRow.{ManagerRow}
+use Rattle.manager_rules.specs.declared.side.Relation.{Relation}
 use Rattle.manager_rules.specs.Sides.{HasBond}
 
 -- a row has exactly the files of which this holds
-pub record IsRow (Holds : ℕ → Type 0) (row : Row) : Type 0 where
+pub record IsRow (Holds : ℕ → Type 0) (row : ManagerRow) : Type 0 where
   pub files : (other : ℕ) → Contains row.files.items other ↔ Holds other
   pub set : (other : ℕ) → IsTrue (contains nat_eq row.set other) ↔ Holds other
 
 -- for each file the row of those that its protocol names on this side
-pub record AreRows (side : Side) (program : List Entry) (rows : List Row) : Type 0 where
+pub record AreRows (side : Relation) (program : List Entry) (rows : List ManagerRow) : Type 0 where
   pub size : length rows ≡ length program
-  pub row : (file : ℕ) (row : Row) → slice_get rows file ≡ Some row → IsRow (HasBond side program file) row
+  pub row : (file : ℕ) (row : ManagerRow) → slice_get rows file ≡ Some row → IsRow (HasBond side program file) row

@@ -6,29 +6,29 @@ use Rattle.ipdl_syntax.specs.declared.program.Entry.{Entry}
 use Rattle.ipdl_syntax.specs.declared.tree.NameAt.{NameAt}
 use Rattle.ipdl_syntax.specs.declared.tree.ProtocolDecl.{ProtocolDecl}
 use Rattle.name_table.specs.Decls.{FindsOneProtocol, protocol_of}
-use Rattle.manager_rules.specs.declared.side.Side.{Side}
-use Rattle.manager_rules.specs.declared.side.Side.TheVariants.{Managers, Managed}
+use Rattle.manager_rules.specs.declared.side.Relation.{Relation}
+use Rattle.manager_rules.specs.declared.side.Relation.TheVariants.{Managers, Managed}
 
 -- the names of a protocol on a side
-abbrev pub names_on : Side → ProtocolDecl → List NameAt
+abbrev pub names_on : Relation → ProtocolDecl → List NameAt
 names_on Managers p = p.managers
 names_on Managed p = p.manages
 
 -- the names of a file's protocol on a side
-abbrev pub names_in : Side → Entry → List NameAt
+abbrev pub names_in : Relation → Entry → List NameAt
 names_in side e = option_map_or (names_on side) e.unit.protocol []
 
 -- the other side
-abbrev pub other_side : Side → Side
+abbrev pub other_side : Relation → Relation
 other_side Managers = Managed
 other_side Managed = Managers
 
 -- the protocol of a file names that of another file on this side
-abbrev pub NamesOn : Side → List Entry → ℕ → ProtocolDecl → ℕ → Type 0
+abbrev pub NamesOn : Relation → List Entry → ℕ → ProtocolDecl → ℕ → Type 0
 NamesOn side program file p other = Any (λ n. FindsOneProtocol program file n.name other) (names_on side p)
 
 -- one file's protocol names another's on this side
-pub record HasBond (side : Side) (program : List Entry) (file other : ℕ) : Type 0 where
+pub record HasBond (side : Relation) (program : List Entry) (file other : ℕ) : Type 0 where
   pub protocol : ProtocolDecl
   pub there : protocol_of program file ≡ Some protocol
   pub names : NamesOn side program file protocol other

@@ -7,9 +7,9 @@ ghost use Rattle.manager_rules.specs.Managers.{Manages};
 ghost use Rattle.manager_rules.specs.Sides.{NamesOn, other_side};
 ghost use Rattle.manager_rules.specs.Subjects.{IsSubject};
 
-use crate::known::Known;
+use crate::known::ManagementGraph;
 use crate::rows::finds_none;
-use crate::side::Side;
+use crate::side::Relation;
 use crate::subject::Subject;
 use ipdl_base::{Name, Rule};
 use ipdl_syntax::NameAt;
@@ -17,18 +17,18 @@ use name_table::Strength;
 
 /// What a protocol's name of another can do against the rules.
 #[derive(Clone, Copy)]
-pub enum Breach {
+pub enum ManagerBreach {
     /// It finds no protocol.
-    Unknown(Side),
+    Unknown(Relation),
     /// The protocol that it finds does not name this one on the other side.
-    Unanswered(Side),
+    Unanswered(Relation),
     /// It finds a manager to which the protocol does not convert.
     Stronger,
     /// It finds a protocol to be managed, and no message has the name.
     Unconstructed,
 }
 
-impl Breach {
+impl ManagerBreach {
     ghost use Rattle.manager_rules.specs.Breaches.{rule_of, side_of};
 
     /// The rule that is broken.
@@ -36,28 +36,28 @@ impl Breach {
         ensures { result ≡ rule_of self }
     {
         match self {
-            Breach::Unknown(_) => Rule::UNKNOWN_PROTOCOL,
-            Breach::Unanswered(_) => Rule::MANAGER_DISAGREEMENT,
-            Breach::Stronger => Rule::STRONGER_PROTOCOL,
-            Breach::Unconstructed => Rule::MISSING_CONSTRUCTOR,
+            ManagerBreach::Unknown(_) => Rule::UNKNOWN_PROTOCOL,
+            ManagerBreach::Unanswered(_) => Rule::MANAGER_DISAGREEMENT,
+            ManagerBreach::Stronger => Rule::STRONGER_PROTOCOL,
+            ManagerBreach::Unconstructed => Rule::MISSING_CONSTRUCTOR,
         }
     }
 
     /// The names that can break it.
-    pub fn side(self) -> Side
+    pub fn side(self) -> Relation
         ensures { result ≡ side_of self }
     {
         match self {
-            Breach::Unknown(side) => side,
-            Breach::Unanswered(side) => side,
-            Breach::Stronger => Side::Managers,
-            Breach::Unconstructed => Side::Managed,
+            ManagerBreach::Unknown(side) => side,
+            ManagerBreach::Unanswered(side) => side,
+            ManagerBreach::Stronger => Relation::Managers,
+            ManagerBreach::Unconstructed => Relation::Managed,
         }
     }
 }
 
 /// Whether the protocol that a name finds does not name the subject on the other side.
-fn is_unanswered(known: &Known<'_, '_>, subject: &Subject<'_>, name: &Name, side: Side) -> bool
+fn is_unanswered(known: &ManagementGraph<'_, '_>, subject: &Subject<'_>, name: &Name, side: Relation) -> bool
     requires known { IsKnown known.now }
     ensures { IsTrue result ↔ FindsWith (λ other q. ¬ NamesOn (other_side side) known.now.program.now other q subject.now.file) known.now.program.now subject.now.file name.now }
 {
@@ -68,7 +68,7 @@ fn is_unanswered(known: &Known<'_, '_>, subject: &Subject<'_>, name: &Name, side
 }
 
 /// Whether a name finds a manager to which the subject does not convert.
-fn is_stronger(known: &Known<'_, '_>, subject: &Subject<'_>, name: &Name) -> bool
+fn is_stronger(known: &ManagementGraph<'_, '_>, subject: &Subject<'_>, name: &Name) -> bool
     requires known { IsKnown known.now }
     ensures { IsTrue result ↔ FindsWith (λ other m. ¬ Converts (strength_of_protocol subject.now.protocol.now) (strength_of_protocol m)) known.now.program.now subject.now.file name.now }
 {
@@ -82,7 +82,7 @@ fn is_stronger(known: &Known<'_, '_>, subject: &Subject<'_>, name: &Name) -> boo
 }
 
 /// Whether a name finds a protocol, and the subject has no message of the name.
-fn is_unconstructed(known: &Known<'_, '_>, subject: &Subject<'_>, name: &Name) -> bool
+fn is_unconstructed(known: &ManagementGraph<'_, '_>, subject: &Subject<'_>, name: &Name) -> bool
     requires known { IsKnown known.now }
     requires subject { IsSubject known.now.program.now subject.now }
     ensures { IsTrue result ↔ FindsWith (λ other q. ¬ HasMessage subject.now.protocol.now name.now) known.now.program.now subject.now.file name.now }
@@ -94,27 +94,27 @@ fn is_unconstructed(known: &Known<'_, '_>, subject: &Subject<'_>, name: &Name) -
 }
 
 /// Whether a name finds a protocol that the subject does not manage.
-pub fn is_unmanaged(known: &Known<'_, '_>, subject: &Subject<'_>, name: &Name) -> bool
+pub fn is_unmanaged(known: &ManagementGraph<'_, '_>, subject: &Subject<'_>, name: &Name) -> bool
     requires known { IsKnown known.now }
     requires subject { IsSubject known.now.program.now subject.now }
     ensures { IsTrue result ↔ FindsWith (λ other q. ¬ Manages known.now.program.now subject.now.file subject.now.protocol.now other) known.now.program.now subject.now.file name.now }
 {
     match known.find(subject.file, name) {
-        Some((other, _)) => !known.has_bond(Side::Managed, subject.file, other),
+        Some((other, _)) => !known.has_bond(Relation::Managed, subject.file, other),
         None => false,
     }
 }
 
 /// Whether a name does this against a rule.
-pub fn breaks(known: &Known<'_, '_>, subject: &Subject<'_>, name: &NameAt, breach: Breach) -> bool
+pub fn breaks(known: &ManagementGraph<'_, '_>, subject: &Subject<'_>, name: &NameAt, breach: ManagerBreach) -> bool
     requires known { IsKnown known.now }
     requires subject { IsSubject known.now.program.now subject.now }
     ensures { IsTrue result ↔ Breaks breach known.now.program.now subject.now.file subject.now.protocol.now name.now }
 {
     match breach {
-        Breach::Unknown(_) => finds_none(known.names, subject.file, &name.name),
-        Breach::Unanswered(side) => is_unanswered(known, subject, &name.name, side),
-        Breach::Stronger => is_stronger(known, subject, &name.name),
-        Breach::Unconstructed => is_unconstructed(known, subject, &name.name),
+        ManagerBreach::Unknown(_) => finds_none(known.names, subject.file, &name.name),
+        ManagerBreach::Unanswered(side) => is_unanswered(known, subject, &name.name, side),
+        ManagerBreach::Stronger => is_stronger(known, subject, &name.name),
+        ManagerBreach::Unconstructed => is_unconstructed(known, subject, &name.name),
     }
 }

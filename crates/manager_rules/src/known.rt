@@ -6,8 +6,8 @@ ghost use Rattle.manager_rules.specs.Managers.{HasManager};
 ghost use Rattle.manager_rules.specs.Rows.{AreRows};
 ghost use Rattle.manager_rules.specs.Sides.{HasBond};
 
-use crate::rows::{Row, find_one, row_at, rows};
-use crate::side::Side;
+use crate::rows::{ManagerRow, find_one, row_at, rows};
+use crate::side::Relation;
 use ipdl_base::Name;
 use ipdl_syntax::{Entry, ProtocolDecl};
 use name_table::{Names, protocol_of};
@@ -15,16 +15,16 @@ use std::alloc::{AllocError, Global};
 
 /// A program, what its names find, and which of its protocols name which.
 #[derive(Drop)]
-pub struct Known<'a, 'p> {
+pub struct ManagementGraph<'a, 'p> {
     pub program: &'a [Entry],
     pub names: &'a Names<'p>,
     /// For each file the managers that its protocol names.
-    pub managers: Vec<Row>,
+    pub managers: Vec<ManagerRow>,
     /// For each file the protocols that its protocol manages.
-    pub managed: Vec<Row>,
+    pub managed: Vec<ManagerRow>,
 }
 
-impl<'a, 'p> Known<'a, 'p> {
+impl<'a, 'p> ManagementGraph<'a, 'p> {
     ghost use Rattle.manager_rules.specs.Knowing.{IsKnown};
 
     /// What is known of a program.
@@ -32,33 +32,33 @@ impl<'a, 'p> Known<'a, 'p> {
         alloc: Global,
         program: &'a [Entry],
         names: &'a Names<'p>,
-    ) -> Result<Known<'a, 'p>, AllocError>
+    ) -> Result<ManagementGraph<'a, 'p>, AllocError>
         requires few { length program.now ≤ 4096 }
         requires of_program { names.now ≡ program.now }
         ensures known { IfOk result IsKnown }
         ensures program { IfOk result (λ known. known.program.now ≡ program.now) }
     {
-        Ok(Known {
+        Ok(ManagementGraph {
             program,
             names,
-            managers: rows(alloc, program, names, Side::Managers)?,
-            managed: rows(alloc, program, names, Side::Managed)?,
+            managers: rows(alloc, program, names, Relation::Managers)?,
+            managed: rows(alloc, program, names, Relation::Managed)?,
         })
     }
 
     /// The rows of the names on a side.
-    fn rows(&self, side: Side) -> &[Row]
+    fn rows(&self, side: Relation) -> &[ManagerRow]
         requires { IsKnown self.now }
         ensures { AreRows side self.now.program.now result.now }
     {
         match side {
-            Side::Managers => self.managers.as_slice(),
-            Side::Managed => self.managed.as_slice(),
+            Relation::Managers => self.managers.as_slice(),
+            Relation::Managed => self.managed.as_slice(),
         }
     }
 
     /// Whether the protocol of a file names that of another on a side.
-    pub fn has_bond(&self, side: Side, file: u32, other: u32) -> bool
+    pub fn has_bond(&self, side: Relation, file: u32, other: u32) -> bool
         requires { IsKnown self.now }
         ensures { IsTrue result ↔ HasBond side self.now.program.now file other }
     {
@@ -73,7 +73,7 @@ impl<'a, 'p> Known<'a, 'p> {
         requires { IsKnown self.now }
         ensures { (other : ℕ) → Contains result.now other ↔ HasManager self.now.program.now file other }
     {
-        match row_at(self.rows(Side::Managers), file) {
+        match row_at(self.rows(Relation::Managers), file) {
             Some(row) => row.files.as_slice(),
             None => &[],
         }

@@ -9,10 +9,10 @@ ghost use Rattle.manager_rules.specs.InProtocol.{BreaksAt, CycleIn, UndestroyedI
 ghost use Rattle.manager_rules.specs.Knowing.{IsKnown};
 ghost use Rattle.manager_rules.specs.Subjects.{HasNames, IsSubject};
 
-use crate::breach::{Breach, breaks, is_unmanaged};
+use crate::breach::{ManagerBreach, breaks, is_unmanaged};
 use crate::cycle::is_in_cycle;
-use crate::known::Known;
-use crate::side::Side;
+use crate::known::ManagementGraph;
+use crate::side::Relation;
 use crate::subject::Subject;
 use findings::{NamePlace, add_repeated};
 use ipdl_base::{Finding, Rule};
@@ -22,9 +22,9 @@ use std::alloc::{AllocError, Global};
 
 /// Adds a finding at each name of the subject that does this against a rule.
 fn add_breaches(
-    known: &Known<'_, '_>,
+    known: &ManagementGraph<'_, '_>,
     subject: &Subject<'_>,
-    breach: Breach,
+    breach: ManagerBreach,
     found: &mut Vec<Finding>,
 ) -> Result<(), AllocError>
     requires known { IsKnown known.now }
@@ -45,7 +45,7 @@ fn add_breaches(
 
 /// Adds a finding at each of the subject's messages that has the name of a protocol which the subject does not manage.
 fn add_unmanaged(
-    known: &Known<'_, '_>,
+    known: &ManagementGraph<'_, '_>,
     subject: &Subject<'_>,
     messages: &[MessageDecl],
     found: &mut Vec<Finding>,
@@ -82,7 +82,7 @@ fn add_undestroyed(subject: &Subject<'_>, found: &mut Vec<Finding>) -> Result<()
 /// Adds a finding at the subject's name where managers lead from it to another protocol and back.
 fn add_cycle(
     alloc: Global,
-    known: &Known<'_, '_>,
+    known: &ManagementGraph<'_, '_>,
     subject: &Subject<'_>,
     found: &mut Vec<Finding>,
 ) -> Result<(), AllocError>
@@ -163,7 +163,7 @@ fn add_repeats(
 
 /// Adds the findings at the subject's names of other protocols.
 fn add_of_names(
-    known: &Known<'_, '_>,
+    known: &ManagementGraph<'_, '_>,
     subject: &Subject<'_>,
     found: &mut Vec<Finding>,
 ) -> Result<(), AllocError>
@@ -171,18 +171,18 @@ fn add_of_names(
     requires subject { IsSubject known.now.program.now subject.now }
     ensures { OnOk result (Gains (NamesBroken known.now.program.now subject.now.file subject.now.protocol.now) found.old.items found.new.items) }
 {
-    add_breaches(known, subject, Breach::Unknown(Side::Managers), found)?;
-    add_breaches(known, subject, Breach::Unknown(Side::Managed), found)?;
-    add_breaches(known, subject, Breach::Unanswered(Side::Managed), found)?;
-    add_breaches(known, subject, Breach::Unanswered(Side::Managers), found)?;
-    add_breaches(known, subject, Breach::Stronger, found)?;
-    add_breaches(known, subject, Breach::Unconstructed, found)
+    add_breaches(known, subject, ManagerBreach::Unknown(Relation::Managers), found)?;
+    add_breaches(known, subject, ManagerBreach::Unknown(Relation::Managed), found)?;
+    add_breaches(known, subject, ManagerBreach::Unanswered(Relation::Managed), found)?;
+    add_breaches(known, subject, ManagerBreach::Unanswered(Relation::Managers), found)?;
+    add_breaches(known, subject, ManagerBreach::Stronger, found)?;
+    add_breaches(known, subject, ManagerBreach::Unconstructed, found)
 }
 
 /// Adds the subject's other findings.
 fn add_of_rest(
     alloc: Global,
-    known: &Known<'_, '_>,
+    known: &ManagementGraph<'_, '_>,
     subject: &Subject<'_>,
     found: &mut Vec<Finding>,
 ) -> Result<(), AllocError>
@@ -199,7 +199,7 @@ fn add_of_rest(
 /// Adds the findings of a protocol, which is that of a file.
 fn add_of_protocol(
     alloc: Global,
-    known: &Known<'_, '_>,
+    known: &ManagementGraph<'_, '_>,
     file: u32,
     protocol: &ProtocolDecl,
     found: &mut Vec<Finding>,
@@ -216,7 +216,7 @@ fn add_of_protocol(
 /// Adds the findings of the protocol of a file, where it has one.
 fn add_of_file(
     alloc: Global,
-    known: &Known<'_, '_>,
+    known: &ManagementGraph<'_, '_>,
     file: u32,
     entry: &Entry,
     found: &mut Vec<Finding>,
@@ -234,7 +234,7 @@ fn add_of_file(
 /// Adds the findings of the protocols of all files.
 fn add_of_files(
     alloc: Global,
-    known: &Known<'_, '_>,
+    known: &ManagementGraph<'_, '_>,
     found: &mut Vec<Finding>,
 ) -> Result<(), AllocError>
     requires few { length known.now.program.now ≤ 4096 }
@@ -260,6 +260,6 @@ pub fn add_of_managers(
     requires of_program { names.now ≡ program.now }
     ensures { OnOk result (Gains (BrokenAt program.now) found.old.items found.new.items) }
 {
-    let known = Known::of(alloc, program.as_slice(), names)?;
+    let known = ManagementGraph::of(alloc, program.as_slice(), names)?;
     add_of_files(alloc, &known, found)
 }

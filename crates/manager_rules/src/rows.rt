@@ -5,7 +5,7 @@ ghost use Rattle.std.specs.Option.{option_copied};
 ghost use Rattle.name_table.specs.Decls.{FindsNoProtocol, FindsOneProtocol};
 ghost use Rattle.manager_rules.specs.Rows.{IsRow, AreRows};
 
-use crate::side::Side;
+use crate::side::Relation;
 use ipdl_base::Name;
 use ipdl_syntax::{Entry, NameAt};
 use name_table::{DeclId, Found, Names};
@@ -14,7 +14,7 @@ use std::collections::HashSet;
 
 /// The files whose protocols a file's protocol names.
 #[derive(Drop)]
-pub struct Row {
+pub struct ManagerRow {
     /// Their numbers, in text order.
     pub files: Vec<u32>,
     /// The same numbers.
@@ -77,12 +77,12 @@ fn set_of(alloc: Global, files: &[u32]) -> Result<HashSet<u32>, AllocError>
 }
 
 /// The row of these names in a file.
-fn row_of(alloc: Global, names: &Names<'_>, file: u32, list: &[NameAt]) -> Result<Row, AllocError>
+fn row_of(alloc: Global, names: &Names<'_>, file: u32, list: &[NameAt]) -> Result<ManagerRow, AllocError>
     ensures { IfOk result (IsRow (λ other. Any (λ n. FindsOneProtocol names.now file n.name other) list.now)) }
 {
     let files = files_of(alloc, names, file, list)?;
     let set = set_of(alloc, files.as_slice())?;
-    Ok(Row { files, set })
+    Ok(ManagerRow { files, set })
 }
 
 /// For each file of a program, the row of the names that its protocol has on this side.
@@ -90,8 +90,8 @@ pub fn rows(
     alloc: Global,
     program: &[Entry],
     names: &Names<'_>,
-    side: Side,
-) -> Result<Vec<Row>, AllocError>
+    side: Relation,
+) -> Result<Vec<ManagerRow>, AllocError>
     requires few { length program.now ≤ 4096 }
     requires of_program { names.now ≡ program.now }
     ensures { IfOk result (λ rows. AreRows side program.now rows.items) }
@@ -104,7 +104,7 @@ pub fn rows(
 }
 
 /// The row of a file, where there is one.
-pub fn row_at(rows: &[Row], file: u32) -> Option<&Row>
+pub fn row_at(rows: &[ManagerRow], file: u32) -> Option<&ManagerRow>
     ensures { option_copied result ≡ slice_get rows.now file }
 {
     rows.get(file as usize)

@@ -4,23 +4,23 @@ use ipdl_syntax::{Entry, NameAt, ProtocolDecl};
 
 /// Which of the names that a protocol has for other protocols.
 #[derive(Clone, Copy)]
-pub enum Side {
+pub enum Relation {
     /// Those of its managers.
     Managers,
     /// Those of the protocols that it manages.
     Managed,
 }
 
-impl Side {
+impl Relation {
     ghost use Rattle.manager_rules.specs.Sides.{names_on, names_in, other_side};
 
     /// The other names.
-    pub fn other(self) -> Side
+    pub fn other(self) -> Relation
         ensures { result ≡ other_side self }
     {
         match self {
-            Side::Managers => Side::Managed,
-            Side::Managed => Side::Managers,
+            Relation::Managers => Relation::Managed,
+            Relation::Managed => Relation::Managers,
         }
     }
 
@@ -29,8 +29,8 @@ impl Side {
         ensures { result.now ≡ names_on self protocol.now }
     {
         match self {
-            Side::Managers => protocol.managers.as_slice(),
-            Side::Managed => protocol.manages.as_slice(),
+            Relation::Managers => protocol.managers.as_slice(),
+            Relation::Managed => protocol.manages.as_slice(),
         }
     }
 

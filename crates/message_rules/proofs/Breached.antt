@@ -1,15 +1,15 @@
 -- All breaches are gone through.
 use Rattle.std.proofs.Common.{List, [], ◌∷◌, refl, lit<}
 use Rattle.std.specs.List.{Any}
-use Rattle.message_rules.specs.declared.message.Breach.{Breach}
-use Rattle.message_rules.specs.declared.message.Breach.TheVariants.{TooMany, PlainSyncToChild, AsyncInsideSync, InsideCpowToChild, Stronger, BadCompress, BadMaker, BadLazy}
+use Rattle.message_rules.specs.declared.message.MessageBreach.{MessageBreach}
+use Rattle.message_rules.specs.declared.message.MessageBreach.TheVariants.{TooMany, PlainSyncToChild, AsyncInsideSync, InsideCpowToChild, Stronger, BadCompress, BadMaker, BadLazy}
 
 -- the breaches, in the order of the code
-abbrev pub breaches : List Breach
+abbrev pub breaches : List MessageBreach
 breaches = TooMany ∷ PlainSyncToChild ∷ AsyncInsideSync ∷ InsideCpowToChild ∷ Stronger ∷ BadCompress ∷ BadMaker ∷ BadLazy ∷ []
 
 -- what holds of a breach holds of one of them
-pub any_breach : (P : Breach → Type 0) (b : Breach) → P b → Any P breaches
+pub any_breach : (P : MessageBreach → Type 0) (b : MessageBreach) → P b → Any P breaches
 any_breach P TooMany p = (0, TooMany, lit< tt, refl, p)
 any_breach P PlainSyncToChild p = (1, PlainSyncToChild, lit< tt, refl, p)
 any_breach P AsyncInsideSync p = (2, AsyncInsideSync, lit< tt, refl, p)

@@ -11,8 +11,8 @@ use Rattle.ipdl_syntax.specs.declared.tree.Param.{Param}
 use Rattle.ipdl_syntax.specs.declared.tree.ProtocolDecl.{ProtocolDecl}
 use Rattle.findings.specs.Gains.{AtSome}
 use Rattle.findings.specs.Repeats.{IsRepeatedAt}
-use Rattle.message_rules.specs.declared.message.Breach.{Breach}
-use Rattle.message_rules.specs.declared.message.Breach.TheVariants.{TooMany, PlainSyncToChild, AsyncInsideSync, InsideCpowToChild, Stronger, BadCompress, BadMaker, BadLazy}
+use Rattle.message_rules.specs.declared.message.MessageBreach.{MessageBreach}
+use Rattle.message_rules.specs.declared.message.MessageBreach.TheVariants.{TooMany, PlainSyncToChild, AsyncInsideSync, InsideCpowToChild, Stronger, BadCompress, BadMaker, BadLazy}
 use Rattle.message_rules.specs.Breaches.{rule_of, Breaks}
 use Rattle.message_rules.specs.Broken.{SomeMessage, IsRepeatedParameter, returns_of, BrokenAt}
 use Rattle.message_rules.specs.Gathered.{IsFoundIn, IsRepeatedIn, param_names}
@@ -33,10 +33,10 @@ abbrev pub IsFoundAt : Entry → Finding → Type 0
 IsFoundAt e f = IsSomeAnd e.unit.protocol (λ p. IsFoundIn p f ⊎ IsRepeatedIn p.messages f)
 
 -- a breach of some message
-abbrev OfBreach : List Entry → Finding → Breach → Type 0
+abbrev OfBreach : List Entry → Finding → MessageBreach → Type 0
 OfBreach program f b = (f.rule ≡ rule_of b) × SomeMessage (Breaks b) program f.place
 
-of_breach : (program : List Entry) (f : Finding) (b : Breach) → OfBreach program f b → BrokenAt program f
+of_breach : (program : List Entry) (f : Finding) (b : MessageBreach) → OfBreach program f b → BrokenAt program f
 of_breach program f TooMany h = inl h
 of_breach program f PlainSyncToChild h = inr (inl h)
 of_breach program f AsyncInsideSync h = inr (inr (inl h))
@@ -49,7 +49,7 @@ of_breach program f BadLazy h = inr (inr (inr (inr (inr (inr (inr (inr h)))))))
 of_repeat : (program : List Entry) (f : Finding) → f.rule ≡ rule.REPEATED_PARAMETER → IsRepeatedParameter program f.place → BrokenAt program f
 of_repeat program f r h = inr (inr (inr (inr (inr (inr (inl (r, h)))))))
 
-cases : (program : List Entry) (f : Finding) → BrokenAt program f → ((b : Breach) × OfBreach program f b) ⊎ ((f.rule ≡ rule.REPEATED_PARAMETER) × IsRepeatedParameter program f.place)
+cases : (program : List Entry) (f : Finding) → BrokenAt program f → ((b : MessageBreach) × OfBreach program f b) ⊎ ((f.rule ≡ rule.REPEATED_PARAMETER) × IsRepeatedParameter program f.place)
 cases program f h = elim h [
   | inl x ↦ inl (TooMany, x)
   | inr h ↦ elim h [

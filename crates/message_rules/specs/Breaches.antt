@@ -11,12 +11,12 @@ use Rattle.ipdl_base.specs.declared.finding.TheConstants.Rule as rule
 use Rattle.ipdl_syntax.specs.declared.tree.MessageDecl.{MessageDecl}
 use Rattle.ipdl_syntax.specs.declared.tree.NameAt.{NameAt}
 use Rattle.ipdl_syntax.specs.declared.tree.ProtocolDecl.{ProtocolDecl}
-use Rattle.message_rules.specs.declared.message.Breach.{Breach}
-use Rattle.message_rules.specs.declared.message.Breach.TheVariants.{TooMany, PlainSyncToChild, AsyncInsideSync, InsideCpowToChild, Stronger, BadCompress, BadMaker, BadLazy}
+use Rattle.message_rules.specs.declared.message.MessageBreach.{MessageBreach}
+use Rattle.message_rules.specs.declared.message.MessageBreach.TheVariants.{TooMany, PlainSyncToChild, AsyncInsideSync, InsideCpowToChild, Stronger, BadCompress, BadMaker, BadLazy}
 use Rattle.message_rules.specs.Messages.{IsTooMany, IsPlainSyncToChild, IsAsyncInsideSync, IsInsideCpowToChild, IsStronger, IsBadCompress, IsBadLazy, IsBadMaker}
 
 -- the rule
-abbrev pub rule_of : Breach → Rule
+abbrev pub rule_of : MessageBreach → Rule
 rule_of TooMany = rule.TOO_MANY_MESSAGES
 rule_of PlainSyncToChild = rule.PLAIN_SYNC_TO_CHILD
 rule_of AsyncInsideSync = rule.INSIDE_SYNC_NOT_SYNC
@@ -27,7 +27,7 @@ rule_of BadMaker = rule.BAD_CONSTRUCTOR
 rule_of BadLazy = rule.BAD_LAZY_SEND
 
 -- the message at an index of a protocol breaks it
-abbrev pub Breaks : Breach → ProtocolDecl → ℕ → MessageDecl → Type 0
+abbrev pub Breaks : MessageBreach → ProtocolDecl → ℕ → MessageDecl → Type 0
 Breaks TooMany p index m = IsTooMany index
 Breaks PlainSyncToChild p index m = IsPlainSyncToChild m
 Breaks AsyncInsideSync p index m = IsAsyncInsideSync m
@@ -38,14 +38,14 @@ Breaks BadMaker p index m = IsBadMaker p m
 Breaks BadLazy p index m = IsBadLazy p m
 
 -- the finding is that of this breach at the message
-pub record IsFoundBy (p : ProtocolDecl) (f : Finding) (index : ℕ) (m : MessageDecl) (b : Breach) : Type 0 where
+pub record IsFoundBy (p : ProtocolDecl) (f : Finding) (index : ℕ) (m : MessageDecl) (b : MessageBreach) : Type 0 where
   pub rule : rule_of b ≡ f.rule
   pub breaks : Breaks b p index m
   pub here : m.place ≡ f.place
 
 -- the finding is one of the message
 abbrev pub IsFoundOf : ProtocolDecl → Finding → ℕ → MessageDecl → Type 0
-IsFoundOf p f index m = (b : Breach) × IsFoundBy p f index m b
+IsFoundOf p f index m = (b : MessageBreach) × IsFoundBy p f index m b
 
 -- names behind `manages`, as a set
 

@@ -15,7 +15,7 @@ const MOST: usize = 32768;
 
 /// What a message does against a rule.
 #[derive(Clone, Copy)]
-pub enum Breach {
+pub enum MessageBreach {
     TooMany,
     PlainSyncToChild,
     AsyncInsideSync,
@@ -27,31 +27,31 @@ pub enum Breach {
 }
 
 /// All of them.
-const BREACHES: [Breach; 8] = [
-    Breach::TooMany,
-    Breach::PlainSyncToChild,
-    Breach::AsyncInsideSync,
-    Breach::InsideCpowToChild,
-    Breach::Stronger,
-    Breach::BadCompress,
-    Breach::BadMaker,
-    Breach::BadLazy,
+const BREACHES: [MessageBreach; 8] = [
+    MessageBreach::TooMany,
+    MessageBreach::PlainSyncToChild,
+    MessageBreach::AsyncInsideSync,
+    MessageBreach::InsideCpowToChild,
+    MessageBreach::Stronger,
+    MessageBreach::BadCompress,
+    MessageBreach::BadMaker,
+    MessageBreach::BadLazy,
 ];
 
-impl Breach {
+impl MessageBreach {
     /// The rule that is broken.
     fn rule(self) -> Rule
         ensures { result ≡ rule_of self }
     {
         match self {
-            Breach::TooMany => Rule::TOO_MANY_MESSAGES,
-            Breach::PlainSyncToChild => Rule::PLAIN_SYNC_TO_CHILD,
-            Breach::AsyncInsideSync => Rule::INSIDE_SYNC_NOT_SYNC,
-            Breach::InsideCpowToChild => Rule::INSIDE_CPOW_TO_CHILD,
-            Breach::Stronger => Rule::STRONGER_MESSAGE,
-            Breach::BadCompress => Rule::BAD_COMPRESS,
-            Breach::BadMaker => Rule::BAD_CONSTRUCTOR,
-            Breach::BadLazy => Rule::BAD_LAZY_SEND,
+            MessageBreach::TooMany => Rule::TOO_MANY_MESSAGES,
+            MessageBreach::PlainSyncToChild => Rule::PLAIN_SYNC_TO_CHILD,
+            MessageBreach::AsyncInsideSync => Rule::INSIDE_SYNC_NOT_SYNC,
+            MessageBreach::InsideCpowToChild => Rule::INSIDE_CPOW_TO_CHILD,
+            MessageBreach::Stronger => Rule::STRONGER_MESSAGE,
+            MessageBreach::BadCompress => Rule::BAD_COMPRESS,
+            MessageBreach::BadMaker => Rule::BAD_CONSTRUCTOR,
+            MessageBreach::BadLazy => Rule::BAD_LAZY_SEND,
         }
     }
 }
@@ -139,7 +139,7 @@ fn is_bad_maker(protocol: &ProtocolDecl, message: &MessageDecl, kind: MessageKin
 
 /// Whether the message at an index of its protocol, which is of this kind, breaks this rule.
 fn breaks(
-    breach: Breach,
+    breach: MessageBreach,
     protocol: &ProtocolDecl,
     index: usize,
     message: &MessageDecl,
@@ -149,20 +149,20 @@ fn breaks(
     ensures { IsTrue result ↔ Breaks breach protocol.now index message.now }
 {
     match breach {
-        Breach::TooMany => MOST <= index,
-        Breach::PlainSyncToChild => is_plain_sync_to_child(message),
-        Breach::AsyncInsideSync => is_async_inside_sync(message),
-        Breach::InsideCpowToChild => is_inside_cpow_to_child(message),
-        Breach::Stronger => is_stronger(protocol, message),
-        Breach::BadCompress => is_bad_compress(protocol, message, kind),
-        Breach::BadMaker => is_bad_maker(protocol, message, kind),
-        Breach::BadLazy => is_bad_lazy(protocol, message, kind),
+        MessageBreach::TooMany => MOST <= index,
+        MessageBreach::PlainSyncToChild => is_plain_sync_to_child(message),
+        MessageBreach::AsyncInsideSync => is_async_inside_sync(message),
+        MessageBreach::InsideCpowToChild => is_inside_cpow_to_child(message),
+        MessageBreach::Stronger => is_stronger(protocol, message),
+        MessageBreach::BadCompress => is_bad_compress(protocol, message, kind),
+        MessageBreach::BadMaker => is_bad_maker(protocol, message, kind),
+        MessageBreach::BadLazy => is_bad_lazy(protocol, message, kind),
     }
 }
 
 /// Adds the finding of this breach, where the message breaks the rule.
 fn add_breach(
-    breach: Breach,
+    breach: MessageBreach,
     protocol: &ProtocolDecl,
     index: usize,
     message: &MessageDecl,

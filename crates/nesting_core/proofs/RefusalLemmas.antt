@@ -2,7 +2,7 @@ use Rattle.std.proofs.Common.{◌≡◌, ◌↔◌, ◌<◌, Bool, true, false, 
 use Rattle.std.proofs.lemmas.Bool.{leb-false}
 use Rattle.ipdl_base.specs.declared.kinds.SendRefusal.{SendRefusal}
 use Rattle.ipdl_base.specs.declared.kinds.SendRefusal.TheVariants.{NestedInNormal, InsideCpow, LevelTooLow, TooDeep}
-use Rattle.nesting_core.specs.declared.frame.Frame.{Frame}
+use Rattle.nesting_core.specs.declared.frame.StackFrame.{StackFrame}
 use Rattle.nesting_core.specs.declared.frame.SendHead.{SendHead}
 use Rattle.nesting_core.specs.Refusals.{is_nested_in_normal, is_inside_cpow, is_level_too_low, is_too_deep, refusal_of, IsNestedInNormal, IsInsideCpow, IsLevelTooLow, IsTooDeep}
 
@@ -48,20 +48,20 @@ first-4 false false false false = (λ h. cc, λ t. cc)
 
 -- exactly where each cause is the answer: it holds, and none before it does
 
-pub refusal_of-NestedInNormal : (frames : List Frame) (send : SendHead) → (refusal_of frames send ≡ Some NestedInNormal) ↔ IsNestedInNormal frames send
+pub refusal_of-NestedInNormal : (frames : List StackFrame) (send : SendHead) → (refusal_of frames send ≡ Some NestedInNormal) ↔ IsNestedInNormal frames send
 refusal_of-NestedInNormal frames send = first-1 (is_nested_in_normal frames send) (is_inside_cpow frames send) (is_level_too_low frames send) (is_too_deep frames send)
 
-pub refusal_of-InsideCpow : (frames : List Frame) (send : SendHead) → (refusal_of frames send ≡ Some InsideCpow) ↔ (¬ IsNestedInNormal frames send × IsInsideCpow frames send)
+pub refusal_of-InsideCpow : (frames : List StackFrame) (send : SendHead) → (refusal_of frames send ≡ Some InsideCpow) ↔ (¬ IsNestedInNormal frames send × IsInsideCpow frames send)
 refusal_of-InsideCpow frames send = first-2 (is_nested_in_normal frames send) (is_inside_cpow frames send) (is_level_too_low frames send) (is_too_deep frames send)
 
-pub refusal_of-LevelTooLow : (frames : List Frame) (send : SendHead) → (refusal_of frames send ≡ Some LevelTooLow) ↔ (¬ IsNestedInNormal frames send × ¬ IsInsideCpow frames send × IsLevelTooLow frames send)
+pub refusal_of-LevelTooLow : (frames : List StackFrame) (send : SendHead) → (refusal_of frames send ≡ Some LevelTooLow) ↔ (¬ IsNestedInNormal frames send × ¬ IsInsideCpow frames send × IsLevelTooLow frames send)
 refusal_of-LevelTooLow frames send = first-3 (is_nested_in_normal frames send) (is_inside_cpow frames send) (is_level_too_low frames send) (is_too_deep frames send)
 
-pub refusal_of-TooDeep : (frames : List Frame) (send : SendHead) → (refusal_of frames send ≡ Some TooDeep) ↔ (¬ IsNestedInNormal frames send × ¬ IsInsideCpow frames send × ¬ IsLevelTooLow frames send × IsTooDeep frames send)
+pub refusal_of-TooDeep : (frames : List StackFrame) (send : SendHead) → (refusal_of frames send ≡ Some TooDeep) ↔ (¬ IsNestedInNormal frames send × ¬ IsInsideCpow frames send × ¬ IsLevelTooLow frames send × IsTooDeep frames send)
 refusal_of-TooDeep frames send = first-4 (is_nested_in_normal frames send) (is_inside_cpow frames send) (is_level_too_low frames send) (is_too_deep frames send)
 
 -- a sync send that is not refused leaves room for its wait
-pub room_for_wait : (frames : List Frame) (send : SendHead) → send.sync ≡ true → refusal_of frames send ≡ None → length frames < 63
+pub room_for_wait : (frames : List StackFrame) (send : SendHead) → send.sync ≡ true → refusal_of frames send ≡ None → length frames < 63
 room_for_wait frames send sync free =
     let none = free_of (is_nested_in_normal frames send) (is_inside_cpow frames send) (is_level_too_low frames send) (is_too_deep frames send) free in
     let shallow : (true && nat_le 63 (length frames)) ≡ false = ap (λ b. b && nat_le 63 (length frames)) (sym sync) ∙ none.3 in

@@ -4,38 +4,38 @@ use Rattle.std.proofs.lemmas.List.{reverse-append, length-set, get_or_default}
 use Rattle.std.proofs.lemmas.Bool.{cases_order}
 use Rattle.ipdl_base.specs.declared.kinds.Level.TheVariants.{Not}
 use Rattle.nesting_core.specs.declared.frame.Answer.{Answer}
-use Rattle.nesting_core.specs.declared.frame.Frame.{Frame}
+use Rattle.nesting_core.specs.declared.frame.StackFrame.{StackFrame}
 use Rattle.nesting_core.specs.declared.frame.Head.{Head}
-use Rattle.nesting_core.specs.declared.frame.Frame.TheVariants.{Dispatch, Wait}
+use Rattle.nesting_core.specs.declared.frame.StackFrame.TheVariants.{Dispatch, Wait}
 use Rattle.nesting_core.specs.Frames.{head_of, is_unanswered}
 use Rattle.nesting_core.specs.Answers.{with_answer}
 
 -- some frame, for a read past the end
-abbrev pub vacant : Frame
+abbrev pub vacant : StackFrame
 vacant = Dispatch (record { sync = false; level = Not; seq = pos 0; transaction = pos 0 })
 
 -- the innermost of one more frame comes first
-pub inward-suc : (xs : List Frame) (n : ℕ) (d : Frame) → n < length xs → reverse (take (suc n) xs) ≡ get_or xs n d ∷ reverse (take n xs)
+pub inward-suc : (xs : List StackFrame) (n : ℕ) (d : StackFrame) → n < length xs → reverse (take (suc n) xs) ≡ get_or xs n d ∷ reverse (take n xs)
 inward-suc xs n d h = ap reverse (take-suc xs n d h) ∙ reverse-append (take n xs) (get_or xs n d ∷ [])
 
 -- and so after a write in its place
-pub inward-set : (xs : List Frame) (n : ℕ) (y : Frame) → n < length xs → reverse (take (suc n) (set xs n y)) ≡ y ∷ reverse (take n xs)
+pub inward-set : (xs : List StackFrame) (n : ℕ) (y : StackFrame) → n < length xs → reverse (take (suc n) (set xs n y)) ≡ y ∷ reverse (take n xs)
 inward-set xs n y h = ap reverse (take-suc-set xs n y h) ∙ reverse-append (take n xs) (y ∷ [])
 
 -- an answer goes into a wait on top whose answer has not come
-pub with_answer-hit : (answer : Answer) (frame : Frame) (below : List Frame) → is_unanswered frame ≡ true → with_answer answer (frame ∷ below) ≡ Wait (head_of frame) (Some answer) ∷ below
+pub with_answer-hit : (answer : Answer) (frame : StackFrame) (below : List StackFrame) → is_unanswered frame ≡ true → with_answer answer (frame ∷ below) ≡ Wait (head_of frame) (Some answer) ∷ below
 with_answer-hit answer (Dispatch head) below h = cc
 with_answer-hit answer (Wait head None) below h = refl
 with_answer-hit answer (Wait head (Some earlier)) below h = cc
 
 -- an answer goes past any other frame on top
-pub with_answer-miss : (answer : Answer) (frame : Frame) (below : List Frame) → is_unanswered frame ≡ false → with_answer answer (frame ∷ below) ≡ frame ∷ with_answer answer below
+pub with_answer-miss : (answer : Answer) (frame : StackFrame) (below : List StackFrame) → is_unanswered frame ≡ false → with_answer answer (frame ∷ below) ≡ frame ∷ with_answer answer below
 with_answer-miss answer (Dispatch head) below h = refl
 with_answer-miss answer (Wait head None) below h = cc
 with_answer-miss answer (Wait head (Some earlier)) below h = refl
 
 -- where no frame waits for its answer, nothing is stored
-pub with_answer-none : (answer : Answer) (xs : List Frame) (n : ℕ) → n ≤ length xs → ((k : ℕ) (d : Frame) → k < n → is_unanswered (get_or xs k d) ≡ false) → reverse (take n xs) ≡ with_answer answer (reverse (take n xs))
+pub with_answer-none : (answer : Answer) (xs : List StackFrame) (n : ℕ) → n ≤ length xs → ((k : ℕ) (d : StackFrame) → k < n → is_unanswered (get_or xs k d) ≡ false) → reverse (take n xs) ≡ with_answer answer (reverse (take n xs))
 with_answer-none answer xs zero h none = refl
 with_answer-none answer xs (suc n) h none =
     let step = inward-suc xs n vacant (omega arith) in
@@ -44,7 +44,7 @@ with_answer-none answer xs (suc n) h none =
     step ∙ ap (λ ys. get_or xs n vacant ∷ ys) rest ∙ sym miss ∙ ap (with_answer answer) (sym step)
 
 -- where no frame above it waits for its answer, a wait in the place i is the one that is answered
-pub with_answer-set : (answer : Answer) (xs : List Frame) (i n : ℕ) → i < n → n ≤ length xs → is_unanswered (get_or xs i vacant) ≡ true → ((k : ℕ) (d : Frame) → i < k → k < n → is_unanswered (get_or xs k d) ≡ false) → reverse (take n (set xs i (Wait (head_of (get_or xs i vacant)) (Some answer)))) ≡ with_answer answer (reverse (take n xs))
+pub with_answer-set : (answer : Answer) (xs : List StackFrame) (i n : ℕ) → i < n → n ≤ length xs → is_unanswered (get_or xs i vacant) ≡ true → ((k : ℕ) (d : StackFrame) → i < k → k < n → is_unanswered (get_or xs k d) ≡ false) → reverse (take n (set xs i (Wait (head_of (get_or xs i vacant)) (Some answer)))) ≡ with_answer answer (reverse (take n xs))
 with_answer-set answer xs i zero lt h waits none = absurd (omega arith)
 with_answer-set answer xs i (suc n) lt h waits none =
     let y = Wait (head_of (get_or xs i vacant)) (Some answer) in
@@ -67,7 +67,7 @@ with_answer-set answer xs i (suc n) lt h waits none =
     (cases_order i n)
 
 -- the same as the loop knows it, with its reads at any default
-pub stored : (answer : Answer) (now was : List Frame) (d e : Frame) (head : Head) (i n : ℕ) → now ≡ was → i < n → n ≤ length now → is_unanswered (get_or now i d) ≡ true → head ≡ head_of (get_or now i e) → ((k : ℕ) (f : Frame) → i < k → k < n → is_unanswered (get_or now k f) ≡ false) → reverse (take n (set now i (Wait head (Some answer)))) ≡ with_answer answer (reverse (take n was))
+pub stored : (answer : Answer) (now was : List StackFrame) (d e : StackFrame) (head : Head) (i n : ℕ) → now ≡ was → i < n → n ≤ length now → is_unanswered (get_or now i d) ≡ true → head ≡ head_of (get_or now i e) → ((k : ℕ) (f : StackFrame) → i < k → k < n → is_unanswered (get_or now k f) ≡ false) → reverse (take n (set now i (Wait head (Some answer)))) ≡ with_answer answer (reverse (take n was))
 stored answer now was d e head i n same lt h waits at none =
     let in_range : i < length now = omega arith in
     let read_d = get_or_default now i vacant d in_range in

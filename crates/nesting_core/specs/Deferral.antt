@@ -2,7 +2,7 @@ use Rattle.std.specs.Prelude.{ℤ, Bool, IsTrue, List, Option, Some, None, optio
 use Rattle.ipdl_base.specs.declared.kinds.Level.{Level}
 use Rattle.ipdl_base.specs.declared.kinds.Side.{Side}
 use Rattle.ipdl_base.specs.Deferral.{defers_arrival, request}
-use Rattle.nesting_core.specs.declared.frame.Frame.{Frame}
+use Rattle.nesting_core.specs.declared.frame.StackFrame.{StackFrame}
 use Rattle.nesting_core.specs.declared.frame.Head.{Head}
 use Rattle.nesting_core.specs.declared.frame.StackTop.{StackTop}
 use Rattle.nesting_core.specs.declared.frame.StackTop.TheVariants.{Empty, Dispatch, Unanswered, Answered}
@@ -10,11 +10,11 @@ use Rattle.nesting_core.specs.Frames.{innermost, is_inside_sync}
 use Rattle.nesting_core.specs.Top.{top_of}
 
 -- the transaction of the innermost frame, dispatch or wait, of a sync message of level inside_sync
-abbrev pub inner_transaction : List Frame → Option ℤ
+abbrev pub inner_transaction : List StackFrame → Option ℤ
 inner_transaction frames = option_map (λ head. head.transaction) (innermost is_inside_sync frames)
 
 -- the transaction of a sync message that is sent now with this number: the inner one, or else the number
-abbrev pub transaction_of : List Frame → ℤ → ℤ
+abbrev pub transaction_of : List StackFrame → ℤ → ℤ
 transaction_of frames seq = unwrap_or (inner_transaction frames) seq
 
 -- the level of the message whose reply is awaited under this top: that of a wait whose answer has not come
@@ -25,13 +25,13 @@ level_under (Unanswered wait) = Some wait.level
 level_under (Answered head) = None
 
 -- the level of the message whose reply an end with these frames awaits before all else, where there is one
-abbrev pub awaited_level : List Frame → Option Level
+abbrev pub awaited_level : List StackFrame → Option Level
 awaited_level frames = level_under (top_of frames)
 
 -- whether an end on this side with these frames defers a request that arrived
-abbrev pub defers : Side → List Frame → Head → Bool
+abbrev pub defers : Side → List StackFrame → Head → Bool
 defers side frames head = defers_arrival side (awaited_level frames) (inner_transaction frames) (request head.sync head.level head.transaction)
 
 -- an end on this side with these frames defers the request
-abbrev pub Defers : Side → List Frame → Head → Type 0
+abbrev pub Defers : Side → List StackFrame → Head → Type 0
 Defers side frames head = IsTrue (defers side frames head)

@@ -3,8 +3,8 @@ use Rattle.std.specs.Prelude.{option_map}
 use Rattle.ipdl_base.specs.Plain.{plain_values}
 use Rattle.nesting_core.specs.declared.frame.Answer.{Answer}
 use Rattle.nesting_core.specs.declared.frame.Answer.TheVariants as answer
-use Rattle.nesting_core.specs.declared.frame.Frame.{Frame}
-use Rattle.nesting_core.specs.declared.frame.Frame.TheVariants as frame
+use Rattle.nesting_core.specs.declared.frame.StackFrame.{StackFrame}
+use Rattle.nesting_core.specs.declared.frame.StackFrame.TheVariants as frame
 use Rattle.nesting_core.specs.declared.frame.Popped.{Popped}
 use Rattle.nesting_core.specs.declared.frame.Popped.TheVariants as popped
 
@@ -14,7 +14,7 @@ plain_answer (answer.Ok values) = answer.Ok (plain_values values)
 plain_answer (answer.Fault reason) = answer.Fault reason
 
 -- a frame with the boxes of its answer there
-abbrev pub plain_frame : Frame → Frame
+abbrev pub plain_frame : StackFrame → StackFrame
 plain_frame (frame.Dispatch head) = frame.Dispatch head
 plain_frame (frame.Wait head answer) = frame.Wait head (option_map plain_answer answer)
 

@@ -1,11 +1,11 @@
 use Rattle.std.specs.Prelude.{ℕ, ◌<◌, List, [], ◌∷◌, length}
-use Rattle.nesting_core.specs.declared.frame.Frame.{Frame}
-use Rattle.nesting_core.specs.declared.frame.Frame.TheVariants.{Dispatch, Wait}
+use Rattle.nesting_core.specs.declared.frame.StackFrame.{StackFrame}
+use Rattle.nesting_core.specs.declared.frame.StackFrame.TheVariants.{Dispatch, Wait}
 use Rattle.nesting_core.specs.declared.frame.StackTop.{StackTop}
 use Rattle.nesting_core.specs.declared.frame.StackTop.TheVariants as top
 
 -- every dispatch stands on fewer than 64 frames, and every wait, answered or not, on fewer than 63
-abbrev pub FitsRoom : List Frame → Type 0
+abbrev pub FitsRoom : List StackFrame → Type 0
 FitsRoom [] = Unit {0}
 FitsRoom (Dispatch head ∷ below) = (length below < 64) × FitsRoom below
 FitsRoom (Wait head answer ∷ below) = (length below < 63) × FitsRoom below

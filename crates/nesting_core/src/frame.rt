@@ -32,7 +32,7 @@ pub enum Answer {
 /// A frame of a stack: a message that is handled, or a wait for the reply to one, with its answer
 /// once that has come.
 #[derive(Drop)]
-pub enum Frame {
+pub enum StackFrame {
     Dispatch(Head),
     Wait(Head, Option<Answer>),
 }
@@ -53,41 +53,41 @@ pub enum StackTop {
     Answered(Head),
 }
 
-impl Frame {
+impl StackFrame {
     pub(crate) fn head(&self) -> Head
         ensures { result ≡ head_of self.now }
     {
         match self {
-            Frame::Dispatch(head) => *head,
-            Frame::Wait(head, _) => *head,
+            StackFrame::Dispatch(head) => *head,
+            StackFrame::Wait(head, _) => *head,
         }
     }
 
     pub(crate) fn is_dispatch(&self) -> bool
         ensures { result ≡ is_dispatch self.now }
     {
-        matches!(self, Frame::Dispatch(_))
+        matches!(self, StackFrame::Dispatch(_))
     }
 
     pub(crate) fn is_sync_dispatch(&self) -> bool
         ensures { result ≡ is_sync_dispatch self.now }
     {
         match self {
-            Frame::Dispatch(head) => head.sync,
-            Frame::Wait(_, _) => false,
+            StackFrame::Dispatch(head) => head.sync,
+            StackFrame::Wait(_, _) => false,
         }
     }
 
     pub(crate) fn is_wait(&self) -> bool
         ensures { result ≡ is_wait self.now }
     {
-        matches!(self, Frame::Wait(_, _))
+        matches!(self, StackFrame::Wait(_, _))
     }
 
     pub(crate) fn is_unanswered(&self) -> bool
         ensures { result ≡ is_unanswered self.now }
     {
-        matches!(self, Frame::Wait(_, None))
+        matches!(self, StackFrame::Wait(_, None))
     }
 
     pub(crate) fn is_inside_sync(&self) -> bool

@@ -2,7 +2,7 @@
 ghost use Rattle.std.specs.Prelude.{◌≡◌, ◌==◌, ◌&&◌, reverse, length};
 ghost use Rattle.nesting_core.specs.Refusals.{has_level, is_below, is_nested_in_normal, is_inside_cpow, is_level_too_low};
 
-use crate::frame::{Frame, Head, SendHead};
+use crate::frame::{StackFrame, Head, SendHead};
 use crate::innermost::{innermost_dispatch, innermost_sync_dispatch, innermost_wait};
 use ipdl_base::Level;
 
@@ -26,19 +26,19 @@ fn is_below(level: Level, found: Option<Head>) -> bool
     }
 }
 
-pub(crate) fn is_nested_in_normal(frames: &[Frame], head: &SendHead) -> bool
+pub(crate) fn is_nested_in_normal(frames: &[StackFrame], head: &SendHead) -> bool
     ensures { result ≡ is_nested_in_normal (reverse frames.now) head.now }
 {
     head.sync && has_level(Level::Not, innermost_sync_dispatch(frames)) && head.level != Level::Not
 }
 
-pub(crate) fn is_inside_cpow(frames: &[Frame], head: &SendHead) -> bool
+pub(crate) fn is_inside_cpow(frames: &[StackFrame], head: &SendHead) -> bool
     ensures { result ≡ is_inside_cpow (reverse frames.now) head.now }
 {
     head.sync && has_level(Level::InsideCpow, innermost_dispatch(frames))
 }
 
-pub(crate) fn is_level_too_low(frames: &[Frame], head: &SendHead) -> bool
+pub(crate) fn is_level_too_low(frames: &[StackFrame], head: &SendHead) -> bool
     ensures { result ≡ is_level_too_low (reverse frames.now) head.now }
 {
     head.sync

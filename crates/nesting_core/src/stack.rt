@@ -8,9 +8,9 @@ ghost use Rattle.nesting_core.specs.Room.{FitsRoom, LeavesRoom};
 ghost use Rattle.nesting_core.specs.Top.{after_pop, popped_of, top_of};
 ghost use Rattle.ipdl_base.specs.declared.kinds.Reason.TheVariants.{ChannelClosed};
 ghost use Rattle.nesting_core.specs.declared.frame.Answer.TheVariants.{Fault};
-ghost use Rattle.nesting_core.specs.declared.frame.Frame.TheVariants.{Dispatch, Wait};
+ghost use Rattle.nesting_core.specs.declared.frame.StackFrame.TheVariants.{Dispatch, Wait};
 
-use crate::frame::{Answer, Frame, Head, Popped, SendHead, StackTop};
+use crate::frame::{Answer, StackFrame, Head, Popped, SendHead, StackTop};
 use crate::innermost::{has_wait, innermost_inside_sync, innermost_unanswered};
 use crate::refusals::{is_inside_cpow, is_level_too_low, is_nested_in_normal};
 use ipdl_base::{Level, Reason, SendRefusal, Side, defers_request};
@@ -24,7 +24,7 @@ const ROOM: usize = 64;
 const SEND_LIMIT: usize = 63;
 
 /// What stands in a place of the array that holds no frame of the stack.
-const VACANT: Frame = Frame::Dispatch(Head {
+const VACANT: StackFrame = StackFrame::Dispatch(Head {
     sync: false,
     level: Level::Not,
     seq: 0,
@@ -35,7 +35,7 @@ const VACANT: Frame = Frame::Dispatch(Head {
 #[derive(Drop)]
 pub struct Stack {
     /// The frames, the outermost first, and vacant places behind them.
-    frames: [Frame; ROOM],
+    frames: [StackFrame; ROOM],
     len: usize,
 }
 
@@ -43,10 +43,10 @@ impl Model for Stack {
     ghost use Rattle.std.specs.Prelude.{List, ◌≤◌, take, reverse};
     ghost use Rattle.std.specs.Coded.{codes};
     ghost use Rattle.ipdl_base.specs.contracts.value.Values as values;
-    ghost use Rattle.nesting_core.specs.declared.frame.Frame.{Frame};
+    ghost use Rattle.nesting_core.specs.declared.frame.StackFrame.{StackFrame};
     ghost use Rattle.nesting_core.specs.Room.{FitsRoom};
 
-    ghost Value = { List Frame };
+    ghost Value = { List StackFrame };
 
     ghost coded = { Prim.hlevel (codes, values.the_row.coded) };
 
@@ -148,7 +148,7 @@ impl Stack {
         requires { length self.old < 64 }
         ensures { self.new ≡ Dispatch head ∷ self.old }
     {
-        self.frames[self.len] = Frame::Dispatch(head);
+        self.frames[self.len] = StackFrame::Dispatch(head);
         self.len += 1;
     }
 
@@ -157,7 +157,7 @@ impl Stack {
         requires { length self.old < 63 }
         ensures { self.new ≡ Wait head None ∷ self.old }
     {
-        self.frames[self.len] = Frame::Wait(head, None);
+        self.frames[self.len] = StackFrame::Wait(head, None);
         self.len += 1;
     }
 
@@ -196,9 +196,9 @@ impl Stack {
         match self.top() {
             StackTop::Empty | StackTop::Unanswered(_) => None,
             StackTop::Dispatch(_) | StackTop::Answered(_) => match self.take_top() {
-                Frame::Dispatch(head) => Some(Popped::Dispatch(head)),
-                Frame::Wait(head, Some(answer)) => Some(Popped::Wait(head, answer)),
-                Frame::Wait(_, None) => unreachable!(),
+                StackFrame::Dispatch(head) => Some(Popped::Dispatch(head)),
+                StackFrame::Wait(head, Some(answer)) => Some(Popped::Wait(head, answer)),
+                StackFrame::Wait(_, None) => unreachable!(),
             },
         }
     }
@@ -211,7 +211,7 @@ impl Stack {
     }
 
     /// The frames, the outermost first.
-    fn outward(&self) -> &[Frame]
+    fn outward(&self) -> &[StackFrame]
         ensures frames { reverse result.now ≡ self.now }
         ensures bound { length result.now ≤ 64 }
         ensures room { FitsRoom self.now }
@@ -233,7 +233,7 @@ impl Stack {
     }
 
     /// Takes the top frame off.
-    fn take_top(&mut self) -> Frame
+    fn take_top(&mut self) -> StackFrame
         requires { 0 < length self.old }
         ensures { self.old ≡ result ∷ self.new }
     {
@@ -243,27 +243,27 @@ impl Stack {
 }
 
 /// The last frame, by its head.
-fn top(frames: &[Frame]) -> StackTop
+fn top(frames: &[StackFrame]) -> StackTop
     ensures { result ≡ top_of (reverse frames.now) }
 {
     match frames.last() {
         None => StackTop::Empty,
-        Some(Frame::Dispatch(head)) => StackTop::Dispatch(*head),
-        Some(Frame::Wait(head, None)) => StackTop::Unanswered(*head),
-        Some(Frame::Wait(head, Some(_))) => StackTop::Answered(*head),
+        Some(StackFrame::Dispatch(head)) => StackTop::Dispatch(*head),
+        Some(StackFrame::Wait(head, None)) => StackTop::Unanswered(*head),
+        Some(StackFrame::Wait(head, Some(_))) => StackTop::Answered(*head),
     }
 }
 
 /// Stores an answer in the last of the first `len` frames that is a wait whose answer has not come, if
 /// there is one.
-fn store(frames: &mut [Frame], len: usize, answer: Answer)
+fn store(frames: &mut [StackFrame], len: usize, answer: Answer)
     requires { len ≤ length frames.old }
     ensures { reverse (take len frames.new) ≡ with_answer answer (reverse (take len frames.old)) }
 {
     for index in (0..len).rev() {
         if frames[index].is_unanswered() {
             let head = frames[index].head();
-            frames[index] = Frame::Wait(head, Some(answer));
+            frames[index] = StackFrame::Wait(head, Some(answer));
             return;
         }
     }

@@ -1,4 +1,4 @@
-pub mod Arrived
+pub mod ArrivedItems
 pub mod Compression
 pub mod Holding
 pub mod Plain

@@ -17,11 +17,11 @@ pub struct Pending {
 
 impl Model for Pending {
     ghost use Rattle.std.specs.Prelude.{◌-◌, vec_len, vec_capacity};
-    ghost use Rattle.pending_queue.specs.Arrived.{Arrived};
+    ghost use Rattle.pending_queue.specs.ArrivedItems.{ArrivedItems};
     ghost use Rattle.ipdl_base.specs.contracts.value.Values as values;
     ghost use Rattle.std.specs.Coded.{codes};
 
-    ghost Value = { Arrived };
+    ghost Value = { ArrivedItems };
 
     ghost coded = { Prim.hlevel (codes, values.the_row.coded) };
 

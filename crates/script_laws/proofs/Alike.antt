@@ -8,8 +8,8 @@ use Rattle.ipdl_base.specs.declared.schema.Shape.{Shape}
 use Rattle.script_reader.specs.declared.statement.Statement.{Statement}
 use Rattle.script_reader.specs.declared.statement.Statement.TheVariants as forms
 use Rattle.script_reader.specs.declared.written.Who.{Who}
-use Rattle.script_reader.specs.declared.written.Written.{Written, Union', Held'}
-use Rattle.script_reader.specs.declared.written.Written.TheVariants as written
+use Rattle.script_reader.specs.declared.written.WrittenValue.{WrittenValue, Union', Held'}
+use Rattle.script_reader.specs.declared.written.WrittenValue.TheVariants as written
 use Rattle.script_reader.specs.declared.written.WrittenValues.{WrittenValues, First'}
 use Rattle.script_reader.specs.declared.written.WrittenValues.TheVariants as values
 use Rattle.script_reader.specs.Plain.{plain_written, plain_values, plain_statement}
@@ -20,14 +20,14 @@ use Rattle.handler_script.specs.declared.term.Term as boxed
 use Rattle.handler_script.specs.declared.term.Term.TheVariants as term
 use Rattle.handler_script.specs.declared.term.Terms as boxed_list
 use Rattle.handler_script.specs.declared.term.Terms.{Terms}
-use Rattle.handler_script.specs.Blocks.{Standing, in_main, in_handler, given_in}
+use Rattle.handler_script.specs.Blocks.{BlockContext, in_main, in_handler, given_in}
 use Rattle.handler_script.specs.Broken.{is_absent, is_no_actor, is_of_handler, is_made, is_of_constructor, speaks_in_main, speaks_of_made, types_of, AreUnfit, ValuesBreak}
 use Rattle.handler_script.specs.Mentions.{mentions, any_mentions, speaks_of}
 use Rattle.handler_script.specs.ScriptOf.{number_of, action_of, reply_of}
 use Rattle.handler_script.specs.Terms.{Fits, AllFit, EachFits, term_of, elements_of, terms_of}
 
 mutual
-  fits_alike : (schema : Schema) (given : List ParamRow) (shape : Shape) (v : Written) → Fits schema given shape (plain_written v) ≡ Fits schema given shape v
+  fits_alike : (schema : Schema) (given : List ParamRow) (shape : Shape) (v : WrittenValue) → Fits schema given shape (plain_written v) ≡ Fits schema given shape v
   fits_alike schema given shape (written.Atom a) = refl
   fits_alike schema given shape (written.Struct vs) = λ i. IsSomeAnd (fields_of schema shape) (λ fields. each_alike schema given fields vs i)
   fits_alike schema given shape (written.Array vs) = λ i. IsSomeAnd (element_of shape) (λ element. all_alike schema given element vs i)
@@ -45,7 +45,7 @@ mutual
   each_alike schema given (field ∷ fields) (First' _ v _ vs) = λ i. fits_alike schema given field.shape v i × each_alike schema given fields vs i
 
 mutual
-  mentions_alike : (test : Who → Bool) (v : Written) → mentions test (plain_written v) ≡ mentions test v
+  mentions_alike : (test : Who → Bool) (v : WrittenValue) → mentions test (plain_written v) ≡ mentions test v
   mentions_alike test (written.Atom a) = refl
   mentions_alike test (written.Struct vs) = any_alike test vs
   mentions_alike test (written.Array vs) = any_alike test vs
@@ -57,7 +57,7 @@ mutual
   any_alike test (First' _ v _ vs) = λ i. mentions_alike test v i || any_alike test vs i
 
 mutual
-  term_alike : (schema : Schema) (shape : Shape) (v : Written) → term_of schema shape (plain_written v) ≡ term_of schema shape v
+  term_alike : (schema : Schema) (shape : Shape) (v : WrittenValue) → term_of schema shape (plain_written v) ≡ term_of schema shape v
   term_alike schema shape (written.Atom a) = refl
   term_alike schema shape (written.Struct vs) = λ i. term.Struct (terms_alike schema (unwrap_or (fields_of schema shape) []) vs i)
   term_alike schema shape (written.Array vs) = λ i. term.Array (elements_alike schema (unwrap_or (element_of shape) shape) vs i)
@@ -75,21 +75,21 @@ mutual
 
 -- Statements
 
-pub types_alike : (schema : Schema) (b : Standing) (s : Statement) → types_of schema b (plain_statement s) ≡ types_of schema b s
+pub types_alike : (schema : Schema) (b : BlockContext) (s : Statement) → types_of schema b (plain_statement s) ≡ types_of schema b s
 types_alike schema b (forms.Send w c) = refl
 types_alike schema b s = refl
 
 typed_alike : (schema : Schema) (types : Option (List ParamRow)) (vs : WrittenValues) → terms_of schema (unwrap_or types []) (plain_values vs) ≡ terms_of schema (unwrap_or types []) vs
 typed_alike schema types vs = terms_alike schema (unwrap_or types []) vs
 
-pub action_alike : (schema : Schema) (b : Standing) (s : Statement) → action_of schema b (plain_statement s) ≡ action_of schema b s
+pub action_alike : (schema : Schema) (b : BlockContext) (s : Statement) → action_of schema b (plain_statement s) ≡ action_of schema b s
 action_alike schema b (forms.Send w c) = λ i. Some (action.Send w (number_of schema c.message) (typed_alike schema (types_of schema b (forms.Send w c)) c.values i))
 action_alike schema b (forms.New n w c) = λ i. Some (action.New n w (number_of schema c.message) (typed_alike schema (types_of schema b (forms.New n w c)) c.values i))
 action_alike schema b (forms.Resolve vs) = λ i. Some (action.Resolve (typed_alike schema (types_of schema b (forms.Resolve vs)) vs i))
 action_alike schema b (forms.ResolveKept n c) = λ i. Some (action.ResolveNamed n (number_of schema c.message) (typed_alike schema (types_of schema b (forms.ResolveKept n c)) c.values i))
 action_alike schema b s = refl
 
-pub reply_alike : (schema : Schema) (b : Standing) (s : Statement) → reply_of schema b (plain_statement s) ≡ reply_of schema b s
+pub reply_alike : (schema : Schema) (b : BlockContext) (s : Statement) → reply_of schema b (plain_statement s) ≡ reply_of schema b s
 reply_alike schema b (forms.Return vs) = λ i. Some (typed_alike schema (types_of schema b (forms.Return vs)) vs i)
 reply_alike schema b s = refl
 
@@ -101,18 +101,18 @@ speaks_alike test (forms.ResolveKept n c) = λ i. false || any_alike test c.valu
 speaks_alike test (forms.Return vs) = λ i. false || any_alike test vs i
 speaks_alike test s = refl
 
-pub main_alike : (b : Standing) (s : Statement) → speaks_in_main b (plain_statement s) ≡ speaks_in_main b s
+pub main_alike : (b : BlockContext) (s : Statement) → speaks_in_main b (plain_statement s) ≡ speaks_in_main b s
 main_alike (in_main side) s = speaks_alike is_of_handler s
 main_alike (in_handler side message) s = refl
 
-pub made_alike : (b : Standing) (s : Statement) → speaks_of_made b (plain_statement s) ≡ speaks_of_made b s
+pub made_alike : (b : BlockContext) (s : Statement) → speaks_of_made b (plain_statement s) ≡ speaks_of_made b s
 made_alike b s = λ i. speaks_alike is_made s i && not (is_of_constructor b)
 
 unfit_alike : (schema : Schema) (given : List ParamRow) (types : Option (List ParamRow)) (vs : WrittenValues) → AreUnfit schema given types (plain_values vs) ≡ AreUnfit schema given types vs
 unfit_alike schema given None vs = λ i. IsTrue (any_alike (is_absent given) vs i)
 unfit_alike schema given (Some types) vs = λ i. ¬ (each_alike schema given types vs i)
 
-pub values_alike : (schema : Schema) (b : Standing) (s : Statement) → ValuesBreak schema b (plain_statement s) ≡ ValuesBreak schema b s
+pub values_alike : (schema : Schema) (b : BlockContext) (s : Statement) → ValuesBreak schema b (plain_statement s) ≡ ValuesBreak schema b s
 values_alike schema b (forms.Send w c) = λ i. IsTrue (is_no_actor (given_in b) w) ⊎ unfit_alike schema (given_in b) (types_of schema b (forms.Send w c)) c.values i
 values_alike schema b (forms.New n w c) = λ i. IsTrue (is_no_actor (given_in b) w) ⊎ unfit_alike schema (given_in b) (types_of schema b (forms.New n w c)) c.values i
 values_alike schema b (forms.Resolve vs) = λ i. ⊥ ⊎ unfit_alike schema (given_in b) (types_of schema b (forms.Resolve vs)) vs i

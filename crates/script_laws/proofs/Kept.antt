@@ -16,7 +16,7 @@ use Rattle.script_reader.specs.declared.statement.Statement.{Statement}
 use Rattle.script_reader.specs.declared.statement.Statement.TheVariants as forms
 use Rattle.script_reader.specs.Plain.{plain_statement, plain_reading}
 use Rattle.handler_script.specs.declared.action.Block.{Block}
-use Rattle.handler_script.specs.Blocks.{opens, closes, answers, opened_by, open_after, open_behind, answered_after, answered_behind, is_followed, closes_line, is_closed, Standing, standing_of, standing_behind, side_of, handled_in}
+use Rattle.handler_script.specs.Blocks.{opens, closes, answers, opened_by, open_after, open_behind, answered_after, answered_behind, is_followed, closes_line, is_closed, BlockContext, standing_of, standing_behind, side_of, handled_in}
 use Rattle.handler_script.specs.Broken.{is_main, is_main_line, IsSecondMain, BreaksBlocks, NamesNone, BreaksDirection, BreaksCarried, has_no_reply, is_misplaced, KnownBreaks, StatementBreaks, LineBreaks, line_place, IsBrokenAt, IsBroken}
 use Rattle.handler_script.specs.ScriptOf.{inside, action_of, reply_of, first_of, block_of, blocks_at, blocks_of}
 use Rattle.script_laws.proofs.Alike.{action_alike, reply_alike, main_alike, made_alike, values_alike}
@@ -50,11 +50,11 @@ names_alike : (schema : Schema) (s : Statement) → NamesNone schema (plain_stat
 names_alike schema (forms.Send w c) = refl
 names_alike schema s = refl
 
-direction_alike : (schema : Schema) (block : Option Standing) (s : Statement) → BreaksDirection schema block (plain_statement s) ≡ BreaksDirection schema block s
+direction_alike : (schema : Schema) (block : Option BlockContext) (s : Statement) → BreaksDirection schema block (plain_statement s) ≡ BreaksDirection schema block s
 direction_alike schema block (forms.Send w c) = refl
 direction_alike schema block s = refl
 
-carried_alike : (schema : Schema) (block : Option Standing) (s : Statement) → BreaksCarried schema block (plain_statement s) ≡ BreaksCarried schema block s
+carried_alike : (schema : Schema) (block : Option BlockContext) (s : Statement) → BreaksCarried schema block (plain_statement s) ≡ BreaksCarried schema block s
 carried_alike schema block (forms.Send w c) = refl
 carried_alike schema block s = refl
 
@@ -112,11 +112,11 @@ blocks_alike : (before : List LineReading) (s : Statement) (after : List LineRea
 blocks_alike before s after =
     λ i. ((opens_alike s i ≡ false) × (open_alike before i ≡ None)) ⊎ ((opens_alike s i ≡ true) × (IsSome (open_alike before i) ⊎ (second_alike before s i ⊎ (closed_alike after i ≡ false))))
 
-misplaced_alike : (schema : Schema) (answered : Bool) (b : Standing) (s : Statement) (after : List LineReading) → is_misplaced schema answered b (plain_statement s) (plain_lines after) ≡ is_misplaced schema answered b s after
+misplaced_alike : (schema : Schema) (answered : Bool) (b : BlockContext) (s : Statement) (after : List LineReading) → is_misplaced schema answered b (plain_statement s) (plain_lines after) ≡ is_misplaced schema answered b s after
 misplaced_alike schema answered b (forms.Return vs) after = λ i. has_no_reply b || followed_alike after i
 misplaced_alike schema answered b s after = refl
 
-known_alike : (schema : Schema) (r : Rule) (answered : Bool) (block : Option Standing) (s : Statement) (after : List LineReading)
+known_alike : (schema : Schema) (r : Rule) (answered : Bool) (block : Option BlockContext) (s : Statement) (after : List LineReading)
     → KnownBreaks schema r answered block (plain_statement s) (plain_lines after) ≡ KnownBreaks schema r answered block s after
 known_alike schema r answered block s after =
     λ i. ((r ≡ rule.WRONG_DIRECTION) × direction_alike schema block s i)
@@ -182,7 +182,7 @@ filtered_alike : {Y : Type 0} (read : Statement → Option Y) → ((s : Statemen
 filtered_alike read same [] = refl
 filtered_alike read same (s ∷ statements) = λ i. cons_option (same s i) (filtered_alike read same statements i)
 
-block_alike : (schema : Schema) (b : Standing) (statements : List Statement) → block_of schema b (map plain_statement statements) ≡ block_of schema b statements
+block_alike : (schema : Schema) (b : BlockContext) (statements : List Statement) → block_of schema b (map plain_statement statements) ≡ block_of schema b statements
 block_alike schema b statements =
     λ i. record {
       side = side_of b;
@@ -191,7 +191,7 @@ block_alike schema b statements =
       reply = first_of (filtered_alike (reply_of schema b) (reply_alike schema b) statements i);
     }
 
-opened_block : (schema : Schema) (o : Option Standing) (rest : List LineReading) → option_map_or (λ b. block_of schema b (inside (plain_lines rest)) ∷ []) o [] ≡ option_map_or (λ b. block_of schema b (inside rest) ∷ []) o []
+opened_block : (schema : Schema) (o : Option BlockContext) (rest : List LineReading) → option_map_or (λ b. block_of schema b (inside (plain_lines rest)) ∷ []) o [] ≡ option_map_or (λ b. block_of schema b (inside rest) ∷ []) o []
 opened_block schema None rest = refl
 opened_block schema (Some b) rest = ap (λ (block : Block). block ∷ []) (ap (block_of schema b) (inside_alike rest) ∙ block_alike schema b (inside rest))
 

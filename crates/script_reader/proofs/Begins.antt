@@ -4,14 +4,14 @@ use Rattle.std.specs.List.{prefix_len, list_all}
 use Rattle.std.proofs.lemmas.Bool.{cases_Bool, or_left, and_parts}
 use Rattle.std.proofs.Math.Seq.{drop-length}
 use Rattle.ipdl_base.specs.Words.{is_word_start, is_word_byte}
-use Rattle.script_reader.specs.declared.token.Class.{Class}
-use Rattle.script_reader.specs.declared.token.Class.TheVariants as class
-use Rattle.script_reader.specs.declared.token.Token.{Token}
-use Rattle.script_reader.specs.declared.token.Token.TheVariants as token
+use Rattle.script_reader.specs.declared.token.TokenClass.{TokenClass}
+use Rattle.script_reader.specs.declared.token.TokenClass.TheVariants as class
+use Rattle.script_reader.specs.declared.token.ScriptToken.{ScriptToken}
+use Rattle.script_reader.specs.declared.token.ScriptToken.TheVariants as token
 use Rattle.script_reader.specs.Tokens.{is_blank, behind, hex_at, character_at, is_digit, is_mark, begins_bytes, class_of, IsNumber, IsTokenOf, IsToken}
 use Rattle.script_reader.proofs.Sequences.{one_in_quotes, quote_no_character, quote_no_digits}
 
-neither : (b : Bool) (x y z : Class) → ¬ (x ≡ z) → ¬ (y ≡ z) → ¬ (cond b x y ≡ z)
+neither : (b : Bool) (x y z : TokenClass) → ¬ (x ≡ z) → ¬ (y ≡ z) → ¬ (cond b x y ≡ z)
 neither true x y z f g = f
 neither false x y z f g = g
 
@@ -39,7 +39,7 @@ word_begins (b ∷ to) h =
 one_number : (limit m n : ℕ) (from to end : List ℕ) → IsNumber limit m from to → IsNumber limit n from end → (m ≡ n) × (to ≡ end)
 one_number limit m n from to end x y = (x.value ∙ sym y.value, x.rest ∙ sym y.rest)
 
-one_of : (k : Class) (t u : Token) (from to end : List ℕ) → IsTokenOf k t from to → IsTokenOf k u from end → (t ≡ u) × (to ≡ end)
+one_of : (k : TokenClass) (t u : ScriptToken) (from to end : List ℕ) → IsTokenOf k t from to → IsTokenOf k u from end → (t ≡ u) × (to ≡ end)
 one_of class.Word t u from to end x y = (x.0 ∙ sym y.0, x.1 ∙ sym y.1)
 one_of class.Param t u from to end x y = let e = one_number _ x.0 y.0 _ to end x.2 y.2 in (x.1 ∙ ap token.Param e.0 ∙ sym y.1, e.1)
 one_of class.Index t u from to end x y = let e = one_number _ x.0 y.0 _ to end x.2 y.2 in (x.1 ∙ ap token.Index e.0 ∙ sym y.1, e.1)
@@ -55,7 +55,7 @@ one_of class.Mark t u from to end x y = (x.0 ∙ sym y.0, x.1 ∙ sym y.1)
 one_of class.Other t u from to end x y = absurd x
 
 -- one token stands at a place
-pub one_token : (t u : Token) (from to end : List ℕ) → IsToken t from to → IsToken u from end → (t ≡ u) × (to ≡ end)
+pub one_token : (t u : ScriptToken) (from to end : List ℕ) → IsToken t from to → IsToken u from end → (t ≡ u) × (to ≡ end)
 one_token t u from to end x y = one_of (class_of from) t u from to end x y
 
 all_pass : (bytes : List ℕ) → list_all is_blank bytes ≡ true → prefix_len is_blank bytes ≡ length bytes
@@ -65,7 +65,7 @@ all_pass (b ∷ bytes) h =
     rw both.0 (omega (arith, all_pass bytes both.1))
 
 -- no token stands behind blanks alone
-pub blank_no_token : (line : List ℕ) (t : Token) (to : List ℕ) → list_all is_blank line ≡ true → ¬ IsToken t (behind is_blank line) to
+pub blank_no_token : (line : List ℕ) (t : ScriptToken) (to : List ℕ) → list_all is_blank line ≡ true → ¬ IsToken t (behind is_blank line) to
 blank_no_token line t to h is =
     let none : behind is_blank line ≡ [] = ap (λ n. drop n line) (all_pass line h) ∙ drop-length line in
     let P : List ℕ → Type 0 = λ l. IsToken t l to in

@@ -7,18 +7,18 @@ use Rattle.std.proofs.lemmas.Option.{none-some}
 use Rattle.std.proofs.lemmas.Slice.Eq.{bytes_eq-Decides}
 use Rattle.script_reader.specs.declared.parts.Bracket.{Bracket}
 use Rattle.script_reader.specs.declared.parts.Bracket.TheVariants as bracket
-use Rattle.script_reader.specs.declared.reader.Begin.{Begin}
-use Rattle.script_reader.specs.declared.reader.Begin.TheVariants as begin
-use Rattle.script_reader.specs.declared.token.Token.{Token}
-use Rattle.script_reader.specs.declared.token.Token.TheVariants as token
+use Rattle.script_reader.specs.declared.reader.ValueForm.{ValueForm}
+use Rattle.script_reader.specs.declared.reader.ValueForm.TheVariants as begin
+use Rattle.script_reader.specs.declared.token.ScriptToken.{ScriptToken}
+use Rattle.script_reader.specs.declared.token.ScriptToken.TheVariants as token
 use Rattle.script_reader.specs.declared.written.Atom.{Atom}
-use Rattle.script_reader.specs.declared.written.Written.{Written, Union', Held'}
-use Rattle.script_reader.specs.declared.written.Written.TheVariants as written
+use Rattle.script_reader.specs.declared.written.WrittenValue.{WrittenValue, Union', Held'}
+use Rattle.script_reader.specs.declared.written.WrittenValue.TheVariants as written
 use Rattle.script_reader.specs.Grammar.{atom_named, atom_of, closing, value}
 use Rattle.script_reader.specs.Heads.{begin_with, begin_of}
 
 -- a word that is `some` is no value by itself
-atom_begin : (t : Token) (a : Atom) → atom_of t ≡ Some a → begin_with t ≡ begin.Atom
+atom_begin : (t : ScriptToken) (a : Atom) → atom_of t ≡ Some a → begin_with t ≡ begin.Atom
 atom_begin (token.Word w) a h = elim (cases_Bool (bytes_eq w (codes "some"))) [
   | inl e ↦ absurd (let P : List ℕ → Type 0 = λ l. atom_named l ≡ Some a in none-some a (subst P ((bytes_eq-Decides w (codes "some")).0 e) h))
   | inr e ↦ rw e refl
@@ -27,7 +27,7 @@ atom_begin (token.Index n) a h = absurd (none-some a h)
 atom_begin (token.Mark b) a h = absurd (none-some a h)
 atom_begin t a h = refl
 
-abbrev pub begin_for : Written → Begin
+abbrev pub begin_for : WrittenValue → ValueForm
 begin_for (written.Atom a) = begin.Atom
 begin_for (written.Struct vs) = begin.Struct
 begin_for (written.Array vs) = begin.Array
@@ -35,7 +35,7 @@ begin_for (Union' index _ v) = begin.Union index
 begin_for (Held' _ v) = begin.Held
 
 -- a value begins as its kind says
-pub value_begin : (v : Written) (from to : List Token) → value v from to → begin_of from ≡ begin_for v
+pub value_begin : (v : WrittenValue) (from to : List ScriptToken) → value v from to → begin_of from ≡ begin_for v
 value_begin (written.Atom a) from to h = ap begin_of h.1 ∙ atom_begin h.0 a h.2
 value_begin (written.Struct vs) from to h = ap begin_of h.1
 value_begin (written.Array vs) from to h = ap begin_of h.1
@@ -43,11 +43,11 @@ value_begin (Union' index _ v) from to h = ap begin_of h.1
 value_begin (Held' _ v) from to h = ap begin_of h.1
 
 -- no value begins with a mark that closes or parts values
-pub no_value : (b : ℕ) → begin_with (token.Mark b) ≡ begin.Atom → (v : Written) (rest to : List Token) → ¬ value v (token.Mark b ∷ rest) to
+pub no_value : (b : ℕ) → begin_with (token.Mark b) ≡ begin.Atom → (v : WrittenValue) (rest to : List ScriptToken) → ¬ value v (token.Mark b ∷ rest) to
 no_value b plain (written.Atom a) rest to h =
     let e : token.Mark b ∷ rest ≡ h.0 ∷ to = h.1 in
     let same : token.Mark b ≡ h.0 = cc in
-    let P : Token → Type 0 = λ t. atom_of t ≡ Some a in
+    let P : ScriptToken → Type 0 = λ t. atom_of t ≡ Some a in
     none-some a (subst P (sym same) h.2)
 no_value b plain v rest to h = let e = value_begin v (token.Mark b ∷ rest) to h in let no : ⊥ = cc in no
 

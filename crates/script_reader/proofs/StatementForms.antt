@@ -6,12 +6,12 @@ use Rattle.ipdl_base.specs.declared.kinds.Side.{Side}
 use Rattle.script_reader.specs.declared.parts.Bracket.TheVariants as bracket
 use Rattle.script_reader.specs.declared.parts.Keyword.{Keyword}
 use Rattle.script_reader.specs.declared.parts.Keyword.TheVariants as keyword
-use Rattle.script_reader.specs.declared.statement.Call.{Call}
+use Rattle.script_reader.specs.declared.statement.WrittenMessage.{WrittenMessage}
 use Rattle.script_reader.specs.declared.statement.MessageName.{MessageName}
 use Rattle.script_reader.specs.declared.statement.Statement.{Statement}
 use Rattle.script_reader.specs.declared.statement.Statement.TheVariants as forms
-use Rattle.script_reader.specs.declared.token.Token.{Token}
-use Rattle.script_reader.specs.declared.token.Token.TheVariants as token
+use Rattle.script_reader.specs.declared.token.ScriptToken.{ScriptToken}
+use Rattle.script_reader.specs.declared.token.ScriptToken.TheVariants as token
 use Rattle.script_reader.specs.declared.written.Who.{Who}
 use Rattle.script_reader.specs.declared.written.WrittenValues.{WrittenValues}
 use Rattle.script_reader.specs.Grammar.{name_of, name, who_of, who, keyword_of, message, listed, arguments, call, keyword_for, behind_keyword, statement}
@@ -22,127 +22,127 @@ use Rattle.script_reader.proofs.ValueForms.{one_single, one_listed, tail_of, hea
 
 -- Parts are read in one way
 
-pub same_word : (v w : List ℕ) (from to end : List Token) → word v from to → word w from end → (v ≡ w) × (to ≡ end)
+pub same_word : (v w : List ℕ) (from to end : List ScriptToken) → word v from to → word w from end → (v ≡ w) × (to ≡ end)
 same_word v w from to end h k = let e : token.Word v ≡ token.Word w = head_of _ _ from to end h k in (cc, tail_of _ _ from to end h k)
 
-pub same_name : (m n : List ℕ) (from to end : List Token) → name m from to → name n from end → to ≡ end
+pub same_name : (m n : List ℕ) (from to end : List ScriptToken) → name m from to → name n from end → to ≡ end
 same_name m n from to end h k = (one_single name_of m n from to end h k).1
 
-pub same_who : (v w : Who) (from to end : List Token) → who v from to → who w from end → to ≡ end
+pub same_who : (v w : Who) (from to end : List ScriptToken) → who v from to → who w from end → to ≡ end
 same_who v w from to end h k = (one_single who_of v w from to end h k).1
 
-one_message : (m n : MessageName) (from to end : List Token) → message m from to → message n from end → (m ≡ n) × (to ≡ end)
+one_message : (m n : MessageName) (from to end : List ScriptToken) → message m from to → message n from end → (m ≡ n) × (to ≡ end)
 one_message m n from to end h k =
     let p = same_word m.protocol n.protocol from h.0 k.0 h.1 k.1 in
-    let M : List Token → Type 0 = λ l. mark 46 l h.2.0 in
+    let M : List ScriptToken → Type 0 = λ l. mark 46 l h.2.0 in
     let dot = tail_of _ _ k.0 h.2.0 k.2.0 (subst M p.1 h.2.1) k.2.1 in
-    let W : List Token → Type 0 = λ l. word m.message l to in
+    let W : List ScriptToken → Type 0 = λ l. word m.message l to in
     let q = same_word m.message n.message k.2.0 to end (subst W dot h.2.2) k.2.2 in
     (ap (λ x. let y : MessageName = record { protocol = x; message = m.message } in y) p.0 ∙ ap (λ x. let y : MessageName = record { protocol = n.protocol; message = x } in y) q.0, q.1)
 
-pub same_message : (m n : MessageName) (from to end : List Token) → message m from to → message n from end → to ≡ end
+pub same_message : (m n : MessageName) (from to end : List ScriptToken) → message m from to → message n from end → to ≡ end
 same_message m n from to end h k = (one_message m n from to end h k).1
 
-one_arguments : (vs ws : WrittenValues) (from to end : List Token) → arguments vs from to → arguments ws from end → (plain_values vs ≡ plain_values ws) × (to ≡ end)
+one_arguments : (vs ws : WrittenValues) (from to end : List ScriptToken) → arguments vs from to → arguments ws from end → (plain_values vs ≡ plain_values ws) × (to ≡ end)
 one_arguments vs ws from to end h k =
-    let P : List Token → Type 0 = λ l. listed bracket.Round vs l to in
+    let P : List ScriptToken → Type 0 = λ l. listed bracket.Round vs l to in
     one_listed bracket.Round vs ws k.0 to end (subst P (tail_of _ _ from h.0 k.0 h.1 k.1) h.2) k.2
 
-pub same_arguments : (vs ws : WrittenValues) (from to end : List Token) → arguments vs from to → arguments ws from end → to ≡ end
+pub same_arguments : (vs ws : WrittenValues) (from to end : List ScriptToken) → arguments vs from to → arguments ws from end → to ≡ end
 same_arguments vs ws from to end h k = (one_arguments vs ws from to end h k).1
 
-one_call : (c d : Call) (from to end : List Token) → call c from to → call d from end → (plain_call c ≡ plain_call d) × (to ≡ end)
+one_call : (c d : WrittenMessage) (from to end : List ScriptToken) → call c from to → call d from end → (plain_call c ≡ plain_call d) × (to ≡ end)
 one_call c d from to end h k =
     let m = one_message c.message d.message from h.0 k.0 h.1 k.1 in
-    let P : List Token → Type 0 = λ l. arguments c.values l to in
+    let P : List ScriptToken → Type 0 = λ l. arguments c.values l to in
     let a = one_arguments c.values d.values k.0 to end (subst P m.1 h.2) k.2 in
-    (ap (λ x. let y : Call = record { message = x; values = plain_values c.values } in y) m.0 ∙ ap (λ x. let y : Call = record { message = d.message; values = x } in y) a.0, a.1)
+    (ap (λ x. let y : WrittenMessage = record { message = x; values = plain_values c.values } in y) m.0 ∙ ap (λ x. let y : WrittenMessage = record { message = d.message; values = x } in y) a.0, a.1)
 
-pub same_call : (c d : Call) (from to end : List Token) → call c from to → call d from end → to ≡ end
+pub same_call : (c d : WrittenMessage) (from to end : List ScriptToken) → call c from to → call d from end → to ≡ end
 same_call c d from to end h k = (one_call c d from to end h k).1
 
 -- Where a part behind another is not read, both are not
 
-pub not_behind : {X : Type 0} (P : X → Part) → ((x y : X) (from to end : List Token) → P x from to → P y from end → to ≡ end)
-    → (x : X) (from middle : List Token) → P x from middle → (Q : Part) (to : List Token) → ¬ Q middle to → (y : X) → ¬ (P y ⨾ Q) from to
-not_behind P same x from middle read Q to none y h = let S : List Token → Type 0 = λ l. Q l to in none (subst S (same y x from h.0 middle h.1 read) h.2)
+pub not_behind : {X : Type 0} (P : X → Part) → ((x y : X) (from to end : List ScriptToken) → P x from to → P y from end → to ≡ end)
+    → (x : X) (from middle : List ScriptToken) → P x from middle → (Q : Part) (to : List ScriptToken) → ¬ Q middle to → (y : X) → ¬ (P y ⨾ Q) from to
+not_behind P same x from middle read Q to none y h = let S : List ScriptToken → Type 0 = λ l. Q l to in none (subst S (same y x from h.0 middle h.1 read) h.2)
 
 -- nor where tokens are left behind a part
-pub not_whole : {X : Type 0} (P : X → Part) → ((x y : X) (from to end : List Token) → P x from to → P y from end → to ≡ end)
-    → (x : X) (from rest : List Token) → P x from rest → rest ≢ [] → (y : X) → ¬ P y from []
+pub not_whole : {X : Type 0} (P : X → Part) → ((x y : X) (from to end : List ScriptToken) → P x from to → P y from end → to ≡ end)
+    → (x : X) (from rest : List ScriptToken) → P x from rest → rest ≢ [] → (y : X) → ¬ P y from []
 not_whole P same x from rest read some y h = some (same x y from rest [] read h)
 
 -- Statements by their keywords
 
-pub only_send : (from : List Token) → ((w : Who) (c : Call) → ¬ (who w ⨾ call c) from []) → (s : Statement) → ¬ IsBehind keyword.Send from s
+pub only_send : (from : List ScriptToken) → ((w : Who) (c : WrittenMessage) → ¬ (who w ⨾ call c) from []) → (s : Statement) → ¬ IsBehind keyword.Send from s
 only_send from none (forms.Send w c) h = none w c h.1
 only_send from none s h = let e = h.0 in let no : ⊥ = cc in no
 
-pub only_new : (from : List Token) → ((n : List ℕ) (w : Who) (c : Call) → ¬ (name n ⨾ who w ⨾ call c) from []) → (s : Statement) → ¬ IsBehind keyword.New from s
+pub only_new : (from : List ScriptToken) → ((n : List ℕ) (w : Who) (c : WrittenMessage) → ¬ (name n ⨾ who w ⨾ call c) from []) → (s : Statement) → ¬ IsBehind keyword.New from s
 only_new from none (forms.New n w c) h = none n w c h.1
 only_new from none s h = let e = h.0 in let no : ⊥ = cc in no
 
-pub only_let : (from : List Token) → ((n : List ℕ) (w : Who) → ¬ (name n ⨾ who w) from []) → (s : Statement) → ¬ IsBehind keyword.Let from s
+pub only_let : (from : List ScriptToken) → ((n : List ℕ) (w : Who) → ¬ (name n ⨾ who w) from []) → (s : Statement) → ¬ IsBehind keyword.Let from s
 only_let from none (forms.Let n w) h = none n w h.1
 only_let from none s h = let e = h.0 in let no : ⊥ = cc in no
 
-pub only_resolve : (from : List Token) → ((vs : WrittenValues) → ¬ arguments vs from []) → ((n : List ℕ) (c : Call) → ¬ (name n ⨾ call c) from []) → (s : Statement) → ¬ IsBehind keyword.Resolve from s
+pub only_resolve : (from : List ScriptToken) → ((vs : WrittenValues) → ¬ arguments vs from []) → ((n : List ℕ) (c : WrittenMessage) → ¬ (name n ⨾ call c) from []) → (s : Statement) → ¬ IsBehind keyword.Resolve from s
 only_resolve from none never (forms.Resolve vs) h = none vs h.1
 only_resolve from none never (forms.ResolveKept n c) h = never n c h.1
 only_resolve from none never s h = let e = h.0 in let no : ⊥ = cc in no
 
-pub only_reject : (from : List Token) → from ≢ [] → ((n : List ℕ) (m : MessageName) → ¬ (name n ⨾ message m) from []) → (s : Statement) → ¬ IsBehind keyword.Reject from s
+pub only_reject : (from : List ScriptToken) → from ≢ [] → ((n : List ℕ) (m : MessageName) → ¬ (name n ⨾ message m) from []) → (s : Statement) → ¬ IsBehind keyword.Reject from s
 only_reject from some never forms.Reject h = some h.1
 only_reject from some never (forms.RejectKept n m) h = never n m h.1
 only_reject from some never s h = let e = h.0 in let no : ⊥ = cc in no
 
-pub only_keep : (from : List Token) → ((n : List ℕ) → ¬ name n from []) → (s : Statement) → ¬ IsBehind keyword.Keep from s
+pub only_keep : (from : List ScriptToken) → ((n : List ℕ) → ¬ name n from []) → (s : Statement) → ¬ IsBehind keyword.Keep from s
 only_keep from none (forms.Keep n) h = none n h.1
 only_keep from none s h = let e = h.0 in let no : ⊥ = cc in no
 
-pub only_return : (from : List Token) → ((vs : WrittenValues) → ¬ arguments vs from []) → (s : Statement) → ¬ IsBehind keyword.Return from s
+pub only_return : (from : List ScriptToken) → ((vs : WrittenValues) → ¬ arguments vs from []) → (s : Statement) → ¬ IsBehind keyword.Return from s
 only_return from none (forms.Return vs) h = none vs h.1
 only_return from none s h = let e = h.0 in let no : ⊥ = cc in no
 
 -- behind a side's word that is `on`
-pub only_on : (side : Side) (from : List Token) (w : List ℕ) (middle : List Token) → word w from middle → w ≡ codes "on" → ((m : MessageName) → ¬ message m middle []) → (s : Statement) → ¬ IsBehind (keyword.Side side) from s
+pub only_on : (side : Side) (from : List ScriptToken) (w : List ℕ) (middle : List ScriptToken) → word w from middle → w ≡ codes "on" → ((m : MessageName) → ¬ message m middle []) → (s : Statement) → ¬ IsBehind (keyword.Side side) from s
 only_on side from w middle read is none (forms.Main t) h = let e = (same_word w (codes "main") from middle [] read h.1).0 in let f : codes "on" ≡ codes "main" = sym is ∙ e in let no : ⊥ = cc in no
 only_on side from w middle read is none (forms.On t m) h =
-    let S : List Token → Type 0 = λ l. message m l [] in
+    let S : List ScriptToken → Type 0 = λ l. message m l [] in
     none m (subst S ((same_word (codes "on") w from h.1.0 middle h.1.1 read).1) h.1.2)
 only_on side from w middle read is none s h = let e = h.0 in let no : ⊥ = cc in no
 
 -- a keyword is followed by what stands behind it
-pub no_keyword : (from : List Token) → ((k : Keyword) (to : List Token) → ¬ single keyword_of k from to) → (s : Statement) → ¬ statement s from []
+pub no_keyword : (from : List ScriptToken) → ((k : Keyword) (to : List ScriptToken) → ¬ single keyword_of k from to) → (s : Statement) → ¬ statement s from []
 no_keyword from none s h = none (keyword_for s) h.0 h.1
 
 -- a mark is no name
-pub mark_no_name : (b : ℕ) (n : List ℕ) (from to end : List Token) → mark b from to → ¬ name n from end
+pub mark_no_name : (b : ℕ) (n : List ℕ) (from to end : List ScriptToken) → mark b from to → ¬ name n from end
 mark_no_name b n from to end m h =
     let e : token.Mark b ≡ h.0 = head_of _ _ from to end m h.1 in
-    let P : Token → Type 0 = λ t. name_of t ≡ Some n in
+    let P : ScriptToken → Type 0 = λ t. name_of t ≡ Some n in
     none-some n (subst P (sym e) h.2)
 
-both_names : (m n : List ℕ) (P Q : Part) (from : List Token) → (name m ⨾ P) from [] → (name n ⨾ Q) from [] → (m ≡ n) × ((middle : List Token) × P middle [] × Q middle [])
+both_names : (m n : List ℕ) (P Q : Part) (from : List ScriptToken) → (name m ⨾ P) from [] → (name n ⨾ Q) from [] → (m ≡ n) × ((middle : List ScriptToken) × P middle [] × Q middle [])
 both_names m n P Q from h k =
     let e = one_single name_of m n from h.0 k.0 h.1 k.1 in
-    let S : List Token → Type 0 = λ l. P l [] in
+    let S : List ScriptToken → Type 0 = λ l. P l [] in
     (e.0, (k.0, subst S e.1 h.2, k.2))
 
-both_whos : (v w : Who) (P Q : Part) (from : List Token) → (who v ⨾ P) from [] → (who w ⨾ Q) from [] → (v ≡ w) × ((middle : List Token) × P middle [] × Q middle [])
+both_whos : (v w : Who) (P Q : Part) (from : List ScriptToken) → (who v ⨾ P) from [] → (who w ⨾ Q) from [] → (v ≡ w) × ((middle : List ScriptToken) × P middle [] × Q middle [])
 both_whos v w P Q from h k =
     let e = one_single who_of v w from h.0 k.0 h.1 k.1 in
-    let S : List Token → Type 0 = λ l. P l [] in
+    let S : List ScriptToken → Type 0 = λ l. P l [] in
     (e.0, (k.0, subst S e.1 h.2, k.2))
 
 -- the same statement stands behind the same keyword
-pub one_behind : (s u : Statement) (from : List Token) → keyword_for s ≡ keyword_for u → behind_keyword s from [] → behind_keyword u from [] → plain_statement s ≡ plain_statement u
+pub one_behind : (s u : Statement) (from : List ScriptToken) → keyword_for s ≡ keyword_for u → behind_keyword s from [] → behind_keyword u from [] → plain_statement s ≡ plain_statement u
 one_behind (forms.Main s) (forms.Main u) from e h k = let same : s ≡ u = cc in ap forms.Main same
 one_behind (forms.Main s) (forms.On u m) from e h k = absurd (let f = (same_word (codes "main") (codes "on") from [] k.0 h k.1).0 in let no : ⊥ = cc in no)
 one_behind (forms.On s m) (forms.Main u) from e h k = absurd (let f = (same_word (codes "on") (codes "main") from h.0 [] h.1 k).0 in let no : ⊥ = cc in no)
 one_behind (forms.On s m) (forms.On u n) from e h k =
     let same : s ≡ u = cc in
-    let S : List Token → Type 0 = λ l. message m l [] in
+    let S : List ScriptToken → Type 0 = λ l. message m l [] in
     let f = one_message m n k.0 [] [] (subst S ((same_word (codes "on") (codes "on") from h.0 k.0 h.1 k.1).1) h.2) k.2 in
     ap (λ x. forms.On x m) same ∙ ap (λ x. forms.On u x) f.0
 one_behind forms.End forms.End from e h k = refl

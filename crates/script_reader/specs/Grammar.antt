@@ -8,18 +8,18 @@ use Rattle.script_reader.specs.declared.parts.Bracket.{Bracket}
 use Rattle.script_reader.specs.declared.parts.Bracket.TheVariants as bracket
 use Rattle.script_reader.specs.declared.parts.Keyword.{Keyword}
 use Rattle.script_reader.specs.declared.parts.Keyword.TheVariants as keyword
-use Rattle.script_reader.specs.declared.statement.Call.{Call}
+use Rattle.script_reader.specs.declared.statement.WrittenMessage.{WrittenMessage}
 use Rattle.script_reader.specs.declared.statement.MessageName.{MessageName}
 use Rattle.script_reader.specs.declared.statement.Statement.{Statement}
 use Rattle.script_reader.specs.declared.statement.Statement.TheVariants as forms
-use Rattle.script_reader.specs.declared.token.Token.{Token}
-use Rattle.script_reader.specs.declared.token.Token.TheVariants as token
+use Rattle.script_reader.specs.declared.token.ScriptToken.{ScriptToken}
+use Rattle.script_reader.specs.declared.token.ScriptToken.TheVariants as token
 use Rattle.script_reader.specs.declared.written.Atom.{Atom}
 use Rattle.script_reader.specs.declared.written.Atom.TheVariants as atom
 use Rattle.script_reader.specs.declared.written.Who.{Who}
 use Rattle.script_reader.specs.declared.written.Who.TheVariants as whos
-use Rattle.script_reader.specs.declared.written.Written.{Written, Union', Held'}
-use Rattle.script_reader.specs.declared.written.Written.TheVariants as written
+use Rattle.script_reader.specs.declared.written.WrittenValue.{WrittenValue, Union', Held'}
+use Rattle.script_reader.specs.declared.written.WrittenValue.TheVariants as written
 use Rattle.script_reader.specs.declared.written.WrittenValues.{WrittenValues, First'}
 use Rattle.script_reader.specs.declared.written.WrittenValues.TheVariants as values
 use Rattle.script_reader.specs.Parts.{Part, nothing, ◌⨾◌, mark, word, component, single}
@@ -39,7 +39,7 @@ abbrev pub named : List ℕ → Option (List ℕ)
 named word = if is_no_name word then None else Some word
 
 -- the name that a token is
-abbrev pub name_of : Token → Option (List ℕ)
+abbrev pub name_of : ScriptToken → Option (List ℕ)
 name_of (token.Word word) = named word
 name_of _ = None
 
@@ -54,7 +54,7 @@ who_named word =
     (if bytes_eq word (codes "made") then Some whos.Made else option_map whos.Name (named word)))
 
 -- who a token stands for
-abbrev pub who_of : Token → Option Who
+abbrev pub who_of : ScriptToken → Option Who
 who_of (token.Word word) = who_named word
 who_of (token.Param n) = Some (whos.Param n)
 who_of _ = None
@@ -77,7 +77,7 @@ atom_named word =
     (if bytes_eq word (codes "null") then Some atom.Null else option_map atom.Who (who_named word))))
 
 -- the value that a token is
-abbrev pub atom_of : Token → Option Atom
+abbrev pub atom_of : ScriptToken → Option Atom
 atom_of (token.Word word) = atom_named word
 atom_of (token.Param n) = Some (atom.Who (whos.Param n))
 atom_of (token.Number n) = Some (atom.Number n)
@@ -93,7 +93,7 @@ closing bracket.Curly = 125
 
 -- A value; values with commas between each two, and the mark that closes them; and what follows the first of these.
 abbrev mutual
-  pub value : Written → Part
+  pub value : WrittenValue → Part
   value (written.Atom a) = single atom_of a
   value (written.Struct vs) = mark 123 ⨾ listed bracket.Curly vs
   value (written.Array vs) = mark 91 ⨾ listed bracket.Square vs
@@ -113,7 +113,7 @@ abbrev pub arguments : WrittenValues → Part
 arguments vs = mark 40 ⨾ listed bracket.Round vs
 
 -- a message with values
-abbrev pub call : Call → Part
+abbrev pub call : WrittenMessage → Part
 call c = message c.message ⨾ arguments c.values
 
 -- Statements
@@ -134,7 +134,7 @@ keyword_named word =
     (if bytes_eq word (codes "die") then Some keyword.Die else
     (if bytes_eq word (codes "return") then Some keyword.Return else None)))))))))))
 
-abbrev pub keyword_of : Token → Option Keyword
+abbrev pub keyword_of : ScriptToken → Option Keyword
 keyword_of (token.Word word) = keyword_named word
 keyword_of _ = None
 

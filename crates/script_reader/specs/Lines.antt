@@ -4,7 +4,7 @@ use Rattle.std.specs.List.{slice_split}
 use Rattle.script_reader.specs.declared.line.LineReading.{LineReading}
 use Rattle.script_reader.specs.declared.line.LineReading.TheVariants.{Silent, Statement, NoStatement, TooLong}
 use Rattle.script_reader.specs.declared.statement.Statement.{Statement as StatementType}
-use Rattle.script_reader.specs.declared.token.Token.{Token}
+use Rattle.script_reader.specs.declared.token.ScriptToken.{ScriptToken}
 use Rattle.script_reader.specs.Grammar.{statement}
 use Rattle.script_reader.specs.Tokens.{is_blank, AreTokens}
 
@@ -29,7 +29,7 @@ IsSilent line = (first_mark line ≡ None) ⊎ (first_mark line ≡ Some 35)
 
 -- the line's tokens are the statement
 abbrev pub IsStatement : List ℕ → StatementType → Type 0
-IsStatement line s = (tokens : List Token) × AreTokens tokens line × statement s tokens []
+IsStatement line s = (tokens : List ScriptToken) × AreTokens tokens line × statement s tokens []
 
 -- what a line says by itself
 abbrev pub Says : List ℕ → LineReading → Type 0

@@ -1,11 +1,11 @@
 -- Parts of a statement: what stands from one point in a list of tokens to another.
 use Rattle.std.specs.Prelude.{◌≡◌, ℕ, List, ◌∷◌, Option, Some}
-use Rattle.script_reader.specs.declared.token.Token.{Token}
-use Rattle.script_reader.specs.declared.token.Token.TheVariants.{Word, Index, Mark}
+use Rattle.script_reader.specs.declared.token.ScriptToken.{ScriptToken}
+use Rattle.script_reader.specs.declared.token.ScriptToken.TheVariants.{Word, Index, Mark}
 
 -- A part relates the tokens from its begin on to those that are left behind its end.
 abbrev pub Part : Type 1
-Part = List Token → List Token → Type 0
+Part = List ScriptToken → List ScriptToken → Type 0
 
 -- no token
 abbrev pub nothing : Part
@@ -14,10 +14,10 @@ nothing from to = from ≡ to
 infixr 4 ◌⨾◌
 -- one part, and behind it another
 abbrev pub ◌⨾◌ : Part → Part → Part
-(first ⨾ second) from to = (middle : List Token) × first from middle × second middle to
+(first ⨾ second) from to = (middle : List ScriptToken) × first from middle × second middle to
 
 -- one token
-abbrev pub token : Token → Part
+abbrev pub token : ScriptToken → Part
 token t from to = from ≡ t ∷ to
 
 -- a mark
@@ -33,5 +33,5 @@ abbrev pub component : ℕ → Part
 component n = token (Index n)
 
 -- one token that stands for this
-abbrev pub single : {X : Type 0} → (Token → Option X) → X → Part
-single read x from to = (t : Token) × (from ≡ t ∷ to) × (read t ≡ Some x)
+abbrev pub single : {X : Type 0} → (ScriptToken → Option X) → X → Part
+single read x from to = (t : ScriptToken) × (from ≡ t ∷ to) × (read t ≡ Some x)

@@ -3,17 +3,17 @@ use Rattle.ipdl_base.specs.Plain.{one_box}
 use denote.RawPtr.{null_ptr}
 use Rattle.script_reader.specs.declared.line.LineReading.{LineReading}
 use Rattle.script_reader.specs.declared.line.LineReading.TheVariants as line
-use Rattle.script_reader.specs.declared.statement.Call.{Call}
+use Rattle.script_reader.specs.declared.statement.WrittenMessage.{WrittenMessage}
 use Rattle.script_reader.specs.declared.statement.Statement.{Statement}
 use Rattle.script_reader.specs.declared.statement.Statement.TheVariants as forms
-use Rattle.script_reader.specs.declared.written.Written.{Written, Union', Held'}
-use Rattle.script_reader.specs.declared.written.Written.TheVariants as written
+use Rattle.script_reader.specs.declared.written.WrittenValue.{WrittenValue, Union', Held'}
+use Rattle.script_reader.specs.declared.written.WrittenValue.TheVariants as written
 use Rattle.script_reader.specs.declared.written.WrittenValues.{WrittenValues, First'}
 use Rattle.script_reader.specs.declared.written.WrittenValues.TheVariants as values
 
 -- a written value, and written values, with every box there
 abbrev mutual
-  pub plain_written : Written → Written
+  pub plain_written : WrittenValue → WrittenValue
   plain_written (written.Atom a) = written.Atom a
   plain_written (written.Struct vs) = written.Struct (plain_values vs)
   plain_written (written.Array vs) = written.Array (plain_values vs)
@@ -25,7 +25,7 @@ abbrev mutual
   plain_values (First' _ v _ vs) = First' one_box (plain_written v) one_box (plain_values vs)
 
 -- a message with its values so
-abbrev pub plain_call : Call → Call
+abbrev pub plain_call : WrittenMessage → WrittenMessage
 plain_call c = record c { values = plain_values c.values }
 
 -- a statement with its values so

@@ -4,10 +4,10 @@ use Rattle.std.specs.List.{list_any, list_all, take_while, prefix_len}
 use Rattle.std.specs.Option.{option_map}
 use Rattle.std.specs.Str.{IsUtf8}
 use Rattle.ipdl_base.specs.Words.{is_word_start, is_word_byte}
-use Rattle.script_reader.specs.declared.token.Class.{Class}
-use Rattle.script_reader.specs.declared.token.Class.TheVariants as class
-use Rattle.script_reader.specs.declared.token.Token.{Token}
-use Rattle.script_reader.specs.declared.token.Token.TheVariants as token
+use Rattle.script_reader.specs.declared.token.TokenClass.{TokenClass}
+use Rattle.script_reader.specs.declared.token.TokenClass.TheVariants as class
+use Rattle.script_reader.specs.declared.token.ScriptToken.{ScriptToken}
+use Rattle.script_reader.specs.declared.token.ScriptToken.TheVariants as token
 
 -- Bytes
 
@@ -98,7 +98,7 @@ begins_bytes b [] = false
 begins_bytes b (c ∷ to) = (b == 104) && (c == 34)
 
 -- what a token is that begins with these bytes
-abbrev pub class_of : List ℕ → Class
+abbrev pub class_of : List ℕ → TokenClass
 class_of [] = class.Other
 class_of (b ∷ to) =
     if begins_bytes b to then class.Bytes else
@@ -111,7 +111,7 @@ class_of (b ∷ to) =
     (if is_mark b then class.Mark else class.Other)))))))
 
 -- A token of this class at the front, and what stands behind it. Words and numbers are as long as they can be.
-abbrev pub IsTokenOf : Class → Token → List ℕ → List ℕ → Type 0
+abbrev pub IsTokenOf : TokenClass → ScriptToken → List ℕ → List ℕ → Type 0
 IsTokenOf class.Word t from to = (t ≡ token.Word (take_while is_word_byte from)) × (to ≡ behind is_word_byte from)
 IsTokenOf class.Param t from to = (n : ℕ) × (t ≡ token.Param n) × IsNumber max_count n (drop 1 from) to
 IsTokenOf class.Index t from to = (n : ℕ) × (t ≡ token.Index n) × IsNumber max_count n (drop 1 from) to
@@ -123,10 +123,10 @@ IsTokenOf class.Mark t from to = (t ≡ token.Mark (slice_index from 0)) × (to 
 IsTokenOf class.Other t from to = ⊥
 
 -- a token at the front, and what stands behind it
-abbrev pub IsToken : Token → List ℕ → List ℕ → Type 0
+abbrev pub IsToken : ScriptToken → List ℕ → List ℕ → Type 0
 IsToken t from to = IsTokenOf (class_of from) t from to
 
 -- The tokens of a line: blanks may stand before each and behind the last.
-abbrev pub AreTokens : List Token → List ℕ → Type 0
+abbrev pub AreTokens : List ScriptToken → List ℕ → Type 0
 AreTokens [] line = IsTrue (list_all is_blank line)
 AreTokens (t ∷ ts) line = (to : List ℕ) × IsToken t (behind is_blank line) to × AreTokens ts to

@@ -6,7 +6,7 @@ ghost use Rattle.script_reader.specs.Reading.{Refuses};
 ghost use Rattle.script_reader.specs.Tokens.{is_blank, is_digit, behind, value_of, hex_at, character_at, InQuotes, IsNumber};
 
 use crate::pieces::{character_at, hex_at, is_blank, is_digit, is_word_byte};
-use crate::stop::Stop;
+use crate::stop::ReadFailure;
 use ipdl_base::{Items, Name};
 use std::alloc::Global;
 use std::marker::Model;
@@ -122,7 +122,7 @@ impl<'a> Cursor<'a> {
     }
 
     /// Takes a number: that which digits spell, or the limit where it is above that.
-    pub fn number(&mut self, limit: u128) -> Result<u128, Stop>
+    pub fn number(&mut self, limit: u128) -> Result<u128, ReadFailure>
         requires { limit < 2 ^ 100 }
         ensures read { IfOk result (λ n. IsNumber limit n self.old self.new) }
         ensures stops { IfErr result (Refuses ((n : ℕ) (to : List ℕ) → ¬ IsNumber limit n self.old to)) }
@@ -131,7 +131,7 @@ impl<'a> Cursor<'a> {
     {
         let digits = self.digits();
         if digits.is_empty() {
-            return Err(Stop::NoReading);
+            return Err(ReadFailure::NoReading);
         }
         Ok(value_of(digits, limit))
     }
@@ -152,7 +152,7 @@ impl<'a> Cursor<'a> {
     }
 
     /// Takes the bytes of a text, and the quote behind them.
-    pub fn text(&mut self, alloc: Global) -> Result<Name, Stop>
+    pub fn text(&mut self, alloc: Global) -> Result<Name, ReadFailure>
         ensures read { IfOk result (λ text. InQuotes character_at text self.old self.new) }
         ensures less { OnOk result (length self.new < length self.old) }
         ensures stops { IfErr result (Refuses ((text to : List ℕ) → ¬ InQuotes character_at text self.old to)) }
@@ -167,12 +167,12 @@ impl<'a> Cursor<'a> {
         if self.quote() {
             Ok(Items::from_vec(bytes))
         } else {
-            Err(Stop::NoReading)
+            Err(ReadFailure::NoReading)
         }
     }
 
     /// Takes bytes, each by two hexadecimal digits, and the quote behind them.
-    pub fn bytes(&mut self, alloc: Global) -> Result<Name, Stop>
+    pub fn bytes(&mut self, alloc: Global) -> Result<Name, ReadFailure>
         ensures read { IfOk result (λ bytes. InQuotes hex_at bytes self.old self.new) }
         ensures less { OnOk result (length self.new < length self.old) }
         ensures stops { IfErr result (Refuses ((bytes to : List ℕ) → ¬ InQuotes hex_at bytes self.old to)) }
@@ -187,7 +187,7 @@ impl<'a> Cursor<'a> {
         if self.quote() {
             Ok(Items::from_vec(bytes))
         } else {
-            Err(Stop::NoReading)
+            Err(ReadFailure::NoReading)
         }
     }
 }

@@ -6,7 +6,7 @@ ghost use Rattle.script_reader.specs.Reading.{Refuses};
 use crate::pieces::is_blank;
 use crate::statement::Statement;
 use crate::statements::statement;
-use crate::stop::Stop;
+use crate::stop::ReadFailure;
 use crate::tokens::tokens_of;
 use ipdl_base::Items;
 use std::alloc::{AllocError, Global};
@@ -47,7 +47,7 @@ fn is_silent(line: &[u8]) -> bool
 }
 
 /// The statement that a line is.
-fn statement_of(alloc: Global, line: &[u8]) -> Result<Statement, Stop>
+fn statement_of(alloc: Global, line: &[u8]) -> Result<Statement, ReadFailure>
     ensures read { IfOk result (IsStatement line.now) }
     ensures stops { IfErr result (Refuses ((s : StatementType) → ¬ IsStatement line.now s)) }
 {
@@ -67,8 +67,8 @@ fn read_line(alloc: Global, line: &[u8]) -> Result<LineReading, AllocError>
     }
     match statement_of(alloc, line) {
         Ok(statement) => Ok(LineReading::Statement(Box::new(alloc, statement)?)),
-        Err(Stop::NoReading) => Ok(LineReading::NoStatement),
-        Err(Stop::NoMemory) => Err(AllocError),
+        Err(ReadFailure::NoReading) => Ok(LineReading::NoStatement),
+        Err(ReadFailure::NoMemory) => Err(AllocError),
     }
 }
 

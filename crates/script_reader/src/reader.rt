@@ -1,6 +1,6 @@
 ghost use Rattle.std.specs.Prelude.{◌≡◌, ◌≢◌, ◌<◌, ◌≤◌, ℕ, List, [], ◌∷◌, drop, length, true, false, IfOk, IfErr, OnOk, IfSome, IfNone};
 ghost use Rattle.script_reader.specs.declared.parts.Keyword.{Keyword as KeywordType};
-ghost use Rattle.script_reader.specs.declared.token.Token.{Token as TokenType};
+ghost use Rattle.script_reader.specs.declared.token.ScriptToken.{ScriptToken as TokenType};
 ghost use Rattle.script_reader.specs.declared.written.Atom.{Atom as AtomType};
 ghost use Rattle.script_reader.specs.declared.written.Who.{Who as WhoType};
 ghost use Rattle.script_reader.specs.Grammar.{name_of, who_of, atom_of, keyword_of, name, who};
@@ -9,8 +9,8 @@ ghost use Rattle.script_reader.specs.Parts.{mark, word, single};
 ghost use Rattle.script_reader.specs.Reading.{Refuses};
 
 use crate::parts::Keyword;
-use crate::stop::Stop;
-use crate::token::Token;
+use crate::stop::ReadFailure;
+use crate::token::ScriptToken;
 use crate::words::{atom_of, keyword_of, name_of, who_of};
 use crate::written::{Atom, Who};
 use ipdl_base::Name;
@@ -19,7 +19,7 @@ use std::marker::Model;
 
 /// What a value is, by its first token.
 #[derive(Clone, Copy)]
-pub enum Begin {
+pub enum ValueForm {
     Struct,
     Array,
     /// A union, by the index of its component.
@@ -32,38 +32,38 @@ pub enum Begin {
 
 /// The tokens of a line that are left.
 #[derive(Drop)]
-pub struct Reader<'a> {
-    rest: &'a [Token],
+pub struct LineTokens<'a> {
+    rest: &'a [ScriptToken],
 }
 
-impl<'a> Model for Reader<'a> {
+impl<'a> Model for LineTokens<'a> {
     ghost use Rattle.std.specs.Prelude.{List};
-    ghost use Rattle.script_reader.specs.declared.token.Token.{Token};
+    ghost use Rattle.script_reader.specs.declared.token.ScriptToken.{ScriptToken};
 
-    ghost Value = { List Token };
+    ghost Value = { List ScriptToken };
 
     ghost view = { λ r. r.rest.now };
 }
 
 /// What a value is that begins with the token.
-fn begin_with(token: &Token) -> Begin
+fn begin_with(token: &ScriptToken) -> ValueForm
     ensures { result ≡ begin_with token.now }
 {
     match token {
-        Token::Mark(b'{') => Begin::Struct,
-        Token::Mark(b'[') => Begin::Array,
-        Token::Index(index) => Begin::Union(*index),
-        Token::Word(word) if word.as_slice() == b"some".as_slice() => Begin::Held,
-        _ => Begin::Atom,
+        ScriptToken::Mark(b'{') => ValueForm::Struct,
+        ScriptToken::Mark(b'[') => ValueForm::Array,
+        ScriptToken::Index(index) => ValueForm::Union(*index),
+        ScriptToken::Word(word) if word.as_slice() == b"some".as_slice() => ValueForm::Held,
+        _ => ValueForm::Atom,
     }
 }
 
-impl<'a> Reader<'a> {
+impl<'a> LineTokens<'a> {
     /// The tokens of a line.
-    pub fn new(tokens: &'a [Token]) -> Reader<'a>
+    pub fn new(tokens: &'a [ScriptToken]) -> LineTokens<'a>
         ensures { result ≡ tokens.now }
     {
-        Reader { rest: tokens }
+        LineTokens { rest: tokens }
     }
 
     /// Whether no token is left.
@@ -75,24 +75,24 @@ impl<'a> Reader<'a> {
     }
 
     /// That no token is left.
-    pub fn end(&self) -> Result<(), Stop>
+    pub fn end(&self) -> Result<(), ReadFailure>
         ensures read { OnOk result (self.now ≡ []) }
         ensures stops { IfErr result (Refuses (self.now ≢ [])) }
     {
         if self.is_empty() {
             Ok(())
         } else {
-            Err(Stop::NoReading)
+            Err(ReadFailure::NoReading)
         }
     }
 
     /// What a value is that begins here.
-    pub fn begin(&self) -> Begin
+    pub fn begin(&self) -> ValueForm
         ensures { result ≡ begin_of self.now }
     {
         match self.rest.first() {
             Some(token) => begin_with(token),
-            None => Begin::Atom,
+            None => ValueForm::Atom,
         }
     }
 
@@ -106,7 +106,7 @@ impl<'a> Reader<'a> {
     }
 
     /// Takes the next token.
-    fn next(&mut self) -> Option<&'a Token>
+    fn next(&mut self) -> Option<&'a ScriptToken>
         ensures some { IfSome result (λ token. self.old ≡ token.now ∷ self.new) }
         ensures none { IfNone result (self.old ≡ []) }
     {
@@ -121,7 +121,7 @@ impl<'a> Reader<'a> {
         ensures not { result ≡ false → (to : List TokenType) → ¬ mark b self.now to }
     {
         match self.rest.first() {
-            Some(Token::Mark(c)) => *c == b,
+            Some(ScriptToken::Mark(c)) => *c == b,
             _ => false,
         }
     }
@@ -140,81 +140,81 @@ impl<'a> Reader<'a> {
     }
 
     /// Takes this mark.
-    pub fn mark(&mut self, b: u8) -> Result<(), Stop>
+    pub fn mark(&mut self, b: u8) -> Result<(), ReadFailure>
         ensures read { OnOk result (mark b self.old self.new) }
         ensures stops { IfErr result (Refuses ((to : List TokenType) → ¬ mark b self.old to)) }
     {
         if self.skips(b) {
             Ok(())
         } else {
-            Err(Stop::NoReading)
+            Err(ReadFailure::NoReading)
         }
     }
 
     /// Takes a word.
-    pub fn word(&mut self, alloc: Global) -> Result<Name, Stop>
+    pub fn word(&mut self, alloc: Global) -> Result<Name, ReadFailure>
         ensures read { IfOk result (λ w. word w self.old self.new) }
         ensures stops { IfErr result (Refuses ((w : List ℕ) (to : List TokenType) → ¬ word w self.old to)) }
     {
         match self.next() {
-            Some(Token::Word(word)) => Ok(word.copy(alloc)?),
-            _ => Err(Stop::NoReading),
+            Some(ScriptToken::Word(word)) => Ok(word.copy(alloc)?),
+            _ => Err(ReadFailure::NoReading),
         }
     }
 
     /// Takes a keyword.
-    pub fn keyword(&mut self) -> Result<Keyword, Stop>
+    pub fn keyword(&mut self) -> Result<Keyword, ReadFailure>
         ensures read { IfOk result (λ k. single keyword_of k self.old self.new) }
         ensures stops { IfErr result (Refuses ((k : KeywordType) (to : List TokenType) → ¬ single keyword_of k self.old to)) }
     {
         let Some(token) = self.next() else {
-            return Err(Stop::NoReading);
+            return Err(ReadFailure::NoReading);
         };
         match keyword_of(token) {
             Some(keyword) => Ok(keyword),
-            None => Err(Stop::NoReading),
+            None => Err(ReadFailure::NoReading),
         }
     }
 
     /// Takes a name.
-    pub fn name(&mut self, alloc: Global) -> Result<Name, Stop>
+    pub fn name(&mut self, alloc: Global) -> Result<Name, ReadFailure>
         ensures read { IfOk result (λ n. name n self.old self.new) }
         ensures stops { IfErr result (Refuses ((n : List ℕ) (to : List TokenType) → ¬ name n self.old to)) }
     {
         let Some(token) = self.next() else {
-            return Err(Stop::NoReading);
+            return Err(ReadFailure::NoReading);
         };
         match name_of(alloc, token)? {
             Some(name) => Ok(name),
-            None => Err(Stop::NoReading),
+            None => Err(ReadFailure::NoReading),
         }
     }
 
     /// Takes one who is spoken of.
-    pub fn who(&mut self, alloc: Global) -> Result<Who, Stop>
+    pub fn who(&mut self, alloc: Global) -> Result<Who, ReadFailure>
         ensures read { IfOk result (λ w. who w self.old self.new) }
         ensures stops { IfErr result (Refuses ((w : WhoType) (to : List TokenType) → ¬ who w self.old to)) }
     {
         let Some(token) = self.next() else {
-            return Err(Stop::NoReading);
+            return Err(ReadFailure::NoReading);
         };
         match who_of(alloc, token)? {
             Some(who) => Ok(who),
-            None => Err(Stop::NoReading),
+            None => Err(ReadFailure::NoReading),
         }
     }
 
     /// Takes a value of one token.
-    pub fn atom(&mut self, alloc: Global) -> Result<Atom, Stop>
+    pub fn atom(&mut self, alloc: Global) -> Result<Atom, ReadFailure>
         ensures read { IfOk result (λ a. single atom_of a self.old self.new) }
         ensures stops { IfErr result (Refuses ((a : AtomType) (to : List TokenType) → ¬ single atom_of a self.old to)) }
     {
         let Some(token) = self.next() else {
-            return Err(Stop::NoReading);
+            return Err(ReadFailure::NoReading);
         };
         match atom_of(alloc, token)? {
             Some(atom) => Ok(atom),
-            None => Err(Stop::NoReading),
+            None => Err(ReadFailure::NoReading),
         }
     }
 }

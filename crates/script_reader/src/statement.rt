@@ -10,7 +10,7 @@ pub struct MessageName {
 
 /// A message with values, as `P.M(VALUES)`.
 #[derive(Drop)]
-pub struct Call {
+pub struct WrittenMessage {
     pub message: MessageName,
     pub values: WrittenValues,
 }
@@ -25,9 +25,9 @@ pub enum Statement {
     /// `end`: closes the block.
     End,
     /// `send WHO P.M(VALUES)`: sends a message.
-    Send(Who, Call),
+    Send(Who, WrittenMessage),
     /// `new NAME WHO P.M(VALUES)`: sends a constructor, and names the new actor.
-    New(Name, Who, Call),
+    New(Name, Who, WrittenMessage),
     /// `let NAME WHO`: names an actor.
     Let(Name, Who),
     /// `resolve (VALUES)`: answers the handled message.
@@ -37,7 +37,7 @@ pub enum Statement {
     /// `keep NAME`: keeps the resolver of the handled message under a name.
     Keep(Name),
     /// `resolve NAME P.M (VALUES)`: answers with a resolver that was kept.
-    ResolveKept(Name, Call),
+    ResolveKept(Name, WrittenMessage),
     /// `reject NAME P.M`: rejects with a resolver that was kept.
     RejectKept(Name, MessageName),
     /// `close`: closes the end.

@@ -1,26 +1,26 @@
 ghost use Rattle.std.specs.Prelude.{◌≡◌, ◌≢◌, ◌↔◌, ◌<◌, IsTrue, count_by, true, false, [], IfOk, IfErr, List};
 ghost use Rattle.script_reader.specs.declared.parts.Keyword.TheVariants as keywords;
-ghost use Rattle.script_reader.specs.declared.statement.Call.{Call as CallType};
+ghost use Rattle.script_reader.specs.declared.statement.WrittenMessage.{WrittenMessage as CallType};
 ghost use Rattle.script_reader.specs.declared.statement.MessageName.{MessageName as MessageNameType};
 ghost use Rattle.script_reader.specs.declared.statement.Statement.{Statement as StatementType};
-ghost use Rattle.script_reader.specs.declared.token.Token.{Token as TokenType};
+ghost use Rattle.script_reader.specs.declared.token.ScriptToken.{ScriptToken as TokenType};
 ghost use Rattle.script_reader.specs.declared.written.WrittenValues.{WrittenValues as ValuesType};
 ghost use Rattle.script_reader.specs.Grammar as grammar;
 ghost use Rattle.script_reader.specs.Heads as heads;
 ghost use Rattle.script_reader.specs.Reading.{Refuses, IsBehind};
 
 use crate::parts::{Bracket, Keyword};
-use crate::reader::Reader;
-use crate::statement::{Call, MessageName, Statement};
-use crate::stop::Stop;
-use crate::token::Token;
+use crate::reader::LineTokens;
+use crate::statement::{WrittenMessage, MessageName, Statement};
+use crate::stop::ReadFailure;
+use crate::token::ScriptToken;
 use crate::values::listed;
 use crate::written::WrittenValues;
 use ipdl_base::Side;
 use std::alloc::Global;
 
 /// Takes a message, as `P.M`.
-fn message(alloc: Global, reader: &mut Reader) -> Result<MessageName, Stop>
+fn message(alloc: Global, reader: &mut LineTokens) -> Result<MessageName, ReadFailure>
     ensures read { IfOk result (λ m. grammar.message m reader.old reader.new) }
     ensures stops { IfErr result (Refuses ((m : MessageNameType) (to : List TokenType) → ¬ grammar.message m reader.old to)) }
 {
@@ -31,7 +31,7 @@ fn message(alloc: Global, reader: &mut Reader) -> Result<MessageName, Stop>
 }
 
 /// Takes values in round brackets.
-fn arguments(alloc: Global, reader: &mut Reader) -> Result<WrittenValues, Stop>
+fn arguments(alloc: Global, reader: &mut LineTokens) -> Result<WrittenValues, ReadFailure>
     ensures read { IfOk result (λ vs. grammar.arguments vs reader.old reader.new) }
     ensures stops { IfErr result (Refuses ((vs : ValuesType) (to : List TokenType) → ¬ grammar.arguments vs reader.old to)) }
 {
@@ -40,13 +40,13 @@ fn arguments(alloc: Global, reader: &mut Reader) -> Result<WrittenValues, Stop>
 }
 
 /// Takes a message with values.
-fn call(alloc: Global, reader: &mut Reader) -> Result<Call, Stop>
+fn call(alloc: Global, reader: &mut LineTokens) -> Result<WrittenMessage, ReadFailure>
     ensures read { IfOk result (λ c. grammar.call c reader.old reader.new) }
     ensures stops { IfErr result (Refuses ((c : CallType) (to : List TokenType) → ¬ grammar.call c reader.old to)) }
 {
     let message = message(alloc, reader)?;
     let values = arguments(alloc, reader)?;
-    Ok(Call { message, values })
+    Ok(WrittenMessage { message, values })
 }
 
 /// Whether a word is this one.
@@ -58,7 +58,7 @@ fn is(word: &[u8], other: &[u8]) -> bool
 }
 
 /// The statement of a side, behind its word.
-fn opening(alloc: Global, reader: &mut Reader, side: Side) -> Result<Statement, Stop>
+fn opening(alloc: Global, reader: &mut LineTokens, side: Side) -> Result<Statement, ReadFailure>
     ensures read { IfOk result (IsBehind (keywords.Side side) reader.old) }
     ensures stops { IfErr result (Refuses ((s : StatementType) → ¬ IsBehind (keywords.Side side) reader.old s)) }
 {
@@ -71,12 +71,12 @@ fn opening(alloc: Global, reader: &mut Reader, side: Side) -> Result<Statement, 
         reader.end()?;
         Ok(Statement::On(side, message))
     } else {
-        Err(Stop::NoReading)
+        Err(ReadFailure::NoReading)
     }
 }
 
 /// The statement behind `send`.
-fn sending(alloc: Global, reader: &mut Reader) -> Result<Statement, Stop>
+fn sending(alloc: Global, reader: &mut LineTokens) -> Result<Statement, ReadFailure>
     ensures read { IfOk result (IsBehind keywords.Send reader.old) }
     ensures stops { IfErr result (Refuses ((s : StatementType) → ¬ IsBehind keywords.Send reader.old s)) }
 {
@@ -87,7 +87,7 @@ fn sending(alloc: Global, reader: &mut Reader) -> Result<Statement, Stop>
 }
 
 /// The statement behind `new`.
-fn making(alloc: Global, reader: &mut Reader) -> Result<Statement, Stop>
+fn making(alloc: Global, reader: &mut LineTokens) -> Result<Statement, ReadFailure>
     ensures read { IfOk result (IsBehind keywords.New reader.old) }
     ensures stops { IfErr result (Refuses ((s : StatementType) → ¬ IsBehind keywords.New reader.old s)) }
 {
@@ -99,7 +99,7 @@ fn making(alloc: Global, reader: &mut Reader) -> Result<Statement, Stop>
 }
 
 /// The statement behind `let`.
-fn naming(alloc: Global, reader: &mut Reader) -> Result<Statement, Stop>
+fn naming(alloc: Global, reader: &mut LineTokens) -> Result<Statement, ReadFailure>
     ensures read { IfOk result (IsBehind keywords.Let reader.old) }
     ensures stops { IfErr result (Refuses ((s : StatementType) → ¬ IsBehind keywords.Let reader.old s)) }
 {
@@ -110,7 +110,7 @@ fn naming(alloc: Global, reader: &mut Reader) -> Result<Statement, Stop>
 }
 
 /// The statement behind `resolve`.
-fn resolving(alloc: Global, reader: &mut Reader) -> Result<Statement, Stop>
+fn resolving(alloc: Global, reader: &mut LineTokens) -> Result<Statement, ReadFailure>
     ensures read { IfOk result (IsBehind keywords.Resolve reader.old) }
     ensures stops { IfErr result (Refuses ((s : StatementType) → ¬ IsBehind keywords.Resolve reader.old s)) }
 {
@@ -126,7 +126,7 @@ fn resolving(alloc: Global, reader: &mut Reader) -> Result<Statement, Stop>
 }
 
 /// The statement behind `reject`.
-fn rejecting(alloc: Global, reader: &mut Reader) -> Result<Statement, Stop>
+fn rejecting(alloc: Global, reader: &mut LineTokens) -> Result<Statement, ReadFailure>
     ensures read { IfOk result (IsBehind keywords.Reject reader.old) }
     ensures stops { IfErr result (Refuses ((s : StatementType) → ¬ IsBehind keywords.Reject reader.old s)) }
 {
@@ -140,7 +140,7 @@ fn rejecting(alloc: Global, reader: &mut Reader) -> Result<Statement, Stop>
 }
 
 /// The statement behind `keep`.
-fn keeping(alloc: Global, reader: &mut Reader) -> Result<Statement, Stop>
+fn keeping(alloc: Global, reader: &mut LineTokens) -> Result<Statement, ReadFailure>
     ensures read { IfOk result (IsBehind keywords.Keep reader.old) }
     ensures stops { IfErr result (Refuses ((s : StatementType) → ¬ IsBehind keywords.Keep reader.old s)) }
 {
@@ -150,7 +150,7 @@ fn keeping(alloc: Global, reader: &mut Reader) -> Result<Statement, Stop>
 }
 
 /// The statement behind `return`.
-fn returning(alloc: Global, reader: &mut Reader) -> Result<Statement, Stop>
+fn returning(alloc: Global, reader: &mut LineTokens) -> Result<Statement, ReadFailure>
     ensures read { IfOk result (IsBehind keywords.Return reader.old) }
     ensures stops { IfErr result (Refuses ((s : StatementType) → ¬ IsBehind keywords.Return reader.old s)) }
 {
@@ -160,7 +160,7 @@ fn returning(alloc: Global, reader: &mut Reader) -> Result<Statement, Stop>
 }
 
 /// The statement of one word.
-fn ending(reader: &Reader) -> Result<Statement, Stop>
+fn ending(reader: &LineTokens) -> Result<Statement, ReadFailure>
     ensures read { IfOk result (IsBehind keywords.End reader.now) }
     ensures stops { IfErr result (Refuses ((s : StatementType) → ¬ IsBehind keywords.End reader.now s)) }
 {
@@ -169,7 +169,7 @@ fn ending(reader: &Reader) -> Result<Statement, Stop>
 }
 
 /// The statement of one word.
-fn closing(reader: &Reader) -> Result<Statement, Stop>
+fn closing(reader: &LineTokens) -> Result<Statement, ReadFailure>
     ensures read { IfOk result (IsBehind keywords.Close reader.now) }
     ensures stops { IfErr result (Refuses ((s : StatementType) → ¬ IsBehind keywords.Close reader.now s)) }
 {
@@ -178,7 +178,7 @@ fn closing(reader: &Reader) -> Result<Statement, Stop>
 }
 
 /// The statement of one word.
-fn dying(reader: &Reader) -> Result<Statement, Stop>
+fn dying(reader: &LineTokens) -> Result<Statement, ReadFailure>
     ensures read { IfOk result (IsBehind keywords.Die reader.now) }
     ensures stops { IfErr result (Refuses ((s : StatementType) → ¬ IsBehind keywords.Die reader.now s)) }
 {
@@ -187,7 +187,7 @@ fn dying(reader: &Reader) -> Result<Statement, Stop>
 }
 
 /// The statement behind a keyword.
-fn behind(alloc: Global, reader: &mut Reader, keyword: Keyword) -> Result<Statement, Stop>
+fn behind(alloc: Global, reader: &mut LineTokens, keyword: Keyword) -> Result<Statement, ReadFailure>
     ensures read { IfOk result (IsBehind keyword reader.old) }
     ensures stops { IfErr result (Refuses ((s : StatementType) → ¬ IsBehind keyword reader.old s)) }
 {
@@ -207,34 +207,34 @@ fn behind(alloc: Global, reader: &mut Reader, keyword: Keyword) -> Result<Statem
 }
 
 /// Whether a token opens values.
-fn is_opening(token: &Token) -> bool
+fn is_opening(token: &ScriptToken) -> bool
     ensures { result ≡ heads.is_opening token.now }
 {
     match token {
-        Token::Mark(b) => *b == b'(' || *b == b'[' || *b == b'{',
+        ScriptToken::Mark(b) => *b == b'(' || *b == b'[' || *b == b'{',
         _ => false,
     }
 }
 
 /// Whether a token closes values.
-fn is_closing(token: &Token) -> bool
+fn is_closing(token: &ScriptToken) -> bool
     ensures { result ≡ heads.is_closing token.now }
 {
     match token {
-        Token::Mark(b) => *b == b')' || *b == b']' || *b == b'}',
+        ScriptToken::Mark(b) => *b == b')' || *b == b']' || *b == b'}',
         _ => false,
     }
 }
 
 /// How many tokens open values.
-fn opening_count(tokens: &[Token]) -> usize
+fn opening_count(tokens: &[ScriptToken]) -> usize
     ensures { result ≡ count_by heads.is_opening tokens.now }
 {
     tokens.iter().filter(|t| is_opening(t)).count()
 }
 
 /// How many tokens close values.
-fn closing_count(tokens: &[Token]) -> usize
+fn closing_count(tokens: &[ScriptToken]) -> usize
     ensures { result ≡ count_by heads.is_closing tokens.now }
 {
     tokens.iter().filter(|t| is_closing(t)).count()
@@ -242,21 +242,21 @@ fn closing_count(tokens: &[Token]) -> usize
 
 /// Whether fewer marks close than open, so that the tokens are no statement. Without this test a
 /// line of marks that only open would need room on the stack for each.
-fn is_unclosed(tokens: &[Token]) -> bool
+fn is_unclosed(tokens: &[ScriptToken]) -> bool
     ensures { IsTrue result ↔ (count_by heads.is_closing tokens.now < count_by heads.is_opening tokens.now) }
 {
     closing_count(tokens) < opening_count(tokens)
 }
 
 /// The statement that tokens are.
-pub fn statement(alloc: Global, tokens: &[Token]) -> Result<Statement, Stop>
+pub fn statement(alloc: Global, tokens: &[ScriptToken]) -> Result<Statement, ReadFailure>
     ensures read { IfOk result (λ s. grammar.statement s tokens.now []) }
     ensures stops { IfErr result (Refuses ((s : StatementType) → ¬ grammar.statement s tokens.now [])) }
 {
     if is_unclosed(tokens) {
-        return Err(Stop::NoReading);
+        return Err(ReadFailure::NoReading);
     }
-    let mut reader = Reader::new(tokens);
+    let mut reader = LineTokens::new(tokens);
     let keyword = reader.keyword()?;
     behind(alloc, &mut reader, keyword)
 }

@@ -1,28 +1,28 @@
 ghost use Rattle.std.specs.Prelude.{◌≡◌};
-ghost use Rattle.script_reader.specs.declared.stop.Stop.TheVariants.{NoMemory};
+ghost use Rattle.script_reader.specs.declared.stop.ReadFailure.TheVariants.{NoMemory};
 
 use std::alloc::{AllocError, AllocFailed};
 
 /// Why nothing was read.
 #[derive(Clone, Copy)]
-pub enum Stop {
+pub enum ReadFailure {
     /// There is no reading.
     NoReading,
     NoMemory,
 }
 
-impl From<AllocError> for Stop {
+impl From<AllocError> for ReadFailure {
     ghost from_gives = { λ _ stop. stop ≡ NoMemory };
 
-    fn from(_: AllocError) -> Stop {
-        Stop::NoMemory
+    fn from(_: AllocError) -> ReadFailure {
+        ReadFailure::NoMemory
     }
 }
 
-impl<T: Drop> From<AllocFailed<T>> for Stop {
+impl<T: Drop> From<AllocFailed<T>> for ReadFailure {
     ghost from_gives = { λ _ stop. stop ≡ NoMemory };
 
-    fn from(_: AllocFailed<T>) -> Stop {
-        Stop::NoMemory
+    fn from(_: AllocFailed<T>) -> ReadFailure {
+        ReadFailure::NoMemory
     }
 }

@@ -2,7 +2,7 @@ use ipdl_base::Name;
 
 /// A token of a line of a script.
 #[derive(Drop)]
-pub enum Token {
+pub enum ScriptToken {
     Word(Name),
     /// `$n`, the number of a parameter.
     Param(u32),
@@ -19,7 +19,7 @@ pub enum Token {
 
 /// What a token is, by its first bytes.
 #[derive(Clone, Copy)]
-pub enum Class {
+pub enum TokenClass {
     Word,
     Param,
     Index,

@@ -3,12 +3,12 @@ ghost use Rattle.std.specs.Str.{IsUtf8};
 ghost use Rattle.script_reader.specs.Reading.{Refuses};
 ghost use Rattle.script_reader.specs.Tokens as tokens;
 ghost use Rattle.script_reader.specs.Tokens.{IsToken, IsTokenOf, AreTokens, IsNumber, InQuotes, character_at, max_count, beyond};
-ghost use Rattle.script_reader.specs.declared.token.Token.{Token};
+ghost use Rattle.script_reader.specs.declared.token.ScriptToken.{ScriptToken};
 
 use crate::cursor::Cursor;
 use crate::pieces::{is_digit, is_mark, is_word_start};
-use crate::stop::Stop;
-use crate::token::{Class, Token};
+use crate::stop::ReadFailure;
+use crate::token::{TokenClass, ScriptToken};
 use ipdl_base::{Items, Name};
 use std::alloc::{AllocError, Global};
 
@@ -19,30 +19,30 @@ const MAX_COUNT: u128 = 0xffff_ffff;
 const BEYOND: u128 = 0x1_0000_0000_0000_0000;
 
 /// What a token is that begins with these bytes.
-fn class_of(bytes: &[u8]) -> Class
+fn class_of(bytes: &[u8]) -> TokenClass
     ensures { result ≡ tokens.class_of bytes.now }
 {
     match bytes {
-        [] => Class::Other,
-        [b'h', b'"', ..] => Class::Bytes,
+        [] => TokenClass::Other,
+        [b'h', b'"', ..] => TokenClass::Bytes,
         [b, ..] => {
             let b = *b;
             if is_word_start(b) {
-                Class::Word
+                TokenClass::Word
             } else if b == b'$' {
-                Class::Param
+                TokenClass::Param
             } else if b == b'@' {
-                Class::Index
+                TokenClass::Index
             } else if b == b'-' {
-                Class::Negative
+                TokenClass::Negative
             } else if is_digit(b) {
-                Class::Number
+                TokenClass::Number
             } else if b == b'"' {
-                Class::Text
+                TokenClass::Text
             } else if is_mark(b) {
-                Class::Mark
+                TokenClass::Mark
             } else {
-                Class::Other
+                TokenClass::Other
             }
         }
     }
@@ -56,7 +56,7 @@ fn name(alloc: Global, bytes: &[u8]) -> Result<Name, AllocError>
 }
 
 /// Takes the number of a parameter or a component, behind its first byte.
-fn count(cursor: &mut Cursor) -> Result<u32, Stop>
+fn count(cursor: &mut Cursor) -> Result<u32, ReadFailure>
     requires { 0 < length cursor.old }
     ensures read { IfOk result (λ n. IsNumber max_count n (drop 1 cursor.old) cursor.new) }
     ensures stops { IfErr result (Refuses ((n : ℕ) (to : List ℕ) → ¬ IsNumber max_count n (drop 1 cursor.old) to)) }
@@ -67,7 +67,7 @@ fn count(cursor: &mut Cursor) -> Result<u32, Stop>
 }
 
 /// Takes a number.
-fn number(cursor: &mut Cursor) -> Result<i128, Stop>
+fn number(cursor: &mut Cursor) -> Result<i128, ReadFailure>
     ensures read { IfOk result (λ z. (n : ℕ) × (z ≡ pos n) × IsNumber beyond n cursor.old cursor.new) }
     ensures stops { IfErr result (Refuses ((n : ℕ) (to : List ℕ) → ¬ IsNumber beyond n cursor.old to)) }
     ensures less { OnOk result (length cursor.new < length cursor.old) }
@@ -76,7 +76,7 @@ fn number(cursor: &mut Cursor) -> Result<i128, Stop>
 }
 
 /// Takes a number behind its `-`.
-fn negative(cursor: &mut Cursor) -> Result<i128, Stop>
+fn negative(cursor: &mut Cursor) -> Result<i128, ReadFailure>
     requires { 0 < length cursor.old }
     ensures read { IfOk result (λ z. (n : ℕ) × (z ≡ pos 0 -ℤ pos n) × IsNumber beyond n (drop 1 cursor.old) cursor.new) }
     ensures stops { IfErr result (Refuses ((n : ℕ) (to : List ℕ) → ¬ IsNumber beyond n (drop 1 cursor.old) to)) }
@@ -94,7 +94,7 @@ fn is_utf8(bytes: &[u8]) -> bool
 }
 
 /// Takes a text behind its first quote.
-fn text(alloc: Global, cursor: &mut Cursor) -> Result<Name, Stop>
+fn text(alloc: Global, cursor: &mut Cursor) -> Result<Name, ReadFailure>
     requires { 0 < length cursor.old }
     ensures read { IfOk result (λ text. IsUtf8 text × InQuotes character_at text (drop 1 cursor.old) cursor.new) }
     ensures stops { IfErr result (Refuses ((text to : List ℕ) → IsUtf8 text → ¬ InQuotes character_at text (drop 1 cursor.old) to)) }
@@ -105,41 +105,41 @@ fn text(alloc: Global, cursor: &mut Cursor) -> Result<Name, Stop>
     if is_utf8(text.as_slice()) {
         Ok(text)
     } else {
-        Err(Stop::NoReading)
+        Err(ReadFailure::NoReading)
     }
 }
 
 /// Takes a token of a class.
-fn token_of(alloc: Global, cursor: &mut Cursor, class: Class) -> Result<Token, Stop>
+fn token_of(alloc: Global, cursor: &mut Cursor, class: TokenClass) -> Result<ScriptToken, ReadFailure>
     requires { class ≡ tokens.class_of cursor.old }
     ensures read { IfOk result (λ t. IsTokenOf class t cursor.old cursor.new) }
-    ensures stops { IfErr result (Refuses ((t : Token) (to : List ℕ) → ¬ IsTokenOf class t cursor.old to)) }
+    ensures stops { IfErr result (Refuses ((t : ScriptToken) (to : List ℕ) → ¬ IsTokenOf class t cursor.old to)) }
     ensures less { OnOk result (length cursor.new < length cursor.old) }
 {
     match class {
-        Class::Word => Ok(Token::Word(name(alloc, cursor.word())?)),
-        Class::Param => Ok(Token::Param(count(cursor)?)),
-        Class::Index => Ok(Token::Index(count(cursor)?)),
-        Class::Negative => Ok(Token::Number(negative(cursor)?)),
-        Class::Number => Ok(Token::Number(number(cursor)?)),
-        Class::Text => Ok(Token::Text(text(alloc, cursor)?)),
-        Class::Bytes => {
+        TokenClass::Word => Ok(ScriptToken::Word(name(alloc, cursor.word())?)),
+        TokenClass::Param => Ok(ScriptToken::Param(count(cursor)?)),
+        TokenClass::Index => Ok(ScriptToken::Index(count(cursor)?)),
+        TokenClass::Negative => Ok(ScriptToken::Number(negative(cursor)?)),
+        TokenClass::Number => Ok(ScriptToken::Number(number(cursor)?)),
+        TokenClass::Text => Ok(ScriptToken::Text(text(alloc, cursor)?)),
+        TokenClass::Bytes => {
             cursor.pass(2);
-            Ok(Token::Bytes(cursor.bytes(alloc)?))
+            Ok(ScriptToken::Bytes(cursor.bytes(alloc)?))
         }
-        Class::Mark => {
+        TokenClass::Mark => {
             let mark = cursor.rest()[0];
             cursor.pass(1);
-            Ok(Token::Mark(mark))
+            Ok(ScriptToken::Mark(mark))
         }
-        Class::Other => Err(Stop::NoReading),
+        TokenClass::Other => Err(ReadFailure::NoReading),
     }
 }
 
 /// Takes a token.
-fn token(alloc: Global, cursor: &mut Cursor) -> Result<Token, Stop>
+fn token(alloc: Global, cursor: &mut Cursor) -> Result<ScriptToken, ReadFailure>
     ensures read { IfOk result (λ t. IsToken t cursor.old cursor.new) }
-    ensures stops { IfErr result (Refuses ((t : Token) (to : List ℕ) → ¬ IsToken t cursor.old to)) }
+    ensures stops { IfErr result (Refuses ((t : ScriptToken) (to : List ℕ) → ¬ IsToken t cursor.old to)) }
     ensures less { OnOk result (length cursor.new < length cursor.old) }
 {
     let class = class_of(cursor.rest());
@@ -147,9 +147,9 @@ fn token(alloc: Global, cursor: &mut Cursor) -> Result<Token, Stop>
 }
 
 /// The tokens of a line.
-pub fn tokens_of(alloc: Global, line: &[u8]) -> Result<Vec<Token>, Stop>
+pub fn tokens_of(alloc: Global, line: &[u8]) -> Result<Vec<ScriptToken>, ReadFailure>
     ensures read { IfOk result (λ tokens. AreTokens tokens.items line.now) }
-    ensures stops { IfErr result (Refuses ((tokens : List Token) → ¬ AreTokens tokens line.now)) }
+    ensures stops { IfErr result (Refuses ((tokens : List ScriptToken) → ¬ AreTokens tokens line.now)) }
 {
     let mut cursor = Cursor::new(line);
     let mut tokens = Vec::new(alloc);

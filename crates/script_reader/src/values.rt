@@ -1,17 +1,17 @@
 ghost use Rattle.std.specs.Prelude.{◌≡◌, ◌<◌, length, List, IfOk, IfErr, OnOk};
-ghost use Rattle.script_reader.specs.declared.token.Token.{Token as TokenType};
+ghost use Rattle.script_reader.specs.declared.token.ScriptToken.{ScriptToken as TokenType};
 ghost use Rattle.script_reader.specs.declared.written.Atom.{Atom as AtomType};
-ghost use Rattle.script_reader.specs.declared.written.Written.{Written as WrittenType};
-ghost use Rattle.script_reader.specs.declared.stop.Stop.TheVariants.{NoMemory};
+ghost use Rattle.script_reader.specs.declared.written.WrittenValue.{WrittenValue as WrittenType};
+ghost use Rattle.script_reader.specs.declared.stop.ReadFailure.TheVariants.{NoMemory};
 ghost use Rattle.script_reader.specs.Parts.{single};
 ghost use Rattle.script_reader.specs.declared.written.WrittenValues.{WrittenValues as ValuesType};
 ghost use Rattle.script_reader.specs.Grammar as grammar;
 ghost use Rattle.script_reader.specs.Reading.{Refuses};
 
 use crate::parts::Bracket;
-use crate::reader::{Begin, Reader};
-use crate::stop::Stop;
-use crate::written::{Written, WrittenValues};
+use crate::reader::{ValueForm, LineTokens};
+use crate::stop::ReadFailure;
+use crate::written::{WrittenValue, WrittenValues};
 use std::alloc::Global;
 
 /// The mark that closes values.
@@ -28,7 +28,7 @@ fn closing(bracket: Bracket) -> u8
 /// A box of a value. It is no part of the functions that call themselves, so that these need
 /// little room on the stack.
 #[inline(never)]
-fn boxed(alloc: Global, value: Written) -> Result<Box<Written>, Stop>
+fn boxed(alloc: Global, value: WrittenValue) -> Result<Box<WrittenValue>, ReadFailure>
     ensures ok { IfOk result (λ b. b.value ≡ value) }
     ensures memory { IfErr result (λ e. e ≡ NoMemory) }
 {
@@ -37,50 +37,50 @@ fn boxed(alloc: Global, value: Written) -> Result<Box<Written>, Stop>
 
 /// Takes a value of one token, apart from the functions that call themselves.
 #[inline(never)]
-fn atom(alloc: Global, reader: &mut Reader) -> Result<Box<Written>, Stop>
+fn atom(alloc: Global, reader: &mut LineTokens) -> Result<Box<WrittenValue>, ReadFailure>
     ensures read { IfOk result (λ v. grammar.value v.value reader.old reader.new) }
     ensures stops { IfErr result (Refuses ((a : AtomType) (to : List TokenType) → ¬ single grammar.atom_of a reader.old to)) }
     ensures less { OnOk result (length reader.new < length reader.old) }
 {
     let atom = reader.atom(alloc)?;
-    boxed(alloc, Written::Atom(atom))
+    boxed(alloc, WrittenValue::Atom(atom))
 }
 
 /// Takes a value.
 #[cycle(values)]
-fn value(alloc: Global, reader: &mut Reader) -> Result<Box<Written>, Stop>
+fn value(alloc: Global, reader: &mut LineTokens) -> Result<Box<WrittenValue>, ReadFailure>
     ensures read { IfOk result (λ v. grammar.value v.value reader.old reader.new) }
     ensures stops { IfErr result (Refuses ((v : WrittenType) (to : List TokenType) → ¬ grammar.value v reader.old to)) }
     ensures less { OnOk result (length reader.new < length reader.old) }
 {
     match reader.begin() {
-        Begin::Struct => {
+        ValueForm::Struct => {
             reader.pass();
             let fields = listed(alloc, reader, Bracket::Curly)?;
-            boxed(alloc, Written::Struct(fields))
+            boxed(alloc, WrittenValue::Struct(fields))
         }
-        Begin::Array => {
+        ValueForm::Array => {
             reader.pass();
             let elements = listed(alloc, reader, Bracket::Square)?;
-            boxed(alloc, Written::Array(elements))
+            boxed(alloc, WrittenValue::Array(elements))
         }
-        Begin::Union(index) => {
+        ValueForm::Union(index) => {
             reader.pass();
             let held = value(alloc, reader)?;
-            boxed(alloc, Written::Union(index, held))
+            boxed(alloc, WrittenValue::Union(index, held))
         }
-        Begin::Held => {
+        ValueForm::Held => {
             reader.pass();
             let held = value(alloc, reader)?;
-            boxed(alloc, Written::Held(held))
+            boxed(alloc, WrittenValue::Held(held))
         }
-        Begin::Atom => atom(alloc, reader),
+        ValueForm::Atom => atom(alloc, reader),
     }
 }
 
 /// Takes values, and the mark that closes them.
 #[cycle(values)]
-pub fn listed(alloc: Global, reader: &mut Reader, close: Bracket) -> Result<WrittenValues, Stop>
+pub fn listed(alloc: Global, reader: &mut LineTokens, close: Bracket) -> Result<WrittenValues, ReadFailure>
     ensures read { IfOk result (λ vs. grammar.listed close vs reader.old reader.new) }
     ensures stops { IfErr result (Refuses ((vs : ValuesType) (to : List TokenType) → ¬ grammar.listed close vs reader.old to)) }
     ensures less { OnOk result (length reader.new < length reader.old) }
@@ -95,7 +95,7 @@ pub fn listed(alloc: Global, reader: &mut Reader, close: Bracket) -> Result<Writ
 
 /// Takes the values behind the first one, and the mark that closes them.
 #[cycle(values)]
-fn more(alloc: Global, reader: &mut Reader, close: Bracket) -> Result<WrittenValues, Stop>
+fn more(alloc: Global, reader: &mut LineTokens, close: Bracket) -> Result<WrittenValues, ReadFailure>
     ensures read { IfOk result (λ vs. grammar.more close vs reader.old reader.new) }
     ensures stops { IfErr result (Refuses ((vs : ValuesType) (to : List TokenType) → ¬ grammar.more close vs reader.old to)) }
     ensures less { OnOk result (length reader.new < length reader.old) }

@@ -2,7 +2,7 @@ ghost use Rattle.std.specs.Prelude.{◌≡◌, ◌↔◌, ◌⊎◌, IsTrue, IfO
 ghost use Rattle.script_reader.specs.Grammar as grammar;
 
 use crate::parts::Keyword;
-use crate::token::Token;
+use crate::token::ScriptToken;
 use crate::written::{Atom, Who};
 use ipdl_base::{Name, Side};
 use std::alloc::{AllocError, Global};
@@ -33,11 +33,11 @@ fn named(alloc: Global, word: &Name) -> Result<Option<Name>, AllocError>
 }
 
 /// The name that a token is.
-pub fn name_of(alloc: Global, token: &Token) -> Result<Option<Name>, AllocError>
+pub fn name_of(alloc: Global, token: &ScriptToken) -> Result<Option<Name>, AllocError>
     ensures { IfOk result (λ found. found ≡ grammar.name_of token.now) }
 {
     match token {
-        Token::Word(word) => named(alloc, word),
+        ScriptToken::Word(word) => named(alloc, word),
         _ => Ok(None),
     }
 }
@@ -63,12 +63,12 @@ fn who_named(alloc: Global, word: &Name) -> Result<Option<Who>, AllocError>
 }
 
 /// Who a token stands for.
-pub fn who_of(alloc: Global, token: &Token) -> Result<Option<Who>, AllocError>
+pub fn who_of(alloc: Global, token: &ScriptToken) -> Result<Option<Who>, AllocError>
     ensures { IfOk result (λ found. found ≡ grammar.who_of token.now) }
 {
     match token {
-        Token::Word(word) => who_named(alloc, word),
-        Token::Param(n) => Ok(Some(Who::Param(*n))),
+        ScriptToken::Word(word) => who_named(alloc, word),
+        ScriptToken::Param(n) => Ok(Some(Who::Param(*n))),
         _ => Ok(None),
     }
 }
@@ -97,16 +97,16 @@ fn atom_named(alloc: Global, word: &Name) -> Result<Option<Atom>, AllocError>
 }
 
 /// The value that a token is.
-pub fn atom_of(alloc: Global, token: &Token) -> Result<Option<Atom>, AllocError>
+pub fn atom_of(alloc: Global, token: &ScriptToken) -> Result<Option<Atom>, AllocError>
     ensures { IfOk result (λ found. found ≡ grammar.atom_of token.now) }
 {
     match token {
-        Token::Word(word) => atom_named(alloc, word),
-        Token::Param(n) => Ok(Some(Atom::Who(Who::Param(*n)))),
-        Token::Number(n) => Ok(Some(Atom::Number(*n))),
-        Token::Text(text) => Ok(Some(Atom::Text(text.copy(alloc)?))),
-        Token::Bytes(bytes) => Ok(Some(Atom::Bytes(bytes.copy(alloc)?))),
-        Token::Index(_) | Token::Mark(_) => Ok(None),
+        ScriptToken::Word(word) => atom_named(alloc, word),
+        ScriptToken::Param(n) => Ok(Some(Atom::Who(Who::Param(*n)))),
+        ScriptToken::Number(n) => Ok(Some(Atom::Number(*n))),
+        ScriptToken::Text(text) => Ok(Some(Atom::Text(text.copy(alloc)?))),
+        ScriptToken::Bytes(bytes) => Ok(Some(Atom::Bytes(bytes.copy(alloc)?))),
+        ScriptToken::Index(_) | ScriptToken::Mark(_) => Ok(None),
     }
 }
 
@@ -144,11 +144,11 @@ fn keyword_named(word: &[u8]) -> Option<Keyword>
 }
 
 /// The keyword that a token is.
-pub fn keyword_of(token: &Token) -> Option<Keyword>
+pub fn keyword_of(token: &ScriptToken) -> Option<Keyword>
     ensures { result ≡ grammar.keyword_of token.now }
 {
     match token {
-        Token::Word(word) => keyword_named(word.as_slice()),
+        ScriptToken::Word(word) => keyword_named(word.as_slice()),
         _ => None,
     }
 }

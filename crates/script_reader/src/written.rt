@@ -37,15 +37,15 @@ pub enum Atom {
 /// A value as a statement writes it. Its type decides which value it is.
 #[cycle(written)]
 #[derive(Drop)]
-pub enum Written {
+pub enum WrittenValue {
     Atom(Atom),
     /// A struct, by its fields.
     Struct(WrittenValues),
     Array(WrittenValues),
     /// A union, by the index of its component. An index above the greatest one is read as that.
-    Union(u32, Box<Written>),
+    Union(u32, Box<WrittenValue>),
     /// What a maybe or a `UniquePtr` holds.
-    Held(Box<Written>),
+    Held(Box<WrittenValue>),
 }
 
 /// A list of written values: nothing, or a first one and the rest.
@@ -53,5 +53,5 @@ pub enum Written {
 #[derive(Drop)]
 pub enum WrittenValues {
     Nothing,
-    First(Box<Written>, Box<WrittenValues>),
+    First(Box<WrittenValue>, Box<WrittenValues>),
 }

@@ -7,12 +7,12 @@ use Rattle.std.proofs.lemmas.Option.{same_Some}
 use Rattle.ipdl_base.specs.Words.{is_word_start, is_word_byte}
 use Rattle.ipdl_lex.specs.Pieces.{is_blank}
 use Rattle.sync_list.specs.Lines.{first_mark, IsBlankLine, IsComment, IsSectionLine, IsValueLine, IsIndented}
-use Rattle.sync_list.specs.Forms.{Form, blank, comment, section, value, more, Fits}
+use Rattle.sync_list.specs.Forms.{LineForm, blank, comment, section, value, more, Fits}
 use Rattle.sync_list.proofs.Bytes.{start_no_blank, start_differs}
 use Rattle.sync_list.proofs.Cuts.{split_of, section_head, section_tail, value_head, value_tail}
 
 -- a number for each form
-abbrev pub form_tag : Form → ℕ
+abbrev pub form_tag : LineForm → ℕ
 form_tag blank = 0
 form_tag comment = 1
 form_tag (section protocol message) = 2
@@ -56,7 +56,7 @@ pub indented_tag : (line : List ℕ) → IsIndented line → line_tag line ≡ 4
 indented_tag line i = marked_tag (slice_index line 0) (first_mark line) i.no_blank_line (λ e. i.no_comment (inl e)) (λ e. i.no_comment (inr e)) i.begins
 
 -- a line's form has the line's number
-pub fits_tag : (before : List Form) (line : List ℕ) (form : Form) → Fits before line form → form_tag form ≡ line_tag line
+pub fits_tag : (before : List LineForm) (line : List ℕ) (form : LineForm) → Fits before line form → form_tag form ≡ line_tag line
 fits_tag before line blank h = sym (blank_tag line h)
 fits_tag before line comment h = sym (comment_tag line h)
 fits_tag before line (section protocol message) h = sym (section_tag line protocol message h.0)
@@ -85,7 +85,7 @@ one_value line word bytes word2 bytes2 v w =
     (sym one.0 ∙ two.0, ap (drop 1) (sym three ∙ four))
 
 -- behind the same lines a line has at most one form
-pub one_form : (before : List Form) (line : List ℕ) (a b : Form) → Fits before line a → Fits before line b → a ≡ b
+pub one_form : (before : List LineForm) (line : List ℕ) (a b : LineForm) → Fits before line a → Fits before line b → a ≡ b
 one_form before line blank blank x y = refl
 one_form before line comment comment x y = refl
 one_form before line (section p m) (section q n) x y = let e = one_section line p m q n x.0 y.0 in ap (λ r. section r m) e.0 ∙ ap (section q) e.1

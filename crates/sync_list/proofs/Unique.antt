@@ -6,14 +6,14 @@ use Rattle.std.proofs.lemmas.List.{append-nil}
 use Rattle.sync_list.specs.declared.list.Section.{Section}
 use Rattle.sync_list.specs.declared.list.ListFault.{ListFault}
 use Rattle.sync_list.specs.declared.list.ListFault.TheVariants.{Line, NoMemory}
-use Rattle.sync_list.specs.Forms.{Form, HaveForms}
+use Rattle.sync_list.specs.Forms.{LineForm, HaveForms}
 use Rattle.sync_list.specs.Lists.{sections_from, IsListOf, IsFirstBad, IsFault, Gives}
 use Rattle.sync_list.specs.Laws.{OneList, OneFault, NeverBoth}
 use Rattle.sync_list.specs.Reading.{IsBad}
 use Rattle.sync_list.proofs.Tags.{one_form}
 
 -- lines have at most one list of forms
-one_forms : (before : List Form) (lines : List (List ℕ)) (a b : List Form) → HaveForms before lines a → HaveForms before lines b → a ≡ b
+one_forms : (before : List LineForm) (lines : List (List ℕ)) (a b : List LineForm) → HaveForms before lines a → HaveForms before lines b → a ≡ b
 one_forms before [] [] [] x y = refl
 one_forms before [] [] (g ∷ b) x y = absurd y
 one_forms before [] (f ∷ a) b x y = absurd x
@@ -21,24 +21,24 @@ one_forms before (line ∷ lines) [] b x y = absurd x
 one_forms before (line ∷ lines) (f ∷ a) [] x y = absurd y
 one_forms before (line ∷ lines) (f ∷ a) (g ∷ b) x y =
     let e = one_form before line f g x.0 y.0 in
-    let P : Form → Type 0 = λ h. HaveForms (before ++ h ∷ []) lines a in
+    let P : LineForm → Type 0 = λ h. HaveForms (before ++ h ∷ []) lines a in
     ap (λ h. h ∷ a) e ∙ ap (λ hs. g ∷ hs) (one_forms (before ++ g ∷ []) lines a b (subst P e x.1) y.1)
 
 pub one_list : OneList
 one_list text a b x y = x.sections ∙ ap (sections_from 1) (one_forms [] _ x.forms y.forms x.each y.each) ∙ sym y.sections
 
 -- lines that have forms have no bad one among them
-none_bad : (done : List Form) (before : List (List ℕ)) (line : List ℕ) (after : List (List ℕ)) (forms all : List Form)
+none_bad : (done : List LineForm) (before : List (List ℕ)) (line : List ℕ) (after : List (List ℕ)) (forms all : List LineForm)
     → HaveForms done (before ++ line ∷ after) all → HaveForms done before forms → ¬ IsBad (done ++ forms) line
 none_bad done [] line after [] [] x y bad = x
-none_bad done [] line after [] (f ∷ all) x y bad = let P : List Form → Type 0 = λ fs. IsBad fs line in subst P (append-nil done) bad f x.0
+none_bad done [] line after [] (f ∷ all) x y bad = let P : List LineForm → Type 0 = λ fs. IsBad fs line in subst P (append-nil done) bad f x.0
 none_bad done [] line after (f ∷ forms) all x y bad = y
 none_bad done (first ∷ before) line after [] all x y bad = y
 none_bad done (first ∷ before) line after (f ∷ forms) [] x y bad = x
 none_bad done (first ∷ before) line after (f ∷ forms) (g ∷ all) x y bad =
     let e = one_form done first f g y.0 x.0 in
-    let P : Form → Type 0 = λ h. HaveForms (done ++ h ∷ []) before forms in
-    let Q : List Form → Type 0 = λ fs. IsBad fs line in
+    let P : LineForm → Type 0 = λ h. HaveForms (done ++ h ∷ []) before forms in
+    let Q : List LineForm → Type 0 = λ fs. IsBad fs line in
     let regrouped : done ++ f ∷ forms ≡ (done ++ g ∷ []) ++ forms = ap (λ h. done ++ h ∷ forms) e ∙ sym (append_assoc done (g ∷ []) forms) in
     none_bad (done ++ g ∷ []) before line after forms all x.1 (subst P e y.1) (subst Q regrouped bad)
 

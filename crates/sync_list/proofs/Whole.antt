@@ -1,36 +1,36 @@
 -- The lines of a text, read one by one.
 use Rattle.std.proofs.Common.{◌≡◌, ℕ, ◌+◌, ◌<◌, List, [], ◌∷◌, ◌++◌, length, take, drop, get_or, refl, sym, ap, ◌∙◌, subst, append_assoc, arith}
 use Rattle.std.proofs.lemmas.List.{take-append-drop, drop_more, append-nil}
-use Rattle.sync_list.specs.declared.reader.Reader.{Reader}
+use Rattle.sync_list.specs.declared.reader.ListReader.{ListReader}
 use Rattle.sync_list.specs.Lines.{lines_of}
-use Rattle.sync_list.specs.Forms.{Form, Fits, HaveForms}
+use Rattle.sync_list.specs.Forms.{LineForm, Fits, HaveForms}
 use Rattle.sync_list.specs.Lists.{IsListOf, IsFirstBad}
 use Rattle.sync_list.specs.Reading.{HasRead, ReadsLine, IsBad}
 
 -- the reader has read these lines
-pub record HasReadLines (lines : List (List ℕ)) (reader : Reader) : Type 0 where
-  pub forms : List Form
+pub record HasReadLines (lines : List (List ℕ)) (reader : ListReader) : Type 0 where
+  pub forms : List LineForm
   pub each : HaveForms [] lines forms
   pub behind : HasRead forms reader
 
 -- there are as many forms as lines
-HaveForms-length : (done : List Form) (lines : List (List ℕ)) (forms : List Form) → HaveForms done lines forms → length forms ≡ length lines
+HaveForms-length : (done : List LineForm) (lines : List (List ℕ)) (forms : List LineForm) → HaveForms done lines forms → length forms ≡ length lines
 HaveForms-length done [] [] h = refl
 HaveForms-length done [] (f ∷ forms) h = absurd h
 HaveForms-length done (l ∷ lines) [] h = absurd h
 HaveForms-length done (l ∷ lines) (f ∷ forms) h = let e = HaveForms-length (done ++ f ∷ []) lines forms h.1 in omega (arith, e)
 
 -- one more line has a form behind them
-HaveForms-push : (done : List Form) (lines : List (List ℕ)) (forms : List Form) (line : List ℕ) (form : Form) → HaveForms done lines forms → Fits (done ++ forms) line form → HaveForms done (lines ++ line ∷ []) (forms ++ form ∷ [])
-HaveForms-push done [] [] line form h fits = let P : List Form → Type 0 = λ fs. Fits fs line form in (subst P (append-nil done) fits, tt)
+HaveForms-push : (done : List LineForm) (lines : List (List ℕ)) (forms : List LineForm) (line : List ℕ) (form : LineForm) → HaveForms done lines forms → Fits (done ++ forms) line form → HaveForms done (lines ++ line ∷ []) (forms ++ form ∷ [])
+HaveForms-push done [] [] line form h fits = let P : List LineForm → Type 0 = λ fs. Fits fs line form in (subst P (append-nil done) fits, tt)
 HaveForms-push done [] (f ∷ forms) line form h fits = absurd h
 HaveForms-push done (l ∷ lines) [] line form h fits = absurd h
 HaveForms-push done (l ∷ lines) (f ∷ forms) line form h fits =
-    let P : List Form → Type 0 = λ fs. Fits fs line form in
+    let P : List LineForm → Type 0 = λ fs. Fits fs line form in
     (h.0, HaveForms-push (done ++ f ∷ []) lines forms line form h.1 (subst P (sym (append_assoc done (f ∷ []) forms)) fits))
 
 -- one more line is read
-pub reads_more : (lines more_lines : List (List ℕ)) (line : List ℕ) (number : ℕ) (old new : Reader) → HasReadLines lines old → ((forms : List Form) → HasRead forms old → length forms + 1 ≡ number → ReadsLine forms line new) → number ≡ length lines + 1 → more_lines ≡ lines ++ line ∷ [] → HasReadLines more_lines new
+pub reads_more : (lines more_lines : List (List ℕ)) (line : List ℕ) (number : ℕ) (old new : ListReader) → HasReadLines lines old → ((forms : List LineForm) → HasRead forms old → length forms + 1 ≡ number → ReadsLine forms line new) → number ≡ length lines + 1 → more_lines ≡ lines ++ line ∷ [] → HasReadLines more_lines new
 reads_more lines more_lines line number old new read ok counted e =
     let count = HaveForms-length [] lines read.forms read.each in
     let next = ok read.forms read.behind (omega (arith, count, counted)) in
@@ -41,7 +41,7 @@ reads_more lines more_lines line number old new read ok counted e =
     })
 
 -- or it is the first that is bad
-pub reads_bad : (text : List ℕ) (lines : List (List ℕ)) (line : List ℕ) (after : List (List ℕ)) (number : ℕ) (reader : Reader) → HasReadLines lines reader → ((forms : List Form) → HasRead forms reader → IsBad forms line) → number ≡ length lines + 1 → lines_of text ≡ lines ++ line ∷ after → IsFirstBad text number
+pub reads_bad : (text : List ℕ) (lines : List (List ℕ)) (line : List ℕ) (after : List (List ℕ)) (number : ℕ) (reader : ListReader) → HasReadLines lines reader → ((forms : List LineForm) → HasRead forms reader → IsBad forms line) → number ≡ length lines + 1 → lines_of text ≡ lines ++ line ∷ after → IsFirstBad text number
 reads_bad text lines line after number reader read bad counted e = record {
   before = lines;
   line = line;
@@ -54,7 +54,7 @@ reads_bad text lines line after number reader read bad counted e = record {
 }
 
 -- all lines are read
-pub reads_all : (text : List ℕ) (lines : List (List ℕ)) (reader : Reader) → HasReadLines lines reader → lines ≡ lines_of text → IsListOf text reader.sections.items
+pub reads_all : (text : List ℕ) (lines : List (List ℕ)) (reader : ListReader) → HasReadLines lines reader → lines ≡ lines_of text → IsListOf text reader.sections.items
 reads_all text lines reader read e = record {
   forms = read.forms;
   each = let P : List (List ℕ) → Type 0 = λ ls. HaveForms [] ls read.forms in subst P e read.each;

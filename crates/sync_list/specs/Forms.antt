@@ -4,37 +4,37 @@ use Rattle.std.specs.List.{list_any, Contains}
 use Rattle.sync_list.specs.Lines.{IsBlankLine, IsComment, IsSectionLine, IsValueLine, IsIndented}
 
 -- what a line is in a list; a line that goes on with a value bears the word whose value that is
-pub data Form : Type 0 where
-  blank : Form
-  comment : Form
-  section : (protocol message : List ℕ) → Form
-  value : (word bytes : List ℕ) → Form
-  more : (word : List ℕ) → Form
+pub data LineForm : Type 0 where
+  blank : LineForm
+  comment : LineForm
+  section : (protocol message : List ℕ) → LineForm
+  value : (word bytes : List ℕ) → LineForm
+  more : (word : List ℕ) → LineForm
 
 -- whether a line of this form is a section
-abbrev pub is_section : Form → Bool
+abbrev pub is_section : LineForm → Bool
 is_section (section protocol message) = true
 is_section _ = false
 
 -- lines of these forms have a section among them
-abbrev pub HasSection : List Form → Type 0
+abbrev pub HasSection : List LineForm → Type 0
 HasSection forms = IsTrue (list_any is_section forms)
 
 -- the word with whose value the line behind a line of this form can go on
-abbrev pub word_of : Form → Option (List ℕ)
+abbrev pub word_of : LineForm → Option (List ℕ)
 word_of (value word bytes) = Some word
 word_of (more word) = Some word
 word_of _ = None
 
 -- the word with whose value the line behind lines of these forms can go on: only the last of these counts
-abbrev pub open_word : List Form → Option (List ℕ)
+abbrev pub open_word : List LineForm → Option (List ℕ)
 open_word [] = None
 open_word (form ∷ []) = word_of form
 open_word (first ∷ second ∷ forms) = open_word (second ∷ forms)
 
 -- Behind lines of these forms, the line has this form: a section is none of theirs, a value line stands in a section,
 -- and a line goes on directly behind a value line or another line that goes on.
-abbrev pub Fits : List Form → List ℕ → Form → Type 0
+abbrev pub Fits : List LineForm → List ℕ → LineForm → Type 0
 Fits before line blank = IsBlankLine line
 Fits before line comment = IsComment line
 Fits before line (section protocol message) = IsSectionLine line protocol message × ¬ Contains before (section protocol message)
@@ -42,7 +42,7 @@ Fits before line (value word bytes) = IsValueLine line word bytes × HasSection 
 Fits before line (more word) = IsIndented line × (open_word before ≡ Some word)
 
 -- behind lines of the first forms, the lines have the other forms, one each
-abbrev pub HaveForms : List Form → List (List ℕ) → List Form → Type 0
+abbrev pub HaveForms : List LineForm → List (List ℕ) → List LineForm → Type 0
 HaveForms before [] [] = Unit {0}
 HaveForms before (line ∷ lines) (form ∷ forms) = Fits before line form × HaveForms (before ++ form ∷ []) lines forms
 HaveForms before [] (form ∷ forms) = ⊥

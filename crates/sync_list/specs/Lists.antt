@@ -7,7 +7,7 @@ use Rattle.sync_list.specs.declared.list.Section.{Section}
 use Rattle.sync_list.specs.declared.list.ListFault.{ListFault}
 use Rattle.sync_list.specs.declared.list.ListFault.TheVariants.{Line, NoMemory}
 use Rattle.sync_list.specs.Lines.{lines_of}
-use Rattle.sync_list.specs.Forms.{Form, section, value, more, is_section, Fits, HaveForms}
+use Rattle.sync_list.specs.Forms.{LineForm, section, value, more, is_section, Fits, HaveForms}
 
 -- the word whose value is a section's description
 abbrev pub description : List ℕ
@@ -15,30 +15,30 @@ description = codes "description"
 
 -- whether a line of this form gives its section a description that is not empty: it has a byte of the value that is
 -- not blank
-abbrev pub describes : Form → Bool
+abbrev pub describes : LineForm → Bool
 describes (value word bytes) = bytes_eq word description && not (list_all is_blank bytes)
 describes (more word) = bytes_eq word description
 describes _ = false
 
 -- whether one of the lines does, as far as the next section
-abbrev pub is_described : List Form → Bool
+abbrev pub is_described : List LineForm → Bool
 is_described [] = false
 is_described (form ∷ forms) = if is_section form then false else (describes form || is_described forms)
 
 -- the section that the line of this number begins, if its form is that of a section
-abbrev pub section_at : ℕ → Form → Bool → List Section
+abbrev pub section_at : ℕ → LineForm → Bool → List Section
 section_at number (section protocol message) described =
     record { protocol = protocol; message = message; described = described; line = number } ∷ []
 section_at number _ described = []
 
 -- the sections of lines of these forms, the first of which has this number
-abbrev pub sections_from : ℕ → List Form → List Section
+abbrev pub sections_from : ℕ → List LineForm → List Section
 sections_from number [] = []
 sections_from number (form ∷ forms) = section_at number form (is_described forms) ++ sections_from (number + 1) forms
 
 -- the text spells the list: its lines have forms, and the list is their sections
 pub record IsListOf (text : List ℕ) (list : List Section) : Type 0 where
-  pub forms : List Form
+  pub forms : List LineForm
   pub each : HaveForms [] (lines_of text) forms
   pub sections : list ≡ sections_from 1 forms
 
@@ -49,9 +49,9 @@ pub record IsFirstBad (text : List ℕ) (number : ℕ) : Type 0 where
   pub line : List ℕ
   pub after : List (List ℕ)
   pub lines : lines_of text ≡ before ++ line ∷ after
-  pub forms : List Form
+  pub forms : List LineForm
   pub each : HaveForms [] before forms
-  pub bad : (form : Form) → ¬ Fits forms line form
+  pub bad : (form : LineForm) → ¬ Fits forms line form
   pub counted : number ≡ length before + 1
 
 -- the text spells no list for the cause that the fault says

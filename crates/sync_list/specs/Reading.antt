@@ -2,11 +2,11 @@
 use Rattle.std.specs.Prelude.{◌≡◌, ℕ, Bool, true, not, List, [], ◌∷◌, ◌++◌, drop, option_copied}
 use Rattle.std.specs.List.{list_all, take_while, prefix_len, Contains}
 use Rattle.ipdl_lex.specs.Pieces.{is_blank}
-use Rattle.sync_list.specs.declared.line.Line.{Line}
-use Rattle.sync_list.specs.declared.line.Line.TheVariants as kind
-use Rattle.sync_list.specs.declared.reader.Reader.{Reader}
+use Rattle.sync_list.specs.declared.line.ListLine.{ListLine}
+use Rattle.sync_list.specs.declared.line.ListLine.TheVariants as kind
+use Rattle.sync_list.specs.declared.reader.ListReader.{ListReader}
 use Rattle.sync_list.specs.Lines.{IsBlankLine, IsComment, IsSectionLine, IsValueLine, IsIndented}
-use Rattle.sync_list.specs.Forms.{Form, section, value, more, open_word, Fits}
+use Rattle.sync_list.specs.Forms.{LineForm, section, value, more, open_word, Fits}
 use Rattle.sync_list.specs.Lists.{sections_from}
 use Rattle.sync_list.specs.Sets.{same_pair, KeysAre}
 
@@ -24,7 +24,7 @@ pub record IsOther (line : List ℕ) : Type 0 where
   pub no_indented : ¬ IsIndented line
 
 -- the line is this by itself
-abbrev pub IsLine : List ℕ → Line → Type 0
+abbrev pub IsLine : List ℕ → ListLine → Type 0
 IsLine line kind.Blank = IsBlankLine line
 IsLine line kind.Comment = IsComment line
 IsLine line (kind.Section protocol message) = IsSectionLine line protocol.now message.now
@@ -33,29 +33,29 @@ IsLine line kind.Indented = IsIndented line
 IsLine line kind.Other = IsOther line
 
 -- the reader has read lines of these forms
-pub record HasRead (forms : List Form) (reader : Reader) : Type 0 where
+pub record HasRead (forms : List LineForm) (reader : ListReader) : Type 0 where
   pub sections : reader.sections.items ≡ sections_from 1 forms
   pub seen : KeysAre same_pair reader.seen (λ pair. Contains forms (section pair.0.now pair.1.now))
   pub unfinished : option_copied reader.unfinished ≡ open_word forms
 
 -- behind lines of these forms the reader has read this line too
-pub record ReadsLine (forms : List Form) (line : List ℕ) (reader : Reader) : Type 0 where
-  pub form : Form
+pub record ReadsLine (forms : List LineForm) (line : List ℕ) (reader : ListReader) : Type 0 where
+  pub form : LineForm
   pub fits : Fits forms line form
   pub behind : HasRead (forms ++ form ∷ []) reader
 
 -- behind lines of these forms the reader has read the section line of these names, which none of them is
-pub record Begins (forms : List Form) (protocol message : List ℕ) (reader : Reader) : Type 0 where
+pub record Begins (forms : List LineForm) (protocol message : List ℕ) (reader : ListReader) : Type 0 where
   pub new : ¬ Contains forms (section protocol message)
   pub behind : HasRead (forms ++ section protocol message ∷ []) reader
 
 -- the form is that of a line with a value of the word, or of one that goes on with it; it is filled if the value has a
 -- byte there that is not blank
-abbrev pub IsValueOf : List ℕ → Bool → Form → Type 0
+abbrev pub IsValueOf : List ℕ → Bool → LineForm → Type 0
 IsValueOf word filled (value other bytes) = (other ≡ word) × (filled ≡ not (list_all is_blank bytes))
 IsValueOf word filled (more other) = (other ≡ word) × (filled ≡ true)
 IsValueOf word filled _ = ⊥
 
 -- behind lines of these forms the line has no form
-abbrev pub IsBad : List Form → List ℕ → Type 0
-IsBad forms line = (form : Form) → ¬ Fits forms line form
+abbrev pub IsBad : List LineForm → List ℕ → Type 0
+IsBad forms line = (form : LineForm) → ¬ Fits forms line form

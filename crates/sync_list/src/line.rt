@@ -8,7 +8,7 @@ ghost use Rattle.sync_list.specs.Reading.{IsSplit, IsLine};
 use ipdl_lex::is_reserved;
 
 /// What a line is by itself.
-pub enum Line<'a> {
+pub enum ListLine<'a> {
     Blank,
     Comment,
     /// The names of its protocol and its message.
@@ -142,24 +142,24 @@ fn value_line(line: &[u8]) -> Option<(&[u8], &[u8])>
 }
 
 /// What a line is by itself.
-pub fn line_of(line: &[u8]) -> Line<'_>
+pub fn line_of(line: &[u8]) -> ListLine<'_>
     ensures { IsLine line.now result }
 {
     let Some(mark) = first_mark(line) else {
-        return Line::Blank;
+        return ListLine::Blank;
     };
     if mark == b'#' || mark == b';' {
-        return Line::Comment;
+        return ListLine::Comment;
     }
     if let Some((protocol, message)) = section_line(line) {
-        return Line::Section(protocol, message);
+        return ListLine::Section(protocol, message);
     }
     if let Some((word, value)) = value_line(line) {
-        return Line::Value(word, value);
+        return ListLine::Value(word, value);
     }
     if is_blank(line[0]) {
-        Line::Indented
+        ListLine::Indented
     } else {
-        Line::Other
+        ListLine::Other
     }
 }

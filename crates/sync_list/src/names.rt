@@ -12,18 +12,18 @@ use std::alloc::{AllocError, Global};
 use std::collections::HashSet;
 
 /// The short name of a protocol and the name of a message.
-pub type Pair<'a> = (&'a [u8], &'a [u8]);
+pub type MessagePair<'a> = (&'a [u8], &'a [u8]);
 
 /// What the protocols of a program are called, and which messages they have.
 #[derive(Drop)]
-pub struct Known<'a> {
+pub struct ProgramNames<'a> {
     pub protocols: HashSet<&'a [u8]>,
-    pub syncs: HashSet<Pair<'a>>,
-    pub asyncs: HashSet<Pair<'a>>,
+    pub syncs: HashSet<MessagePair<'a>>,
+    pub asyncs: HashSet<MessagePair<'a>>,
 }
 
 /// The names of a section.
-fn names_of(section: &Section) -> Pair<'_>
+fn names_of(section: &Section) -> MessagePair<'_>
     ensures protocol { result.0.now ≡ section.now.protocol }
     ensures message { result.1.now ≡ section.now.message }
 {
@@ -31,7 +31,7 @@ fn names_of(section: &Section) -> Pair<'_>
 }
 
 /// The names of the sections of a list.
-pub fn listed(alloc: Global, list: &[Section]) -> Result<HashSet<Pair<'_>>, AllocError>
+pub fn listed(alloc: Global, list: &[Section]) -> Result<HashSet<MessagePair<'_>>, AllocError>
     ensures { IfOk result (λ set. KeysAre same_pair set (λ pair. Lists list.now pair.0.now pair.1.now)) }
 {
     let mut names = HashSet::new(alloc);
@@ -59,7 +59,7 @@ fn add_messages<'a>(
     protocol: &'a [u8],
     messages: &'a [MessageDecl],
     semantics: Semantics,
-    names: &mut HashSet<Pair<'a>>,
+    names: &mut HashSet<MessagePair<'a>>,
 ) -> Result<(), AllocError>
     ensures { OnOk result (AddsKeys same_pair names.old names.new
         (λ pair. (protocol.now ≡ pair.0.now) × Any (λ m. (m.semantics ≡ semantics) × (m.name ≡ pair.1.now)) messages.now)) }
@@ -77,7 +77,7 @@ fn messages_of(
     alloc: Global,
     program: &[Entry],
     semantics: Semantics,
-) -> Result<HashSet<Pair<'_>>, AllocError>
+) -> Result<HashSet<MessagePair<'_>>, AllocError>
     ensures { IfOk result (λ set. KeysAre same_pair set (λ pair. HasMessage semantics program.now pair.0.now pair.1.now)) }
 {
     let mut names = HashSet::new(alloc);
@@ -90,14 +90,14 @@ fn messages_of(
     Ok(names)
 }
 
-impl<'a> Known<'a> {
+impl<'a> ProgramNames<'a> {
     ghost use Rattle.sync_list.specs.Knowing.{Knows};
 
     /// What is known of a program.
-    pub fn of(alloc: Global, program: &'a [Entry]) -> Result<Known<'a>, AllocError>
+    pub fn of(alloc: Global, program: &'a [Entry]) -> Result<ProgramNames<'a>, AllocError>
         ensures { IfOk result (Knows program.now) }
     {
-        Ok(Known {
+        Ok(ProgramNames {
             protocols: protocols_of(alloc, program)?,
             syncs: messages_of(alloc, program, Semantics::Sync)?,
             asyncs: messages_of(alloc, program, Semantics::Async)?,

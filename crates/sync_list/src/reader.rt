@@ -3,14 +3,14 @@ ghost use Rattle.std.specs.List.{Contains};
 ghost use Rattle.sync_list.specs.declared.list.ListFault.TheVariants.{NoMemory};
 ghost use Rattle.sync_list.specs.declared.list.ListFault.{ListFault};
 ghost use Rattle.sync_list.specs.declared.list.Section.{Section};
-ghost use Rattle.sync_list.specs.Forms.{Form, section};
+ghost use Rattle.sync_list.specs.Forms.{LineForm, section};
 ghost use Rattle.sync_list.specs.Lists.{description, IsListOf, IsFault, Gives};
 ghost use Rattle.sync_list.specs.Marked.{marked};
 ghost use Rattle.std.specs.Str.{bytes_eq};
 
-use crate::line::{Line, are_blanks, line_of};
+use crate::line::{ListLine, are_blanks, line_of};
 use crate::list::{ListFault, Section, SyncList};
-use crate::names::Pair;
+use crate::names::MessagePair;
 use ipdl_base::Items;
 use std::alloc::{AllocError, Global};
 use std::collections::HashSet;
@@ -52,22 +52,22 @@ fn new_section(
 
 /// What has been read of a sync list.
 #[derive(Drop)]
-pub struct Reader<'a> {
+pub struct ListReader<'a> {
     /// The sections so far.
     pub sections: Vec<Section>,
     /// Their names.
-    pub seen: HashSet<Pair<'a>>,
+    pub seen: HashSet<MessagePair<'a>>,
     /// The word with whose value the next line can go on.
     pub unfinished: Option<&'a [u8]>,
 }
 
-impl<'a> Reader<'a> {
+impl<'a> ListReader<'a> {
     ghost use Rattle.sync_list.specs.Reading.{HasRead, ReadsLine, Begins, IsValueOf, IsBad};
 
-    fn new(alloc: Global) -> Reader<'a>
+    fn new(alloc: Global) -> ListReader<'a>
         ensures { HasRead [] result }
     {
-        Reader {
+        ListReader {
             sections: Vec::new(alloc),
             seen: HashSet::new(alloc),
             unfinished: None,
@@ -82,10 +82,10 @@ impl<'a> Reader<'a> {
         message: &'a [u8],
         number: u32,
     ) -> Result<(), ListFault>
-        ensures ok { OnOk result ((forms : List Form) → HasRead forms self.old → length forms + 1 ≡ number
+        ensures ok { OnOk result ((forms : List LineForm) → HasRead forms self.old → length forms + 1 ≡ number
             → Begins forms protocol.now message.now self.new) }
         ensures err { IfErr result (λ fault. (fault ≡ NoMemory)
-            ⊎ ((fault ≡ ListFault.Line number) × ((forms : List Form) → HasRead forms self.old → Contains forms (section protocol.now message.now)))) }
+            ⊎ ((fault ≡ ListFault.Line number) × ((forms : List LineForm) → HasRead forms self.old → Contains forms (section protocol.now message.now)))) }
     {
         let names = (protocol, message);
         let is_new = self.seen.insert(names)?;
@@ -101,7 +101,7 @@ impl<'a> Reader<'a> {
     /// Takes a line with a value of the word, or one that goes on with it; it is filled if the value
     /// has a byte there that is not blank.
     fn take_value(&mut self, word: &'a [u8], filled: bool)
-        ensures { (forms : List Form) (form : Form) → HasRead forms self.old → IsValueOf word.now filled form → HasRead (forms ++ form ∷ []) self.new }
+        ensures { (forms : List LineForm) (form : LineForm) → HasRead forms self.old → IsValueOf word.now filled form → HasRead (forms ++ form ∷ []) self.new }
     {
         mark_last(&mut self.sections, describes(word, filled));
         self.unfinished = Some(word);
@@ -109,30 +109,30 @@ impl<'a> Reader<'a> {
 
     /// Reads the next line, which has this number.
     fn read(&mut self, alloc: Global, line: &'a [u8], number: u32) -> Result<(), ListFault>
-        ensures ok { OnOk result ((forms : List Form) → HasRead forms self.old → length forms + 1 ≡ number → ReadsLine forms line.now self.new) }
-        ensures err { IfErr result (λ fault. (fault ≡ NoMemory) ⊎ ((fault ≡ ListFault.Line number) × ((forms : List Form) → HasRead forms self.old → IsBad forms line.now))) }
+        ensures ok { OnOk result ((forms : List LineForm) → HasRead forms self.old → length forms + 1 ≡ number → ReadsLine forms line.now self.new) }
+        ensures err { IfErr result (λ fault. (fault ≡ NoMemory) ⊎ ((fault ≡ ListFault.Line number) × ((forms : List LineForm) → HasRead forms self.old → IsBad forms line.now))) }
     {
         match line_of(line) {
-            Line::Blank | Line::Comment => {
+            ListLine::Blank | ListLine::Comment => {
                 self.unfinished = None;
                 Ok(())
             }
-            Line::Section(protocol, message) => self.begin(alloc, protocol, message, number),
-            Line::Value(word, value) => {
+            ListLine::Section(protocol, message) => self.begin(alloc, protocol, message, number),
+            ListLine::Value(word, value) => {
                 if self.sections.is_empty() {
                     return Err(ListFault::Line(number));
                 }
                 self.take_value(word, !are_blanks(value));
                 Ok(())
             }
-            Line::Indented => {
+            ListLine::Indented => {
                 let Some(word) = self.unfinished else {
                     return Err(ListFault::Line(number));
                 };
                 self.take_value(word, true);
                 Ok(())
             }
-            Line::Other => Err(ListFault::Line(number)),
+            ListLine::Other => Err(ListFault::Line(number)),
         }
     }
 }
@@ -143,7 +143,7 @@ fn read_lines(alloc: Global, text: &[u8]) -> Result<SyncList, ListFault>
     ensures list { IfOk result (IsListOf text.now) }
     ensures fault { IfErr result (λ fault. (fault ≡ NoMemory) ⊎ IsFault text.now fault) }
 {
-    let mut reader = Reader::new(alloc);
+    let mut reader = ListReader::new(alloc);
     let mut number = 0;
     for line in text.split(|b| *b == b'\n') {
         number += 1;

@@ -11,7 +11,7 @@ ghost use Rattle.sync_list.specs.Knowing.{Knows};
 ghost use Rattle.sync_list.specs.Sets.{same_pair, KeysAre};
 
 use crate::list::{Section, SyncList};
-use crate::names::{Known, Pair, listed};
+use crate::names::{ProgramNames, MessagePair, listed};
 use findings::sorted;
 use ipdl_base::{Finding, Findings, Place, Rule, Semantics, short_name};
 use ipdl_syntax::{Entry, MessageDecl, Program};
@@ -23,7 +23,7 @@ const FIRST: u32 = 1;
 
 /// What a section does against a rule.
 #[derive(Clone, Copy)]
-pub enum Breach {
+pub enum SectionBreach {
     /// It names an async message.
     Async,
     /// It names a message that its protocol lacks.
@@ -32,21 +32,21 @@ pub enum Breach {
     Undescribed,
 }
 
-impl Breach {
+impl SectionBreach {
     /// The rule that is broken.
     fn rule(self) -> Rule
         ensures { result ≡ rule_of self }
     {
         match self {
-            Breach::Async => Rule::LISTED_ASYNC,
-            Breach::Absent => Rule::LISTED_ABSENT,
-            Breach::Undescribed => Rule::NO_DESCRIPTION,
+            SectionBreach::Async => Rule::LISTED_ASYNC,
+            SectionBreach::Absent => Rule::LISTED_ABSENT,
+            SectionBreach::Undescribed => Rule::NO_DESCRIPTION,
         }
     }
 }
 
 /// The finding at a section of the list, which is the file of this number.
-fn at_section(file: u32, section: &Section, breach: Breach) -> Finding
+fn at_section(file: u32, section: &Section, breach: SectionBreach) -> Finding
     ensures { result ≡ record { place = record { file = file; line = section.now.line; column = 1 }; rule = rule_of breach } }
 {
     Finding {
@@ -61,7 +61,7 @@ fn at_section(file: u32, section: &Section, breach: Breach) -> Finding
 
 /// Whether the message of the protocol of this short name is sync and not among the names of the
 /// list.
-fn is_unlisted(protocol: &[u8], message: &MessageDecl, names: &HashSet<Pair<'_>>) -> bool
+fn is_unlisted(protocol: &[u8], message: &MessageDecl, names: &HashSet<MessagePair<'_>>) -> bool
     ensures { (list : List Section) → KeysAre same_pair names.now (λ pair. Lists list pair.0.now pair.1.now)
         → IsTrue result ↔ ((message.now.semantics ≡ Sync) × ¬ Lists list protocol.now message.now.name) }
 {
@@ -74,7 +74,7 @@ fn is_unlisted(protocol: &[u8], message: &MessageDecl, names: &HashSet<Pair<'_>>
 fn add_unlisted_of(
     protocol: &[u8],
     messages: &[MessageDecl],
-    names: &HashSet<Pair<'_>>,
+    names: &HashSet<MessagePair<'_>>,
     found: &mut Vec<Finding>,
 ) -> Result<(), AllocError>
     ensures { OnOk result ((list : List Section) → KeysAre same_pair names.now (λ pair. Lists list pair.0.now pair.1.now)
@@ -111,22 +111,22 @@ fn add_unlisted(
 }
 
 /// Whether the section breaks this rule of sections.
-fn breaks(known: &Known, section: &Section, breach: Breach) -> bool
+fn breaks(known: &ProgramNames, section: &Section, breach: SectionBreach) -> bool
     ensures { (program : List Entry) → Knows program known.now → IsTrue result ↔ Breaks breach program section.now }
 {
     match breach {
-        Breach::Async => known.names_async(section),
-        Breach::Absent => known.names_absent(section),
-        Breach::Undescribed => !section.described,
+        SectionBreach::Async => known.names_async(section),
+        SectionBreach::Absent => known.names_absent(section),
+        SectionBreach::Undescribed => !section.described,
     }
 }
 
 /// Adds a finding at each section that breaks this rule.
 fn add_breaches(
     file: u32,
-    known: &Known,
+    known: &ProgramNames,
     list: &[Section],
-    breach: Breach,
+    breach: SectionBreach,
     found: &mut Vec<Finding>,
 ) -> Result<(), AllocError>
     ensures { OnOk result ((program : List Entry) → Knows program known.now → file ≡ length program
@@ -153,10 +153,10 @@ fn add_found(
 {
     add_unlisted(alloc, program, list, found)?;
     let file = program.len() as u32;
-    let known = Known::of(alloc, program)?;
-    add_breaches(file, &known, list, Breach::Async, found)?;
-    add_breaches(file, &known, list, Breach::Absent, found)?;
-    add_breaches(file, &known, list, Breach::Undescribed, found)
+    let known = ProgramNames::of(alloc, program)?;
+    add_breaches(file, &known, list, SectionBreach::Async, found)?;
+    add_breaches(file, &known, list, SectionBreach::Absent, found)?;
+    add_breaches(file, &known, list, SectionBreach::Undescribed, found)
 }
 
 /// All findings that hold of the program and the list, in some order.

@@ -5,7 +5,7 @@ use Rattle.ipdl_base.specs.declared.token.Token.{Token}
 use Rattle.ipdl_syntax.specs.declared.tree.Attribute.{Attribute}
 use Rattle.ipdl_syntax.specs.Parts.{Part, ◌⨾◌, mark}
 use Rattle.ipdl_syntax.specs.Grammar.{value, attribute, more_attributes, attributes}
-use Rattle.tree_reader.specs.declared.refusal.Refusal.{Refusal}
+use Rattle.tree_reader.specs.declared.refusal.TreeRefusal.{TreeRefusal}
 use Rattle.tree_reader.specs.declared.symbol.Symbol.{Symbol}
 use Rattle.tree_reader.specs.declared.symbol.Symbol.TheVariants.{Word, Comma, Equals, OpenBracket, CloseBracket}
 use Rattle.tree_reader.specs.Spelling.{spelled}
@@ -38,7 +38,7 @@ value_turns from behind to here read =
     (past any_word (more_attributed ∷ []) behind to read)
 
 -- and refuses where there is no value behind it
-pub value_stops : (from behind : List Token) (e : Refusal) → IsNext Equals from behind → Stops (any_word ∷ []) behind e → Stops (behind_attribute ∷ []) from e
+pub value_stops : (from behind : List Token) (e : TreeRefusal) → IsNext Equals from behind → Stops (any_word ∷ []) behind e → Stops (behind_attribute ∷ []) from e
 value_stops from behind e here read =
     stops_behind (behind_attribute ∷ []) (any_word ∷ more_attributed ∷ []) from behind e
     (turn behind_attribute Equals (any_word ∷ more_attributed ∷ []) from behind here equals_turn)
@@ -62,14 +62,14 @@ attribute_turns from behind to name value =
     (past_turn (take Word) (behind_attribute ∷ []) (more_attributed ∷ []) from behind to name value)
 
 -- no name
-pub unnamed_stops : (from : List Token) (e : Refusal) → Stops (take Word ∷ []) from e → Stops (attributed ∷ []) from e
+pub unnamed_stops : (from : List Token) (e : TreeRefusal) → Stops (take Word ∷ []) from e → Stops (attributed ∷ []) from e
 unnamed_stops from e name =
     stops_behind (attributed ∷ []) (take Word ∷ behind_attribute ∷ []) from from e
     (split_turn attributed (take Word) (behind_attribute ∷ []) from (named_first (first_symbol from)))
     (stops_before (take Word ∷ []) (behind_attribute ∷ []) from e name)
 
 -- a name, and a refusal behind it
-pub attribute_stops : (from behind : List Token) (e : Refusal) → Turns (take Word ∷ []) from [] behind → Stops (behind_attribute ∷ []) behind e → Stops (attributed ∷ []) from e
+pub attribute_stops : (from behind : List Token) (e : TreeRefusal) → Turns (take Word ∷ []) from [] behind → Stops (behind_attribute ∷ []) behind e → Stops (attributed ∷ []) from e
 attribute_stops from behind e name value =
     stops_behind (attributed ∷ []) (take Word ∷ behind_attribute ∷ []) from from e
     (split_turn attributed (take Word) (behind_attribute ∷ []) from (named_first (first_symbol from)))
@@ -122,7 +122,7 @@ headed_one [] from behind to here read = absurd read
 headed_one (a ∷ rest) from behind to here read = (behind, is_spelled OpenBracket from behind here, read)
 
 -- the same of the result of a reader
-pub headed_read : (r : Result (List Attribute) Refusal) (from behind to : List Token) → IsNext OpenBracket from behind → IfOk r (λ all. IsBracketed all behind to) → IfOk r (λ all. attributes all from to)
+pub headed_read : (r : Result (List Attribute) TreeRefusal) (from behind to : List Token) → IsNext OpenBracket from behind → IfOk r (λ all. IsBracketed all behind to) → IfOk r (λ all. attributes all from to)
 headed_read r from behind to here read =
     IfOk-weaker r (λ all. IsBracketed all behind to) (λ all. attributes all from to) (λ all one. headed_one all from behind to here one) read
 
@@ -131,14 +131,14 @@ headed_turn : (f : Form) (others : List Form) (from behind : List Token) → IsN
 headed_turn f others from behind here may = turn f OpenBracket (attributed ∷ others) from behind here may.0
 
 -- behind the bracket the machine goes over the attributes
-pub headed_turns : {T : Type 0} (r : Result T Refusal) (from behind to : List Token) → IsNext OpenBracket from behind → OnOk r (Turns (attributed ∷ []) behind [] to) → OnOk r ((f : Form) (others : List Form) → MayBeHeaded f others from → Turns (f ∷ []) from others to)
+pub headed_turns : {T : Type 0} (r : Result T TreeRefusal) (from behind to : List Token) → IsNext OpenBracket from behind → OnOk r (Turns (attributed ∷ []) behind [] to) → OnOk r ((f : Form) (others : List Form) → MayBeHeaded f others from → Turns (f ∷ []) from others to)
 headed_turns r from behind to here read =
     on_ok_weaker {P = Turns (attributed ∷ []) behind [] to} {Q = (f : Form) (others : List Form) → MayBeHeaded f others from → Turns (f ∷ []) from others to} r
     (λ one f others may. turns (f ∷ []) (attributed ∷ others) others from behind to (headed_turn f others from behind here may) (past attributed others behind to one))
     read
 
 -- and refuses where they are refused
-pub headed_stops : {T : Type 0} (r : Result T Refusal) (from behind : List Token) → IsNext OpenBracket from behind → IfErr r (Stops (attributed ∷ []) behind) → IfErr r (λ e. (f : Form) (others : List Form) → MayBeHeaded f others from → Stops (f ∷ []) from e)
+pub headed_stops : {T : Type 0} (r : Result T TreeRefusal) (from behind : List Token) → IsNext OpenBracket from behind → IfErr r (Stops (attributed ∷ []) behind) → IfErr r (λ e. (f : Form) (others : List Form) → MayBeHeaded f others from → Stops (f ∷ []) from e)
 headed_stops r from behind here read =
     IfErr-weaker r (λ e. Stops (attributed ∷ []) behind e) (λ e. (f : Form) (others : List Form) → MayBeHeaded f others from → Stops (f ∷ []) from e)
     (λ e one f others may.

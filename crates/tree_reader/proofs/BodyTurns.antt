@@ -11,7 +11,7 @@ use Rattle.ipdl_base.specs.declared.kinds.Direction.TheVariants as direction
 use Rattle.ipdl_syntax.specs.declared.tree.MessageDecl.{MessageDecl}
 use Rattle.ipdl_syntax.specs.declared.tree.NameAt.{NameAt}
 use Rattle.ipdl_syntax.specs.Parts.{◌⨾◌, mark, reserved, identifier}
-use Rattle.ipdl_syntax.specs.Grammar.{message, messages, Section, sections, direction_word, Management, managed_by, manages, more_managers, managements, managers_of, managed_of}
+use Rattle.ipdl_syntax.specs.Grammar.{message, messages, MessageSection, sections, direction_word, Management, managed_by, manages, more_managers, managements, managers_of, managed_of}
 use Rattle.tree_reader.specs.declared.symbol.Symbol.{Symbol}
 use Rattle.tree_reader.specs.declared.symbol.Symbol.TheVariants.{Word, OpenBracket, Async, Sync, Parent, Child, Both, CloseBrace, Colon, Semicolon, Manager, Manages, Or}
 use Rattle.tree_reader.specs.Symbols.{first_symbol}
@@ -93,7 +93,7 @@ pub record Goes (f : Form) (start from : List Token) : Type 0 where
 
 -- the sections so far, with any that go on from here
 abbrev pub SectionsGoOn : List MessageDecl → List Token → List Token → Type 0
-SectionsGoOn so_far start from = (more : List Section) (to : List Token) → sections more from to → AreSections (so_far ++ flat_map (λ s. s.messages) more) start to
+SectionsGoOn so_far start from = (more : List MessageSection) (to : List Token) → sections more from to → AreSections (so_far ++ flat_map (λ s. s.messages) more) start to
 
 -- the sections so far are read, and behind them more may come
 pub record ReadSections (so_far : List MessageDecl) (start from : List Token) : Type 0 where

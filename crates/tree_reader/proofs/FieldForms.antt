@@ -6,7 +6,7 @@ use Rattle.ipdl_syntax.specs.declared.tree.Param.{Param}
 use Rattle.ipdl_syntax.specs.declared.tree.TypeSpec.{TypeSpec}
 use Rattle.ipdl_syntax.specs.Grammar.{type_spec, field, fields, components}
 use Rattle.ipdl_syntax.specs.Parts.{◌⨾◌, mark}
-use Rattle.tree_reader.specs.declared.refusal.Refusal.{Refusal}
+use Rattle.tree_reader.specs.declared.refusal.TreeRefusal.{TreeRefusal}
 use Rattle.tree_reader.specs.declared.symbol.Symbol.{Symbol}
 use Rattle.tree_reader.specs.declared.symbol.Symbol.TheVariants.{CloseBrace, Semicolon}
 use Rattle.tree_reader.specs.Ending as ending
@@ -57,7 +57,7 @@ pub field_turned : (start from here to : List Token) → IsUntaken CloseBrace fr
 field_turned start from here to other so_far one = λ more at. field_turn start from here other so_far more at ∙ one (fielded ∷ more) at
 
 -- a refused field
-pub field_stops : (start from here : List Token) (e : Refusal) → IsUntaken CloseBrace from here → Turns (fielded ∷ []) start (fielded ∷ []) from → Stops (typed 4 ending.Name ∷ take Semicolon ∷ []) here e → Stops (fielded ∷ []) start e
+pub field_stops : (start from here : List Token) (e : TreeRefusal) → IsUntaken CloseBrace from here → Turns (fielded ∷ []) start (fielded ∷ []) from → Stops (typed 4 ending.Name ∷ take Semicolon ∷ []) here e → Stops (fielded ∷ []) start e
 field_stops start from here e other so_far one =
     stops_behind (fielded ∷ []) (typed 4 ending.Name ∷ take Semicolon ∷ fielded ∷ []) start here e (field_turn start from here other so_far) (stops_before (typed 4 ending.Name ∷ take Semicolon ∷ []) (fielded ∷ []) here e one)
 
@@ -102,7 +102,7 @@ pub component_turned : (forms : List Form) (start from here to : List Token) →
 component_turned forms start from here to other so_far one = λ more at. component_turn forms start from here other so_far more at ∙ one (componented ∷ more) at
 
 -- a refused component
-pub component_stops : (forms : List Form) (start from here : List Token) (e : Refusal) → IsUntaken CloseBrace from here → Turns forms start (componented ∷ []) from → Stops (typed 4 ending.Semicolon ∷ []) here e → Stops forms start e
+pub component_stops : (forms : List Form) (start from here : List Token) (e : TreeRefusal) → IsUntaken CloseBrace from here → Turns forms start (componented ∷ []) from → Stops (typed 4 ending.Semicolon ∷ []) here e → Stops forms start e
 component_stops forms start from here e other so_far one =
     stops_behind forms (typed 4 ending.Semicolon ∷ componented ∷ []) start here e (component_turn forms start from here other so_far) (stops_before (typed 4 ending.Semicolon ∷ []) (componented ∷ []) here e one)
 

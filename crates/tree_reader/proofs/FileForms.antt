@@ -20,16 +20,16 @@ use Rattle.ipdl_syntax.specs.declared.tree.Unit.{Unit as FileUnit}
 use Rattle.ipdl_syntax.specs.declared.tree.Using.{Using as UsingDecl}
 use Rattle.ipdl_syntax.specs.Parts.{◌⨾◌, mark, word}
 use Rattle.ipdl_syntax.specs.Grammar.{attributes, declared, fields, components, included, struct_decl, union_decl, using_decl, protocol, protocol_semantics}
-use Rattle.ipdl_syntax.specs.Program.{Tree, Declared, ◌&◌, no_declaration, an_include, a_using, a_struct, a_union, declared_outside, declared_round, unit_of}
+use Rattle.ipdl_syntax.specs.Program.{Tree, Declarations, ◌&◌, no_declaration, an_include, a_using, a_struct, a_union, declared_outside, declared_round, unit_of}
 use Rattle.ipdl_syntax.proofs.Declarations.{and_assoc, and_none}
 use Rattle.tree_reader.specs.declared.file.Draft.{Draft}
-use Rattle.tree_reader.specs.declared.refusal.Refusal.{Refusal}
-use Rattle.tree_reader.specs.declared.refusal.Refusal.TheVariants.{Left, NoMemory}
+use Rattle.tree_reader.specs.declared.refusal.TreeRefusal.{TreeRefusal}
+use Rattle.tree_reader.specs.declared.refusal.TreeRefusal.TheVariants.{Left, NoMemory}
 use Rattle.tree_reader.specs.declared.symbol.Symbol.{Symbol}
 use Rattle.tree_reader.specs.declared.symbol.Symbol.TheVariants as symbols
 use Rattle.tree_reader.specs.Symbols.{first_symbol}
 use Rattle.tree_reader.specs.Ending as ending
-use Rattle.tree_reader.specs.Machine.{Form, take, typed, attributed, managing, fielded, componented, using_named, include_named, production, Stand, stand, step, stepped, unheaded_step, bare_step, is_end, begin, gone_at, gone_in, refusal}
+use Rattle.tree_reader.specs.Machine.{Form, take, typed, attributed, managing, fielded, componented, using_named, include_named, production, FileState, stand, step, stepped, unheaded_step, bare_step, is_end, begin, gone_at, gone_in, refusal}
 use Rattle.tree_reader.specs.Reading.{Turns, Stops, IsNext, closed, IsBracketed, IsStructBehind, IsUnionBehind, IsUsingBehind, IsProtocolBehind}
 use Rattle.tree_reader.specs.Spelling.{spelled}
 use Rattle.tree_reader.specs.Files.{FileStops, scope_of, room_of, Makes, may_come, begins_protocol, declared_of, IsDraft, IsHeadedDraft, IsProtocolDraft}
@@ -40,18 +40,18 @@ use Rattle.tree_reader.proofs.Turns.{is_spelled}
 -- The machine between two declarations
 
 -- where the machine goes at the first word of a declaration
-pub stood : (at to_at : Stand) (s : Symbol) (forms : List Form) (from to : List Token) → IsNext s from to → step at s ≡ Some (forms, to_at) → refusal [] at from ≡ refusal forms to_at to
+pub stood : (at to_at : FileState) (s : Symbol) (forms : List Form) (from to : List Token) → IsNext s from to → step at s ≡ Some (forms, to_at) → refusal [] at from ≡ refusal forms to_at to
 unfolding refusal
 stood at to_at s forms from to (t, here, is) e =
     ap (λ (x : List Token). refusal [] at x) here
-    ∙ ap (λ (o : Option (List Form × Stand)). gone_at o (length to + 1) (λ fs x. refusal fs x to)) (ap (λ (x : Symbol). step at x) is ∙ e)
+    ∙ ap (λ (o : Option (List Form × FileState)). gone_at o (length to + 1) (λ fs x. refusal fs x to)) (ap (λ (x : Symbol). step at x) is ∙ e)
 
 -- forms read to their end
-pub went : (forms : List Form) (at : Stand) (from to : List Token) → Turns forms from [] to → refusal forms at from ≡ refusal [] at to
+pub went : (forms : List Form) (at : FileState) (from to : List Token) → Turns forms from [] to → refusal forms at from ≡ refusal [] at to
 went forms at from to turn = ap (λ (x : List Form). refusal x at from) (sym (append-nil forms)) ∙ turn [] at
 
 -- a refusal in forms is that of the file
-pub stopped : (kind : FileKind) (tokens : List Token) (forms : List Form) (at : Stand) (from : List Token) (e : Refusal) → refusal [] (begin kind) tokens ≡ refusal forms at from → Stops forms from e → FileStops kind tokens e
+pub stopped : (kind : FileKind) (tokens : List Token) (forms : List Form) (at : FileState) (from : List Token) (e : TreeRefusal) → refusal [] (begin kind) tokens ≡ refusal forms at from → Stops forms from e → FileStops kind tokens e
 stopped kind tokens forms at from (Left n) goes stop = goes ∙ ap (λ (x : List Form). refusal x at from) (sym (append-nil forms)) ∙ stop [] at
 stopped kind tokens forms at from NoMemory goes stop = tt
 
@@ -61,34 +61,34 @@ end_refused true no_end = absurd (no_end refl)
 end_refused false no_end = refl
 
 -- a refusal where no declaration begins
-pub refused_at : (at : Stand) (from : List Token) → step at (first_symbol from) ≡ None → (is_end [] at ≡ true → first_symbol from ≢ symbols.End) → refusal [] at from ≡ Some (length from)
+pub refused_at : (at : FileState) (from : List Token) → step at (first_symbol from) ≡ None → (is_end [] at ≡ true → first_symbol from ≢ symbols.End) → refusal [] at from ≡ Some (length from)
 unfolding refusal
 refused_at at [] e more = end_refused (is_end [] at) (λ h. more h refl)
-refused_at at (t ∷ rest) e more = ap (λ (o : Option (List Form × Stand)). gone_at o (length rest + 1) (λ fs x. refusal fs x rest)) e ∙ ap (λ (n : ℕ). Some n) (omega arith)
+refused_at at (t ∷ rest) e more = ap (λ (o : Option (List Form × FileState)). gone_at o (length rest + 1) (λ fs x. refusal fs x rest)) e ∙ ap (λ (n : ℕ). Some n) (omega arith)
 
 -- What a draft makes with what is left
 
 -- with declarations read, what is left makes the same tree
-makes_more : (kind : FileKind) (tokens : List Token) (may : Bool) (path : List (List ℕ)) (so_far d : Declared) (held : Option ProtocolDecl) (from to : List Token) → Prepends path d from to → Makes kind tokens may path so_far held from → Makes kind tokens may path (so_far & d) held to
+makes_more : (kind : FileKind) (tokens : List Token) (may : Bool) (path : List (List ℕ)) (so_far d : Declarations) (held : Option ProtocolDecl) (from to : List Token) → Prepends path d from to → Makes kind tokens may path so_far held from → Makes kind tokens may path (so_far & d) held to
 makes_more kind tokens true path so_far d held from to one makes = λ rest p r.
-    subst (λ (x : Declared). Tree kind tokens (unit_of x (Some p))) (sym (and_assoc so_far d rest)) (makes (d & rest) p (one.when_open rest p r))
+    subst (λ (x : Declarations). Tree kind tokens (unit_of x (Some p))) (sym (and_assoc so_far d rest)) (makes (d & rest) p (one.when_open rest p r))
 makes_more kind tokens false path so_far d held from to one makes = λ rest r.
-    subst (λ (x : Declared). Tree kind tokens (unit_of x held)) (sym (and_assoc so_far d rest)) (makes (d & rest) (one.when_closed rest r))
+    subst (λ (x : Declarations). Tree kind tokens (unit_of x held)) (sym (and_assoc so_far d rest)) (makes (d & rest) (one.when_closed rest r))
 
 -- so it does in a namespace that is opened
-makes_inner : (kind : FileKind) (tokens : List Token) (may : Bool) (path : List (List ℕ)) (so_far : Declared) (held : Option ProtocolDecl) (name : List ℕ) (from inner : List Token) → 0 < room_of path → Opens name from inner → Makes kind tokens may path so_far held from → Makes kind tokens may (name ∷ path) so_far held inner
+makes_inner : (kind : FileKind) (tokens : List Token) (may : Bool) (path : List (List ℕ)) (so_far : Declarations) (held : Option ProtocolDecl) (name : List ℕ) (from inner : List Token) → 0 < room_of path → Opens name from inner → Makes kind tokens may path so_far held from → Makes kind tokens may (name ∷ path) so_far held inner
 makes_inner kind tokens true path so_far held name from inner room o makes = λ rest p r. makes rest p (opened_open path name from inner room o rest p r)
 makes_inner kind tokens false path so_far held name from inner room o makes = λ rest r. makes rest (opened_closed path name from inner room o rest r)
 
 -- and behind one that is closed
-makes_outer : (kind : FileKind) (tokens : List Token) (may : Bool) (path : List (List ℕ)) (so_far : Declared) (held : Option ProtocolDecl) (name : List ℕ) (from to : List Token) → mark (codes "}") from to → Makes kind tokens may (name ∷ path) so_far held from → Makes kind tokens may path so_far held to
+makes_outer : (kind : FileKind) (tokens : List Token) (may : Bool) (path : List (List ℕ)) (so_far : Declarations) (held : Option ProtocolDecl) (name : List ℕ) (from to : List Token) → mark (codes "}") from to → Makes kind tokens may (name ∷ path) so_far held from → Makes kind tokens may path so_far held to
 makes_outer kind tokens true path so_far held name from to m makes = λ rest p r. makes rest p (end_open path name from to m rest p r)
 makes_outer kind tokens false path so_far held name from to m makes = λ rest r. makes rest (end_closed path name from to m rest r)
 
 -- a file of which nothing was read
 begins_empty : (kind : FileKind) (tokens : List Token) → Makes kind tokens (may_come kind None) [] no_declaration None tokens
-begins_empty file.Header tokens = λ rest (x, e, d). (x, d, ap (λ (r : Declared). unit_of r None) e)
-begins_empty file.Protocol tokens = λ rest p (x, one, y, e, q, d). (x, one, y, d, ap (λ (r : Declared). unit_of r (Some p)) e ∙ ap (λ (r : ProtocolDecl). unit_of (declared_outside x & declared_round one & declared_outside y) (Some r)) q)
+begins_empty file.Header tokens = λ rest (x, e, d). (x, d, ap (λ (r : Declarations). unit_of r None) e)
+begins_empty file.Protocol tokens = λ rest p (x, one, y, e, q, d). (x, one, y, d, ap (λ (r : Declarations). unit_of r (Some p)) e ∙ ap (λ (r : ProtocolDecl). unit_of (declared_outside x & declared_round one & declared_outside y) (Some r)) q)
 
 -- the machine begins where a draft does
 begin_is : (kind : FileKind) → begin kind ≡ stand (may_come kind None) 0 false
@@ -102,32 +102,32 @@ nothing_read kind tokens draft includes usings structs unions held scope = recor
   scope = scope;
   makes =
       let none : no_declaration ≡ declared_of draft = λ i. record { includes = sym includes i; usings = sym usings i; structs = sym structs i; unions = sym unions i } in
-      subst (λ (x : Declared). Makes kind tokens (may_come kind draft.protocol) [] x draft.protocol tokens) none
+      subst (λ (x : Declarations). Makes kind tokens (may_come kind draft.protocol) [] x draft.protocol tokens) none
       (subst (λ (h : Option ProtocolDecl). Makes kind tokens (may_come kind h) [] no_declaration h tokens) (sym held) (begins_empty kind tokens));
-  goes = ap (λ (x : Stand). refusal [] x tokens) (begin_is kind) ∙ ap (λ (h : Option ProtocolDecl). refusal [] (stand (may_come kind h) 0 false) tokens) (sym held);
+  goes = ap (λ (x : FileState). refusal [] x tokens) (begin_is kind) ∙ ap (λ (h : Option ProtocolDecl). refusal [] (stand (may_come kind h) 0 false) tokens) (sym held);
 }
 
 -- The first word of a declaration
 
 -- where the machine stands between two declarations of a draft
-abbrev between : FileKind → Draft → List (List ℕ) → Bool → Stand
+abbrev between : FileKind → Draft → List (List ℕ) → Bool → FileState
 between kind draft path headed = stand (may_come kind draft.protocol) (length path) headed
 
 -- a refusal behind that word is the file's
-first_stopped : (kind : FileKind) (tokens : List Token) (at to_at : Stand) (s : Symbol) (forms : List Form) (from behind : List Token) (e : Refusal) → refusal [] (begin kind) tokens ≡ refusal [] at from → IsNext s from behind → step at s ≡ Some (forms, to_at) → Stops forms behind e → FileStops kind tokens e
+first_stopped : (kind : FileKind) (tokens : List Token) (at to_at : FileState) (s : Symbol) (forms : List Form) (from behind : List Token) (e : TreeRefusal) → refusal [] (begin kind) tokens ≡ refusal [] at from → IsNext s from behind → step at s ≡ Some (forms, to_at) → Stops forms behind e → FileStops kind tokens e
 first_stopped kind tokens at to_at s forms from behind e goes next is stop = stopped kind tokens forms to_at behind e (goes ∙ stood at to_at s forms from behind next is) stop
 
 -- where the machine stands behind the declaration
-first_went : (kind : FileKind) (tokens : List Token) (at to_at : Stand) (s : Symbol) (forms : List Form) (from behind to : List Token) → refusal [] (begin kind) tokens ≡ refusal [] at from → IsNext s from behind → step at s ≡ Some (forms, to_at) → Turns forms behind [] to → refusal [] (begin kind) tokens ≡ refusal [] to_at to
+first_went : (kind : FileKind) (tokens : List Token) (at to_at : FileState) (s : Symbol) (forms : List Form) (from behind to : List Token) → refusal [] (begin kind) tokens ≡ refusal [] at from → IsNext s from behind → step at s ≡ Some (forms, to_at) → Turns forms behind [] to → refusal [] (begin kind) tokens ≡ refusal [] to_at to
 first_went kind tokens at to_at s forms from behind to goes next is turn = goes ∙ stood at to_at s forms from behind next is ∙ went forms to_at behind to turn
 
 -- a draft with more declarations
-grows : (kind : FileKind) (tokens : List Token) (draft grown : Draft) (d : Declared) (path : List (List ℕ)) (before to : List Token) → grown.protocol ≡ draft.protocol → grown.scope.items ≡ scope_of path → declared_of grown ≡ (declared_of draft & d) → Prepends path d before to → Makes kind tokens (may_come kind draft.protocol) path (declared_of draft) draft.protocol before → refusal [] (begin kind) tokens ≡ refusal [] (between kind draft path false) to → IsDraft kind tokens grown to
+grows : (kind : FileKind) (tokens : List Token) (draft grown : Draft) (d : Declarations) (path : List (List ℕ)) (before to : List Token) → grown.protocol ≡ draft.protocol → grown.scope.items ≡ scope_of path → declared_of grown ≡ (declared_of draft & d) → Prepends path d before to → Makes kind tokens (may_come kind draft.protocol) path (declared_of draft) draft.protocol before → refusal [] (begin kind) tokens ≡ refusal [] (between kind draft path false) to → IsDraft kind tokens grown to
 grows kind tokens draft grown d path before to held scope more one makes goes = record {
   path = path;
   scope = scope;
   makes = subst (λ (p : Option ProtocolDecl). Makes kind tokens (may_come kind p) path (declared_of grown) p to) (sym held)
-      (subst (λ (x : Declared). Makes kind tokens (may_come kind draft.protocol) path x draft.protocol to) (sym more)
+      (subst (λ (x : Declarations). Makes kind tokens (may_come kind draft.protocol) path x draft.protocol to) (sym more)
       (makes_more kind tokens (may_come kind draft.protocol) path (declared_of draft) d draft.protocol before to one makes));
   goes = goes ∙ ap (λ (p : Option ProtocolDecl). refusal [] (stand (may_come kind p) (length path) false) to) (sym held);
 }
@@ -139,7 +139,7 @@ abbrev struct_forms : List Form
 struct_forms = take symbols.Word ∷ take symbols.OpenBrace ∷ fielded ∷ []
 
 -- one struct more
-with_struct : (d : Declared) (s : StructDecl) (items : List StructDecl) → items ≡ d.structs ++ s ∷ [] → record d { structs = items } ≡ (d & a_struct s)
+with_struct : (d : Declarations) (s : StructDecl) (items : List StructDecl) → items ≡ d.structs ++ s ∷ [] → record d { structs = items } ≡ (d & a_struct s)
 with_struct d s items e = λ i. record {
   includes = sym (append-nil d.includes) i;
   usings = sym (append-nil d.usings) i;
@@ -153,7 +153,7 @@ unfolding step
 struct_step may depth headed = refl
 
 -- a refusal in a struct
-pub struct_stopped : (kind : FileKind) (tokens : List Token) (list : List Attribute) (draft : Draft) (from behind : List Token) (e : Refusal) → IsNext symbols.Struct from behind → Stops struct_forms behind e → IsHeadedDraft kind tokens list draft from → FileStops kind tokens e
+pub struct_stopped : (kind : FileKind) (tokens : List Token) (list : List Attribute) (draft : Draft) (from behind : List Token) (e : TreeRefusal) → IsNext symbols.Struct from behind → Stops struct_forms behind e → IsHeadedDraft kind tokens list draft from → FileStops kind tokens e
 struct_stopped kind tokens list draft from behind e next stop h =
     first_stopped kind tokens (between kind draft h.path h.headed) (between kind draft h.path false) symbols.Struct struct_forms from behind e h.goes next
     (struct_step (may_come kind draft.protocol) (length h.path) h.headed) stop
@@ -180,7 +180,7 @@ abbrev union_forms : List Form
 union_forms = take symbols.Word ∷ take symbols.OpenBrace ∷ typed 4 ending.Semicolon ∷ componented ∷ []
 
 -- one union more
-with_union : (d : Declared) (u : UnionDecl) (items : List UnionDecl) → items ≡ d.unions ++ u ∷ [] → record d { unions = items } ≡ (d & a_union u)
+with_union : (d : Declarations) (u : UnionDecl) (items : List UnionDecl) → items ≡ d.unions ++ u ∷ [] → record d { unions = items } ≡ (d & a_union u)
 with_union d u items e = λ i. record {
   includes = sym (append-nil d.includes) i;
   usings = sym (append-nil d.usings) i;
@@ -194,7 +194,7 @@ unfolding step
 union_step may depth headed = refl
 
 -- a refusal in a union
-pub union_stopped : (kind : FileKind) (tokens : List Token) (list : List Attribute) (draft : Draft) (from behind : List Token) (e : Refusal) → IsNext symbols.Union from behind → Stops union_forms behind e → IsHeadedDraft kind tokens list draft from → FileStops kind tokens e
+pub union_stopped : (kind : FileKind) (tokens : List Token) (list : List Attribute) (draft : Draft) (from behind : List Token) (e : TreeRefusal) → IsNext symbols.Union from behind → Stops union_forms behind e → IsHeadedDraft kind tokens list draft from → FileStops kind tokens e
 union_stopped kind tokens list draft from behind e next stop h =
     first_stopped kind tokens (between kind draft h.path h.headed) (between kind draft h.path false) symbols.Union union_forms from behind e h.goes next
     (union_step (may_come kind draft.protocol) (length h.path) h.headed) stop
@@ -217,7 +217,7 @@ union_added kind tokens list draft from behind to u pushed scope same grown next
 -- Usings
 
 -- one using more
-with_using : (d : Declared) (u : UsingDecl) (items : List UsingDecl) → items ≡ d.usings ++ u ∷ [] → record d { usings = items } ≡ (d & a_using u)
+with_using : (d : Declarations) (u : UsingDecl) (items : List UsingDecl) → items ≡ d.usings ++ u ∷ [] → record d { usings = items } ≡ (d & a_using u)
 with_using d u items e = λ i. record {
   includes = sym (append-nil d.includes) i;
   usings = e i;
@@ -232,7 +232,7 @@ using_step may [] headed e = refl
 using_step may (name ∷ outer) headed e = absurd (cc)
 
 -- a refusal in a using
-pub using_stopped : (kind : FileKind) (tokens : List Token) (list : List Attribute) (draft : Draft) (from behind : List Token) (e : Refusal) → length draft.scope.items ≡ 0 → IsNext symbols.Using from behind → Stops (using_named ∷ []) behind e → IsHeadedDraft kind tokens list draft from → FileStops kind tokens e
+pub using_stopped : (kind : FileKind) (tokens : List Token) (list : List Attribute) (draft : Draft) (from behind : List Token) (e : TreeRefusal) → length draft.scope.items ≡ 0 → IsNext symbols.Using from behind → Stops (using_named ∷ []) behind e → IsHeadedDraft kind tokens list draft from → FileStops kind tokens e
 using_stopped kind tokens list draft from behind e out next stop h =
     first_stopped kind tokens (between kind draft h.path h.headed) (between kind draft h.path false) symbols.Using (using_named ∷ []) from behind e h.goes next
     (using_step (may_come kind draft.protocol) h.path h.headed (none_open h.path draft.scope.items h.scope out)) stop
@@ -253,7 +253,7 @@ using_added kind tokens list draft from behind to u pushed out grown next read t
 -- Includes
 
 -- one include more
-with_include : (d : Declared) (x : IncludeDecl) (items : List IncludeDecl) → items ≡ d.includes ++ x ∷ [] → record d { includes = items } ≡ (d & an_include x)
+with_include : (d : Declarations) (x : IncludeDecl) (items : List IncludeDecl) → items ≡ d.includes ++ x ∷ [] → record d { includes = items } ≡ (d & an_include x)
 with_include d x items e = λ i. record {
   includes = e i;
   usings = sym (append-nil d.usings) i;
@@ -268,7 +268,7 @@ include_step may [] e = refl
 include_step may (name ∷ outer) e = absurd (cc)
 
 -- a refusal in an include
-pub include_stopped : (kind : FileKind) (tokens : List Token) (draft : Draft) (from behind : List Token) (e : Refusal) → length draft.scope.items ≡ 0 → IsNext symbols.Include from behind → Stops (include_named ∷ []) behind e → IsDraft kind tokens draft from → FileStops kind tokens e
+pub include_stopped : (kind : FileKind) (tokens : List Token) (draft : Draft) (from behind : List Token) (e : TreeRefusal) → length draft.scope.items ≡ 0 → IsNext symbols.Include from behind → Stops (include_named ∷ []) behind e → IsDraft kind tokens draft from → FileStops kind tokens e
 include_stopped kind tokens draft from behind e out next stop h =
     first_stopped kind tokens (between kind draft h.path false) (between kind draft h.path false) symbols.Include (include_named ∷ []) from behind e h.goes next
     (include_step (may_come kind draft.protocol) h.path (none_open h.path draft.scope.items h.scope out)) stop
@@ -288,7 +288,7 @@ not_zero : (depth : ℕ) → depth ≢ 0 → (depth == 0) ≡ false
 not_zero depth h = grind (arith, nat_tests)
 
 -- the machine on these forms, with so many namespaces open
-abbrev reached : List Form → Bool → ℕ → Option (List Form × Stand)
+abbrev reached : List Form → Bool → ℕ → Option (List Form × FileState)
 reached forms may depth = Some (forms, stand may depth false)
 
 -- what comes behind the word `namespace`
@@ -307,7 +307,7 @@ open_room : (path : List (List ℕ)) (names : List (List ℕ)) → names ≡ sco
 open_room path names e lt = omega (arith, ap (λ (x : List (List ℕ)). length x) e, scope_length path)
 
 -- a refusal in the begin of a namespace
-pub open_stopped : (kind : FileKind) (tokens : List Token) (draft : Draft) (from behind : List Token) (e : Refusal) → length draft.scope.items < 16 → IsNext symbols.Namespace from behind → Stops open_forms behind e → IsDraft kind tokens draft from → FileStops kind tokens e
+pub open_stopped : (kind : FileKind) (tokens : List Token) (draft : Draft) (from behind : List Token) (e : TreeRefusal) → length draft.scope.items < 16 → IsNext symbols.Namespace from behind → Stops open_forms behind e → IsDraft kind tokens draft from → FileStops kind tokens e
 open_stopped kind tokens draft from behind e room next stop h =
     first_stopped kind tokens (between kind draft h.path false) (stand (may_come kind draft.protocol) (suc (length h.path)) false) symbols.Namespace open_forms from behind e h.goes next
     (open_step (may_come kind draft.protocol) (length h.path) (open_room h.path draft.scope.items h.scope room)) stop
@@ -381,7 +381,7 @@ worded_step _ true depth headed (inl e) m = absurd (cc)
 worded_step _ true depth headed (inr e) m = absurd (cc)
 
 -- where the protocol may come, there is none so far
-makes_true : (kind : FileKind) (tokens : List Token) (may : Bool) (path : List (List ℕ)) (so_far : Declared) (held : Option ProtocolDecl) (from : List Token) → may ≡ true → Makes kind tokens may path so_far held from → Makes kind tokens true path so_far None from
+makes_true : (kind : FileKind) (tokens : List Token) (may : Bool) (path : List (List ℕ)) (so_far : Declarations) (held : Option ProtocolDecl) (from : List Token) → may ≡ true → Makes kind tokens may path so_far held from → Makes kind tokens true path so_far None from
 makes_true kind tokens true path so_far held from e makes = makes
 makes_true kind tokens false path so_far held from e makes = absurd (cc)
 
@@ -530,12 +530,12 @@ pub other_none : (s : Symbol) (n : ℕ) (may : Bool) → s ≢ symbols.Struct �
 other_none s n may a b c d e f = record { not_struct = a; not_union = b; not_using = λ x. absurd (c x); not_protocol = λ h. absurd (begins_none s d e f h) }
 
 -- a refusal of what begins no declaration
-pub none_comes_next : (kind : FileKind) (tokens : List Token) (list : List Attribute) (draft : Draft) (from : List Token) (e : Refusal) → e ≡ Left (length from) → IsNoHead (first_symbol from) (length draft.scope.items) (may_come kind draft.protocol) → IsHeadedDraft kind tokens list draft from → FileStops kind tokens e
+pub none_comes_next : (kind : FileKind) (tokens : List Token) (list : List Attribute) (draft : Draft) (from : List Token) (e : TreeRefusal) → e ≡ Left (length from) → IsNoHead (first_symbol from) (length draft.scope.items) (may_come kind draft.protocol) → IsHeadedDraft kind tokens list draft from → FileStops kind tokens e
 none_comes_next kind tokens list draft from e is other h =
     let at = stand (may_come kind draft.protocol) (length h.path) h.headed in
     let same : length draft.scope.items ≡ length h.path = ap (λ (x : List (List ℕ)). length x) h.scope ∙ scope_length h.path in
     let none = none_step (may_come kind draft.protocol) (length h.path) h.headed (first_symbol from) other.not_struct other.not_union (λ u z. other.not_using u (same ∙ z)) other.not_protocol h.bare in
-    subst (λ (x : Refusal). FileStops kind tokens x) (sym is)
+    subst (λ (x : TreeRefusal). FileStops kind tokens x) (sym is)
     (h.goes ∙ refused_at at from none (λ ends. h.more (not_end (may_come kind draft.protocol) (length h.path) h.headed ends)))
 
 -- Attributes
@@ -546,7 +546,7 @@ unfolding step
 attributes_step may depth = refl
 
 -- a refusal in attributes
-pub attributes_stopped : (kind : FileKind) (tokens : List Token) (draft : Draft) (from behind : List Token) (e : Refusal) → IsNext symbols.OpenBracket from behind → Stops (attributed ∷ []) behind e → IsDraft kind tokens draft from → FileStops kind tokens e
+pub attributes_stopped : (kind : FileKind) (tokens : List Token) (draft : Draft) (from behind : List Token) (e : TreeRefusal) → IsNext symbols.OpenBracket from behind → Stops (attributed ∷ []) behind e → IsDraft kind tokens draft from → FileStops kind tokens e
 attributes_stopped kind tokens draft from behind e next stop h =
     first_stopped kind tokens (between kind draft h.path false) (between kind draft h.path true) symbols.OpenBracket (attributed ∷ []) from behind e h.goes next (attributes_step (may_come kind draft.protocol) (length h.path)) stop
 
@@ -639,7 +639,7 @@ end_step false zero (inr n) = absurd (n refl)
 end_step false (suc n) w = grind arith
 
 -- the machine refuses such an end
-ended : (at : Stand) → is_end [] at ≡ false → refusal [] at [] ≡ Some 0
+ended : (at : FileState) → is_end [] at ≡ false → refusal [] at [] ≡ Some 0
 unfolding refusal
 ended at e = ap (λ (b : Bool). cond {A = Option ℕ} b None (Some 0)) e
 
@@ -651,8 +651,8 @@ not_ended kind tokens draft (inr n) h =
     h.goes ∙ ended (stand (may_come kind draft.protocol) (length h.path) false) (end_step (may_come kind draft.protocol) (length h.path) (inr (λ z. n (same ∙ z))))
 
 -- all is read
-makes_whole : (kind : FileKind) (tokens : List Token) (may : Bool) (path : List (List ℕ)) (all : Declared) (held : Option ProtocolDecl) → may ≡ false → path ≡ [] → Makes kind tokens may path all held [] → Tree kind tokens (unit_of all held)
-makes_whole kind tokens false [] all held m e makes = subst (λ (x : Declared). Tree kind tokens (unit_of x held)) (and_none all) (makes no_declaration nothing_left)
+makes_whole : (kind : FileKind) (tokens : List Token) (may : Bool) (path : List (List ℕ)) (all : Declarations) (held : Option ProtocolDecl) → may ≡ false → path ≡ [] → Makes kind tokens may path all held [] → Tree kind tokens (unit_of all held)
+makes_whole kind tokens false [] all held m e makes = subst (λ (x : Declarations). Tree kind tokens (unit_of x held)) (and_none all) (makes no_declaration nothing_left)
 makes_whole kind tokens true path all held m e makes = absurd (cc)
 makes_whole kind tokens false (name ∷ outer) all held m e makes = absurd (cc)
 

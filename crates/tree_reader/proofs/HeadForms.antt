@@ -5,8 +5,8 @@ use Rattle.ipdl_base.specs.declared.token.Token.{Token}
 use Rattle.ipdl_syntax.specs.declared.tree.IncludeKind.TheVariants as include_kind
 use Rattle.ipdl_syntax.specs.Grammar.{included}
 use Rattle.ipdl_syntax.specs.Parts.{Part, either, nothing, reserved, identifier}
-use Rattle.tree_reader.specs.declared.refusal.Refusal.{Refusal}
-use Rattle.tree_reader.specs.declared.refusal.Refusal.TheVariants.{Left}
+use Rattle.tree_reader.specs.declared.refusal.TreeRefusal.{TreeRefusal}
+use Rattle.tree_reader.specs.declared.refusal.TreeRefusal.TheVariants.{Left}
 use Rattle.tree_reader.specs.declared.symbol.Symbol.{Symbol}
 use Rattle.tree_reader.specs.declared.symbol.Symbol.TheVariants.{Colons, Less, Class, Struct, From, Protocol, Word, Quoted, Semicolon}
 use Rattle.tree_reader.specs.Symbols.{first_symbol}
@@ -109,7 +109,7 @@ using_turn from here to one name =
     turns (using_named ∷ []) (take Word ∷ behind_using ∷ []) file_forms from here to (word_turn from here one) (name behind_using file_forms naming may_have_argument)
 
 -- a refused name
-pub using_stops : (from here : List Token) (e : Refusal) → Turns (using_named ∷ []) from (using_word ∷ []) here →
+pub using_stops : (from here : List Token) (e : TreeRefusal) → Turns (using_named ∷ []) from (using_word ∷ []) here →
     ((f : Form) (others : List Form) → IsNaming f → MayHaveArgument f others → Stops (take Word ∷ f ∷ []) here e) → Stops (using_named ∷ []) from e
 using_stops from here e one name =
     stops_behind (using_named ∷ []) (take Word ∷ behind_using ∷ []) from here e (word_turn from here one) (name behind_using file_forms naming may_have_argument)
@@ -139,7 +139,7 @@ protocol_turn from here to is word =
     turns (include_named ∷ []) (take Word ∷ take Semicolon ∷ []) (take Semicolon ∷ []) from here to (protocol_begins from here is) (turn_before (take Word ∷ []) [] (take Semicolon ∷ []) here to word)
 
 -- a refused name behind `protocol`
-pub protocol_stops : (from here : List Token) (e : Refusal) → IsNext Protocol from here → Stops (take Word ∷ []) here e → Stops (include_named ∷ []) from e
+pub protocol_stops : (from here : List Token) (e : TreeRefusal) → IsNext Protocol from here → Stops (take Word ∷ []) here e → Stops (include_named ∷ []) from e
 protocol_stops from here e is word =
     stops_behind (include_named ∷ []) (take Word ∷ take Semicolon ∷ []) from here e (protocol_begins from here is) (stops_before (take Word ∷ []) (take Semicolon ∷ []) here e word)
 
@@ -178,5 +178,5 @@ other_table Quoted p w q = absurd (q refl)
 other_table _ p w q = refl
 
 -- anything else is refused
-pub include_stops : (from : List Token) (e : Refusal) → first_symbol from ≢ Protocol → first_symbol from ≢ Word → first_symbol from ≢ Quoted → e ≡ Left (length from) → Stops (include_named ∷ []) from e
+pub include_stops : (from : List Token) (e : TreeRefusal) → first_symbol from ≢ Protocol → first_symbol from ≢ Word → first_symbol from ≢ Quoted → e ≡ Left (length from) → Stops (include_named ∷ []) from e
 include_stops from e p w q is = refused include_named from e (other_table (first_symbol from) p w q) is

@@ -2,8 +2,8 @@
 use Rattle.std.proofs.Common.{◌≡◌, ◌≢◌, true, List, [], ◌∷◌, length, Some, None, refl, ap, subst, ◌∙◌}
 use Rattle.ipdl_base.specs.declared.token.Token.{Token}
 use Rattle.ipdl_base.specs.declared.kinds.Direction.{Direction}
-use Rattle.tree_reader.specs.declared.refusal.Refusal.{Refusal}
-use Rattle.tree_reader.specs.declared.refusal.Refusal.TheVariants.{Left}
+use Rattle.tree_reader.specs.declared.refusal.TreeRefusal.{TreeRefusal}
+use Rattle.tree_reader.specs.declared.refusal.TreeRefusal.TheVariants.{Left}
 use Rattle.tree_reader.specs.declared.symbol.Symbol.{Symbol}
 use Rattle.tree_reader.specs.declared.symbol.Symbol.TheVariants.{Word, OpenParen, OpenBracket, Semicolon, Async, Sync, Returns}
 use Rattle.tree_reader.specs.Symbols.{first_symbol}
@@ -60,7 +60,7 @@ sync_turn from middle to same here =
     turn one_message Sync behind_word from to (subst (λ (x : List Token). IsNext Sync x to) same here) sync_table
 
 -- a message begins with neither word
-pub neither_stops : (from one two : List Token) (e : Refusal) → (first_symbol from ≢ Async) × (one ≡ from) → (first_symbol one ≢ Sync) × (two ≡ one) → e ≡ Left (length two) → Stops (one_message ∷ []) from e
+pub neither_stops : (from one two : List Token) (e : TreeRefusal) → (first_symbol from ≢ Async) × (one ≡ from) → (first_symbol one ≢ Sync) × (two ≡ one) → e ≡ Left (length two) → Stops (one_message ∷ []) from e
 neither_stops from one two e no_async no_sync is =
     refused one_message from e
     (neither_table (first_symbol from) no_async.0 (subst (λ (x : List Token). first_symbol x ≢ Sync) no_async.1 no_sync.0))

@@ -5,7 +5,7 @@ use Rattle.ipdl_base.specs.declared.finding.Place.{Place}
 use Rattle.ipdl_base.specs.declared.token.Token.{Token}
 use Rattle.ipdl_syntax.specs.Parts.{◌⨾◌, mark, word, identifier}
 use Rattle.ipdl_syntax.specs.Grammar.{qualified, argument}
-use Rattle.tree_reader.specs.declared.refusal.Refusal.{Refusal}
+use Rattle.tree_reader.specs.declared.refusal.TreeRefusal.{TreeRefusal}
 use Rattle.tree_reader.specs.declared.symbol.Symbol.{Symbol}
 use Rattle.tree_reader.specs.declared.symbol.Symbol.TheVariants.{Word, Colons, Less, Greater}
 use Rattle.tree_reader.specs.Symbols.{first_symbol}
@@ -52,7 +52,7 @@ word_stays_on start from behind to before here read f is =
     (turns (f ∷ []) (take Word ∷ f ∷ []) (f ∷ []) from behind to (colons_turn f from behind is here) (past (take Word) (f ∷ []) behind to read))
 
 -- no word behind `::`
-pub word_stops : {T : Type 0} (r : Result T Refusal) (e : Refusal) (start from behind : List Token) → IsErrAnd r (λ x. x ≡ e) → StaysOn start from → IsNext Colons from behind → Stops (take Word ∷ []) behind e → IfErr r (λ x. (f : Form) → IsNaming f → Stops (f ∷ []) start x)
+pub word_stops : {T : Type 0} (r : Result T TreeRefusal) (e : TreeRefusal) (start from behind : List Token) → IsErrAnd r (λ x. x ≡ e) → StaysOn start from → IsNext Colons from behind → Stops (take Word ∷ []) behind e → IfErr r (λ x. (f : Form) → IsNaming f → Stops (f ∷ []) start x)
 word_stops r e start from behind is_err before here read =
     thrown r e (λ x. (f : Form) → IsNaming f → Stops (f ∷ []) start x) is_err
     (λ f is. stops_behind (f ∷ []) (f ∷ []) start from e (before f is)
@@ -85,7 +85,7 @@ argument_begins : (from : List Token) → Turns (argument_name ∷ []) from (tak
 argument_begins from = split_turn argument_name (take Word) (argument_words ∷ []) from (argument_first (first_symbol from))
 
 -- no name in an argument
-pub argument_unnamed : (from : List Token) (e : Refusal) → ((f : Form) → IsNaming f → Stops (take Word ∷ f ∷ []) from e) → Stops (argument_name ∷ []) from e
+pub argument_unnamed : (from : List Token) (e : TreeRefusal) → ((f : Form) → IsNaming f → Stops (take Word ∷ f ∷ []) from e) → Stops (argument_name ∷ []) from e
 argument_unnamed from e name = stops_behind (argument_name ∷ []) (take Word ∷ argument_words ∷ []) from from e (argument_begins from) (name argument_words argument_naming)
 
 -- a name, and then the `>` is to come
@@ -109,13 +109,13 @@ argument_turns from behind to here read f others may =
     turns (f ∷ []) (argument_name ∷ others) others from behind to (less_turn f others from behind may here) (past argument_name others behind to read)
 
 -- and refuses where the argument is refused
-pub argument_stops : {T : Type 0} (r : Result T Refusal) (e : Refusal) (from behind : List Token) → IsErrAnd r (λ x. x ≡ e) → IsNext Less from behind → Stops (argument_name ∷ []) behind e → IfErr r (λ x. (f : Form) (others : List Form) → MayHaveArgument f others → Stops (f ∷ []) from x)
+pub argument_stops : {T : Type 0} (r : Result T TreeRefusal) (e : TreeRefusal) (from behind : List Token) → IsErrAnd r (λ x. x ≡ e) → IsNext Less from behind → Stops (argument_name ∷ []) behind e → IfErr r (λ x. (f : Form) (others : List Form) → MayHaveArgument f others → Stops (f ∷ []) from x)
 argument_stops r e from behind is_err here read =
     thrown r e (λ x. (f : Form) (others : List Form) → MayHaveArgument f others → Stops (f ∷ []) from x) is_err
     (λ f others may. stops_behind (f ∷ []) (argument_name ∷ others) from behind e (less_turn f others from behind may here) (stops_before (argument_name ∷ []) others behind e read))
 
 -- a refusal behind a name
-pub named_stops : {T : Type 0} (r : Result T Refusal) (e : Refusal) (from middle : List Token) → IsErrAnd r (λ x. x ≡ e) → NameTurns from middle → ((f : Form) (others : List Form) → MayHaveArgument f others → Stops (f ∷ []) middle e) → IfErr r (λ x. (f : Form) (others : List Form) → IsNaming f → MayHaveArgument f others → Stops (take Word ∷ f ∷ []) from x)
+pub named_stops : {T : Type 0} (r : Result T TreeRefusal) (e : TreeRefusal) (from middle : List Token) → IsErrAnd r (λ x. x ≡ e) → NameTurns from middle → ((f : Form) (others : List Form) → MayHaveArgument f others → Stops (f ∷ []) middle e) → IfErr r (λ x. (f : Form) (others : List Form) → IsNaming f → MayHaveArgument f others → Stops (take Word ∷ f ∷ []) from x)
 named_stops r e from middle is_err name argument =
     thrown r e (λ x. (f : Form) (others : List Form) → IsNaming f → MayHaveArgument f others → Stops (take Word ∷ f ∷ []) from x) is_err
     (λ f others is may. stops_behind (take Word ∷ f ∷ []) (f ∷ []) from middle e (name f is) (argument f others may))

@@ -9,7 +9,7 @@ use Rattle.ipdl_syntax.specs.declared.tree.Param.{Param}
 use Rattle.ipdl_syntax.specs.Grammar.{param, params, more_params}
 use Rattle.ipdl_syntax.specs.Parts.{◌⨾◌, mark}
 use Rattle.tree_reader.specs.Ending as ending
-use Rattle.tree_reader.specs.declared.refusal.Refusal.{Refusal}
+use Rattle.tree_reader.specs.declared.refusal.TreeRefusal.{TreeRefusal}
 use Rattle.tree_reader.specs.declared.symbol.Symbol.{Symbol}
 use Rattle.tree_reader.specs.declared.symbol.Symbol.TheVariants.{OpenBracket, CloseParen, Comma}
 use Rattle.tree_reader.specs.Symbols.{first_symbol}
@@ -24,15 +24,15 @@ pub moved : (forms others : List Form) (from middle : List Token) → middle ≡
 moved forms others from middle same one = let P : List Token → Type 0 = λ x. Turns forms from others x in subst P (sym same) one
 
 -- a result behind a turn
-pub turns_ok : {T : Type 0} (r : Result T Refusal) (fs gs hs : List Form) (a b c : List Token) → Turns fs a gs b → OnOk r (Turns gs b hs c) → OnOk r (Turns fs a hs c)
+pub turns_ok : {T : Type 0} (r : Result T TreeRefusal) (fs gs hs : List Form) (a b c : List Token) → Turns fs a gs b → OnOk r (Turns gs b hs c) → OnOk r (Turns fs a hs c)
 turns_ok r fs gs hs a b c one = on_ok_weaker r (λ two. turns fs gs hs a b c one two)
 
 -- an error behind a turn
-pub stops_err : {T : Type 0} (r : Result T Refusal) (fs gs : List Form) (a b : List Token) → Turns fs a gs b → IfErr r (Stops gs b) → IfErr r (Stops fs a)
+pub stops_err : {T : Type 0} (r : Result T TreeRefusal) (fs gs : List Form) (a b : List Token) → Turns fs a gs b → IfErr r (Stops gs b) → IfErr r (Stops fs a)
 stops_err r fs gs a b one = IfErr-weaker r (Stops gs b) (Stops fs a) (λ e two. stops_behind fs gs a b e one two)
 
 -- an error that was handed on, behind a turn
-pub thrown_behind : {T : Type 0} (r : Result T Refusal) (e : Refusal) (fs gs : List Form) (a b : List Token) → IsErrAnd r (λ x. x ≡ e) → Turns fs a gs b → Stops gs b e → IfErr r (Stops fs a)
+pub thrown_behind : {T : Type 0} (r : Result T TreeRefusal) (e : TreeRefusal) (fs gs : List Form) (a b : List Token) → IsErrAnd r (λ x. x ≡ e) → Turns fs a gs b → Stops gs b e → IfErr r (Stops fs a)
 thrown_behind r e fs gs a b is one two = thrown r e (λ x. Stops fs a x) is (stops_behind fs gs a b e one two)
 
 -- the first form read to its end behind a turn
@@ -40,14 +40,14 @@ pub then_past : (fs : List Form) (f : Form) (others : List Form) (a b c : List T
 then_past fs f others a b c one two = turns fs (f ∷ others) others a b c one (past f others b c two)
 
 -- the first form refused behind a turn, by an error that was handed on
-pub thrown_then : {T : Type 0} (r : Result T Refusal) (e : Refusal) (fs : List Form) (f : Form) (others : List Form) (a b : List Token) → IsErrAnd r (λ x. x ≡ e) → Turns fs a (f ∷ others) b → Stops (f ∷ []) b e → IfErr r (Stops fs a)
+pub thrown_then : {T : Type 0} (r : Result T TreeRefusal) (e : TreeRefusal) (fs : List Form) (f : Form) (others : List Form) (a b : List Token) → IsErrAnd r (λ x. x ≡ e) → Turns fs a (f ∷ others) b → Stops (f ∷ []) b e → IfErr r (Stops fs a)
 thrown_then r e fs f others a b is one two = thrown_behind r e fs (f ∷ others) a b is one (stops_before (f ∷ []) others b e two)
 
 -- the same at the result of a last call
-pub past_ok : {T : Type 0} (r : Result T Refusal) (fs : List Form) (f : Form) (others : List Form) (a b c : List Token) → Turns fs a (f ∷ others) b → OnOk r (Turns (f ∷ []) b [] c) → OnOk r (Turns fs a others c)
+pub past_ok : {T : Type 0} (r : Result T TreeRefusal) (fs : List Form) (f : Form) (others : List Form) (a b c : List Token) → Turns fs a (f ∷ others) b → OnOk r (Turns (f ∷ []) b [] c) → OnOk r (Turns fs a others c)
 past_ok r fs f others a b c one = on_ok_weaker r (λ two. then_past fs f others a b c one two)
 
-pub stops_then : {T : Type 0} (r : Result T Refusal) (fs : List Form) (f : Form) (others : List Form) (a b : List Token) → Turns fs a (f ∷ others) b → IfErr r (Stops (f ∷ []) b) → IfErr r (Stops fs a)
+pub stops_then : {T : Type 0} (r : Result T TreeRefusal) (fs : List Form) (f : Form) (others : List Form) (a b : List Token) → Turns fs a (f ∷ others) b → IfErr r (Stops (f ∷ []) b) → IfErr r (Stops fs a)
 stops_then r fs f others a b one = IfErr-weaker r (Stops (f ∷ []) b) (Stops fs a) (λ e two. stops_behind fs (f ∷ others) a b e one (stops_before (f ∷ []) others b e two))
 
 -- One parameter

@@ -4,8 +4,8 @@ use Rattle.ipdl_base.specs.declared.token.Token.{Token}
 use Rattle.ipdl_base.specs.declared.token.TokenKind.TheVariants as kind
 use Rattle.ipdl_base.specs.declared.finding.Place.{Place}
 use Rattle.ipdl_syntax.specs.Parts.{identifier}
-use Rattle.tree_reader.specs.declared.refusal.Refusal.{Refusal}
-use Rattle.tree_reader.specs.declared.refusal.Refusal.TheVariants.{Left}
+use Rattle.tree_reader.specs.declared.refusal.TreeRefusal.{TreeRefusal}
+use Rattle.tree_reader.specs.declared.refusal.TreeRefusal.TheVariants.{Left}
 use Rattle.tree_reader.specs.declared.symbol.Symbol.{Symbol}
 use Rattle.tree_reader.specs.declared.symbol.Symbol.TheVariants.{End, Word, Quoted, OtherWord, OtherMark, Colons, OpenBrace, CloseBrace, OpenParen, CloseParen, OpenBracket, CloseBracket, Less, Greater, Semicolon, Comma, Colon, Equals, Question, Async, Both, Child, Class, From, Include, Manager, Manages, Namespace, Nullable, Or, Parent, Protocol, Returns, Struct, Sync, Union, UniquePtr, Using}
 use Rattle.tree_reader.specs.Symbols.{symbol, first_symbol}
@@ -186,7 +186,7 @@ pub taken : (s : Symbol) (from to : List Token) → s ≢ End → IsNext s from 
 taken s from to n here = turn (take s) s [] from to here (take_table s n)
 
 -- any other is refused, and the end
-pub not_taken : (s : Symbol) (from : List Token) (e : Refusal) → s ≢ End → first_symbol from ≢ s → e ≡ Left (length from) → Stops (take s ∷ []) from e
+pub not_taken : (s : Symbol) (from : List Token) (e : TreeRefusal) → s ≢ End → first_symbol from ≢ s → e ≡ Left (length from) → Stops (take s ∷ []) from e
 not_taken s from e n other is = refused (take s) from e (take_other s (first_symbol from) n other) is
 
 -- a word with its text and its place is an identifier
@@ -198,7 +198,7 @@ pub word_taken : (from : List Token) (t : Token) (to : List Token) → from ≡ 
 word_taken from t to here k = turn any_word (symbol t) [] from to (t, here, refl) (any_word_table (symbol t) t refl k)
 
 -- a mark is refused where any word is wanted
-pub mark_refused : (from : List Token) (t : Token) (to : List Token) (e : Refusal) → from ≡ t ∷ to → t.kind ≡ kind.Mark → e ≡ Left (length from) → Stops (any_word ∷ []) from e
+pub mark_refused : (from : List Token) (t : Token) (to : List Token) (e : TreeRefusal) → from ≡ t ∷ to → t.kind ≡ kind.Mark → e ≡ Left (length from) → Stops (any_word ∷ []) from e
 mark_refused from t to e here k is =
     refused any_word from e (subst (λ (x : List Token). production any_word (first_symbol x) ≡ None) (sym here) (mark_table (symbol t) t refl k)) is
 
@@ -208,7 +208,7 @@ unfolding production
 end_has_none [] n = refl
 end_has_none (t ∷ rest) n = absurd (omega arith)
 
-pub end_refused : (from : List Token) (e : Refusal) → length from ≡ 0 → e ≡ Left (length from) → Stops (any_word ∷ []) from e
+pub end_refused : (from : List Token) (e : TreeRefusal) → length from ≡ 0 → e ≡ Left (length from) → Stops (any_word ∷ []) from e
 end_refused from e n is = refused any_word from e (end_has_none from n) is
 
 -- a token whose symbol is known

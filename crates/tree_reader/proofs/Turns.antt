@@ -2,8 +2,8 @@
 use Rattle.std.proofs.Common.{◌≡◌, ℕ, ◌+◌, ◌<◌, List, [], ◌∷◌, ◌++◌, length, Option, Some, None, Result, Ok, Err, IfErr, IsErrAnd, refl, sym, ap, subst, ◌∙◌, arith, append_assoc}
 use Rattle.ipdl_base.specs.declared.token.Token.{Token}
 use Rattle.ipdl_base.specs.declared.finding.Place.{Place}
-use Rattle.tree_reader.specs.declared.refusal.Refusal.{Refusal}
-use Rattle.tree_reader.specs.declared.refusal.Refusal.TheVariants.{Left, NoMemory}
+use Rattle.tree_reader.specs.declared.refusal.TreeRefusal.{TreeRefusal}
+use Rattle.tree_reader.specs.declared.refusal.TreeRefusal.TheVariants.{Left, NoMemory}
 use Rattle.tree_reader.specs.declared.symbol.Symbol.{Symbol}
 use Rattle.tree_reader.specs.Symbols.{symbol, first_symbol}
 use Rattle.tree_reader.specs.Machine.{Form, behind, production, gone_in, refusal}
@@ -35,8 +35,8 @@ unfolding refusal
 refused_there f [] p = λ more at. refl
 refused_there f (t ∷ rest) p = λ more at. ap (λ (o : Option (List Form)). gone_in o (length rest + 1) (λ y. refusal (y ++ more) at rest)) p ∙ ap (λ (n : ℕ). Some n) (omega arith)
 
-pub refused : (f : Form) (from : List Token) (e : Refusal) → production f (first_symbol from) ≡ None → e ≡ Left (length from) → Stops (f ∷ []) from e
-refused f from e p is = let P : Refusal → Type 0 = λ x. Stops (f ∷ []) from x in subst P (sym is) (refused_there f from p)
+pub refused : (f : Form) (from : List Token) (e : TreeRefusal) → production f (first_symbol from) ≡ None → e ≡ Left (length from) → Stops (f ∷ []) from e
+refused f from e p is = let P : TreeRefusal → Type 0 = λ x. Stops (f ∷ []) from x in subst P (sym is) (refused_there f from p)
 
 -- two forms with the same production at the next token
 pub same_turn : (f g : Form) (from : List Token) → production f (first_symbol from) ≡ production g (first_symbol from) → Turns (f ∷ []) from (g ∷ []) from
@@ -54,12 +54,12 @@ turn_before fs gs others a b one = λ more at.
     ap (λ (x : List Form). refusal x at a) (append_assoc fs others more) ∙ one (others ++ more) at ∙ sym (ap (λ (x : List Form). refusal x at b) (append_assoc gs others more))
 
 -- a refusal behind a turn
-pub stops_behind : (fs gs : List Form) (a b : List Token) (e : Refusal) → Turns fs a gs b → Stops gs b e → Stops fs a e
+pub stops_behind : (fs gs : List Form) (a b : List Token) (e : TreeRefusal) → Turns fs a gs b → Stops gs b e → Stops fs a e
 stops_behind fs gs a b (Left n) one two = λ more at. one more at ∙ two more at
 stops_behind fs gs a b NoMemory one two = tt
 
 -- a refusal before other forms
-pub stops_before : (fs others : List Form) (a : List Token) (e : Refusal) → Stops fs a e → Stops (fs ++ others) a e
+pub stops_before : (fs others : List Form) (a : List Token) (e : TreeRefusal) → Stops fs a e → Stops (fs ++ others) a e
 stops_before fs others a (Left n) one = λ more at. ap (λ (x : List Form). refusal x at a) (append_assoc fs others more) ∙ one (others ++ more) at
 stops_before fs others a NoMemory one = tt
 
@@ -68,12 +68,12 @@ pub past : (f : Form) (others : List Form) (a b : List Token) → Turns (f ∷ [
 past f others a b one = λ more at. one (others ++ more) at
 
 -- what holds of the error that a `?` carries over
-pub thrown : {T : Type 0} (r : Result T Refusal) (e : Refusal) (P : Refusal → Type 0) → IsErrAnd r (λ x. x ≡ e) → P e → IfErr r P
+pub thrown : {T : Type 0} (r : Result T TreeRefusal) (e : TreeRefusal) (P : TreeRefusal → Type 0) → IsErrAnd r (λ x. x ≡ e) → P e → IfErr r P
 thrown (Ok x) e P is holds = tt
 thrown (Err x) e P is holds = subst P (sym is) holds
 
 -- a refusal that a `?` carries over
-pub stops_on : {T : Type 0} (r : Result T Refusal) (e : Refusal) (fs : List Form) (from : List Token) → IsErrAnd r (λ x. x ≡ e) → Stops fs from e → IfErr r (Stops fs from)
+pub stops_on : {T : Type 0} (r : Result T TreeRefusal) (e : TreeRefusal) (fs : List Form) (from : List Token) → IsErrAnd r (λ x. x ≡ e) → Stops fs from e → IfErr r (Stops fs from)
 stops_on r e fs from is holds = thrown r e (λ x. Stops fs from x) is holds
 
 -- what a form becomes, with others behind it, goes on as the same before them
@@ -94,7 +94,7 @@ pub past_turn : (f : Form) (others new : List Form) (a b c : List Token) → Tur
 past_turn f others new a b c one two = turns (f ∷ others) others new a b c (past f others a b one) two
 
 -- a form read to its end, and a refusal of those behind it
-pub past_stops : (f : Form) (others : List Form) (a b : List Token) (e : Refusal) → Turns (f ∷ []) a [] b → Stops others b e → Stops (f ∷ others) a e
+pub past_stops : (f : Form) (others : List Form) (a b : List Token) (e : TreeRefusal) → Turns (f ∷ []) a [] b → Stops others b e → Stops (f ∷ others) a e
 past_stops f others a b e one two = stops_behind (f ∷ others) others a b e (past f others a b one) two
 
 -- the next token, where its symbol is known

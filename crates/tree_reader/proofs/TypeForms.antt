@@ -9,8 +9,8 @@ use Rattle.ipdl_syntax.specs.declared.tree.Suffix.TheVariants.{Array, Maybe}
 use Rattle.ipdl_syntax.specs.declared.tree.TypeSpec.{TypeSpec}
 use Rattle.ipdl_syntax.specs.Parts.{Part, ◌⨾◌, mark, reserved, at, provided}
 use Rattle.ipdl_syntax.specs.Grammar.{suffixes, base, nullable_word, type_round}
-use Rattle.tree_reader.specs.declared.refusal.Refusal.{Refusal}
-use Rattle.tree_reader.specs.declared.refusal.Refusal.TheVariants.{Left}
+use Rattle.tree_reader.specs.declared.refusal.TreeRefusal.{TreeRefusal}
+use Rattle.tree_reader.specs.declared.refusal.TreeRefusal.TheVariants.{Left}
 use Rattle.tree_reader.specs.declared.symbol.Symbol.{Symbol}
 use Rattle.tree_reader.specs.declared.symbol.Symbol.TheVariants.{Word, Colons, OpenBracket, CloseBracket, Less, Greater, Semicolon, Question, Nullable, UniquePtr}
 use Rattle.tree_reader.specs.Ending.{Ending}
@@ -60,7 +60,7 @@ array_read from behind to here read close = (
 )
 
 -- no closing bracket
-pub array_stops : {T : Type 0} (r : Result T Refusal) (x : Refusal) (from behind : List Token) → IsErrAnd r (λ y. y ≡ x) → IsNext OpenBracket from behind → Stops (take CloseBracket ∷ []) behind x → IfErr r (λ y. (n : ℕ) (e : Ending) → 0 < n → Stops (suffixed n e ∷ []) from y)
+pub array_stops : {T : Type 0} (r : Result T TreeRefusal) (x : TreeRefusal) (from behind : List Token) → IsErrAnd r (λ y. y ≡ x) → IsNext OpenBracket from behind → Stops (take CloseBracket ∷ []) behind x → IfErr r (λ y. (n : ℕ) (e : Ending) → 0 < n → Stops (suffixed n e ∷ []) from y)
 array_stops r x from behind is_err here close =
     thrown r x (λ y. (n : ℕ) (e : Ending) → 0 < n → Stops (suffixed n e ∷ []) from y) is_err
     (λ n e room. stops_behind (suffixed n e ∷ []) (take CloseBracket ∷ suffixed (n - 1) e ∷ []) from behind x
@@ -118,7 +118,7 @@ full_turns n start from full before = λ e.
     (same_turn (suffixed n e) (take (last e)) from (rw full (full_table e (first_symbol from))))
 
 -- a refusal in a suffix
-pub suffix_stops : {T : Type 0} (r : Result T Refusal) (x : Refusal) (n : ℕ) (start from : List Token) → IsErrAnd r (λ y. y ≡ x) → n < 4 → HasRoom (4 - n) start from → ((n : ℕ) (e : Ending) → 0 < n → Stops (suffixed n e ∷ []) from x) → IfErr r (λ y. (e : Ending) → Stops (suffixed 4 e ∷ []) start y)
+pub suffix_stops : {T : Type 0} (r : Result T TreeRefusal) (x : TreeRefusal) (n : ℕ) (start from : List Token) → IsErrAnd r (λ y. y ≡ x) → n < 4 → HasRoom (4 - n) start from → ((n : ℕ) (e : Ending) → 0 < n → Stops (suffixed n e ∷ []) from x) → IfErr r (λ y. (e : Ending) → Stops (suffixed 4 e ∷ []) start y)
 suffix_stops r x n start from is_err room before stop =
     thrown r x (λ y. (e : Ending) → Stops (suffixed 4 e ∷ []) start y) is_err
     (λ e. stops_behind (suffixed 4 e ∷ []) (suffixed (4 - n) e ∷ []) start from x (before e) (stop (4 - n) e (omega arith)))
@@ -158,15 +158,15 @@ named_turns room from to is name e =
     (name (named e) (suffixed 4 e ∷ []) (type_naming e) (type_argument e))
 
 -- The refusals of a base, for every end of the type
-abbrev pub BaseStops : ℕ → List Token → Refusal → Type 0
+abbrev pub BaseStops : ℕ → List Token → TreeRefusal → Type 0
 BaseStops room from x = (e : Ending) → Stops (based room e ∷ []) from x
 
 -- a refusal of a type that a `?` carries over
-pub base_stops_on : {T : Type 0} (r : Result T Refusal) (x : Refusal) (room : ℕ) (from : List Token) → IsErrAnd r (λ y. y ≡ x) → BaseStops room from x → IfErr r (λ y. (e : Ending) → Stops (based room e ∷ []) from y)
+pub base_stops_on : {T : Type 0} (r : Result T TreeRefusal) (x : TreeRefusal) (room : ℕ) (from : List Token) → IsErrAnd r (λ y. y ≡ x) → BaseStops room from x → IfErr r (λ y. (e : Ending) → Stops (based room e ∷ []) from y)
 base_stops_on r x room from is_err stop = thrown r x (λ y. (e : Ending) → Stops (based room e ∷ []) from y) is_err stop
 
 -- and refuses where the name is refused
-pub unnamed_stops : (room : ℕ) (from : List Token) (x : Refusal) → first_symbol from ≡ Word → ((f : Form) (others : List Form) → IsNaming f → MayHaveArgument f others → Stops (take Word ∷ f ∷ []) from x) → BaseStops room from x
+pub unnamed_stops : (room : ℕ) (from : List Token) (x : TreeRefusal) → first_symbol from ≡ Word → ((f : Form) (others : List Form) → IsNaming f → MayHaveArgument f others → Stops (take Word ∷ f ∷ []) from x) → BaseStops room from x
 unnamed_stops room from x is name e =
     stops_behind (based room e ∷ []) (take Word ∷ named e ∷ []) from from x (word_turn room e from is)
     (name (named e) (suffixed 4 e ∷ []) (type_naming e) (type_argument e))
@@ -220,19 +220,19 @@ unique_turns room place from a b c d u less inner greater e =
     (past (take Greater) (suffixed 4 e ∷ []) c d greater)
 
 -- no `<`
-pub less_stops : (room : ℕ) (place : Place) (from a : List Token) (x : Refusal) → IsUnique room place from a → Stops (take Less ∷ []) a x → BaseStops room from x
+pub less_stops : (room : ℕ) (place : Place) (from a : List Token) (x : TreeRefusal) → IsUnique room place from a → Stops (take Less ∷ []) a x → BaseStops room from x
 less_stops room place from a x u less e =
     stops_behind (based room e ∷ []) (wrapped room e) from a x (unique_turn room place e from a u)
     (stops_before (take Less ∷ []) (typed (room - 1) ending.Greater ∷ suffixed 4 e ∷ []) a x less)
 
 -- no type behind the `<`
-pub inner_stops : (room : ℕ) (place : Place) (from a b : List Token) (x : Refusal) → IsUnique room place from a → Turns (take Less ∷ []) a [] b → ((e : Ending) → Stops (typed (room - 1) e ∷ []) b x) → BaseStops room from x
+pub inner_stops : (room : ℕ) (place : Place) (from a b : List Token) (x : TreeRefusal) → IsUnique room place from a → Turns (take Less ∷ []) a [] b → ((e : Ending) → Stops (typed (room - 1) e ∷ []) b x) → BaseStops room from x
 inner_stops room place from a b x u less inner e =
     stops_behind (based room e ∷ []) (typed (room - 1) ending.Greater ∷ suffixed 4 e ∷ []) from b x (less_turn room place e from a b u less)
     (stops_before (typed (room - 1) ending.Greater ∷ []) (suffixed 4 e ∷ []) b x (inner ending.Greater))
 
 -- no `>` behind the type
-pub greater_stops : (room : ℕ) (place : Place) (from a b c : List Token) (x : Refusal) → IsUnique room place from a → Turns (take Less ∷ []) a [] b → TypeTurns (room - 1) b c → Stops (take Greater ∷ []) c x → BaseStops room from x
+pub greater_stops : (room : ℕ) (place : Place) (from a b c : List Token) (x : TreeRefusal) → IsUnique room place from a → Turns (take Less ∷ []) a [] b → TypeTurns (room - 1) b c → Stops (take Greater ∷ []) c x → BaseStops room from x
 greater_stops room place from a b c x u less inner greater e =
     stops_behind (based room e ∷ []) (take Greater ∷ suffixed 4 e ∷ []) from c x (inner_turn room place e from a b c u less inner)
     (stops_before (take Greater ∷ []) (suffixed 4 e ∷ []) c x greater)
@@ -250,11 +250,11 @@ unfolding production
 no_room_table e = refl
 
 -- the refusal of any other symbol
-pub other_stops : (room : ℕ) (from : List Token) (x : Refusal) → first_symbol from ≢ Word → first_symbol from ≢ UniquePtr → x ≡ Left (length from) → BaseStops room from x
+pub other_stops : (room : ℕ) (from : List Token) (x : TreeRefusal) → first_symbol from ≢ Word → first_symbol from ≢ UniquePtr → x ≡ Left (length from) → BaseStops room from x
 other_stops room from x w u is e = refused (based room e) from x (other_table room e (first_symbol from) w u) is
 
 -- the refusal of one `UniquePtr` too many
-pub no_room_stops : (room : ℕ) (from : List Token) (x : Refusal) → room ≡ 0 → first_symbol from ≡ UniquePtr → x ≡ Left (length from) → BaseStops room from x
+pub no_room_stops : (room : ℕ) (from : List Token) (x : TreeRefusal) → room ≡ 0 → first_symbol from ≡ UniquePtr → x ≡ Left (length from) → BaseStops room from x
 no_room_stops room from x none same is e = refused (based room e) from x (rw (none, same) (no_room_table e)) is
 
 -- `UniquePtr` of a type, which stands in a box
@@ -306,13 +306,13 @@ type_turns is room from a b c p base after e =
     turns (typed room e ∷ []) (suffixed 4 e ∷ []) (take (last e) ∷ []) from b c (base_turn is room e from a b p base) (after e)
 
 -- no base
-pub no_base_stops : {T : Type 0} (r : Result T Refusal) (x : Refusal) (is : Bool) (room : ℕ) (from a : List Token) → IsErrAnd r (λ y. y ≡ x) → MayPass is from a → BaseStops room a x → IfErr r (λ y. (e : Ending) → Stops (typed room e ∷ []) from y)
+pub no_base_stops : {T : Type 0} (r : Result T TreeRefusal) (x : TreeRefusal) (is : Bool) (room : ℕ) (from a : List Token) → IsErrAnd r (λ y. y ≡ x) → MayPass is from a → BaseStops room a x → IfErr r (λ y. (e : Ending) → Stops (typed room e ∷ []) from y)
 no_base_stops r x is room from a is_err p base =
     thrown r x (λ y. (e : Ending) → Stops (typed room e ∷ []) from y) is_err
     (λ e. stops_behind (typed room e ∷ []) (based room e ∷ []) from a x (nullable_turn is room e from a p) (base e))
 
 -- a refusal in the suffixes
-pub no_suffixes_stops : {T : Type 0} (r : Result T Refusal) (x : Refusal) (is : Bool) (room : ℕ) (from a b : List Token) → IsErrAnd r (λ y. y ≡ x) → MayPass is from a → BaseTurns room a b → ((e : Ending) → Stops (suffixed 4 e ∷ []) b x) → IfErr r (λ y. (e : Ending) → Stops (typed room e ∷ []) from y)
+pub no_suffixes_stops : {T : Type 0} (r : Result T TreeRefusal) (x : TreeRefusal) (is : Bool) (room : ℕ) (from a b : List Token) → IsErrAnd r (λ y. y ≡ x) → MayPass is from a → BaseTurns room a b → ((e : Ending) → Stops (suffixed 4 e ∷ []) b x) → IfErr r (λ y. (e : Ending) → Stops (typed room e ∷ []) from y)
 no_suffixes_stops r x is room from a b is_err p base after =
     thrown r x (λ y. (e : Ending) → Stops (typed room e ∷ []) from y) is_err
     (λ e. stops_behind (typed room e ∷ []) (suffixed 4 e ∷ []) from b x (base_turn is room e from a b p base) (after e))

@@ -8,17 +8,17 @@ use Rattle.ipdl_syntax.specs.declared.tree.FileKind.TheVariants as file
 use Rattle.ipdl_syntax.specs.declared.tree.ProtocolDecl.{ProtocolDecl}
 use Rattle.ipdl_syntax.specs.Parts.{◌⨾◌, mark}
 use Rattle.ipdl_syntax.specs.Grammar.{attributes, protocol_semantics, Inside, Outside, Holder, inside, outside, holder, protocol_file}
-use Rattle.ipdl_syntax.specs.Program.{Tree, Declared, ◌&◌, declared_inside, declared_outside, declared_round, protocol_of, unit_of}
+use Rattle.ipdl_syntax.specs.Program.{Tree, Declarations, ◌&◌, declared_inside, declared_outside, declared_round, protocol_of, unit_of}
 use Rattle.tree_reader.specs.declared.file.Draft.{Draft}
-use Rattle.tree_reader.specs.declared.refusal.Refusal.{Refusal}
-use Rattle.tree_reader.specs.declared.refusal.Refusal.TheVariants.{Left, NoMemory}
+use Rattle.tree_reader.specs.declared.refusal.TreeRefusal.{TreeRefusal}
+use Rattle.tree_reader.specs.declared.refusal.TreeRefusal.TheVariants.{Left, NoMemory}
 use Rattle.tree_reader.specs.declared.symbol.Symbol.{Symbol}
 use Rattle.tree_reader.specs.declared.symbol.Symbol.TheVariants as symbols
 use Rattle.tree_reader.specs.Symbols.{first_symbol}
 use Rattle.tree_reader.specs.Machine.{stand, take, managing, unheaded_step, begin, refusal}
 
 -- The machine refuses the tokens of a file where so many are left. Memory may run out in any case.
-abbrev pub FileStops : FileKind → List Token → Refusal → Type 0
+abbrev pub FileStops : FileKind → List Token → TreeRefusal → Type 0
 FileStops kind tokens (Left n) = refusal [] (begin kind) tokens ≡ Some n
 FileStops kind tokens NoMemory = Unit {0}
 
@@ -35,27 +35,27 @@ room_of [] = 16
 room_of (name ∷ outer) = room_of outer - 1
 
 -- What is left of a file and what it declares, where no protocol may come: the rest of each open namespace, from the innermost, and of the file.
-abbrev pub ClosedRest : List (List ℕ) → Declared → List Token → Type 0
+abbrev pub ClosedRest : List (List ℕ) → Declarations → List Token → Type 0
 ClosedRest [] all from = (x : Outside) × (all ≡ declared_outside x) × outside x from []
 ClosedRest (name ∷ outer) all from =
-    (x : Inside) × (rest : Declared) × (middle : List Token) × (all ≡ declared_inside x & rest)
+    (x : Inside) × (rest : Declarations) × (middle : List Token) × (all ≡ declared_inside x & rest)
     × (inside (room_of (name ∷ outer)) (scope_of (name ∷ outer)) x ⨾ mark (codes "}")) from middle × ClosedRest outer rest middle
 
 -- The same where the protocol is still to come: in the innermost namespace, or behind its end.
-abbrev pub OpenRest : List (List ℕ) → Declared → ProtocolDecl → List Token → Type 0
+abbrev pub OpenRest : List (List ℕ) → Declarations → ProtocolDecl → List Token → Type 0
 OpenRest [] all p from =
     (before : Outside) × (one : Holder) × (after : Outside) × (all ≡ declared_outside before & declared_round one & declared_outside after)
     × (p ≡ protocol_of one) × protocol_file before one after from []
 OpenRest (name ∷ outer) all p from =
     (x : Inside) × (middle : List Token) × inside (room_of (name ∷ outer)) (scope_of (name ∷ outer)) x from middle
-    × (((rest : Declared) × (end : List Token) × (all ≡ declared_inside x & rest) × mark (codes "}") middle end × OpenRest outer rest p end)
-    ⊎ ((one : Holder) × (y : Inside) × (rest : Declared) × (end : List Token) × (all ≡ declared_inside x & declared_round one & declared_inside y & rest) × (p ≡ protocol_of one)
+    × (((rest : Declarations) × (end : List Token) × (all ≡ declared_inside x & rest) × mark (codes "}") middle end × OpenRest outer rest p end)
+    ⊎ ((one : Holder) × (y : Inside) × (rest : Declarations) × (end : List Token) × (all ≡ declared_inside x & declared_round one & declared_inside y & rest) × (p ≡ protocol_of one)
     × (holder (room_of (name ∷ outer)) (scope_of (name ∷ outer)) one ⨾ inside (room_of (name ∷ outer)) (scope_of (name ∷ outer)) y ⨾ mark (codes "}")) middle end × ClosedRest outer rest end))
 
 -- Whatever is left from here makes a tree of all tokens with what was declared so far.
-abbrev pub Makes : FileKind → List Token → Bool → List (List ℕ) → Declared → Option ProtocolDecl → List Token → Type 0
-Makes kind tokens true path so_far protocol from = (rest : Declared) (p : ProtocolDecl) → OpenRest path rest p from → Tree kind tokens (unit_of (so_far & rest) (Some p))
-Makes kind tokens false path so_far protocol from = (rest : Declared) → ClosedRest path rest from → Tree kind tokens (unit_of (so_far & rest) protocol)
+abbrev pub Makes : FileKind → List Token → Bool → List (List ℕ) → Declarations → Option ProtocolDecl → List Token → Type 0
+Makes kind tokens true path so_far protocol from = (rest : Declarations) (p : ProtocolDecl) → OpenRest path rest p from → Tree kind tokens (unit_of (so_far & rest) (Some p))
+Makes kind tokens false path so_far protocol from = (rest : Declarations) → ClosedRest path rest from → Tree kind tokens (unit_of (so_far & rest) protocol)
 
 -- whether the protocol may still come
 abbrev pub may_come : FileKind → Option ProtocolDecl → Bool
@@ -71,7 +71,7 @@ begins_protocol symbols.Sync = true
 begins_protocol _ = false
 
 -- what a draft declares
-abbrev pub declared_of : Draft → Declared
+abbrev pub declared_of : Draft → Declarations
 declared_of draft = record { includes = draft.includes.items; usings = draft.usings.items; structs = draft.structs.items; unions = draft.unions.items }
 
 -- A draft is what stands in the tokens of a file before the ones that are left, and the machine stands there between two declarations.

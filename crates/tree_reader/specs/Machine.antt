@@ -226,27 +226,27 @@ production include_named Quoted = Some (take Semicolon ∷ [])
 production include_named _ = None
 
 -- Where a file stands between its declarations: whether the protocol may still come, how many namespaces are open, and whether attributes have just stood.
-pub data Stand : Type 0 where
-  stand : Bool → ℕ → Bool → Stand
+pub data FileState : Type 0 where
+  stand : Bool → ℕ → Bool → FileState
 
-abbrev pub stepped : Bool → List Form → Stand → Option (List Form × Stand)
+abbrev pub stepped : Bool → List Form → FileState → Option (List Form × FileState)
 stepped true forms to = Some (forms, to)
 stepped false forms to = None
 
 -- the words that begin a declaration where no attributes stand before it, or attributes, or a namespace's end, and what comes behind them
-abbrev pub bare_step : Bool → ℕ → Symbol → Option (List Form × Stand)
+abbrev pub bare_step : Bool → ℕ → Symbol → Option (List Form × FileState)
 bare_step may depth OpenBracket = Some (attributed ∷ [], stand may depth true)
 bare_step may depth Include = stepped (depth == 0) (include_named ∷ []) (stand may depth false)
 bare_step may depth Namespace = stepped (nat_lt depth 16) (take Word ∷ take OpenBrace ∷ []) (stand may (depth + 1) false)
 bare_step may depth CloseBrace = stepped (nat_lt 0 depth) [] (stand may (depth - 1) false)
 bare_step _ _ _ = None
 
-abbrev pub unheaded_step : Bool → Bool → ℕ → Symbol → Option (List Form × Stand)
+abbrev pub unheaded_step : Bool → Bool → ℕ → Symbol → Option (List Form × FileState)
 unheaded_step true may depth s = None
 unheaded_step false may depth s = bare_step may depth s
 
 -- the words that begin a declaration, and what comes behind them
-unfoldable pub step : Stand → Symbol → Option (List Form × Stand)
+unfoldable pub step : FileState → Symbol → Option (List Form × FileState)
 step (stand may depth headed) Struct = Some (take Word ∷ take OpenBrace ∷ fielded ∷ [], stand may depth false)
 step (stand may depth headed) Union = Some (take Word ∷ take OpenBrace ∷ typed 4 ending.Semicolon ∷ componented ∷ [], stand may depth false)
 step (stand may depth headed) Using = stepped (depth == 0) (using_named ∷ []) (stand may depth false)
@@ -256,16 +256,16 @@ step (stand may depth headed) Sync = stepped may (take Protocol ∷ take Word �
 step (stand may depth headed) s = unheaded_step headed may depth s
 
 -- whether a file may end here
-abbrev pub is_end : List Form → Stand → Bool
+abbrev pub is_end : List Form → FileState → Bool
 is_end [] (stand may depth headed) = not may && ((depth == 0) && not headed)
 is_end (f ∷ forms) at = false
 
 -- where a file begins
-abbrev pub begin : FileKind → Stand
+abbrev pub begin : FileKind → FileState
 begin file_kind.Protocol = stand true 0 false
 begin file_kind.Header = stand false 0 false
 
-abbrev pub gone_at : Option (List Form × Stand) → ℕ → (List Form → Stand → Option ℕ) → Option ℕ
+abbrev pub gone_at : Option (List Form × FileState) → ℕ → (List Form → FileState → Option ℕ) → Option ℕ
 gone_at None left go = Some left
 gone_at (Some next) left go = go next.0 next.1
 
@@ -274,7 +274,7 @@ gone_in None left go = Some left
 gone_in (Some new) left go = go new
 
 -- The number of tokens that are left where the machine refuses, or None where it takes all and may end.
-unfoldable pub refusal : List Form → Stand → List Token → Option ℕ
+unfoldable pub refusal : List Form → FileState → List Token → Option ℕ
 refusal forms at [] = cond (is_end forms at) None (Some 0)
 refusal [] at (t ∷ rest) = gone_at (step at (symbol t)) (length rest + 1) (λ forms to. refusal forms to rest)
 refusal (f ∷ forms) at (t ∷ rest) = gone_in (production f (symbol t)) (length rest + 1) (λ new. refusal (new ++ forms) at rest)

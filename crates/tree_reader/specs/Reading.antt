@@ -17,23 +17,23 @@ use Rattle.ipdl_syntax.specs.declared.tree.Suffix.{Suffix}
 use Rattle.ipdl_syntax.specs.declared.tree.UnionDecl.{UnionDecl}
 use Rattle.ipdl_syntax.specs.declared.tree.Using.{Using as UsingDecl}
 use Rattle.ipdl_syntax.specs.Parts.{Part, ◌⨾◌, either, nothing, token, mark, reserved, identifier, at, provided}
-use Rattle.ipdl_syntax.specs.Grammar.{words, attribute, more_attributes, suffix, semantics_word, params, returns, messages, Section, sections, Management, managements, managers_of, managed_of, more_managers, fields, components, declared, foreign_name}
-use Rattle.tree_reader.specs.declared.refusal.Refusal.{Refusal}
-use Rattle.tree_reader.specs.declared.refusal.Refusal.TheVariants.{Left, NoMemory}
+use Rattle.ipdl_syntax.specs.Grammar.{words, attribute, more_attributes, suffix, semantics_word, params, returns, messages, MessageSection, sections, Management, managements, managers_of, managed_of, more_managers, fields, components, declared, foreign_name}
+use Rattle.tree_reader.specs.declared.refusal.TreeRefusal.{TreeRefusal}
+use Rattle.tree_reader.specs.declared.refusal.TreeRefusal.TheVariants.{Left, NoMemory}
 use Rattle.tree_reader.specs.declared.symbol.Symbol.{Symbol}
 use Rattle.tree_reader.specs.declared.symbol.Symbol.TheVariants as symbols
 use Rattle.tree_reader.specs.Ending.{Ending}
 use Rattle.tree_reader.specs.Ending as ending
 use Rattle.tree_reader.specs.Symbols.{symbol, first_symbol}
-use Rattle.tree_reader.specs.Machine.{Form, Stand, production, refusal, section_begins, take, argument_name, suffixed, attributed}
+use Rattle.tree_reader.specs.Machine.{Form, FileState, production, refusal, section_begins, take, argument_name, suffixed, attributed}
 
 -- The machine on these forms before the one tokens goes as on the other forms before the other tokens, whatever is still to come behind the forms.
 abbrev pub Turns : List Form → List Token → List Form → List Token → Type 0
-Turns forms from others to = (more : List Form) (at : Stand) → refusal (forms ++ more) at from ≡ refusal (others ++ more) at to
+Turns forms from others to = (more : List Form) (at : FileState) → refusal (forms ++ more) at from ≡ refusal (others ++ more) at to
 
 -- The machine on these forms refuses where so many tokens are left.
-abbrev pub Stops : List Form → List Token → Refusal → Type 0
-Stops forms from (Left n) = (more : List Form) (at : Stand) → refusal (forms ++ more) at from ≡ Some n
+abbrev pub Stops : List Form → List Token → TreeRefusal → Type 0
+Stops forms from (Left n) = (more : List Form) (at : FileState) → refusal (forms ++ more) at from ≡ Some n
 Stops forms from NoMemory = Unit {0}
 
 -- Tokens
@@ -126,7 +126,7 @@ IsSectioned f tokens = production f (first_symbol tokens) ≡ section_begins (fi
 
 -- sections, and all of their messages
 abbrev pub AreSections : List MessageDecl → Part
-AreSections all from to = (parts : List Section) × (all ≡ flat_map (λ s. s.messages) parts) × sections parts from to
+AreSections all from to = (parts : List MessageSection) × (all ≡ flat_map (λ s. s.messages) parts) × sections parts from to
 
 -- managers behind one of them, to the semicolon
 abbrev pub AddsManagers : List NameAt → List NameAt → Part
@@ -146,7 +146,7 @@ closed = mark (codes "}") ⨾ mark (codes ";")
 -- what stands in a protocol behind its `{`, to its end
 pub record IsBody (managers managed : List NameAt) (all : List MessageDecl) (from to : List Token) : Type 0 where
   pub statements : List Management
-  pub parts : List Section
+  pub parts : List MessageSection
   pub managers_of_them : managers ≡ flat_map managers_of statements
   pub managed_of_them : managed ≡ flat_map managed_of statements
   pub messages_of_them : all ≡ flat_map (λ s. s.messages) parts

@@ -3,15 +3,15 @@ ghost use Rattle.ipdl_syntax.specs.Grammar.{value, attribute, attributes};
 ghost use Rattle.tree_reader.specs.Machine.{Form, attributed, behind_attribute, more_attributed};
 ghost use Rattle.tree_reader.specs.Reading.{Turns, Stops, IsBracketed, MayBeHeaded};
 
-use crate::reader::Reader;
-use crate::refusal::Refusal;
+use crate::reader::TokenReader;
+use crate::refusal::TreeRefusal;
 use crate::symbol::Symbol;
 use ipdl_base::{Items, Name};
 use ipdl_syntax::{Attribute, Attributes, NameAt};
 use std::alloc::Global;
 
 /// Takes the value of an attribute, where it has one.
-fn value(alloc: Global, reader: &mut Reader) -> Result<Option<Name>, Refusal>
+fn value(alloc: Global, reader: &mut TokenReader) -> Result<Option<Name>, TreeRefusal>
     ensures read { IfOk result (λ text. value text reader.old reader.new) }
     ensures turns { OnOk result (Turns (behind_attribute ∷ []) reader.old (more_attributed ∷ []) reader.new) }
     ensures stops { IfErr result (Stops (behind_attribute ∷ []) reader.old) }
@@ -25,7 +25,7 @@ fn value(alloc: Global, reader: &mut Reader) -> Result<Option<Name>, Refusal>
 }
 
 /// Takes an attribute.
-fn attribute(alloc: Global, reader: &mut Reader) -> Result<Attribute, Refusal>
+fn attribute(alloc: Global, reader: &mut TokenReader) -> Result<Attribute, TreeRefusal>
     ensures read { IfOk result (λ a. attribute a reader.old reader.new) }
     ensures turns { OnOk result (Turns (attributed ∷ []) reader.old (more_attributed ∷ []) reader.new) }
     ensures stops { IfErr result (Stops (attributed ∷ []) reader.old) }
@@ -37,7 +37,7 @@ fn attribute(alloc: Global, reader: &mut Reader) -> Result<Attribute, Refusal>
 }
 
 /// Takes attributes behind their `[`, to their `]`.
-pub(crate) fn bracketed(alloc: Global, reader: &mut Reader) -> Result<Attributes, Refusal>
+pub(crate) fn bracketed(alloc: Global, reader: &mut TokenReader) -> Result<Attributes, TreeRefusal>
     ensures read { IfOk result (λ all. IsBracketed all reader.old reader.new) }
     ensures turns { OnOk result (Turns (attributed ∷ []) reader.old [] reader.new) }
     ensures stops { IfErr result (Stops (attributed ∷ []) reader.old) }
@@ -53,7 +53,7 @@ pub(crate) fn bracketed(alloc: Global, reader: &mut Reader) -> Result<Attributes
 }
 
 /// Takes attributes in brackets, where there are some.
-pub(crate) fn attributes(alloc: Global, reader: &mut Reader) -> Result<Attributes, Refusal>
+pub(crate) fn attributes(alloc: Global, reader: &mut TokenReader) -> Result<Attributes, TreeRefusal>
     ensures read { IfOk result (λ all. attributes all reader.old reader.new) }
     ensures turns { OnOk result ((f : Form) (others : List Form) → MayBeHeaded f others reader.old → Turns (f ∷ []) reader.old others reader.new) }
     ensures stops { IfErr result (λ e. (f : Form) (others : List Form) → MayBeHeaded f others reader.old → Stops (f ∷ []) reader.old e) }

@@ -5,8 +5,8 @@ ghost use Rattle.tree_reader.specs.Reading.{Turns, Stops, IsNext, IsSectioned, b
 ghost use Rattle.tree_reader.specs.Symbols.{first_symbol};
 
 use crate::messages::message;
-use crate::reader::Reader;
-use crate::refusal::Refusal;
+use crate::reader::TokenReader;
+use crate::refusal::TreeRefusal;
 use crate::symbol::Symbol;
 use ipdl_base::{Direction, Items};
 use ipdl_syntax::{MessageDecl, MessageDecls, NameAt, NamesAt};
@@ -25,10 +25,10 @@ fn begins_message(symbol: Symbol) -> bool
 /// Takes the messages of a section behind its colon, and puts them behind those before them.
 fn section_messages(
     alloc: Global,
-    reader: &mut Reader,
+    reader: &mut TokenReader,
     direction: Direction,
     all: &mut Vec<MessageDecl>,
-) -> Result<(), Refusal>
+) -> Result<(), TreeRefusal>
     ensures read { OnOk result (AddsMessages direction all.old.items all.new.items reader.old reader.new) }
     ensures ending { OnOk result (begins_message (first_symbol reader.new) ≡ false) }
     ensures turns { OnOk result (Turns (messaged direction ∷ []) reader.old (messaged direction ∷ []) reader.new) }
@@ -54,7 +54,7 @@ fn direction_of(symbol: Symbol) -> Option<Direction>
 }
 
 /// Takes all sections of a protocol, and gives their messages.
-fn sections(alloc: Global, reader: &mut Reader) -> Result<Vec<MessageDecl>, Refusal>
+fn sections(alloc: Global, reader: &mut TokenReader) -> Result<Vec<MessageDecl>, TreeRefusal>
     ensures read { IfOk result (λ all. AreSections all.items reader.old reader.new) }
     ensures turns { OnOk result ((f : Form) → IsSectioned f reader.old → Turns (f ∷ []) reader.old (take CloseBrace ∷ take Semicolon ∷ []) reader.new) }
     ensures stops { IfErr result (λ e. (f : Form) → IsSectioned f reader.old → Stops (f ∷ []) reader.old e) }
@@ -72,9 +72,9 @@ fn sections(alloc: Global, reader: &mut Reader) -> Result<Vec<MessageDecl>, Refu
 /// Takes managers behind one of them, to the semicolon, and puts them behind those before them.
 fn more_managers(
     alloc: Global,
-    reader: &mut Reader,
+    reader: &mut TokenReader,
     managers: &mut Vec<NameAt>,
-) -> Result<(), Refusal>
+) -> Result<(), TreeRefusal>
     ensures read { OnOk result (AddsManagers managers.old.items managers.new.items reader.old reader.new) }
     ensures turns { OnOk result (Turns (more_managing ∷ []) reader.old [] reader.new) }
     ensures stops { IfErr result (Stops (more_managing ∷ []) reader.old) }
@@ -89,10 +89,10 @@ fn more_managers(
 /// Takes a statement on who manages, where there is one, and says whether there was.
 fn statement(
     alloc: Global,
-    reader: &mut Reader,
+    reader: &mut TokenReader,
     managers: &mut Vec<NameAt>,
     manages: &mut Vec<NameAt>,
-) -> Result<bool, Refusal>
+) -> Result<bool, TreeRefusal>
     ensures read { OnOk result (AddsStatements managers.old.items managers.new.items manages.old.items manages.new.items reader.old reader.new) }
     ensures turns { OnOk result (Turns (managing ∷ []) reader.old (managing ∷ []) reader.new) }
     ensures ending { IfOk result (λ found. found ≡ false → IsSectioned managing reader.new) }
@@ -115,14 +115,14 @@ fn statement(
 
 /// What a protocol says behind its `{`.
 #[derive(Drop)]
-pub(crate) struct Body {
+pub(crate) struct ProtocolBody {
     pub(crate) managers: NamesAt,
     pub(crate) manages: NamesAt,
     pub(crate) messages: MessageDecls,
 }
 
 /// Takes a protocol behind its `{`.
-pub(crate) fn protocol_body(alloc: Global, reader: &mut Reader) -> Result<Body, Refusal>
+pub(crate) fn protocol_body(alloc: Global, reader: &mut TokenReader) -> Result<ProtocolBody, TreeRefusal>
     ensures read { IfOk result (λ b. IsBody b.managers b.manages b.messages reader.old reader.new) }
     ensures turns { OnOk result (Turns (managing ∷ []) reader.old [] reader.new) }
     ensures stops { IfErr result (Stops (managing ∷ []) reader.old) }
@@ -134,7 +134,7 @@ pub(crate) fn protocol_body(alloc: Global, reader: &mut Reader) -> Result<Body, 
     let messages = sections(alloc, reader)?;
     reader.take(Symbol::CloseBrace)?;
     reader.take(Symbol::Semicolon)?;
-    Ok(Body {
+    Ok(ProtocolBody {
         managers: Items::from_vec(managers),
         manages: Items::from_vec(manages),
         messages: Items::from_vec(messages),

@@ -6,8 +6,8 @@ ghost use Rattle.tree_reader.specs.Ending as ending;
 ghost use Rattle.tree_reader.specs.Machine.{take, typed, fielded, componented};
 ghost use Rattle.tree_reader.specs.Reading.{Turns, Stops, closed};
 
-use crate::reader::Reader;
-use crate::refusal::Refusal;
+use crate::reader::TokenReader;
+use crate::refusal::TreeRefusal;
 use crate::symbol::Symbol;
 use crate::types::type_spec;
 use ipdl_base::Items;
@@ -15,7 +15,7 @@ use ipdl_syntax::{NameAt, Param, Params, TypeSpec, TypeSpecs};
 use std::alloc::Global;
 
 /// Takes a field.
-fn field(alloc: Global, reader: &mut Reader) -> Result<Param, Refusal>
+fn field(alloc: Global, reader: &mut TokenReader) -> Result<Param, TreeRefusal>
     ensures read { IfOk result (λ p. field p reader.old reader.new) }
     ensures turns { OnOk result (Turns (typed 4 ending.Name ∷ take symbols.Semicolon ∷ []) reader.old [] reader.new) }
     ensures stops { IfErr result (Stops (typed 4 ending.Name ∷ take symbols.Semicolon ∷ []) reader.old) }
@@ -33,7 +33,7 @@ fn field(alloc: Global, reader: &mut Reader) -> Result<Param, Refusal>
 }
 
 /// Takes the fields of a struct behind its `{`, and its end.
-pub(crate) fn fields(alloc: Global, reader: &mut Reader) -> Result<Params, Refusal>
+pub(crate) fn fields(alloc: Global, reader: &mut TokenReader) -> Result<Params, TreeRefusal>
     ensures read { IfOk result (λ fs. (fields fs ⨾ closed) reader.old reader.new) }
     ensures turns { OnOk result (Turns (fielded ∷ []) reader.old [] reader.new) }
     ensures stops { IfErr result (Stops (fielded ∷ []) reader.old) }
@@ -48,7 +48,7 @@ pub(crate) fn fields(alloc: Global, reader: &mut Reader) -> Result<Params, Refus
 }
 
 /// Takes a component.
-fn component(alloc: Global, reader: &mut Reader) -> Result<TypeSpec, Refusal>
+fn component(alloc: Global, reader: &mut TokenReader) -> Result<TypeSpec, TreeRefusal>
     ensures read { IfOk result (λ c. (type_spec c ⨾ mark (codes ";")) reader.old reader.new) }
     ensures turns { OnOk result (Turns (typed 4 ending.Semicolon ∷ []) reader.old [] reader.new) }
     ensures stops { IfErr result (Stops (typed 4 ending.Semicolon ∷ []) reader.old) }
@@ -60,7 +60,7 @@ fn component(alloc: Global, reader: &mut Reader) -> Result<TypeSpec, Refusal>
 }
 
 /// Takes the components of a union behind its `{`, at least one, and its end.
-pub(crate) fn components(alloc: Global, reader: &mut Reader) -> Result<TypeSpecs, Refusal>
+pub(crate) fn components(alloc: Global, reader: &mut TokenReader) -> Result<TypeSpecs, TreeRefusal>
     ensures read { IfOk result (λ cs. (components cs ⨾ closed) reader.old reader.new) }
     ensures some { IfOk result (λ cs. cs ≢ []) }
     ensures turns { OnOk result (Turns (typed 4 ending.Semicolon ∷ componented ∷ []) reader.old [] reader.new) }

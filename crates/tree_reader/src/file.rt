@@ -12,8 +12,8 @@ use crate::attributes::bracketed;
 use crate::heads::{
     include_decl, namespace_name, protocol_decl, struct_decl, union_decl, using_decl,
 };
-use crate::reader::Reader;
-use crate::refusal::Refusal;
+use crate::reader::TokenReader;
+use crate::refusal::TreeRefusal;
 use crate::symbol::Symbol;
 use ipdl_base::{Items, Name, Semantics, Token};
 use ipdl_syntax::{
@@ -57,10 +57,10 @@ fn may_come(kind: FileKind, draft: &Draft) -> bool
 /// Adds the struct whose keyword is next, with the attributes before it.
 fn add_struct(
     alloc: Global,
-    reader: &mut Reader,
+    reader: &mut TokenReader,
     draft: &mut Draft,
     attributes: Attributes,
-) -> Result<(), Refusal>
+) -> Result<(), TreeRefusal>
     requires { first_symbol reader.old ≡ symbols.Struct }
     ensures read { OnOk result ((kind : FileKind) (tokens : List Token) → IsHeadedDraft kind tokens attributes draft.old reader.old → IsDraft kind tokens draft.new reader.new) }
     ensures stops { IfErr result (λ e. (kind : FileKind) (tokens : List Token) → IsHeadedDraft kind tokens attributes draft.old reader.old → FileStops kind tokens e) }
@@ -75,10 +75,10 @@ fn add_struct(
 /// Adds the union whose keyword is next, with the attributes before it.
 fn add_union(
     alloc: Global,
-    reader: &mut Reader,
+    reader: &mut TokenReader,
     draft: &mut Draft,
     attributes: Attributes,
-) -> Result<(), Refusal>
+) -> Result<(), TreeRefusal>
     requires { first_symbol reader.old ≡ symbols.Union }
     ensures read { OnOk result ((kind : FileKind) (tokens : List Token) → IsHeadedDraft kind tokens attributes draft.old reader.old → IsDraft kind tokens draft.new reader.new) }
     ensures stops { IfErr result (λ e. (kind : FileKind) (tokens : List Token) → IsHeadedDraft kind tokens attributes draft.old reader.old → FileStops kind tokens e) }
@@ -93,10 +93,10 @@ fn add_union(
 /// Adds the using whose keyword is next, with the attributes before it. No namespace is open.
 fn add_using(
     alloc: Global,
-    reader: &mut Reader,
+    reader: &mut TokenReader,
     draft: &mut Draft,
     attributes: Attributes,
-) -> Result<(), Refusal>
+) -> Result<(), TreeRefusal>
     requires using { first_symbol reader.old ≡ symbols.Using }
     requires outside { length draft.old.scope.items ≡ 0 }
     ensures read { OnOk result ((kind : FileKind) (tokens : List Token) → IsHeadedDraft kind tokens attributes draft.old reader.old → IsDraft kind tokens draft.new reader.new) }
@@ -111,7 +111,7 @@ fn add_using(
 
 /// Passes the word that says how the messages of the protocol that comes next are sent; without one
 /// they are async.
-fn protocol_semantics(reader: &mut Reader) -> Semantics
+fn protocol_semantics(reader: &mut TokenReader) -> Semantics
     requires { begins_protocol (first_symbol reader.old) ≡ true }
     ensures drafted { (kind : FileKind) (tokens : List Token) (list : List Attribute) (draft : Draft) → may_come kind draft.protocol ≡ true → IsHeadedDraft kind tokens list draft reader.old → IsProtocolDraft kind tokens list result draft reader.new }
     ensures fewer { length reader.new ≤ length reader.old }
@@ -126,11 +126,11 @@ fn protocol_semantics(reader: &mut Reader) -> Semantics
 /// Adds the protocol whose keyword is to come, with the attributes and the word before it.
 fn add_protocol(
     alloc: Global,
-    reader: &mut Reader,
+    reader: &mut TokenReader,
     draft: &mut Draft,
     attributes: Attributes,
     semantics: Semantics,
-) -> Result<(), Refusal>
+) -> Result<(), TreeRefusal>
     ensures read { OnOk result ((kind : FileKind) (tokens : List Token) → IsProtocolDraft kind tokens attributes semantics draft.old reader.old → IsDraft kind tokens draft.new reader.new) }
     ensures stops { IfErr result (λ e. (kind : FileKind) (tokens : List Token) → IsProtocolDraft kind tokens attributes semantics draft.old reader.old → FileStops kind tokens e) }
     ensures less { OnOk result (length reader.new < length reader.old) }
@@ -144,11 +144,11 @@ fn add_protocol(
 /// Adds the declaration that comes next, with the attributes before it.
 fn headed(
     alloc: Global,
-    reader: &mut Reader,
+    reader: &mut TokenReader,
     draft: &mut Draft,
     kind: FileKind,
     attributes: Attributes,
-) -> Result<(), Refusal>
+) -> Result<(), TreeRefusal>
     ensures read { OnOk result ((tokens : List Token) → IsHeadedDraft kind tokens attributes draft.old reader.old → IsDraft kind tokens draft.new reader.new) }
     ensures stops { IfErr result (λ e. (tokens : List Token) → IsHeadedDraft kind tokens attributes draft.old reader.old → FileStops kind tokens e) }
     ensures less { OnOk result (length reader.new < length reader.old) }
@@ -168,10 +168,10 @@ fn headed(
 /// Adds the declaration whose attributes come next.
 fn attributed(
     alloc: Global,
-    reader: &mut Reader,
+    reader: &mut TokenReader,
     draft: &mut Draft,
     kind: FileKind,
-) -> Result<(), Refusal>
+) -> Result<(), TreeRefusal>
     requires { first_symbol reader.old ≡ symbols.OpenBracket }
     ensures read { OnOk result ((tokens : List Token) → IsDraft kind tokens draft.old reader.old → IsDraft kind tokens draft.new reader.new) }
     ensures stops { IfErr result (λ e. (tokens : List Token) → IsDraft kind tokens draft.old reader.old → FileStops kind tokens e) }
@@ -183,7 +183,7 @@ fn attributed(
 }
 
 /// Adds the include whose keyword is next. No namespace is open.
-fn add_include(alloc: Global, reader: &mut Reader, draft: &mut Draft) -> Result<(), Refusal>
+fn add_include(alloc: Global, reader: &mut TokenReader, draft: &mut Draft) -> Result<(), TreeRefusal>
     requires including { first_symbol reader.old ≡ symbols.Include }
     requires outside { length draft.old.scope.items ≡ 0 }
     ensures read { OnOk result ((kind : FileKind) (tokens : List Token) → IsDraft kind tokens draft.old reader.old → IsDraft kind tokens draft.new reader.new) }
@@ -197,7 +197,7 @@ fn add_include(alloc: Global, reader: &mut Reader, draft: &mut Draft) -> Result<
 }
 
 /// Opens the namespace whose keyword is next. Fewer than 16 are open.
-fn open_namespace(alloc: Global, reader: &mut Reader, draft: &mut Draft) -> Result<(), Refusal>
+fn open_namespace(alloc: Global, reader: &mut TokenReader, draft: &mut Draft) -> Result<(), TreeRefusal>
     requires opening { first_symbol reader.old ≡ symbols.Namespace }
     requires room { length draft.old.scope.items < 16 }
     ensures read { OnOk result ((kind : FileKind) (tokens : List Token) → IsDraft kind tokens draft.old reader.old → IsDraft kind tokens draft.new reader.new) }
@@ -211,7 +211,7 @@ fn open_namespace(alloc: Global, reader: &mut Reader, draft: &mut Draft) -> Resu
 }
 
 /// Closes the innermost namespace, whose `}` is next.
-fn close_namespace(reader: &mut Reader, draft: &mut Draft)
+fn close_namespace(reader: &mut TokenReader, draft: &mut Draft)
     requires closing { first_symbol reader.old ≡ symbols.CloseBrace }
     requires inside { 0 < length draft.old.scope.items }
     ensures read { (kind : FileKind) (tokens : List Token) → IsDraft kind tokens draft.old reader.old → IsDraft kind tokens draft.new reader.new }
@@ -224,10 +224,10 @@ fn close_namespace(reader: &mut Reader, draft: &mut Draft)
 /// Adds what comes next: a declaration, or a namespace's begin or end.
 fn declaration(
     alloc: Global,
-    reader: &mut Reader,
+    reader: &mut TokenReader,
     draft: &mut Draft,
     kind: FileKind,
-) -> Result<(), Refusal>
+) -> Result<(), TreeRefusal>
     requires { first_symbol reader.old ≢ symbols.End }
     ensures read { OnOk result ((tokens : List Token) → IsDraft kind tokens draft.old reader.old → IsDraft kind tokens draft.new reader.new) }
     ensures stops { IfErr result (λ e. (tokens : List Token) → IsDraft kind tokens draft.old reader.old → FileStops kind tokens e) }
@@ -246,12 +246,12 @@ fn declaration(
 }
 
 /// The tree of a draft where all tokens are read.
-fn finish(draft: Draft, kind: FileKind) -> Result<Unit, Refusal>
+fn finish(draft: Draft, kind: FileKind) -> Result<Unit, TreeRefusal>
     ensures read { IfOk result (λ unit. (tokens : List Token) → IsDraft kind tokens draft [] → Tree kind tokens unit) }
     ensures stops { IfErr result (λ e. (tokens : List Token) → IsDraft kind tokens draft [] → FileStops kind tokens e) }
 {
     if may_come(kind, &draft) || !draft.scope.is_empty() {
-        return Err(Refusal::Left(0));
+        return Err(TreeRefusal::Left(0));
     }
     Ok(Unit {
         includes: Items::from_vec(draft.includes),
@@ -264,11 +264,11 @@ fn finish(draft: Draft, kind: FileKind) -> Result<Unit, Refusal>
 
 /// Reads all tokens of a file of this kind, and gives their tree (docs/grammar.md). Where no file
 /// can go on, the refusal says how many tokens are left there. In any case memory may run out.
-pub fn read_file(alloc: Global, tokens: &[Token], kind: FileKind) -> Result<Unit, Refusal>
+pub fn read_file(alloc: Global, tokens: &[Token], kind: FileKind) -> Result<Unit, TreeRefusal>
     ensures read { IfOk result (Tree kind tokens.now) }
     ensures stops { IfErr result (FileStops kind tokens.now) }
 {
-    let mut reader = Reader::new(tokens);
+    let mut reader = TokenReader::new(tokens);
     let mut draft = empty(alloc);
     'declarations: while reader.symbol() != Symbol::End {
         declaration(alloc, &mut reader, &mut draft, kind)?;

@@ -7,11 +7,11 @@ ghost use Rattle.tree_reader.specs.Ending as ending;
 ghost use Rattle.tree_reader.specs.Machine.{take, typed, fielded, componented, managing, using_named, using_word, include_named};
 ghost use Rattle.tree_reader.specs.Reading.{Turns, Stops, IsStructBehind, IsUnionBehind, IsUsingBehind, IsProtocolBehind, from_file};
 
-use crate::body::{Body, protocol_body};
+use crate::body::{ProtocolBody, protocol_body};
 use crate::fields::{components, fields};
 use crate::names::{Named, name_with_argument};
-use crate::reader::Reader;
-use crate::refusal::Refusal;
+use crate::reader::TokenReader;
+use crate::refusal::TreeRefusal;
 use crate::symbol::Symbol;
 use ipdl_base::{Items, Name, Semantics};
 use ipdl_syntax::{
@@ -33,7 +33,7 @@ fn full_name(alloc: Global, scope: &[Name], name: &Name) -> Result<Name, AllocEr
 }
 
 /// Takes the name that a declaration in these namespaces gives, and the `{` behind it.
-fn declared(alloc: Global, reader: &mut Reader, scope: &[Name]) -> Result<NameAt, Refusal>
+fn declared(alloc: Global, reader: &mut TokenReader, scope: &[Name]) -> Result<NameAt, TreeRefusal>
     ensures read { IfOk result (λ n. (declared scope.now n.name n.place ⨾ mark (codes "{")) reader.old reader.new) }
     ensures turns { OnOk result (Turns (take Word ∷ take OpenBrace ∷ []) reader.old [] reader.new) }
     ensures stops { IfErr result (Stops (take Word ∷ take OpenBrace ∷ []) reader.old) }
@@ -50,10 +50,10 @@ fn declared(alloc: Global, reader: &mut Reader, scope: &[Name]) -> Result<NameAt
 /// Takes a struct behind its keyword.
 pub(crate) fn struct_decl(
     alloc: Global,
-    reader: &mut Reader,
+    reader: &mut TokenReader,
     scope: &[Name],
     attributes: Attributes,
-) -> Result<StructDecl, Refusal>
+) -> Result<StructDecl, TreeRefusal>
     ensures read { IfOk result (λ s. IsStructBehind scope.now attributes s reader.old reader.new) }
     ensures turns { OnOk result (Turns (take Word ∷ take OpenBrace ∷ fielded ∷ []) reader.old [] reader.new) }
     ensures stops { IfErr result (Stops (take Word ∷ take OpenBrace ∷ fielded ∷ []) reader.old) }
@@ -72,10 +72,10 @@ pub(crate) fn struct_decl(
 /// Takes a union behind its keyword.
 pub(crate) fn union_decl(
     alloc: Global,
-    reader: &mut Reader,
+    reader: &mut TokenReader,
     scope: &[Name],
     attributes: Attributes,
-) -> Result<UnionDecl, Refusal>
+) -> Result<UnionDecl, TreeRefusal>
     ensures read { IfOk result (λ u. IsUnionBehind scope.now attributes u reader.old reader.new) }
     ensures turns { OnOk result (Turns (take Word ∷ take OpenBrace ∷ typed 4 ending.Semicolon ∷ componented ∷ []) reader.old [] reader.new) }
     ensures stops { IfErr result (Stops (take Word ∷ take OpenBrace ∷ typed 4 ending.Semicolon ∷ componented ∷ []) reader.old) }
@@ -94,18 +94,18 @@ pub(crate) fn union_decl(
 /// Takes a protocol behind its keyword.
 pub(crate) fn protocol_decl(
     alloc: Global,
-    reader: &mut Reader,
+    reader: &mut TokenReader,
     scope: &[Name],
     attributes: Attributes,
     semantics: Semantics,
-) -> Result<ProtocolDecl, Refusal>
+) -> Result<ProtocolDecl, TreeRefusal>
     ensures read { IfOk result (λ p. IsProtocolBehind scope.now attributes semantics p reader.old reader.new) }
     ensures turns { OnOk result (Turns (take Word ∷ take OpenBrace ∷ managing ∷ []) reader.old [] reader.new) }
     ensures stops { IfErr result (Stops (take Word ∷ take OpenBrace ∷ managing ∷ []) reader.old) }
     ensures less { OnOk result (length reader.new < length reader.old) }
 {
     let NameAt { name, place } = declared(alloc, reader, scope)?;
-    let Body {
+    let ProtocolBody {
         managers,
         manages,
         messages,
@@ -122,7 +122,7 @@ pub(crate) fn protocol_decl(
 }
 
 /// Passes the word before the name of a using, where there is one.
-fn kind_word(reader: &mut Reader)
+fn kind_word(reader: &mut TokenReader)
     ensures read { (either nothing (either (reserved (codes "class")) (reserved (codes "struct")))) reader.old reader.new }
     ensures turns { Turns (using_named ∷ []) reader.old (using_word ∷ []) reader.new }
     ensures fewer { length reader.new ≤ length reader.old }
@@ -149,7 +149,7 @@ fn whole_name(alloc: Global, name: Name, inner: Option<Name>) -> Result<Name, Al
 }
 
 /// Takes the file that a using names, to the semicolon.
-fn from_file(reader: &mut Reader) -> Result<(), Refusal>
+fn from_file(reader: &mut TokenReader) -> Result<(), TreeRefusal>
     ensures read { OnOk result (from_file reader.old reader.new) }
     ensures turns { OnOk result (Turns (take From ∷ take Quoted ∷ take Semicolon ∷ []) reader.old [] reader.new) }
     ensures stops { IfErr result (Stops (take From ∷ take Quoted ∷ take Semicolon ∷ []) reader.old) }
@@ -163,9 +163,9 @@ fn from_file(reader: &mut Reader) -> Result<(), Refusal>
 /// Takes a using behind its keyword.
 pub(crate) fn using_decl(
     alloc: Global,
-    reader: &mut Reader,
+    reader: &mut TokenReader,
     attributes: Attributes,
-) -> Result<Using, Refusal>
+) -> Result<Using, TreeRefusal>
     ensures read { IfOk result (λ u. IsUsingBehind attributes u reader.old reader.new) }
     ensures turns { OnOk result (Turns (using_named ∷ []) reader.old [] reader.new) }
     ensures stops { IfErr result (Stops (using_named ∷ []) reader.old) }
@@ -182,7 +182,7 @@ pub(crate) fn using_decl(
 }
 
 /// Takes what an include names.
-fn included(alloc: Global, reader: &mut Reader) -> Result<Include, Refusal>
+fn included(alloc: Global, reader: &mut TokenReader) -> Result<Include, TreeRefusal>
     ensures read { IfOk result (λ i. included i.kind i.name i.place reader.old reader.new) }
     ensures turns { OnOk result (Turns (include_named ∷ []) reader.old (take Semicolon ∷ []) reader.new) }
     ensures stops { IfErr result (Stops (include_named ∷ []) reader.old) }
@@ -219,7 +219,7 @@ fn included(alloc: Global, reader: &mut Reader) -> Result<Include, Refusal>
 }
 
 /// Takes an include behind its keyword.
-pub(crate) fn include_decl(alloc: Global, reader: &mut Reader) -> Result<Include, Refusal>
+pub(crate) fn include_decl(alloc: Global, reader: &mut TokenReader) -> Result<Include, TreeRefusal>
     ensures read { IfOk result (λ i. (included i.kind i.name i.place ⨾ mark (codes ";")) reader.old reader.new) }
     ensures turns { OnOk result (Turns (include_named ∷ []) reader.old [] reader.new) }
     ensures stops { IfErr result (Stops (include_named ∷ []) reader.old) }
@@ -231,7 +231,7 @@ pub(crate) fn include_decl(alloc: Global, reader: &mut Reader) -> Result<Include
 }
 
 /// Takes the name of a namespace behind its keyword, and the `{` behind it.
-pub(crate) fn namespace_name(alloc: Global, reader: &mut Reader) -> Result<Name, Refusal>
+pub(crate) fn namespace_name(alloc: Global, reader: &mut TokenReader) -> Result<Name, TreeRefusal>
     ensures read { IfOk result (λ name. (word name ⨾ mark (codes "{")) reader.old reader.new) }
     ensures turns { OnOk result (Turns (take Word ∷ take OpenBrace ∷ []) reader.old [] reader.new) }
     ensures stops { IfErr result (Stops (take Word ∷ take OpenBrace ∷ []) reader.old) }

@@ -17,5 +17,5 @@ mod symbol;
 mod types;
 
 pub use file::read_file;
-pub use refusal::Refusal;
+pub use refusal::TreeRefusal;
 pub use symbol::Symbol;

@@ -8,15 +8,15 @@ ghost use Rattle.tree_reader.specs.Symbols.{first_symbol};
 
 use crate::attributes::attributes;
 use crate::params::params;
-use crate::reader::Reader;
-use crate::refusal::Refusal;
+use crate::reader::TokenReader;
+use crate::refusal::TreeRefusal;
 use crate::symbol::Symbol;
 use ipdl_base::{Direction, Semantics};
 use ipdl_syntax::{Attributes, MessageDecl, NameAt, Params};
 use std::alloc::Global;
 
 /// Takes the returns of a message, where it has some.
-fn returns(alloc: Global, reader: &mut Reader) -> Result<Option<Params>, Refusal>
+fn returns(alloc: Global, reader: &mut TokenReader) -> Result<Option<Params>, TreeRefusal>
     ensures read { IfOk result (λ found. returns found reader.old reader.new) }
     ensures turns { OnOk result (Turns (behind_parameters ∷ []) reader.old (take Semicolon ∷ []) reader.new) }
     ensures stops { IfErr result (Stops (behind_parameters ∷ []) reader.old) }
@@ -31,7 +31,7 @@ fn returns(alloc: Global, reader: &mut Reader) -> Result<Option<Params>, Refusal
 }
 
 /// Takes the word that says how a message is sent.
-fn semantics(reader: &mut Reader) -> Result<Semantics, Refusal>
+fn semantics(reader: &mut TokenReader) -> Result<Semantics, TreeRefusal>
     ensures read { IfOk result (λ how. reserved (semantics_word how) reader.old reader.new) }
     ensures turns { OnOk result (Turns (one_message ∷ []) reader.old (take Word ∷ take OpenParen ∷ parameters ∷ behind_parameters ∷ []) reader.new) }
     ensures stops { IfErr result (Stops (one_message ∷ []) reader.old) }
@@ -54,7 +54,7 @@ struct Contents {
 }
 
 /// Takes what stands in a message behind its name.
-fn message_contents(alloc: Global, reader: &mut Reader) -> Result<Contents, Refusal>
+fn message_contents(alloc: Global, reader: &mut TokenReader) -> Result<Contents, TreeRefusal>
     ensures read { IfOk result (λ c. (mark (codes "(") ⨾ params c.params ⨾ mark (codes ")") ⨾ returns c.returns ⨾ mark (codes ";")) reader.old reader.new) }
     ensures turns { OnOk result (Turns (take OpenParen ∷ parameters ∷ behind_parameters ∷ []) reader.old [] reader.new) }
     ensures stops { IfErr result (Stops (take OpenParen ∷ parameters ∷ behind_parameters ∷ []) reader.old) }
@@ -70,10 +70,10 @@ fn message_contents(alloc: Global, reader: &mut Reader) -> Result<Contents, Refu
 /// Takes a message behind its attributes.
 fn bare_message(
     alloc: Global,
-    reader: &mut Reader,
+    reader: &mut TokenReader,
     direction: Direction,
     attributes: Attributes,
-) -> Result<MessageDecl, Refusal>
+) -> Result<MessageDecl, TreeRefusal>
     ensures read { IfOk result (λ m. bare_message m reader.old reader.new) }
     ensures given { IfOk result (λ m. (m.direction ≡ direction) × (m.attributes ≡ attributes)) }
     ensures turns { OnOk result (Turns (one_message ∷ []) reader.old [] reader.new) }
@@ -97,9 +97,9 @@ fn bare_message(
 /// Takes a message of a section.
 pub(crate) fn message(
     alloc: Global,
-    reader: &mut Reader,
+    reader: &mut TokenReader,
     direction: Direction,
-) -> Result<MessageDecl, Refusal>
+) -> Result<MessageDecl, TreeRefusal>
     requires { begins_message (first_symbol reader.old) ≡ true }
     ensures read { IfOk result (λ m. message direction m reader.old reader.new) }
     ensures turns { OnOk result (Turns (messaged direction ∷ []) reader.old (messaged direction ∷ []) reader.new) }

@@ -6,8 +6,8 @@ ghost use Rattle.tree_reader.specs.Machine.{Form, take, argument_name};
 ghost use Rattle.tree_reader.specs.Reading.{Turns, Stops, AddsWords, IsNaming, MayHaveArgument};
 ghost use Rattle.tree_reader.specs.Symbols.{first_symbol};
 
-use crate::reader::Reader;
-use crate::refusal::Refusal;
+use crate::reader::TokenReader;
+use crate::refusal::TreeRefusal;
 use crate::symbol::Symbol;
 use ipdl_base::{Items, Name, Place};
 use ipdl_syntax::NameAt;
@@ -15,7 +15,7 @@ use std::alloc::Global;
 
 /// Takes the words of a name behind its first one, each with the `::` before it, and puts them
 /// behind the text.
-fn more_words(alloc: Global, reader: &mut Reader, text: &mut Vec<u8>) -> Result<(), Refusal>
+fn more_words(alloc: Global, reader: &mut TokenReader, text: &mut Vec<u8>) -> Result<(), TreeRefusal>
     ensures read { OnOk result (AddsWords text.old.items text.new.items reader.old reader.new) }
     ensures ending { OnOk result (first_symbol reader.new ≢ Colons) }
     ensures turns { OnOk result ((f : Form) → IsNaming f → Turns (f ∷ []) reader.old (f ∷ []) reader.new) }
@@ -31,7 +31,7 @@ fn more_words(alloc: Global, reader: &mut Reader, text: &mut Vec<u8>) -> Result<
 }
 
 /// Takes a name with its namespaces; its place is that of its first word.
-fn qualified(alloc: Global, reader: &mut Reader) -> Result<NameAt, Refusal>
+fn qualified(alloc: Global, reader: &mut TokenReader) -> Result<NameAt, TreeRefusal>
     ensures read { IfOk result (λ n. at n.place (qualified n.name) reader.old reader.new) }
     ensures ending { OnOk result (first_symbol reader.new ≢ Colons) }
     ensures turns { OnOk result ((f : Form) → IsNaming f → Turns (take Word ∷ f ∷ []) reader.old (f ∷ []) reader.new) }
@@ -48,7 +48,7 @@ fn qualified(alloc: Global, reader: &mut Reader) -> Result<NameAt, Refusal>
 }
 
 /// Takes the argument of a name behind its `<`, to its `>`.
-fn argument_name(alloc: Global, reader: &mut Reader) -> Result<Name, Refusal>
+fn argument_name(alloc: Global, reader: &mut TokenReader) -> Result<Name, TreeRefusal>
     ensures read { IfOk result (λ name. (qualified name ⨾ mark (codes ">")) reader.old reader.new) }
     ensures turns { OnOk result (Turns (argument_name ∷ []) reader.old [] reader.new) }
     ensures stops { IfErr result (Stops (argument_name ∷ []) reader.old) }
@@ -60,7 +60,7 @@ fn argument_name(alloc: Global, reader: &mut Reader) -> Result<Name, Refusal>
 }
 
 /// Takes the argument of a name, where there is one.
-fn argument(alloc: Global, reader: &mut Reader) -> Result<Option<Name>, Refusal>
+fn argument(alloc: Global, reader: &mut TokenReader) -> Result<Option<Name>, TreeRefusal>
     requires { first_symbol reader.old ≢ Colons }
     ensures read { IfOk result (λ inner. argument inner reader.old reader.new) }
     ensures turns { OnOk result ((f : Form) (others : List Form) → MayHaveArgument f others → Turns (f ∷ []) reader.old others reader.new) }
@@ -84,7 +84,7 @@ pub(crate) struct Named {
 }
 
 /// Takes a name, perhaps with an argument.
-pub(crate) fn name_with_argument(alloc: Global, reader: &mut Reader) -> Result<Named, Refusal>
+pub(crate) fn name_with_argument(alloc: Global, reader: &mut TokenReader) -> Result<Named, TreeRefusal>
     ensures read { IfOk result (λ n. at n.place (named n.name n.inner) reader.old reader.new) }
     ensures turns { OnOk result ((f : Form) (others : List Form) → IsNaming f → MayHaveArgument f others → Turns (take Word ∷ f ∷ []) reader.old others reader.new) }
     ensures stops { IfErr result (λ e. (f : Form) (others : List Form) → IsNaming f → MayHaveArgument f others → Stops (take Word ∷ f ∷ []) reader.old e) }

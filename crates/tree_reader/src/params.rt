@@ -6,8 +6,8 @@ ghost use Rattle.tree_reader.specs.Reading.{Turns, Stops};
 
 use crate::attributes::attributes;
 use crate::lists::fitted;
-use crate::reader::Reader;
-use crate::refusal::Refusal;
+use crate::reader::TokenReader;
+use crate::refusal::TreeRefusal;
 use crate::symbol::Symbol;
 use crate::types::type_spec;
 use ipdl_base::Items;
@@ -15,7 +15,7 @@ use ipdl_syntax::{NameAt, Param, Params};
 use std::alloc::Global;
 
 /// Takes a parameter.
-fn param(alloc: Global, reader: &mut Reader) -> Result<Param, Refusal>
+fn param(alloc: Global, reader: &mut TokenReader) -> Result<Param, TreeRefusal>
     ensures read { IfOk result (λ p. param p reader.old reader.new) }
     ensures turns { OnOk result (Turns (one_param ∷ []) reader.old [] reader.new) }
     ensures stops { IfErr result (Stops (one_param ∷ []) reader.old) }
@@ -33,7 +33,7 @@ fn param(alloc: Global, reader: &mut Reader) -> Result<Param, Refusal>
 }
 
 /// Takes at least one parameter, to the `)`.
-fn some_params(alloc: Global, reader: &mut Reader) -> Result<Params, Refusal>
+fn some_params(alloc: Global, reader: &mut TokenReader) -> Result<Params, TreeRefusal>
     ensures read { IfOk result (λ ps. (params ps ⨾ mark (codes ")")) reader.old reader.new) }
     ensures turns { OnOk result (Turns (one_param ∷ more_parameters ∷ []) reader.old [] reader.new) }
     ensures stops { IfErr result (Stops (one_param ∷ more_parameters ∷ []) reader.old) }
@@ -49,7 +49,7 @@ fn some_params(alloc: Global, reader: &mut Reader) -> Result<Params, Refusal>
 }
 
 /// Takes parameters behind their `(`, perhaps none, to their `)`.
-pub(crate) fn params(alloc: Global, reader: &mut Reader) -> Result<Params, Refusal>
+pub(crate) fn params(alloc: Global, reader: &mut TokenReader) -> Result<Params, TreeRefusal>
     ensures read { IfOk result (λ ps. (params ps ⨾ mark (codes ")")) reader.old reader.new) }
     ensures turns { OnOk result (Turns (parameters ∷ []) reader.old [] reader.new) }
     ensures stops { IfErr result (Stops (parameters ∷ []) reader.old) }

@@ -1,13 +1,13 @@
 ghost use Rattle.std.specs.Prelude.{◌≡◌, ◌≢◌, ◌<◌, IfOk, OnOk, IfErr, true, false, [], ◌∷◌, length};
 ghost use Rattle.ipdl_syntax.specs.Parts.{identifier};
-ghost use Rattle.tree_reader.specs.declared.refusal.Refusal.TheVariants.{Left, NoMemory};
+ghost use Rattle.tree_reader.specs.declared.refusal.TreeRefusal.TheVariants.{Left, NoMemory};
 ghost use Rattle.tree_reader.specs.declared.symbol.Symbol.TheVariants.{End, Word};
 ghost use Rattle.tree_reader.specs.Machine.{take, any_word};
 ghost use Rattle.tree_reader.specs.Reading.{Turns, Stops, IsNext, IsNextAt, IsNextText, IsAnyWord};
 ghost use Rattle.tree_reader.specs.Spelling.{spelled};
 ghost use Rattle.tree_reader.specs.Symbols.{first_symbol};
 
-use crate::refusal::Refusal;
+use crate::refusal::TreeRefusal;
 use crate::symbol::{Symbol, first_symbol};
 use ipdl_base::{Items, Name, Place, Token, TokenKind};
 use ipdl_syntax::NameAt;
@@ -26,13 +26,13 @@ fn name_of(alloc: Global, token: &Token) -> Result<Name, AllocError>
 
 /// The tokens that are left.
 #[derive(Drop)]
-pub(crate) struct Reader<'a, 't> {
+pub(crate) struct TokenReader<'a, 't> {
     rest: &'a [Token<'t>],
     /// The symbol of the first of them, or that of the end.
     next: Symbol,
 }
 
-impl<'a, 't> Model for Reader<'a, 't> {
+impl<'a, 't> Model for TokenReader<'a, 't> {
     ghost use Rattle.std.specs.Prelude.{◌≡◌, List};
     ghost use Rattle.ipdl_base.specs.declared.token.Token.{Token};
     ghost use Rattle.tree_reader.specs.Symbols.{first_symbol};
@@ -44,11 +44,11 @@ impl<'a, 't> Model for Reader<'a, 't> {
     ghost invariant = { λ r. r.next ≡ first_symbol r.rest.now };
 }
 
-impl<'a, 't> Reader<'a, 't> {
-    pub(crate) fn new(tokens: &'a [Token<'t>]) -> Reader<'a, 't>
+impl<'a, 't> TokenReader<'a, 't> {
+    pub(crate) fn new(tokens: &'a [Token<'t>]) -> TokenReader<'a, 't>
         ensures { result ≡ tokens.now }
     {
-        Reader {
+        TokenReader {
             rest: tokens,
             next: first_symbol(tokens),
         }
@@ -76,10 +76,10 @@ impl<'a, 't> Reader<'a, 't> {
     }
 
     /// That the next token, or the end, may not stand here.
-    pub(crate) fn refusal(&self) -> Refusal
+    pub(crate) fn refusal(&self) -> TreeRefusal
         ensures { result ≡ Left (length self.now) }
     {
-        Refusal::Left(self.rest.len())
+        TreeRefusal::Left(self.rest.len())
     }
 
     /// Passes the next token, and gives its place.
@@ -90,7 +90,7 @@ impl<'a, 't> Reader<'a, 't> {
         let (first, rest) = self.rest.split_at(1);
         let token = &first[0];
         let place = token.place();
-        *self = Reader::new(rest);
+        *self = TokenReader::new(rest);
         place
     }
 
@@ -108,7 +108,7 @@ impl<'a, 't> Reader<'a, 't> {
     }
 
     /// Takes a token with this symbol.
-    pub(crate) fn take(&mut self, symbol: Symbol) -> Result<(), Refusal>
+    pub(crate) fn take(&mut self, symbol: Symbol) -> Result<(), TreeRefusal>
         requires { symbol ≢ End }
         ensures read { OnOk result (spelled symbol self.old self.new) }
         ensures turns { OnOk result (Turns (take symbol ∷ []) self.old [] self.new) }
@@ -131,12 +131,12 @@ impl<'a, 't> Reader<'a, 't> {
         let token = &first[0];
         let name = name_of(alloc, token)?;
         let place = token.place();
-        *self = Reader::new(rest);
+        *self = TokenReader::new(rest);
         Ok(NameAt { name, place })
     }
 
     /// Takes a word that is not reserved.
-    pub(crate) fn word(&mut self, alloc: Global) -> Result<NameAt, Refusal>
+    pub(crate) fn word(&mut self, alloc: Global) -> Result<NameAt, TreeRefusal>
         ensures read { IfOk result (λ n. identifier n.name n.place self.old self.new) }
         ensures turns { OnOk result (Turns (take Word ∷ []) self.old [] self.new) }
         ensures stops { IfErr result (Stops (take Word ∷ []) self.old) }
@@ -149,7 +149,7 @@ impl<'a, 't> Reader<'a, 't> {
     }
 
     /// Takes any word or a quoted text.
-    pub(crate) fn any_word(&mut self, alloc: Global) -> Result<Name, Refusal>
+    pub(crate) fn any_word(&mut self, alloc: Global) -> Result<Name, TreeRefusal>
         ensures read { IfOk result (λ name. IsAnyWord name self.old self.new) }
         ensures turns { OnOk result (Turns (any_word ∷ []) self.old [] self.new) }
         ensures stops { IfErr result (Stops (any_word ∷ []) self.old) }
@@ -161,7 +161,7 @@ impl<'a, 't> Reader<'a, 't> {
                     return Err(self.refusal());
                 }
                 let name = name_of(alloc, first)?;
-                *self = Reader::new(rest);
+                *self = TokenReader::new(rest);
                 Ok(name)
             }
             None => Err(self.refusal()),

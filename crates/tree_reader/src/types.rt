@@ -6,15 +6,15 @@ ghost use Rattle.tree_reader.specs.Machine.{take, suffixed, based, typed};
 ghost use Rattle.tree_reader.specs.Reading.{Turns, Stops, last, MaySuffix};
 
 use crate::names::{Named, name_with_argument};
-use crate::reader::Reader;
-use crate::refusal::Refusal;
+use crate::reader::TokenReader;
+use crate::refusal::TreeRefusal;
 use crate::symbol::Symbol;
 use ipdl_base::{Items, Place};
 use ipdl_syntax::{Base, Suffix, Suffixes, TypeSpec};
 use std::alloc::Global;
 
 /// Takes a suffix, where there is one.
-fn suffix(reader: &mut Reader) -> Result<Option<Suffix>, Refusal>
+fn suffix(reader: &mut TokenReader) -> Result<Option<Suffix>, TreeRefusal>
     ensures read { IfOk result (λ found. MaySuffix found reader.old reader.new) }
     ensures stops { IfErr result (λ e. (n : ℕ) (e' : Ending) → 0 < n → Stops (suffixed n e' ∷ []) reader.old e) }
     ensures fewer { OnOk result (length reader.new ≤ length reader.old) }
@@ -30,7 +30,7 @@ fn suffix(reader: &mut Reader) -> Result<Option<Suffix>, Refusal>
 }
 
 /// Takes the suffixes of a type, at most four.
-fn suffixes(alloc: Global, reader: &mut Reader) -> Result<Suffixes, Refusal>
+fn suffixes(alloc: Global, reader: &mut TokenReader) -> Result<Suffixes, TreeRefusal>
     ensures read { IfOk result (λ all. suffixes all reader.old reader.new) }
     ensures few { IfOk result (λ all. length all ≤ 4) }
     ensures turns { OnOk result ((e : Ending) → Turns (suffixed 4 e ∷ []) reader.old (take (last e) ∷ []) reader.new) }
@@ -49,7 +49,7 @@ fn suffixes(alloc: Global, reader: &mut Reader) -> Result<Suffixes, Refusal>
 
 /// Takes what the suffixes of a type apply to, with room for so many `UniquePtr` inside one another.
 #[cycle(type_spec)]
-fn base(alloc: Global, reader: &mut Reader, room: usize) -> Result<(Base, Place), Refusal>
+fn base(alloc: Global, reader: &mut TokenReader, room: usize) -> Result<(Base, Place), TreeRefusal>
     requires { room ≤ 4 }
     ensures read { IfOk result (λ b. at b.1 (base room b.0) reader.old reader.new) }
     ensures turns { OnOk result ((e : Ending) → Turns (based room e ∷ []) reader.old (suffixed 4 e ∷ []) reader.new) }
@@ -74,7 +74,7 @@ fn base(alloc: Global, reader: &mut Reader, room: usize) -> Result<(Base, Place)
 
 /// Takes a type, with room for so many `UniquePtr` inside one another.
 #[cycle(type_spec)]
-fn type_within(alloc: Global, reader: &mut Reader, room: usize) -> Result<TypeSpec, Refusal>
+fn type_within(alloc: Global, reader: &mut TokenReader, room: usize) -> Result<TypeSpec, TreeRefusal>
     requires { room ≤ 4 }
     ensures read { IfOk result (λ spec. type_round spec.nullable (base room spec.base) spec.suffixes spec.place reader.old reader.new) }
     ensures turns { OnOk result ((e : Ending) → Turns (typed room e ∷ []) reader.old (take (last e) ∷ []) reader.new) }
@@ -93,7 +93,7 @@ fn type_within(alloc: Global, reader: &mut Reader, room: usize) -> Result<TypeSp
 }
 
 /// Takes a type.
-pub(crate) fn type_spec(alloc: Global, reader: &mut Reader) -> Result<TypeSpec, Refusal>
+pub(crate) fn type_spec(alloc: Global, reader: &mut TokenReader) -> Result<TypeSpec, TreeRefusal>
     ensures read { IfOk result (λ spec. type_spec spec reader.old reader.new) }
     ensures turns { OnOk result ((e : Ending) → Turns (typed 4 e ∷ []) reader.old (take (last e) ∷ []) reader.new) }
     ensures stops { IfErr result (λ r. (e : Ending) → Stops (typed 4 e ∷ []) reader.old r) }

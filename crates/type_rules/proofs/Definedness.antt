@@ -9,9 +9,9 @@ use Rattle.ipdl_syntax.specs.declared.tree.Param.{Param}
 use Rattle.ipdl_syntax.specs.declared.tree.StructDecl.{StructDecl}
 use Rattle.ipdl_syntax.specs.declared.tree.TypeSpec.{TypeSpec}
 use Rattle.ipdl_syntax.specs.declared.tree.UnionDecl.{UnionDecl}
-use Rattle.least_sets.specs.Derived.{IsDerived, all as derived_all, one as derived_one}
-use Rattle.least_sets.specs.declared.nodes.Need.TheVariants.{All, One}
-use Rattle.least_sets.specs.declared.nodes.Node.{Node}
+use Rattle.least_fixed_points.specs.Derived.{IsDerived, all as derived_all, one as derived_one}
+use Rattle.least_fixed_points.specs.declared.nodes.Need.TheVariants.{All, One}
+use Rattle.least_fixed_points.specs.declared.nodes.Node.{Node}
 use Rattle.name_table.specs.declared.decl.DeclId.{DeclId}
 use Rattle.name_table.specs.declared.decl.DeclId.TheVariants.{Builtin, Using, Struct, Union, Protocol, Endpoint}
 use Rattle.name_table.specs.declared.decl.Found.{Found}
@@ -19,7 +19,7 @@ use Rattle.name_table.specs.declared.decl.Found.TheVariants as found
 use Rattle.name_table.specs.Decls.{FindsOne, struct_of, union_of}
 use Rattle.name_table.specs.Finds.{Finds, Counts}
 use Rattle.name_table.proofs.Seeing.{sees_shown}
-use Rattle.type_rules.specs.Compounds.{Numbered, struct as the_struct, union as the_union, IsDefinedCompound, number_of, number_found, AllNumbered}
+use Rattle.type_rules.specs.Compounds.{NumberedType, struct as the_struct, union as the_union, IsDefinedCompound, number_of, number_found, AllNumbered}
 use Rattle.type_rules.specs.Defined.{IsCompound, IsDefined, loose, atom, struct, union, inside}
 use Rattle.type_rules.specs.Parts.{IsPart, IsFree, IsNodeOf, AreNodes}
 use Rattle.type_rules.specs.declared.compounds.FileNumbers.{FileNumbers}
@@ -45,7 +45,7 @@ union_there program file name argument other place one =
 
 -- Bases
 
-free_name : (program : List Entry) (all : List Numbered) (files : List FileNumbers) → AllNumbered program all files → (file : ℕ) (name : List ℕ) (argument : Option (List ℕ)) (finds : Found) → Counts (Finds program file name argument) finds → number_found files finds ≡ None → IsDefined program file (Named name argument)
+free_name : (program : List Entry) (all : List NumberedType) (files : List FileNumbers) → AllNumbered program all files → (file : ℕ) (name : List ℕ) (argument : Option (List ℕ)) (finds : Found) → Counts (Finds program file name argument) finds → number_found files finds ≡ None → IsDefined program file (Named name argument)
 free_name program all files numbered file name argument found.None counts none = loose (λ d one. counts d one.0)
 free_name program all files numbered file name argument (found.Many a b) counts none = loose (λ d one. counts.2 (one.1 a counts.0 ∙ sym (one.1 b counts.1)))
 free_name program all files numbered file name argument (found.One (Struct other place)) counts none =
@@ -62,12 +62,12 @@ free_name program all files numbered file name argument (found.One (Protocol oth
 free_name program all files numbered file name argument (found.One (Endpoint other managed)) counts none = atom (Endpoint other managed) counts (λ x. x)
 
 -- a base without a number is defined
-free_defined : (program : List Entry) (all : List Numbered) (files : List FileNumbers) → AllNumbered program all files → (file : ℕ) (base : Base) → IsFree program files file base → IsDefined program file base
+free_defined : (program : List Entry) (all : List NumberedType) (files : List FileNumbers) → AllNumbered program all files → (file : ℕ) (base : Base) → IsFree program files file base → IsDefined program file base
 free_defined program all files numbered file (Named name argument) (finds, counts, none) = free_name program all files numbered file name argument finds counts none
 free_defined program all files numbered file (Unique' at nullable inner after place) free = inside (free_defined program all files numbered file inner free)
 
-part_name : (program : List Entry) (all : List Numbered) (files : List FileNumbers) → AllNumbered program all files → (file : ℕ) (name : List ℕ) (argument : Option (List ℕ)) (n : ℕ) (d : DeclId) → FindsOne program file name argument d → number_of files d ≡ Some n
-    → (c : Numbered) × (slice_get all n ≡ Some c) × (IsDefinedCompound program c → IsDefined program file (Named name argument))
+part_name : (program : List Entry) (all : List NumberedType) (files : List FileNumbers) → AllNumbered program all files → (file : ℕ) (name : List ℕ) (argument : Option (List ℕ)) (n : ℕ) (d : DeclId) → FindsOne program file name argument d → number_of files d ≡ Some n
+    → (c : NumberedType) × (slice_get all n ≡ Some c) × (IsDefinedCompound program c → IsDefined program file (Named name argument))
 part_name program all files numbered file name argument n (Struct other place) one at =
     let s = struct_there program file name argument other place one in
     let m = numbered.structs other place s.0 s.1 in
@@ -84,8 +84,8 @@ part_name program all files numbered file name argument n (Protocol other) one a
 part_name program all files numbered file name argument n (Endpoint other managed) one at = absurd (none-some n at)
 
 -- a base with a number is defined where the struct or union of that number is
-part_defined : (program : List Entry) (all : List Numbered) (files : List FileNumbers) → AllNumbered program all files → (file : ℕ) (base : Base) (n : ℕ) → IsPart program files file base n
-    → (c : Numbered) × (slice_get all n ≡ Some c) × (IsDefinedCompound program c → IsDefined program file base)
+part_defined : (program : List Entry) (all : List NumberedType) (files : List FileNumbers) → AllNumbered program all files → (file : ℕ) (base : Base) (n : ℕ) → IsPart program files file base n
+    → (c : NumberedType) × (slice_get all n ≡ Some c) × (IsDefinedCompound program c → IsDefined program file base)
 part_defined program all files numbered file (Named name argument) n (d, one, at) = part_name program all files numbered file name argument n d one at
 part_defined program all files numbered file (Unique' at nullable inner after place) n part =
     let t = part_defined program all files numbered file inner n part in
@@ -101,8 +101,8 @@ all_or_one node a b = let e : All ≡ One = sym a ∙ b in cc
 
 -- From derivations of nodes to definedness
 
-from_all : (program : List Entry) (all : List Numbered) (files : List FileNumbers) → AllNumbered program all files → (c : Numbered) (node : Node) → IsNodeOf program files c node → node.need ≡ All
-    → ((n : ℕ) → Contains node.parts.items n → (d : Numbered) → slice_get all n ≡ Some d → IsDefinedCompound program d) → IsDefinedCompound program c
+from_all : (program : List Entry) (all : List NumberedType) (files : List FileNumbers) → AllNumbered program all files → (c : NumberedType) (node : Node) → IsNodeOf program files c node → node.need ≡ All
+    → ((n : ℕ) → Contains node.parts.items n → (d : NumberedType) → slice_get all n ≡ Some d → IsDefinedCompound program d) → IsDefinedCompound program c
 from_all program all files numbered (the_struct file s) node (parts, are, is) need ih =
     λ field contains. elim (are.each field.spec.base (contains_map (λ (f : Param). f.spec.base) s.fields field contains)) [
       | inl free ↦ free_defined program all files numbered file field.spec.base free
@@ -117,8 +117,8 @@ from_all program all files numbered (the_union file u) node (parts, are, inl is)
     (h.1, (h.0, h.2, h.3), free_defined program all files numbered file h.1.base h.4)
 from_all program all files numbered (the_union file u) node (parts, are, inr is) need ih = absurd (all_or_one node need is.1)
 
-from_one : (program : List Entry) (all : List Numbered) (files : List FileNumbers) → AllNumbered program all files → (c : Numbered) (node : Node) → IsNodeOf program files c node → node.need ≡ One → (n : ℕ) → Contains node.parts.items n
-    → ((d : Numbered) → slice_get all n ≡ Some d → IsDefinedCompound program d) → IsDefinedCompound program c
+from_one : (program : List Entry) (all : List NumberedType) (files : List FileNumbers) → AllNumbered program all files → (c : NumberedType) (node : Node) → IsNodeOf program files c node → node.need ≡ One → (n : ℕ) → Contains node.parts.items n
+    → ((d : NumberedType) → slice_get all n ≡ Some d → IsDefinedCompound program d) → IsDefinedCompound program c
 from_one program all files numbered (the_struct file s) node (parts, are, is) need n contains ih = absurd (all_or_one node is.need need)
 from_one program all files numbered (the_union file u) node (parts, are, inl is) need n contains ih = absurd (all_or_one node is.1 need)
 from_one program all files numbered (the_union file u) node (parts, are, inr is) need n contains ih =
@@ -128,7 +128,7 @@ from_one program all files numbered (the_union file u) node (parts, are, inr is)
     (h.1, (h.0, h.2, h.3), t.2 (ih t.0 t.1))
 
 -- the struct or union of a derived node is defined
-pub derived_defined : (program : List Entry) (all : List Numbered) (files : List FileNumbers) (nodes : List Node) → AllNumbered program all files → AreNodes program files all nodes → {k : ℕ} → IsDerived nodes k → (c : Numbered) → slice_get all k ≡ Some c → IsDefinedCompound program c
+pub derived_defined : (program : List Entry) (all : List NumberedType) (files : List FileNumbers) (nodes : List Node) → AllNumbered program all files → AreNodes program files all nodes → {k : ℕ} → IsDerived nodes k → (c : NumberedType) → slice_get all k ≡ Some c → IsDefinedCompound program c
 derived_defined program all files nodes numbered are (derived_all {k} node at need parts) c here =
     let n = are.each k c here in
     let same : n.0 ≡ node = same_Some n.0 node (sym n.1 ∙ at) in
@@ -168,7 +168,7 @@ no_number files (Protocol other) n not at = none-some n at
 no_number files (Endpoint other managed) n not at = none-some n at
 
 -- the node of what a defined base finds is derived
-part_derived : (program : List Entry) (all : List Numbered) (files : List FileNumbers) (nodes : List Node) → AllNumbered program all files → AreNodes program files all nodes → {file : ℕ} {base : Base} → IsDefined program file base → (n : ℕ) → IsPart program files file base n → IsDerived nodes n
+part_derived : (program : List Entry) (all : List NumberedType) (files : List FileNumbers) (nodes : List Node) → AllNumbered program all files → AreNodes program files all nodes → {file : ℕ} {base : Base} → IsDefined program file base → (n : ℕ) → IsPart program files file base n → IsDerived nodes n
 part_derived program all files nodes numbered are (loose none) n (d, one, at) = absurd (none d one)
 part_derived program all files nodes numbered are (atom d one not) n (e, other, at) = absurd (no_number files d n not (ap (number_of files) (other.1 d one.0) ∙ at))
 part_derived program all files nodes numbered are (struct other place s one of fields) n (e, two, at) =
@@ -184,7 +184,7 @@ part_derived program all files nodes numbered are (union other place u component
 part_derived program all files nodes numbered are (inside defined) n part = part_derived program all files nodes numbered are defined n part
 
 -- the node of a defined struct or union is derived
-pub defined_derived : (program : List Entry) (all : List Numbered) (files : List FileNumbers) (nodes : List Node) → AllNumbered program all files → AreNodes program files all nodes → (k : ℕ) (c : Numbered) → slice_get all k ≡ Some c → IsDefinedCompound program c → IsDerived nodes k
+pub defined_derived : (program : List Entry) (all : List NumberedType) (files : List FileNumbers) (nodes : List Node) → AllNumbered program all files → AreNodes program files all nodes → (k : ℕ) (c : NumberedType) → slice_get all k ≡ Some c → IsDefinedCompound program c → IsDerived nodes k
 defined_derived program all files nodes numbered are k (the_struct file s) here defined =
     let node = are.each k (the_struct file s) here in
     struct_derived program files nodes k file s node.0 node.1 node.2 (λ field contains n part. part_derived program all files nodes numbered are (defined field contains) n part)

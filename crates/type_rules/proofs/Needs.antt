@@ -10,13 +10,13 @@ use Rattle.std.proofs.lemmas.Option.{none-some}
 use Rattle.findings.proofs.Elements.{any_cases, any_left}
 use Rattle.ipdl_syntax.specs.declared.program.Entry.{Entry}
 use Rattle.ipdl_syntax.specs.declared.tree.Base.{Base, Named, Unique'}
-use Rattle.least_sets.specs.declared.nodes.Node.{Node}
+use Rattle.least_fixed_points.specs.declared.nodes.Node.{Node}
 use Rattle.name_table.specs.declared.decl.DeclId.{DeclId}
 use Rattle.name_table.specs.declared.decl.Found.{Found}
 use Rattle.name_table.specs.declared.decl.Found.TheVariants as found
 use Rattle.name_table.specs.Decls.{FindsOne}
 use Rattle.name_table.specs.Finds.{Finds, Counts}
-use Rattle.type_rules.specs.Compounds.{Numbered, number_of, number_found, told}
+use Rattle.type_rules.specs.Compounds.{NumberedType, number_of, number_found, told}
 use Rattle.type_rules.specs.Parts.{IsPart, IsFree, AddsPart, AreParts, IsNodeOf, AreNodes}
 use Rattle.type_rules.specs.declared.compounds.Compound.{Compound}
 use Rattle.type_rules.specs.declared.compounds.FileNumbers.{FileNumbers}
@@ -80,7 +80,7 @@ parts_turn {X} base_of program files file xs i x old new lt is before adds =
 pub nodes_none : (program : List Entry) (files : List FileNumbers) → AreNodes program files [] []
 nodes_none program files = record { long = refl; each = λ k c h. absurd (none-some c h) }
 
-nodes_push : (program : List Entry) (files : List FileNumbers) (all : List Numbered) (c : Numbered) (nodes : List Node) (node : Node) → AreNodes program files all nodes → IsNodeOf program files c node → AreNodes program files (all ++ c ∷ []) (nodes ++ node ∷ [])
+nodes_push : (program : List Entry) (files : List FileNumbers) (all : List NumberedType) (c : NumberedType) (nodes : List Node) (node : Node) → AreNodes program files all nodes → IsNodeOf program files c node → AreNodes program files (all ++ c ∷ []) (nodes ++ node ∷ [])
 nodes_push program files all c nodes node before is = record {
   long = length_push nodes node ∙ ap (λ n. n + 1) before.long ∙ sym (length_push all c);
   each = λ k d h. elim (slice_get-push all c k d h) [
@@ -88,7 +88,7 @@ nodes_push program files all c nodes node before is = record {
     | inr e ↦ (
         let here : length nodes ≡ k = before.long ∙ sym e.0 in
         let P : ℕ → Type 0 = λ k. slice_get (nodes ++ node ∷ []) k ≡ Some node in
-        let Q : Numbered → Type 0 = λ z. IsNodeOf program files z node in
+        let Q : NumberedType → Type 0 = λ z. IsNodeOf program files z node in
         (node, subst P here (slice_get-last nodes node), subst Q e.1 is)
         )
   ];

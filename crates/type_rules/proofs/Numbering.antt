@@ -10,16 +10,16 @@ use Rattle.ipdl_syntax.specs.declared.tree.StructDecl.{StructDecl}
 use Rattle.ipdl_syntax.specs.declared.tree.UnionDecl.{UnionDecl}
 use Rattle.name_table.specs.declared.decl.DeclId.TheVariants.{Struct, Union}
 use Rattle.name_table.specs.Decls.{struct_of, union_of}
-use Rattle.type_rules.specs.Compounds.{Numbered, struct, union, IsIn, AreNumbers, AreOfFile, number_of, AllNumbered}
+use Rattle.type_rules.specs.Compounds.{NumberedType, struct, union, IsIn, AreNumbers, AreOfFile, number_of, AllNumbered}
 use Rattle.type_rules.specs.declared.compounds.FileNumbers.{FileNumbers}
 use Rattle.findings.proofs.Indexed.{slice_get-push, slice_get-last}
 use Rattle.type_rules.proofs.Lists.{any_of_map, slice_get-left}
 
 -- none of these yet
-pub numbers_none : {X : Type 0} (make : X → Numbered) (all : List Numbered) → AreNumbers make [] [] all all
+pub numbers_none : {X : Type 0} (make : X → NumberedType) (all : List NumberedType) → AreNumbers make [] [] all all
 numbers_none make all = record { long = refl; grown = sym (append-nil all); each = λ place x h. absurd (none-some x h) }
 
-numbers_push : {X : Type 0} (make : X → Numbered) (xs : List X) (x : X) (numbers : List ℕ) (old mid : List Numbered) → AreNumbers make xs numbers old mid → AreNumbers make (xs ++ x ∷ []) (numbers ++ length mid ∷ []) old (mid ++ make x ∷ [])
+numbers_push : {X : Type 0} (make : X → NumberedType) (xs : List X) (x : X) (numbers : List ℕ) (old mid : List NumberedType) → AreNumbers make xs numbers old mid → AreNumbers make (xs ++ x ∷ []) (numbers ++ length mid ∷ []) old (mid ++ make x ∷ [])
 numbers_push {X} make xs x numbers old mid before = record {
   long = length_push numbers (length mid) ∙ ap (λ n. n + 1) before.long ∙ sym (length_push xs x);
   grown = ap (λ l. l ++ make x ∷ []) before.grown ∙ append_assoc old (map make xs) (make x ∷ []) ∙ ap (λ l. old ++ l) (sym (map-append make xs (x ∷ [])));
@@ -35,29 +35,29 @@ numbers_push {X} make xs x numbers old mid before = record {
 }
 
 -- one more
-pub numbers_turn : {X : Type 0} (make : X → Numbered) (xs : List X) (i : ℕ) (x : X) (numbers more : List ℕ) (old mid new : List Numbered) → i < length xs → x ≡ get_or xs i x → more ≡ numbers ++ length mid ∷ [] → new ≡ mid ++ make x ∷ [] → AreNumbers make (take i xs) numbers old mid → AreNumbers make (take (i + 1) xs) more old new
+pub numbers_turn : {X : Type 0} (make : X → NumberedType) (xs : List X) (i : ℕ) (x : X) (numbers more : List ℕ) (old mid new : List NumberedType) → i < length xs → x ≡ get_or xs i x → more ≡ numbers ++ length mid ∷ [] → new ≡ mid ++ make x ∷ [] → AreNumbers make (take i xs) numbers old mid → AreNumbers make (take (i + 1) xs) more old new
 numbers_turn {X} make xs i x numbers more old mid new lt is longer grown before =
     let P : X → Type 0 = λ y. AreNumbers make (take i xs ++ y ∷ []) (numbers ++ length mid ∷ []) old (mid ++ make x ∷ []) in
     rw (take_more xs i x lt, longer, grown) (subst P is (numbers_push make (take i xs) x numbers old mid before))
 
 -- what stands in files stands in more files
-in_left : (es : List Entry) (e : Entry) (c : Numbered) → IsIn es c → IsIn (es ++ e ∷ []) c
+in_left : (es : List Entry) (e : Entry) (c : NumberedType) → IsIn es c → IsIn (es ++ e ∷ []) c
 in_left es e (struct file s) (place, at) =
     (place, option_and_then_some (λ (e : Entry). slice_get e.unit.structs place) (slice_get es file) s at (λ x here there. ap (option_and_then (λ (e : Entry). slice_get e.unit.structs place)) (slice_get-left es (e ∷ []) file x here) ∙ there))
 in_left es e (union file u) (place, at) =
     (place, option_and_then_some (λ (e : Entry). slice_get e.unit.unions place) (slice_get es file) u at (λ x here there. ap (option_and_then (λ (e : Entry). slice_get e.unit.unions place)) (slice_get-left es (e ∷ []) file x here) ∙ there))
 
 -- an element of a list that is made of another, by its index there
-made : {X : Type 0} (make : X → Numbered) (xs : List X) (c : Numbered) → Contains (map make xs) c → (k : ℕ) × (x : X) × (slice_get xs k ≡ Some x) × (make x ≡ c)
+made : {X : Type 0} (make : X → NumberedType) (xs : List X) (c : NumberedType) → Contains (map make xs) c → (k : ℕ) × (x : X) × (slice_get xs k ≡ Some x) × (make x ≡ c)
 made make xs c (k, lt, at) = let h = any_of_map make (λ z. z ≡ c) xs (k, c, lt, at, refl) in (h.0, h.1, slice_get_read xs (length xs) h.0 h.1 refl h.2 (sym h.3), h.4)
 
-kept : {X : Type 0} (make : X → Numbered) (xs : List X) (numbers : List ℕ) (old new : List Numbered) → AreNumbers make xs numbers old new → (n : ℕ) (c : Numbered) → slice_get old n ≡ Some c → slice_get new n ≡ Some c
-kept make xs numbers old new are n c h = ap (λ (l : List Numbered). slice_get l n) are.grown ∙ slice_get-left old (map make xs) n c h
+kept : {X : Type 0} (make : X → NumberedType) (xs : List X) (numbers : List ℕ) (old new : List NumberedType) → AreNumbers make xs numbers old new → (n : ℕ) (c : NumberedType) → slice_get old n ≡ Some c → slice_get new n ≡ Some c
+kept make xs numbers old new are n c h = ap (λ (l : List NumberedType). slice_get l n) are.grown ∙ slice_get-left old (map make xs) n c h
 
-grown_cases : {X : Type 0} (make : X → Numbered) (xs : List X) (numbers : List ℕ) (old new : List Numbered) → AreNumbers make xs numbers old new → (c : Numbered) → Contains new c → Contains old c ⊎ Contains (map make xs) c
-grown_cases make xs numbers old new are c h = let P : List Numbered → Type 0 = λ l. Contains l c in Contains-append_cases old (map make xs) c (subst P are.grown h)
+grown_cases : {X : Type 0} (make : X → NumberedType) (xs : List X) (numbers : List ℕ) (old new : List NumberedType) → AreNumbers make xs numbers old new → (c : NumberedType) → Contains new c → Contains old c ⊎ Contains (map make xs) c
+grown_cases make xs numbers old new are c h = let P : List NumberedType → Type 0 = λ l. Contains l c in Contains-append_cases old (map make xs) c (subst P are.grown h)
 
-numbered_struct : (es : List Entry) (e : Entry) (all new : List Numbered) (files : List FileNumbers) (f : FileNumbers) → AllNumbered es all files → AreOfFile (length es) e.unit f all new
+numbered_struct : (es : List Entry) (e : Entry) (all new : List NumberedType) (files : List FileNumbers) (f : FileNumbers) → AllNumbered es all files → AreOfFile (length es) e.unit f all new
     → (file place : ℕ) (s : StructDecl) → struct_of (es ++ e ∷ []) file place ≡ Some s → (n : ℕ) × (number_of (files ++ f ∷ []) (Struct file place) ≡ Some n) × (slice_get new n ≡ Some (struct file s))
 numbered_struct es e all new files f before of file place s h = option_and_then_some (λ (e : Entry). slice_get e.unit.structs place) (slice_get (es ++ e ∷ []) file) s h (λ x here there.
     let G : FileNumbers → Option ℕ = λ f. slice_get f.structs.items place in
@@ -75,7 +75,7 @@ numbered_struct es e all new files f before of file place s h = option_and_then_
           )
     ])
 
-numbered_union : (es : List Entry) (e : Entry) (all new : List Numbered) (files : List FileNumbers) (f : FileNumbers) → AllNumbered es all files → AreOfFile (length es) e.unit f all new
+numbered_union : (es : List Entry) (e : Entry) (all new : List NumberedType) (files : List FileNumbers) (f : FileNumbers) → AllNumbered es all files → AreOfFile (length es) e.unit f all new
     → (file place : ℕ) (u : UnionDecl) → union_of (es ++ e ∷ []) file place ≡ Some u → (n : ℕ) × (number_of (files ++ f ∷ []) (Union file place) ≡ Some n) × (slice_get new n ≡ Some (union file u))
 numbered_union es e all new files f before of file place u h = option_and_then_some (λ (e : Entry). slice_get e.unit.unions place) (slice_get (es ++ e ∷ []) file) u h (λ x here there.
     let G : FileNumbers → Option ℕ = λ f. slice_get f.unions.items place in
@@ -93,26 +93,26 @@ numbered_union es e all new files f before of file place u h = option_and_then_s
           )
     ])
 
-numbered_only : (es : List Entry) (e : Entry) (all new : List Numbered) (files : List FileNumbers) (f : FileNumbers) → AllNumbered es all files → AreOfFile (length es) e.unit f all new → (c : Numbered) → Contains new c → IsIn (es ++ e ∷ []) c
+numbered_only : (es : List Entry) (e : Entry) (all new : List NumberedType) (files : List FileNumbers) (f : FileNumbers) → AllNumbered es all files → AreOfFile (length es) e.unit f all new → (c : NumberedType) → Contains new c → IsIn (es ++ e ∷ []) c
 numbered_only es e all new files f before of c h =
     let n = length es in
     elim (grown_cases _ _ _ _ _ of.unions c h) [
       | inr there ↦ (
           let m = made (union n) e.unit.unions c there in
-          let Q : Numbered → Type 0 = IsIn (es ++ e ∷ []) in
+          let Q : NumberedType → Type 0 = IsIn (es ++ e ∷ []) in
           subst Q m.3 (m.0, ap (option_and_then (λ (e : Entry). slice_get e.unit.unions m.0)) (slice_get-last es e) ∙ m.2)
           )
       | inl mid ↦ elim (grown_cases _ _ _ _ _ of.structs c mid) [
         | inr there ↦ (
             let m = made (struct n) e.unit.structs c there in
-            let Q : Numbered → Type 0 = IsIn (es ++ e ∷ []) in
+            let Q : NumberedType → Type 0 = IsIn (es ++ e ∷ []) in
             subst Q m.3 (m.0, ap (option_and_then (λ (e : Entry). slice_get e.unit.structs m.0)) (slice_get-last es e) ∙ m.2)
             )
         | inl old ↦ in_left es e c (before.only c old)
       ]
     ]
 
-numbered_push : (es : List Entry) (e : Entry) (all new : List Numbered) (files : List FileNumbers) (f : FileNumbers) → AllNumbered es all files → AreOfFile (length es) e.unit f all new → AllNumbered (es ++ e ∷ []) new (files ++ f ∷ [])
+numbered_push : (es : List Entry) (e : Entry) (all new : List NumberedType) (files : List FileNumbers) (f : FileNumbers) → AllNumbered es all files → AreOfFile (length es) e.unit f all new → AllNumbered (es ++ e ∷ []) new (files ++ f ∷ [])
 numbered_push es e all new files f before of = record {
   long = length_push files f ∙ ap (λ n. n + 1) before.long ∙ sym (length_push es e);
   structs = numbered_struct es e all new files f before of;
@@ -130,7 +130,7 @@ numbered_none = record {
 }
 
 -- one file more
-pub numbered_turn : (program : List Entry) (i : ℕ) (e : Entry) (all new : List Numbered) (files more : List FileNumbers) (f : FileNumbers) → i < length program → e ≡ get_or program i e → more ≡ files ++ f ∷ []
+pub numbered_turn : (program : List Entry) (i : ℕ) (e : Entry) (all new : List NumberedType) (files more : List FileNumbers) (f : FileNumbers) → i < length program → e ≡ get_or program i e → more ≡ files ++ f ∷ []
     → AllNumbered (take i program) all files → AreOfFile i e.unit f all new → AllNumbered (take (i + 1) program) new more
 numbered_turn program i e all new files more f lt is longer before of =
     let here : i ≡ length (take i program) = omega (arith, length-take i program) in

@@ -7,9 +7,9 @@ use Rattle.ipdl_base.specs.declared.finding.Place.{Place}
 use Rattle.ipdl_base.specs.declared.finding.Rule.{Rule}
 use Rattle.ipdl_syntax.specs.declared.program.Entry.{Entry}
 use Rattle.findings.specs.Gains.{Gains, AtSome}
-use Rattle.least_sets.specs.Derived.{AreMarks}
-use Rattle.least_sets.specs.declared.nodes.Node.{Node}
-use Rattle.type_rules.specs.Compounds.{Numbered, struct, union, told, place_of, IsDefinedCompound, IsIn, AllNumbered}
+use Rattle.least_fixed_points.specs.Derived.{AreMarks}
+use Rattle.least_fixed_points.specs.declared.nodes.Node.{Node}
+use Rattle.type_rules.specs.Compounds.{NumberedType, struct, union, told, place_of, IsDefinedCompound, IsIn, AllNumbered}
 use Rattle.type_rules.specs.Defined.{IsUndefinedType}
 use Rattle.type_rules.specs.Parts.{AreNodes}
 use Rattle.type_rules.specs.declared.compounds.Compound.{Compound}
@@ -19,15 +19,15 @@ use Rattle.findings.proofs.Gathers.{Gains-like}
 use Rattle.type_rules.proofs.Lists.{read_map, contains_read}
 
 -- one that stands in the program and is not defined is reported there
-reported : (program : List Entry) (place : Place) (c : Numbered) → IsIn program c → ¬ IsDefinedCompound program c → place_of c ≡ place → IsUndefinedType program place
+reported : (program : List Entry) (place : Place) (c : NumberedType) → IsIn program c → ¬ IsDefinedCompound program c → place_of c ≡ place → IsUndefinedType program place
 reported program place (struct file s) (k, at) not here = option_and_then_some (λ (e : Entry). slice_get e.unit.structs k) (slice_get program file) s at (λ e there is.
     (file, e, there, inl (k, s, slice_get_within e.unit.structs k s is, get_or_from_slice_get e.unit.structs k s s is, (not, here))))
 reported program place (union file u) (k, at) not here = option_and_then_some (λ (e : Entry). slice_get e.unit.unions k) (slice_get program file) u at (λ e there is.
     (file, e, there, inr (k, u, slice_get_within e.unit.unions k u is, get_or_from_slice_get e.unit.unions k u u is, (not, here))))
 
 -- what is reported has a number
-has_number : (program : List Entry) (all : List Numbered) (files : List FileNumbers) (place : Place) → AllNumbered program all files → IsUndefinedType program place
-    → (n : ℕ) × (c : Numbered) × (slice_get all n ≡ Some c) × (¬ IsDefinedCompound program c) × (place_of c ≡ place)
+has_number : (program : List Entry) (all : List NumberedType) (files : List FileNumbers) (place : Place) → AllNumbered program all files → IsUndefinedType program place
+    → (n : ℕ) × (c : NumberedType) × (slice_get all n ≡ Some c) × (¬ IsDefinedCompound program c) × (place_of c ≡ place)
 has_number program all files place numbered (file, e, at, inl (k, s, lt, is, (not, here))) =
     let m = numbered.structs file k s (ap (option_and_then (λ (e : Entry). slice_get e.unit.structs k)) at ∙ slice_get_read e.unit.structs (length e.unit.structs) k s refl lt (sym is)) in
     (m.0, struct file s, m.2, not, here)

@@ -17,39 +17,39 @@ use Rattle.type_rules.specs.declared.compounds.Compound.TheVariants.{Struct, Uni
 use Rattle.type_rules.specs.declared.compounds.FileNumbers.{FileNumbers}
 
 -- a struct or a union of a file
-pub data Numbered : Type 0 where
-  struct : (file : ℕ) (s : StructDecl) → Numbered
-  union : (file : ℕ) (u : UnionDecl) → Numbered
+pub data NumberedType : Type 0 where
+  struct : (file : ℕ) (s : StructDecl) → NumberedType
+  union : (file : ℕ) (u : UnionDecl) → NumberedType
 
 -- as the code lists it
-abbrev pub told : Compound → Numbered
+abbrev pub told : Compound → NumberedType
 told (Struct file s) = struct file s.now
 told (Union file u) = union file u.now
 
 -- the place of its name
-abbrev pub place_of : Numbered → Place
+abbrev pub place_of : NumberedType → Place
 place_of (struct file s) = s.place
 place_of (union file u) = u.place
 
 -- it is defined
-abbrev pub IsDefinedCompound : List Entry → Numbered → Type 0
+abbrev pub IsDefinedCompound : List Entry → NumberedType → Type 0
 IsDefinedCompound program (struct file s) = IsDefinedStruct program file s
 IsDefinedCompound program (union file u) = IsDefinedUnion program file u
 
 -- it stands in the program
-abbrev pub IsIn : List Entry → Numbered → Type 0
+abbrev pub IsIn : List Entry → NumberedType → Type 0
 IsIn program (struct file s) = (place : ℕ) × (struct_of program file place ≡ Some s)
 IsIn program (union file u) = (place : ℕ) × (union_of program file place ≡ Some u)
 
 -- of these declarations of a file, each has been put at the end of a list, and its number is its index there
-pub record AreNumbers {X : Type 0} (make : X → Numbered) (xs : List X) (numbers : List ℕ) (old new : List Numbered) : Type 0 where
+pub record AreNumbers {X : Type 0} (make : X → NumberedType) (xs : List X) (numbers : List ℕ) (old new : List NumberedType) : Type 0 where
   pub long : length numbers ≡ length xs
   pub grown : new ≡ old ++ map make xs
   pub each : (place : ℕ) (x : X) → slice_get xs place ≡ Some x → (n : ℕ) × (slice_get numbers place ≡ Some n) × (slice_get new n ≡ Some (make x))
 
 -- the structs of a file have been put at the end of a list, and then its unions, and these are their numbers
-pub record AreOfFile (file : ℕ) (unit : FileUnit) (numbers : FileNumbers) (old new : List Numbered) : Type 0 where
-  pub between : List Numbered
+pub record AreOfFile (file : ℕ) (unit : FileUnit) (numbers : FileNumbers) (old new : List NumberedType) : Type 0 where
+  pub between : List NumberedType
   pub structs : AreNumbers (struct file) unit.structs numbers.structs.items old between
   pub unions : AreNumbers (union file) unit.unions numbers.unions.items between new
 
@@ -65,8 +65,8 @@ number_found files (found.One d) = number_of files d
 number_found files _ = None
 
 -- all structs and unions of these files have numbers, and nothing else has
-pub record AllNumbered (program : List Entry) (all : List Numbered) (files : List FileNumbers) : Type 0 where
+pub record AllNumbered (program : List Entry) (all : List NumberedType) (files : List FileNumbers) : Type 0 where
   pub long : length files ≡ length program
   pub structs : (file place : ℕ) (s : StructDecl) → struct_of program file place ≡ Some s → (n : ℕ) × (number_of files (decl.Struct file place) ≡ Some n) × (slice_get all n ≡ Some (struct file s))
   pub unions : (file place : ℕ) (u : UnionDecl) → union_of program file place ≡ Some u → (n : ℕ) × (number_of files (decl.Union file place) ≡ Some n) × (slice_get all n ≡ Some (union file u))
-  pub only : (c : Numbered) → Contains all c → IsIn program c
+  pub only : (c : NumberedType) → Contains all c → IsIn program c

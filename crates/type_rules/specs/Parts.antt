@@ -3,13 +3,13 @@ use Rattle.std.specs.Prelude.{◌≡◌, ◌↔◌, ◌++◌, ◌∷◌, [], ℕ
 use Rattle.std.specs.List.{Any, Contains}
 use Rattle.ipdl_syntax.specs.declared.program.Entry.{Entry}
 use Rattle.ipdl_syntax.specs.declared.tree.Base.{Base, Named, Unique'}
-use Rattle.least_sets.specs.declared.nodes.Need.TheVariants.{All, One}
-use Rattle.least_sets.specs.declared.nodes.Node.{Node}
+use Rattle.least_fixed_points.specs.declared.nodes.Need.TheVariants.{All, One}
+use Rattle.least_fixed_points.specs.declared.nodes.Node.{Node}
 use Rattle.name_table.specs.declared.decl.DeclId.{DeclId}
 use Rattle.name_table.specs.declared.decl.Found.{Found}
 use Rattle.name_table.specs.Decls.{FindsOne}
 use Rattle.name_table.specs.Finds.{Finds, Counts}
-use Rattle.type_rules.specs.Compounds.{Numbered, struct, union, number_of, number_found}
+use Rattle.type_rules.specs.Compounds.{NumberedType, struct, union, number_of, number_found}
 use Rattle.type_rules.specs.declared.compounds.FileNumbers.{FileNumbers}
 use Rattle.type_rules.specs.declared.parts.Parts.{Parts}
 
@@ -47,11 +47,11 @@ IsUnionNode parts node =
     ⊎ ((¬ IsTrue parts.has_free) × (node.need ≡ One) × (node.parts.items ≡ parts.numbers.items))
 
 -- the node of a struct or a union
-abbrev pub IsNodeOf : List Entry → List FileNumbers → Numbered → Node → Type 0
+abbrev pub IsNodeOf : List Entry → List FileNumbers → NumberedType → Node → Type 0
 IsNodeOf program files (struct file s) node = (parts : Parts) × AreParts program files file (map (λ f. f.spec.base) s.fields) parts × IsStructNode parts node
 IsNodeOf program files (union file u) node = (parts : Parts) × AreParts program files file (map (λ c. c.base) u.components) parts × IsUnionNode parts node
 
 -- each of these has its node
-pub record AreNodes (program : List Entry) (files : List FileNumbers) (all : List Numbered) (nodes : List Node) : Type 0 where
+pub record AreNodes (program : List Entry) (files : List FileNumbers) (all : List NumberedType) (nodes : List Node) : Type 0 where
   pub long : length nodes ≡ length all
-  pub each : (k : ℕ) (c : Numbered) → slice_get all k ≡ Some c → (node : Node) × (slice_get nodes k ≡ Some node) × IsNodeOf program files c node
+  pub each : (k : ℕ) (c : NumberedType) → slice_get all k ≡ Some c → (node : Node) × (slice_get nodes k ≡ Some node) × IsNodeOf program files c node

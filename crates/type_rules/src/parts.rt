@@ -4,7 +4,7 @@ ghost use Rattle.type_rules.specs.Parts.{IsPart, IsFree, AddsPart, AreParts, IsU
 
 use crate::compounds::{Compound, Compounds, FileNumbers, number_found};
 use ipdl_syntax::{Base, Param, TypeSpec};
-use least_sets::{Need, Node};
+use least_fixed_points::{Need, Node};
 use name_table::Names;
 use std::alloc::{AllocError, Global};
 

@@ -7,7 +7,7 @@ use crate::compounds::{Compound, compounds_of};
 use crate::parts::nodes_of;
 use ipdl_base::{Finding, Rule};
 use ipdl_syntax::Entry;
-use least_sets::derived;
+use least_fixed_points::derived;
 use name_table::Names;
 use std::alloc::{AllocError, Global};
 

@@ -1,7 +1,7 @@
 use Rattle.std.proofs.Common.{List, Option, subst, sym, refl, ◌∙◌}
 use Rattle.ipdl_base.specs.declared.schema.ParamRow.{ParamRow}
 use Rattle.ipdl_syntax.specs.declared.tree.Param.{Param}
-use Rattle.schema_laws.specs.SchemaOf.{AreParamRows, AreReturnRows}
+use Rattle.program_schema.specs.SchemaOf.{AreParamRows, AreReturnRows}
 use Rattle.actor_tables.specs.Numbered.{numbering_of}
 use Rattle.actor_tables.proofs.Rowed.{carried_like}
 use Rattle.actor_tables.proofs.messages.message_row.Goals as goal

@@ -1,6 +1,6 @@
 use Rattle.std.proofs.Common.{subst}
 use Rattle.ipdl_syntax.specs.declared.tree.MessageDecl.{MessageDecl}
-use Rattle.schema_laws.specs.SchemaOf.{IsMessageRow}
+use Rattle.program_schema.specs.SchemaOf.{IsMessageRow}
 use Rattle.actor_tables.specs.Numbered.{numbering_of}
 use Rattle.actor_tables.proofs.Rowed.{rows_next}
 use Rattle.actor_tables.proofs.messages.message_rows.Goals as goal

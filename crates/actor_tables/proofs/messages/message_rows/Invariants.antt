@@ -1,5 +1,5 @@
 use Rattle.std.proofs.Common.{take}
-use Rattle.schema_laws.specs.SchemaOf.{AreRows, IsMessageRow}
+use Rattle.program_schema.specs.SchemaOf.{AreRows, IsMessageRow}
 use Rattle.actor_tables.specs.Numbered.{numbering_of}
 use Rattle.actor_tables.proofs.messages.message_rows.Given as goal
 

@@ -1,8 +1,8 @@
 use Rattle.std.proofs.Common.{subst, sym}
 use Rattle.ipdl_syntax.specs.declared.tree.NameAt.{NameAt}
-use Rattle.schema_laws.specs.SchemaOf.{IsNumberOfName}
+use Rattle.program_schema.specs.SchemaOf.{IsNumberOfName}
 use Rattle.actor_tables.specs.Numbered.{numbering_of}
-use Rattle.actor_tables.specs.Source.{FindsSoleProtocol}
+use Rattle.actor_tables.specs.SchemaSource.{FindsSoleProtocol}
 use Rattle.actor_tables.proofs.Rowed.{zip_next}
 use Rattle.actor_tables.proofs.messages.numbers_of_names.Goals as goal
 

@@ -1,6 +1,6 @@
 use Rattle.std.proofs.Common.{take}
 use Rattle.std.specs.List.{AllZip}
-use Rattle.schema_laws.specs.SchemaOf.{IsNumberOfName}
+use Rattle.program_schema.specs.SchemaOf.{IsNumberOfName}
 use Rattle.actor_tables.specs.Numbered.{numbering_of}
 use Rattle.actor_tables.proofs.messages.numbers_of_names.Given as goal
 

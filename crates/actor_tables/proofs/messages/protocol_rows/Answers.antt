@@ -1,7 +1,7 @@
 use Rattle.std.proofs.Common.{ℕ, IsSomeAnd}
 use Rattle.name_table.specs.Decls.{protocol_of}
 use Rattle.ipdl_base.specs.declared.schema.ProtocolRow.{ProtocolRow}
-use Rattle.schema_laws.specs.SchemaOf.{IsProtocolRow}
+use Rattle.program_schema.specs.SchemaOf.{IsProtocolRow}
 use Rattle.actor_tables.specs.Numbered.{numbering_of}
 use Rattle.actor_tables.proofs.Rowed.{rows_next}
 use Rattle.actor_tables.proofs.messages.protocol_rows.Goals as goal

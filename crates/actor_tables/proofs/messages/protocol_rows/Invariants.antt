@@ -1,6 +1,6 @@
 use Rattle.std.proofs.Common.{take, IsSomeAnd}
 use Rattle.name_table.specs.Decls.{protocol_of}
-use Rattle.schema_laws.specs.SchemaOf.{AreRows, IsProtocolRow}
+use Rattle.program_schema.specs.SchemaOf.{AreRows, IsProtocolRow}
 use Rattle.actor_tables.specs.Numbered.{numbering_of}
 use Rattle.actor_tables.proofs.messages.protocol_rows.Given as goal
 

@@ -1,6 +1,6 @@
 use Rattle.std.proofs.Common.{◌≡◌, ◌≤◌, ℕ, map, length, ap, ◌∙◌, Vec, Global}
 use Rattle.std.proofs.lemmas.Result.{IfOk-weaker}
-use Rattle.schema_laws.specs.Numbers.{AreProtocolFiles}
+use Rattle.program_schema.specs.Numbers.{AreProtocolFiles}
 use Rattle.actor_tables.proofs.NamedFiles.{Named, files_ordered, files_few}
 use Rattle.actor_tables.proofs.numbers.protocol_files.Goals as goal
 

@@ -2,7 +2,7 @@ use Rattle.std.proofs.Common.{subst}
 use Rattle.ipdl_syntax.specs.declared.tree.Base.{Base}
 use Rattle.name_table.specs.declared.decl.Found.TheVariants.{One}
 use Rattle.actor_tables.specs.Numbered.{numbering_of}
-use Rattle.actor_tables.specs.Source.{FindsSole}
+use Rattle.actor_tables.specs.SchemaSource.{FindsSole}
 use Rattle.actor_tables.proofs.Sight.{found_in, one_there, never_other}
 use Rattle.actor_tables.proofs.Suffixes.{named_shape, unique_shape}
 use Rattle.actor_tables.proofs.shapes.+shape_of_base.Goals as goal

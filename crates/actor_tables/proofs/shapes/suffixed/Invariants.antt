@@ -1,5 +1,5 @@
 use Rattle.std.proofs.Common.{◌≡◌, take}
-use Rattle.schema_laws.specs.Shapes.{IsSuffixed}
+use Rattle.program_schema.specs.Shapes.{IsSuffixed}
 use Rattle.actor_tables.proofs.shapes.suffixed.Given as goal
 
 abbrev pub invariant-loop-suffix : goal.invariant-loop-suffix

@@ -1,4 +1,4 @@
-use Rattle.schema_laws.specs.Shapes.{IsShapeOf}
+use Rattle.program_schema.specs.Shapes.{IsShapeOf}
 use Rattle.actor_tables.specs.Numbered.{numbering_of}
 use Rattle.actor_tables.proofs.Rowed.{zip_next}
 use Rattle.actor_tables.proofs.types.component_shapes.Goals as goal

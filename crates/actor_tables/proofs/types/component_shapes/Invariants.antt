@@ -1,6 +1,6 @@
 use Rattle.std.proofs.Common.{take}
 use Rattle.std.specs.List.{AllZip}
-use Rattle.schema_laws.specs.Shapes.{IsShapeOf}
+use Rattle.program_schema.specs.Shapes.{IsShapeOf}
 use Rattle.actor_tables.specs.Numbered.{numbering_of}
 use Rattle.actor_tables.proofs.types.component_shapes.Given as goal
 

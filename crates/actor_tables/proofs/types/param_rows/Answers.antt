@@ -1,4 +1,4 @@
-use Rattle.schema_laws.specs.SchemaOf.{IsParamRow}
+use Rattle.program_schema.specs.SchemaOf.{IsParamRow}
 use Rattle.actor_tables.specs.Numbered.{numbering_of}
 use Rattle.actor_tables.proofs.Rowed.{zip_next}
 use Rattle.actor_tables.proofs.types.param_rows.Goals as goal

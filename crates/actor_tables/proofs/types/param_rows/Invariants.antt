@@ -1,5 +1,5 @@
 use Rattle.std.proofs.Common.{take}
-use Rattle.schema_laws.specs.SchemaOf.{AreParamRows}
+use Rattle.program_schema.specs.SchemaOf.{AreParamRows}
 use Rattle.actor_tables.specs.Numbered.{numbering_of}
 use Rattle.actor_tables.proofs.types.param_rows.Given as goal
 

@@ -1,5 +1,5 @@
 use Rattle.std.proofs.Common.{false}
-use Rattle.schema_laws.specs.SchemaOf.{IsTypeRow}
+use Rattle.program_schema.specs.SchemaOf.{IsTypeRow}
 use Rattle.actor_tables.specs.Numbered.{decl_of, numbering_of}
 use Rattle.actor_tables.proofs.Rowed.{zip_at}
 use Rattle.actor_tables.proofs.types.type_rows.Goals as goal

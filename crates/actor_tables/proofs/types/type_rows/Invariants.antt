@@ -1,6 +1,6 @@
 use Rattle.std.proofs.Common.{take}
 use Rattle.std.specs.List.{AllZip}
-use Rattle.schema_laws.specs.SchemaOf.{IsTypeRow}
+use Rattle.program_schema.specs.SchemaOf.{IsTypeRow}
 use Rattle.actor_tables.specs.Numbered.{decl_of, numbering_of}
 use Rattle.actor_tables.proofs.types.type_rows.Given as goal
 

@@ -1,7 +1,7 @@
 use Rattle.std.proofs.Common.{◌≡◌, ◌∙◌, ℕ, List, [], ◌∷◌, ◌++◌, take, sym, ap}
 use Rattle.std.proofs.lemmas.List.{take_more}
 use Rattle.frame_list.specs.Converted.{new_frame, new_frames}
-use Rattle.frame_list.specs.declared.list.Placed.{Placed}
+use Rattle.frame_list.specs.declared.list.PlacedMessage.{PlacedMessage}
 use Rattle.frame_list.proofs.PlainFrames.{one_more}
 use Rattle.frame_list.proofs.convert.frames_anew.Goals as goal
 
@@ -12,9 +12,9 @@ loop-placed-preserved c =
     let i = c.loop-placed.placed-index in
     let p = c.placed-item.result in
     let new : c.push_new.new.out.items ≡ c.loop-placed.bytes.items ++ new_frame schema p = c.in_ok-push_new.ensures in
-    let front : List Placed = take i frames in
+    let front : List PlacedMessage = take i frames in
     new
     ∙ ap (λ (bytes : List ℕ). bytes ++ new_frame schema p) c.loop-placed.invariant
     ∙ sym (one_more schema front p)
-    ∙ ap (λ (q : Placed). new_frames schema (front ++ q ∷ [])) c.placed-item.is
-    ∙ ap (λ (fs : List Placed). new_frames schema fs) (sym (take_more frames i p c.loop-placed-test.true))
+    ∙ ap (λ (q : PlacedMessage). new_frames schema (front ++ q ∷ [])) c.placed-item.is
+    ∙ ap (λ (fs : List PlacedMessage). new_frames schema fs) (sym (take_more frames i p c.loop-placed-test.true))

@@ -4,7 +4,7 @@ use Rattle.std.proofs.lemmas.Bool.{true≢false}
 use Rattle.ipdl_base.specs.declared.finding.Finding.{Finding}
 use Rattle.ipdl_base.specs.declared.finding.TheConstants.Rule as rule
 use Rattle.findings.specs.Gains.{Gains}
-use Rattle.handler_script.specs.Blocks.{Standing, answered_behind, standing_behind}
+use Rattle.handler_script.specs.Blocks.{BlockContext, answered_behind, standing_behind}
 use Rattle.handler_script.specs.Broken.{BreaksBlocks, NamesNone, KnownBreaks}
 use Rattle.handler_script.specs.Knowing.{standing_in}
 use Rattle.handler_script.proofs.Gathered.{gains_if, gains_or, gains_absent, gains_known}
@@ -37,6 +37,6 @@ returns c before k =
     let P : Bool → Type 0 =
     λ a. Gains (λ f. (place ≡ f.place) × KnownBreaks schema f.rule a (option_map standing_in c.context_behind-context.result) s after) c.add_if.new.found.items c.add_known.new.found.items
     in
-    let Q : Option Standing → Type 0 = λ o. Gains (λ f. (place ≡ f.place) × KnownBreaks schema f.rule (answered_behind before) o s after) c.add_if.new.found.items c.add_known.new.found.items in
+    let Q : Option BlockContext → Type 0 = λ o. Gains (λ f. (place ≡ f.place) × KnownBreaks schema f.rule (answered_behind before) o s after) c.add_if.new.found.items c.add_known.new.found.items in
     gains_or place B (λ f. (U f × N) ⊎ ((¬ N) × K f)) _ _ _ (gains_if rule.BLOCK_STRUCTURE place _ (BreaksBlocks before s after) _ _ c.in_ok-add_if.ensures (c.breaks_blocks-blocks.ensures before k))
     (gains_known place U K N _ _ (subst Q (c.context_behind-context.ensures before k) (subst P k.answered c.in_ok-add_known.ensures)) (λ n. true≢false (sym (c.names_none.ensures.1 n) ∙ c.if-names_none.false)))

@@ -1,6 +1,6 @@
 use Rattle.std.proofs.Common.{◌≡◌, ◌∙◌, ◌+◌, ◌∷◌, ◌++◌, [], List, take, sym, ap, subst, arith}
 use Rattle.std.proofs.lemmas.List.{take_more}
-use Rattle.history.specs.declared.line.Line.{Line}
+use Rattle.ipdl_base.specs.declared.line.Line.{Line}
 use Rattle.history.specs.Noted.{Knows}
 use Rattle.history.specs.Text.{transcript_text}
 use Rattle.history.proofs.Lines.{line_known, lines_more}

@@ -1,11 +1,11 @@
 use Rattle.std.proofs.Common.{◌≡◌, [], refl, sym, subst}
 use Rattle.std.proofs.lemmas.Result.{on_ok_weaker}
-use Rattle.history_reading.specs.declared.told.Request as kept
-use Rattle.history_reading.specs.declared.told.Told as kept_told
-use Rattle.history_reading.specs.declared.told.Told.TheVariants as told
-use Rattle.history_reading.specs.Kept.{told_view}
-use Rattle.history_reading.specs.Told.{requests_of}
-use Rattle.history_reading.specs.Told as the
+use Rattle.history_reading.specs.declared.sent_packet.Request as kept
+use Rattle.history_reading.specs.declared.sent_packet.SentPacket as kept_told
+use Rattle.history_reading.specs.declared.sent_packet.SentPacket.TheVariants as told
+use Rattle.history_reading.specs.Views.{packet_view}
+use Rattle.history_reading.specs.SentPacket.{requests_of}
+use Rattle.history_reading.specs.SentPacket as the
 use Rattle.history_reading.proofs.SentLemmas.{keeps_other, keeps_request, no_requests}
 use Rattle.history_reading.proofs.sent.note_request.Goals as goal
 

@@ -2,13 +2,13 @@ use Rattle.std.proofs.Common.{List, ℕ, map, string_bytes, subst}
 use Rattle.std.specs.Prelude.{Option, Some, None}
 use Rattle.ipdl_base.specs.Outside.{FileMap}
 use Rattle.include_graph.specs.Load.{ForMap}
-use Rattle.include_graph.specs.Outcome.{IsOutcome}
-use Rattle.include_graph.specs.Sources.{Given}
+use Rattle.include_graph.specs.LoadOutcome.{IsOutcome}
+use Rattle.include_graph.specs.Sources.{LoadInput}
 use Rattle.include_graph.proofs.Readings.{for_map}
 use Rattle.include_graph.proofs.loader.load.Goals as goal
 
 -- what a load is given
-abbrev given_of : FileMap → List (List ℕ) → List (List ℕ) → Given
+abbrev given_of : FileMap → List (List ℕ) → List (List ℕ) → LoadInput
 given_of files words path = record { files = files; words = words; path = path }
 
 -- what holds of every map

@@ -5,8 +5,8 @@ use Rattle.ipdl_base.specs.Outside.{FileMap}
 use Rattle.include_graph.specs.Reading.{IsFound, IsSource}
 use Rattle.include_graph.specs.Load.{ForMap}
 use Rattle.include_graph.specs.Sources.{in_directory, name_on_path}
-use Rattle.include_graph.specs.declared.read.Source.{Source}
-use Rattle.include_graph.specs.declared.read.Found.TheVariants.{Absent}
+use Rattle.include_graph.specs.declared.read.SourceFile.{SourceFile}
+use Rattle.include_graph.specs.declared.read.FileBytes.TheVariants.{Absent}
 use Rattle.std.specs.declared.vec.Vec.{Vec}
 use Rattle.include_graph.proofs.Readings.{none_step, found_first, found_nowhere}
 use Rattle.include_graph.proofs.read.read_on_path.Goals as goal
@@ -50,7 +50,7 @@ returns-in_default-2 g c =
     let here = subst (λ n. IfSome told (λ files. IsFound (files n) c.in_ok-found.found)) named c.in_ok-found.ensures.found in
     let front = ap (λ (s : String Global). map string_bytes (take i path) ++ string_bytes s ∷ []) c.directory-item.is ∙ sym (more path i item c.loop-directory-test.true) in
     let whole = ap (λ ds. ds ++ map string_bytes (drop (i + 1) path)) front ∙ sym (map-append string_bytes (take (i + 1) path) (drop (i + 1) path)) ∙ ap (map string_bytes) (take-append-drop (i + 1) path) in
-    let source : Source = record { text = c.from_vec.result; content = c.in_ok-content-in_default-2.content } in
+    let source : SourceFile = record { text = c.from_vec.result; content = c.in_ok-content-in_default-2.content } in
     let found = c.in_ok-found.found in
     let there : found ≢ Absent = c.in_default-2.not-Absent in
     let called : source.text ≡ name = c.from_vec.ensures ∙ (ap (λ (v : Vec ℕ Global). v.items) c.into_bytes.ensures.value ∙ (sym c.as_str-in-loop-directory.ensures.value ∙ named)) in

@@ -3,7 +3,7 @@ use Rattle.std.specs.Prelude.{OnOk}
 use Rattle.std.proofs.lemmas.Result.{on_ok_weaker}
 use Rattle.ipdl_base.specs.declared.finding.Place.{Place}
 use Rattle.ipdl_base.specs.declared.finding.TheConstants.Rule as rule
-use Rattle.include_graph.specs.Found.{Gains, finding_at}
+use Rattle.include_graph.specs.Additions.{Gains, finding_at}
 use Rattle.include_graph.proofs.Gaining.{gains_like, gains_both}
 use Rattle.include_graph.proofs.rules.add_in.Goals as goal
 

@@ -4,7 +4,7 @@ use Rattle.std.specs.Option.{option_or, option_copied}
 use Rattle.std.specs.Str.{IsUtf8}
 use Rattle.std.proofs.lemmas.Bool.{cases_lt}
 use Rattle.std.proofs.lemmas.Str.{IsUtf8-from_ascii}
-use Rattle.include_graph.specs.declared.walk.Reached.{Reached}
+use Rattle.include_graph.specs.declared.walk.ReachedFile.{ReachedFile}
 use Rattle.include_graph.specs.Keys.{IsFileWord}
 use Rattle.include_graph.specs.Load.{ForMap}
 use Rattle.include_graph.specs.Reading.{IsSource}
@@ -19,7 +19,7 @@ files-init g c =
     let path = map string_bytes c.args.path.now in
     let start = walk_start (g.F.Files.told c.args.files.now) words path c.args.keys.now.keys (map (λ (f : Bor (List ℕ)). f.now) c.args.firsts.now) c.requires.words c.requires.keys in
     record {
-      walking = subst (λ (fs : List Reached). Walking (g.F.Files.told c.args.files.now) words path c.args.keys.now.keys fs) (sym c.in_ok-reached.ensures.items) start;
+      walking = subst (λ (fs : List ReachedFile). Walking (g.F.Files.told c.args.files.now) words path c.args.keys.now.keys fs) (sym c.in_ok-reached.ensures.items) start;
       told = refl;
       count = omega arith;
     }
@@ -61,7 +61,7 @@ files-preserved g c =
     ap option_copied c.copied-word.ensures ∙ (copied_is c.args.firsts.now c.len-number.result c.get.result c.get.ensures.lookup.3 ∙ (ap (slice_get firsts) again ∙ first_word words c.args.keys.now.keys list w.grown.further firsts n key c.requires.keys w.grown.begins w.grown.once at)) in
     let read = c.in_ok-source.ensures.source in
     let here : ForMap told (λ m. IsSource n key m (option_or (word_of words key) (name_on_path m path key)) c.in_ok-source.source) = same_key path c.in_ok-source.source c.files.invariant.told again c.as_slice.ensures word read in
-    let file : Reached = record { source = c.in_ok-source.source; targets = c.in_ok-targets.targets } in
+    let file : ReachedFile = record { source = c.in_ok-source.source; targets = c.in_ok-targets.targets } in
     let all : c.push.new.self.items ≡ c.files.reached.items ++ file ∷ [] = subst (λ b. c.push.new.self.items ≡ (if b then c.files.reached.items ++ file ∷ [] else c.files.reached.items)) (sym c.in_ok-map_err.ensures.variant) c.push.ensures.items in
     record {
       walking = walk_more c.words_hold.ensures c.names_hold.ensures told words path list c.add_named.new.keys.keys c.files.reached.items c.push.new.self.items key file w at here c.in_ok-targets.ensures.keys c.in_ok-targets.ensures.targets all;

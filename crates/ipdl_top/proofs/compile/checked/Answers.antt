@@ -4,9 +4,9 @@ use Rattle.std.proofs.lemmas.Result.{IfOk-weaker}
 use Rattle.ipdl_base.specs.Outside.{FileMap}
 use Rattle.include_graph.specs.declared.loader.LoadFault.{LoadFault}
 use Rattle.include_graph.specs.Load as load
-use Rattle.ipdl_top.specs.declared.checked.Checked.TheVariants.{Report}
-use Rattle.ipdl_top.specs.Answer.{given_by}
-use Rattle.ipdl_top.specs.Seen.{Seen}
+use Rattle.ipdl_top.specs.declared.checked.CheckResult.TheVariants.{Report}
+use Rattle.ipdl_top.specs.CommandAnswer.{given_by}
+use Rattle.ipdl_top.specs.FileViews.{FileViews}
 use Rattle.ipdl_top.specs.Steps.{IsChecked, IsProgramChecked, IsFilesAnswer}
 use Rattle.ipdl_top.proofs.Compilations.{of_program, of_files}
 use Rattle.ipdl_top.proofs.Maps.{for_both, for_all_seen}
@@ -19,7 +19,7 @@ returns-in-Ok-clause-found g c =
     let list = option_map string_bytes c.args.list.now in
     let told = g.F.Files.told c.args.files.now in
     let program = c.in-Ok.program in
-    let R : Seen → Type 0 = λ seen. IfOk c.program_checked.result (IsChecked (given_by seen.files path names) seen.list list) in
+    let R : FileViews → Type 0 = λ seen. IfOk c.program_checked.result (IsChecked (given_by seen.files path names) seen.list list) in
     for_both told _ (λ files. load.IsProgramOf (given_by files path names) program) (λ lists. IfOk c.program_checked.result (IsProgramChecked lists list program)) R c.in-Ok.ensures.told
     (λ files lists p a. IfOk-weaker c.program_checked.result (IsProgramChecked lists list program) (IsChecked (given_by files path names) lists list) (λ checked h. of_program (given_by files path names) lists list program checked p c.in-Ok.ensures.program h) a)
     c.in-Ok.ensures.answer c.program_checked.ensures.found
@@ -36,7 +36,7 @@ returns-in-Ok-files_answer-clause-found g c =
     let P : LoadFault → Type 0 = λ fault. load.ForMap told (λ files. load.IsFaultOf (given_by files path names) fault) in
     let Q : List (List ℕ) → FileMap → Type 0 = λ called lists. IsFilesAnswer lists list findings called report in
     let A : List (List ℕ) → Type 0 = λ called. load.ForMap (g.F.Files.told c.load.new.files) (Q called) in
-    let R : Seen → Type 0 = λ seen. IsChecked (given_by seen.files path names) seen.list list (Report report) in
+    let R : FileViews → Type 0 = λ seen. IsChecked (given_by seen.files path names) seen.list list (Report report) in
     for_both told _ (λ files. load.IsReportOf (given_by files path names) findings texts) (Q texts) R c.in-Err-Broken.ensures.told
     (λ files lists r a. inl (of_files (given_by files path names) lists list findings texts report r a))
     (subst P c.in-Err-Broken.field-0-is c.in-Err-Broken.ensures.answer) (subst A c.as_slice.ensures c.in-Ok-files_answer.ensures.answer)

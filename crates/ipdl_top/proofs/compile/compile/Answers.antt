@@ -1,8 +1,8 @@
 use Rattle.std.proofs.Common.{map, string_bytes}
 use Rattle.std.specs.Prelude.{IfOk, option_map}
 use Rattle.std.proofs.lemmas.Result.{IfOk-weaker}
-use Rattle.ipdl_top.specs.Answer.{IsCompilation, SaysTables, given_by}
-use Rattle.ipdl_top.specs.Seen.{Seen}
+use Rattle.ipdl_top.specs.CommandAnswer.{IsCompilation, SaysTables, given_by}
+use Rattle.ipdl_top.specs.FileViews.{FileViews}
 use Rattle.ipdl_top.specs.Steps.{IsChecked, IsToldOf}
 use Rattle.ipdl_top.proofs.Compilations.{of_told}
 use Rattle.ipdl_top.proofs.Maps.{for_each_seen}
@@ -14,8 +14,8 @@ returns-in-Ok-clause-answer g c =
     let names = map string_bytes c.args.names.now in
     let list = option_map string_bytes c.args.list.now in
     let checked = c.in-Ok.checked in
-    let P : Seen → Type 0 = λ seen. IsChecked (given_by seen.files path names) seen.list list checked in
-    let R : Seen → Type 0 = λ seen. IfOk c.tables_of.result (IsCompilation SaysTables (given_by seen.files path names) seen.list list) in
+    let P : FileViews → Type 0 = λ seen. IsChecked (given_by seen.files path names) seen.list list checked in
+    let R : FileViews → Type 0 = λ seen. IfOk c.tables_of.result (IsCompilation SaysTables (given_by seen.files path names) seen.list list) in
     for_each_seen (g.F.Files.told c.args.files.now) P R
     (λ seen h. IfOk-weaker c.tables_of.result (IsToldOf SaysTables checked) (IsCompilation SaysTables (given_by seen.files path names) seen.list list)
     (λ answer told. of_told SaysTables (given_by seen.files path names) seen.list list checked answer h told) c.tables_of.ensures.answer)

@@ -2,7 +2,7 @@ use Rattle.std.proofs.Common.{◌≡◌, ◌⊎◌, [], ◌∷◌, ◌++◌, Lis
 use Rattle.std.specs.List.{Contains}
 use Rattle.findings.proofs.Reports.{report_of}
 use Rattle.ipdl_base.specs.declared.finding.Finding.{Finding}
-use Rattle.ipdl_top.specs.declared.list.Listed.TheVariants.{Broken}
+use Rattle.ipdl_top.specs.declared.list.SyncListFile.TheVariants.{Broken}
 use Rattle.ipdl_top.proofs.Gathered.{Has, with_broken, without}
 use Rattle.ipdl_top.proofs.compile.files_report.Goals as goal
 

@@ -1,7 +1,7 @@
 use Rattle.std.proofs.Common.{◌≡◌, ◌++◌, ℕ, List, map, ◌∙◌, ap, string_bytes}
 use Rattle.std.specs.Prelude.{option_map}
 use Rattle.std.proofs.lemmas.Result.{IfOk-weaker}
-use Rattle.ipdl_top.specs.Answer.{report_answer}
+use Rattle.ipdl_top.specs.CommandAnswer.{report_answer}
 use Rattle.ipdl_top.specs.Lists.{list_names}
 use Rattle.ipdl_top.specs.Steps.{AreFilesReported}
 use Rattle.ipdl_top.proofs.compile.texts_answer.Goals as goal

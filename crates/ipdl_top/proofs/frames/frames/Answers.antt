@@ -2,9 +2,9 @@ use Rattle.std.proofs.Common.{◌≡◌, ℕ, List, [], ◌∷◌, ap, map, stri
 use Rattle.std.specs.Prelude.{IfOk, option_map}
 use Rattle.std.proofs.lemmas.Result.{IfOk-weaker}
 use Rattle.ipdl_base.specs.Outside.{FileMap}
-use Rattle.ipdl_top.specs.Answer.{IsCompilation, given_by}
+use Rattle.ipdl_top.specs.CommandAnswer.{IsCompilation, given_by}
 use Rattle.ipdl_top.specs.Frames.{SaysFrames}
-use Rattle.ipdl_top.specs.Seen.{Seen}
+use Rattle.ipdl_top.specs.FileViews.{FileViews}
 use Rattle.ipdl_top.specs.Steps.{IsChecked, IsToldOf}
 use Rattle.ipdl_top.proofs.Compilations.{of_told}
 use Rattle.ipdl_top.proofs.Maps.{for_frames}
@@ -20,9 +20,9 @@ returns-in-Ok-clause-answer g c =
     let convert = c.args.wanted.now.convert in
     let checked = c.in-Ok.checked in
     let one : words ≡ file ∷ [] = ap (map string_bytes) c.from_ref.ensures.value in
-    let P : Seen → Type 0 = λ seen. IsChecked (given_by seen.files path words) seen.list list checked in
+    let P : FileViews → Type 0 = λ seen. IsChecked (given_by seen.files path words) seen.list list checked in
     let Q : FileMap → Type 0 = λ frames. IfOk c.answer_with.result (IsToldOf (SaysFrames name convert (frames name)) checked) in
-    let R : Seen → Type 0 = λ seen. IfOk c.answer_with.result (IsCompilation (SaysFrames name convert (seen.frames name)) (given_by seen.files path (file ∷ [])) seen.list list) in
+    let R : FileViews → Type 0 = λ seen. IfOk c.answer_with.result (IsCompilation (SaysFrames name convert (seen.frames name)) (given_by seen.files path (file ∷ [])) seen.list list) in
     for_frames (g.F.Files.told c.args.files.now) (g.F.Files.told c.checked.new.files) P Q R c.in-Ok.ensures.told
     (λ seen frames h k. IfOk-weaker c.answer_with.result (IsToldOf (SaysFrames name convert (frames name)) checked)
     (IsCompilation (SaysFrames name convert (frames name)) (given_by seen.files path (file ∷ [])) seen.list list)

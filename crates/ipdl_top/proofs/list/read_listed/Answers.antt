@@ -1,6 +1,6 @@
 use Rattle.std.specs.Prelude.{option_map, string_bytes, None}
 use Rattle.ipdl_base.specs.Outside.{FileMap}
-use Rattle.ipdl_top.specs.declared.list.Listed.TheVariants.{Sections}
+use Rattle.ipdl_top.specs.declared.list.SyncListFile.TheVariants.{Sections}
 use Rattle.ipdl_top.specs.Steps.{IsListed}
 use Rattle.ipdl_top.proofs.Maps.{for_all}
 use Rattle.ipdl_top.proofs.list.read_listed.Goals as goal

@@ -4,9 +4,9 @@ use Rattle.std.proofs.lemmas.Result.{IfOk-weaker}
 use Rattle.ipdl_top.specs.declared.answer.Failure.TheVariants.{NoMemory}
 use Rattle.command_words.specs.Command.{CommandOf}
 use Rattle.command_words.specs.Frames.{IsFrames}
-use Rattle.ipdl_top.specs.Answer.{IsAnswer, IsCompilation, given_by}
+use Rattle.ipdl_top.specs.CommandAnswer.{IsAnswer, IsCompilation, given_by}
 use Rattle.ipdl_top.specs.Frames.{SaysFrames}
-use Rattle.ipdl_top.specs.Seen.{Seen, ForMap}
+use Rattle.ipdl_top.specs.FileViews.{FileViews, ForMap}
 use Rattle.ipdl_top.proofs.Maps.{for_all_seen, for_each_seen}
 use Rattle.ipdl_top.proofs.Words.{command_files}
 use Rattle.ipdl_top.proofs.program.answer_to.Goals as goal
@@ -17,13 +17,13 @@ compile-requires g c = search (command_files, rules)
 pub returns-in-Err-Usage-clause-answer : goal.returns-in-Err-Usage-clause-answer
 returns-in-Err-Usage-clause-answer g c =
     let words = map string_bytes c.args.words.now in
-    let P : Seen → Type 0 = λ seen. IfOk c.of_no_command.result (IsAnswer seen words) in
+    let P : FileViews → Type 0 = λ seen. IfOk c.of_no_command.result (IsAnswer seen words) in
     for_all_seen (g.F.Files.told c.args.files.now) P
     (λ seen. IfOk-weaker c.of_no_command.result _ (IsAnswer seen words) (λ answer says. inr (inr (c.in-Err-Usage.ensures.usage c.in-Err-Usage.field-0-is, says))) c.of_no_command.ensures.answer)
 
 pub returns-in-Err-NoMemory-clause-answer : goal.returns-in-Err-NoMemory-clause-answer
 returns-in-Err-NoMemory-clause-answer g c =
-    let P : Seen → Type 0 = λ seen. IfOk (Err NoMemory) (IsAnswer seen (map string_bytes c.args.words.now)) in
+    let P : FileViews → Type 0 = λ seen. IfOk (Err NoMemory) (IsAnswer seen (map string_bytes c.args.words.now)) in
     for_all_seen (g.F.Files.told c.args.files.now) P (λ seen. tt)
 
 pub returns-in-Ok-Frames-clause-answer : goal.returns-in-Ok-Frames-clause-answer
@@ -36,8 +36,8 @@ returns-in-Ok-Frames-clause-answer g c =
     let name = string_bytes c.in-Ok-Frames.name in
     let convert = c.in-Ok-Frames.convert in
     let command : IsFrames words list path file name convert = subst (CommandOf words) c.in-Ok-Frames.field-0-is c.in-Ok-Frames.ensures.command in
-    let K : List ℕ → List (List ℕ) → Seen → Type 0 = λ n p seen. IfOk c.frames.result (IsCompilation (SaysFrames n convert (seen.frames n)) (given_by seen.files p (file ∷ [])) seen.list list) in
-    let R : Seen → Type 0 = λ seen. IfOk c.frames.result (IsAnswer seen words) in
+    let K : List ℕ → List (List ℕ) → FileViews → Type 0 = λ n p seen. IfOk c.frames.result (IsCompilation (SaysFrames n convert (seen.frames n)) (given_by seen.files p (file ∷ [])) seen.list list) in
+    let R : FileViews → Type 0 = λ seen. IfOk c.frames.result (IsAnswer seen words) in
     for_each_seen told (K name path) R
     (λ seen h. IfOk-weaker c.frames.result (IsCompilation (SaysFrames name convert (seen.frames name)) (given_by seen.files path (file ∷ [])) seen.list list) (IsAnswer seen words)
     (λ answer k. inr (inl (record { list = list; path = path; file = file; frames = name; convert = convert; command = command; compilation = k }))) h)

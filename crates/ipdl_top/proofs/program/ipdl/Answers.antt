@@ -1,6 +1,6 @@
 use Rattle.std.proofs.Common.{ap, inl, map}
 use Rattle.std.specs.Prelude.{string_bytes}
-use Rattle.ipdl_top.specs.declared.answer.Answer.{Answer}
+use Rattle.ipdl_top.specs.declared.answer.CommandAnswer.{CommandAnswer}
 use Rattle.ipdl_top.proofs.Answered.{no_command_of, of_no_command, for_any}
 use Rattle.ipdl_top.proofs.program.ipdl.Goals as goal
 
@@ -10,4 +10,4 @@ returns-in-Ok-write_answer-clause-usage g c = λ usage.
 
 pub returns-in-Ok-write_answer-clause-no_command : goal.returns-in-Ok-write_answer-clause-no_command
 returns-in-Ok-write_answer-clause-no_command g c = λ none.
-    for_any (g.F.Files.told c.args.files.now) _ _ (λ files h. inl (ap (λ (a : Answer). a.status) (of_no_command files (map string_bytes c.args.words.now) c.in-Ok.answer none h))) c.in-Ok.ensures.answer
+    for_any (g.F.Files.told c.args.files.now) _ _ (λ files h. inl (ap (λ (a : CommandAnswer). a.status) (of_no_command files (map string_bytes c.args.words.now) c.in-Ok.answer none h))) c.in-Ok.ensures.answer

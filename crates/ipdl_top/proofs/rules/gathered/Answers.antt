@@ -5,7 +5,7 @@ use Rattle.ipdl_base.specs.declared.finding.Finding.{Finding}
 use Rattle.sync_list.specs.Broken as sync
 use Rattle.type_rules.specs.Broken as types
 use Rattle.proto_rules.specs.Broken as protocols
-use Rattle.ipdl_top.specs.Answer.{BreaksRules}
+use Rattle.ipdl_top.specs.CommandAnswer.{BreaksRules}
 use Rattle.ipdl_top.proofs.Gathered.{Has, of_two_alone, of_three}
 use Rattle.ipdl_top.proofs.rules.gathered.Goals as goal
 

@@ -1,5 +1,5 @@
 use Rattle.std.proofs.lemmas.Bool.Decides.{Decides-not}
-use Rattle.manager_rules.specs.declared.side.Side.TheVariants.{Managed}
+use Rattle.manager_rules.specs.declared.side.Relation.TheVariants.{Managed}
 use Rattle.manager_rules.specs.Managers.{Manages}
 use Rattle.manager_rules.proofs.Bonds.{bond_names}
 use Rattle.manager_rules.proofs.Found.{with_told}

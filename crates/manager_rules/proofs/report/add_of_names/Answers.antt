@@ -1,7 +1,7 @@
 use Rattle.std.proofs.lemmas.Result.{on_ok_weaker}
 use Rattle.ipdl_base.specs.declared.finding.TheConstants.Rule as rule
-use Rattle.manager_rules.specs.declared.breach.Breach.TheVariants.{Unknown, Unanswered, Stronger, Unconstructed}
-use Rattle.manager_rules.specs.declared.side.Side.TheVariants.{Managers, Managed}
+use Rattle.manager_rules.specs.declared.breach.ManagerBreach.TheVariants.{Unknown, Unanswered, Stronger, Unconstructed}
+use Rattle.manager_rules.specs.declared.side.Relation.TheVariants.{Managers, Managed}
 use Rattle.findings.proofs.Gains.{Adds-then}
 use Rattle.manager_rules.specs.InProtocol.{BreaksAt, UnknownIn, UnansweredIn}
 use Rattle.manager_rules.proofs.Gathered.{gains_of, gains_both}

@@ -1,5 +1,5 @@
 use Rattle.std.proofs.Common.{[], List, sym, subst, ◌∙◌}
-use Rattle.script_reader.specs.declared.token.Token.{Token}
+use Rattle.script_reader.specs.declared.token.ScriptToken.{ScriptToken}
 use Rattle.script_reader.specs.Grammar.{statement}
 use Rattle.script_reader.proofs.Refused.{refuses_on, refuses_as}
 use Rattle.script_reader.proofs.TokenLists.{one_tokens}
@@ -11,6 +11,6 @@ returns-in_err-tokens-clause-stops c = refuses_on _ _ _ _ c.from_residual.ensure
 pub returns-clause-stops : goal.returns-clause-stops
 returns-clause-stops c =
     refuses_as _ _ c.statement.result
-    (λ none s h. let P : List Token → Type 0 = λ l. statement s l [] in
+    (λ none s h. let P : List ScriptToken → Type 0 = λ l. statement s l [] in
     none s (subst P (one_tokens h.0 c.in_ok-tokens.tokens.items c.args.line.now h.1 c.in_ok-tokens.ensures.read ∙ sym c.as_slice.ensures.value) h.2))
     c.statement.ensures.stops

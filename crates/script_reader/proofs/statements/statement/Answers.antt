@@ -1,5 +1,5 @@
 use Rattle.std.proofs.Common.{List, subst}
-use Rattle.script_reader.specs.declared.token.Token.{Token}
+use Rattle.script_reader.specs.declared.token.ScriptToken.{ScriptToken}
 use Rattle.script_reader.specs.Grammar.{keyword_of}
 use Rattle.script_reader.specs.Parts.{single}
 use Rattle.script_reader.proofs.Balanced.{unbalanced}
@@ -10,7 +10,7 @@ use Rattle.script_reader.proofs.statements.statement.Goals as goal
 pub returns-in_err-keyword-clause-stops : goal.returns-in_err-keyword-clause-stops
 returns-in_err-keyword-clause-stops c =
     refuses_on _ _ _ _ c.from_residual.ensures.1
-    (λ none. no_keyword c.args.tokens.now (λ k to. let P : List Token → Type 0 = λ l. ¬ single keyword_of k l to in subst P c.new-reader.ensures (none k to)))
+    (λ none. no_keyword c.args.tokens.now (λ k to. let P : List ScriptToken → Type 0 = λ l. ¬ single keyword_of k l to in subst P c.new-reader.ensures (none k to)))
     c.in_err-keyword.ensures.stops
 
 pub returns-then-is_unclosed-clause-stops : goal.returns-then-is_unclosed-clause-stops

@@ -1,7 +1,7 @@
 use Rattle.ipdl_base.specs.declared.token.Token.{Token}
 use Rattle.ipdl_syntax.specs.declared.tree.FileKind.{FileKind}
 use Rattle.std.proofs.Common.{List}
-use Rattle.tree_reader.specs.declared.refusal.Refusal.{Refusal}
+use Rattle.tree_reader.specs.declared.refusal.TreeRefusal.{TreeRefusal}
 use Rattle.tree_reader.specs.Files.{FileStops, IsHeadedDraft}
 use Rattle.tree_reader.specs.declared.symbol.Symbol.TheVariants as symbols
 use Rattle.tree_reader.proofs.FileForms.{using_added, using_stopped}
@@ -10,7 +10,7 @@ use Rattle.tree_reader.proofs.file.add_using.Goals as goal
 
 pub returns-in_err-found-clause-stops : goal.returns-in_err-found-clause-stops
 returns-in_err-found-clause-stops c =
-    thrown c.from_residual.result c.in_err-found.field-0.0 (λ (e : Refusal). (kind : FileKind) (tokens : List Token) → IsHeadedDraft kind tokens c.args.attributes c.args.draft.now c.args.reader.now → FileStops kind tokens e) c.from_residual.ensures.1
+    thrown c.from_residual.result c.in_err-found.field-0.0 (λ (e : TreeRefusal). (kind : FileKind) (tokens : List Token) → IsHeadedDraft kind tokens c.args.attributes c.args.draft.now c.args.reader.now → FileStops kind tokens e) c.from_residual.ensures.1
     (λ kind tokens h. using_stopped kind tokens c.args.attributes c.args.draft.now c.args.reader.now c.pass.new.self c.in_err-found.field-0.0 c.requires.outside (next_of symbols.Using _ _ _ c.requires.using c.pass.ensures) c.in_err-found.ensures.stops h)
 
 pub returns-clause-read : goal.returns-clause-read

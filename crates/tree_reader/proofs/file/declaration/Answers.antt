@@ -1,6 +1,6 @@
 use Rattle.ipdl_base.specs.declared.token.Token.{Token}
 use Rattle.std.proofs.Common.{length, List, ◌∙◌, subst, rules}
-use Rattle.tree_reader.specs.declared.refusal.Refusal.{Refusal}
+use Rattle.tree_reader.specs.declared.refusal.TreeRefusal.{TreeRefusal}
 use Rattle.tree_reader.specs.Files.{FileStops, IsDraft, IsHeadedDraft}
 use Rattle.tree_reader.specs.declared.symbol.Symbol.{Symbol}
 use Rattle.tree_reader.proofs.FileForms.{no_attributes, IsBare, bare_include, bare_namespace, bare_close, bare_none}
@@ -31,6 +31,6 @@ returns-in_default-clause-read c =
 
 pub returns-in_default-clause-stops : goal.returns-in_default-clause-stops
 returns-in_default-clause-stops c =
-    IfErr-weaker c.headed.result (λ (e : Refusal). (tokens : List Token) → IsHeadedDraft c.args.kind tokens c.from_vec.result c.args.draft.now c.args.reader.now → FileStops c.args.kind tokens e)
-    (λ (e : Refusal). (tokens : List Token) → IsDraft c.args.kind tokens c.args.draft.now c.args.reader.now → FileStops c.args.kind tokens e)
+    IfErr-weaker c.headed.result (λ (e : TreeRefusal). (tokens : List Token) → IsHeadedDraft c.args.kind tokens c.from_vec.result c.args.draft.now c.args.reader.now → FileStops c.args.kind tokens e)
+    (λ (e : TreeRefusal). (tokens : List Token) → IsDraft c.args.kind tokens c.args.draft.now c.args.reader.now → FileStops c.args.kind tokens e)
     (λ e f tokens h. f tokens (head c tokens h)) c.headed.ensures.stops

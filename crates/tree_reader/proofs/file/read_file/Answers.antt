@@ -2,7 +2,7 @@ use Rattle.std.proofs.Common.{rules, ◌≡◌, [], List, subst}
 use Rattle.ipdl_base.specs.declared.token.Token.{Token}
 use Rattle.ipdl_syntax.specs.declared.tree.Unit.{Unit as FileUnit}
 use Rattle.ipdl_syntax.specs.Program.{Tree}
-use Rattle.tree_reader.specs.declared.refusal.Refusal.{Refusal}
+use Rattle.tree_reader.specs.declared.refusal.TreeRefusal.{TreeRefusal}
 use Rattle.tree_reader.specs.declared.symbol.Symbol.TheVariants.{End}
 use Rattle.tree_reader.specs.Symbols.{first_symbol}
 use Rattle.tree_reader.specs.Files.{FileStops, IsDraft}
@@ -28,5 +28,5 @@ returns-clause-read c =
 
 pub returns-clause-stops : goal.returns-clause-stops
 returns-clause-stops c =
-    IfErr-weaker c.finish.result (λ (e : Refusal). (tokens : List Token) → IsDraft c.args.kind tokens c.declarations.draft [] → FileStops c.args.kind tokens e) (FileStops c.args.kind c.args.tokens.now)
+    IfErr-weaker c.finish.result (λ (e : TreeRefusal). (tokens : List Token) → IsDraft c.args.kind tokens c.declarations.draft [] → FileStops c.args.kind tokens e) (FileStops c.args.kind c.args.tokens.now)
     (λ e f. f c.args.tokens.now (whole c)) c.finish.ensures.stops

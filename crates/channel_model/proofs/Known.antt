@@ -1,0 +1,216 @@
+-- What changes of actors and ids keep them known.
+use Rattle.std.proofs.Common.{◌≡◌, ◌≢◌, ◌⊎◌, inl, inr, ℕ, ◌+◌, ◌*◌, ◌≤◌, ℤ, Bool, true, false, not, cond, List, [], ◌∷◌, ◌++◌, filter, refl, sym, subst, ◌∙◌, arith}
+use Rattle.std.specs.List.{AllByRecursion}
+use Rattle.actor_tree.specs.declared.actor.Actor.{Actor}
+use Rattle.actor_tree.specs.Fall.{post_order, others, Falls}
+use Rattle.actor_tree.specs.Tree.{lives, IsTree}
+use Rattle.actor_tree.proofs.Ids.{Has, has, lives-true, lives-false, has_not, Has-append}
+use Rattle.actor_tree.proofs.Kept.{IsTree-append, IsTree-without}
+use Rattle.actor_tree.proofs.Whole.{gives_subtree}
+use Rattle.ipdl_base.specs.declared.kinds.Side.{Side}
+use Rattle.ipdl_base.specs.declared.kinds.Side.TheVariants.{Parent, Child}
+use Rattle.channel_model.specs.Numbers.{other, id_of, top_id}
+use Rattle.channel_model.specs.Actors.{Ids, IsIdOf, IsTaken, AreDistinct, IsNew, IsTopOf, AreKnown}
+use Rattle.channel_model.proofs.Sublists.{Sublist, all-sublist, distinct-sublist}
+
+-- Ids
+
+same_id : (side : Side) (j k : ℕ) → id_of side j ≡ id_of side k → j ≡ k
+same_id Parent j k e = let f : 4 * j + 2 ≡ 4 * k + 2 = cc in omega arith
+same_id Child j k e = let f : 4 * j ≡ 4 * k = cc in omega arith
+
+ids_apart : (side : Side) (j k : ℕ) → id_of side j ≢ id_of (other side) k
+ids_apart Parent j k e = let f : 4 * j + 2 ≡ 4 * k = cc in absurd (omega arith)
+ids_apart Child j k e = let f : 4 * j ≡ 4 * k + 2 = cc in absurd (omega arith)
+
+not_top : (side : Side) (k : ℕ) → id_of side k ≢ top_id
+not_top Parent k e = let f : 4 * k + 2 ≡ 2147483647 = cc in absurd (omega arith)
+not_top Child k e = let f : 4 * k ≡ 2147483647 = cc in absurd (omega arith)
+
+more_ids : (side : Side) (n m : ℕ) (id : ℤ) → n ≤ m → IsIdOf side n id → IsIdOf side m id
+more_ids side n m id h (k, low, e) = (k, omega arith, e)
+
+-- the next id of this side is not taken, and neither is that of the other side
+own_is_free : (ids : Ids) → ¬ IsTaken ids (id_of ids.side (ids.sent + 1))
+own_is_free ids (inl e) = not_top ids.side (ids.sent + 1) e
+own_is_free ids (inr (inl (k, low, e))) = let f : ids.sent + 1 ≡ k = same_id ids.side (ids.sent + 1) k e in absurd (omega arith)
+own_is_free ids (inr (inr (k, low, e))) = ids_apart ids.side (ids.sent + 1) k e
+
+others_is_free : (ids : Ids) → ¬ IsTaken ids (id_of (other ids.side) (ids.delivered + 1))
+others_is_free ids (inl e) = not_top (other ids.side) (ids.delivered + 1) e
+others_is_free ids (inr (inl (k, low, e))) = ids_apart ids.side k (ids.delivered + 1) (sym e)
+others_is_free ids (inr (inr (k, low, e))) = let f : ids.delivered + 1 ≡ k = same_id (other ids.side) (ids.delivered + 1) k e in absurd (omega arith)
+
+-- Lists
+
+pub all-map : {A : Type 0} (P Q : A → Type 0) (xs : List A) → ((x : A) → P x → Q x) → AllByRecursion P xs → AllByRecursion Q xs
+all-map P Q [] h k = tt
+all-map P Q (x ∷ xs) h k = (h x k.0, all-map P Q xs h k.1)
+
+all-both : {A : Type 0} (P Q R : A → Type 0) (xs : List A) → ((x : A) → P x → Q x → R x) → AllByRecursion P xs → AllByRecursion Q xs → AllByRecursion R xs
+all-both P Q R [] h k l = tt
+all-both P Q R (x ∷ xs) h k l = (h x k.0 l.0, all-both P Q R xs h k.1 l.1)
+
+pub all-append : {A : Type 0} (P : A → Type 0) (xs ys : List A) → AllByRecursion P xs → AllByRecursion P ys → AllByRecursion P (xs ++ ys)
+all-append P [] ys h k = k
+all-append P (x ∷ xs) ys h k = (h.0, all-append P xs ys h.1 k)
+
+all-before : {A : Type 0} (P : A → Type 0) (xs ys : List A) → AllByRecursion P (xs ++ ys) → AllByRecursion P xs
+all-before P [] ys h = tt
+all-before P (x ∷ xs) ys h = (h.0, all-before P xs ys h.1)
+
+all-behind : {A : Type 0} (P : A → Type 0) (xs ys : List A) → AllByRecursion P (xs ++ ys) → AllByRecursion P ys
+all-behind P [] ys h = h
+all-behind P (x ∷ xs) ys h = all-behind P xs ys h.1
+
+all-filter : {A : Type 0} (P : A → Type 0) (test : A → Bool) (xs : List A) → AllByRecursion P xs → AllByRecursion P (filter test xs)
+all-filter P test [] h = tt
+all-filter P test (x ∷ xs) h = elim (test x) as (λ b. AllByRecursion P (cond b (x ∷ filter test xs) (filter test xs))) [
+  | true ↦ (h.0, all-filter P test xs h.1)
+  | false ↦ all-filter P test xs h.1
+]
+
+pub distinct-last : (xs : List ℤ) (y : ℤ) → AreDistinct xs → AllByRecursion (λ x. x ≢ y) xs → AreDistinct (xs ++ y ∷ [])
+distinct-last [] y d h = (tt, tt)
+distinct-last (x ∷ xs) y d h = (all-append (λ later. x ≢ later) xs (y ∷ []) d.0 (h.0, tt), distinct-last xs y d.1 h.1)
+
+-- one of distinct ids differs from those before and behind it
+distinct-from : (xs : List ℤ) (y : ℤ) (zs : List ℤ) → AreDistinct (xs ++ y ∷ zs) → AllByRecursion (λ x. x ≢ y) (xs ++ zs)
+distinct-from [] y zs d = all-map (λ later. y ≢ later) (λ x. x ≢ y) zs (λ x n e. n (sym e)) d.0
+distinct-from (x ∷ xs) y zs d = ((all-behind (λ later. x ≢ later) xs (y ∷ zs) d.0).0, distinct-from xs y zs d.1)
+
+distinct-without : (xs : List ℤ) (y : ℤ) (zs : List ℤ) → AreDistinct (xs ++ y ∷ zs) → AreDistinct (xs ++ zs)
+distinct-without [] y zs d = d.1
+distinct-without (x ∷ xs) y zs d =
+    (all-append (λ later. x ≢ later) xs zs (all-before (λ later. x ≢ later) xs (y ∷ zs) d.0) (all-behind (λ later. x ≢ later) xs (y ∷ zs) d.0).1, distinct-without xs y zs d.1)
+
+-- Actors
+
+dead-append : (id : ℤ) (actors : List Actor) (a : Actor) → lives id actors ≡ false → id ≢ a.id → lives id (actors ++ a ∷ []) ≡ false
+dead-append id actors a h n = lives-false id (actors ++ a ∷ []) (λ k. elim (Has-append id actors (a ∷ []) k) [
+  | inl p ↦ has_not id actors h p
+  | inr p ↦ elim p [ inl e ↦ n (sym e) | inr q ↦ absurd q ]
+])
+
+living-append : (id : ℤ) (actors : List Actor) (a : Actor) → lives id (actors ++ a ∷ []) ≡ true → (lives id actors ≡ true) ⊎ (a.id ≡ id)
+living-append id actors a h = elim (Has-append id actors (a ∷ []) (has id (actors ++ a ∷ []) h)) [
+  | inl p ↦ inl (lives-true id actors p)
+  | inr p ↦ elim p [ inl e ↦ inr e | inr q ↦ absurd q ]
+]
+
+Has-if : (id : ℤ) (b : Bool) (a : Actor) (some all : List Actor) → (Has id some → Has id all) → Has id (cond b (a ∷ some) some) → Has id (a ∷ all)
+Has-if id true a some all k (inl e) = inl e
+Has-if id true a some all k (inr h) = inr (k h)
+Has-if id false a some all k h = inr (k h)
+
+Has-filter : (id : ℤ) (test : Actor → Bool) (actors : List Actor) → Has id (filter test actors) → Has id actors
+Has-filter id test [] h = absurd h
+Has-filter id test (a ∷ actors) h = Has-if id (test a) a (filter test actors) actors (Has-filter id test actors) h
+
+dead-filter : (id : ℤ) (test : Actor → Bool) (actors : List Actor) → lives id actors ≡ false → lives id (filter test actors) ≡ false
+dead-filter id test actors h = lives-false id (filter test actors) (λ k. has_not id actors h (Has-filter id test actors k))
+
+tree-falls : (id : ℤ) (actors given left : List Actor) → IsTree actors → Falls id actors given left → IsTree left
+tree-falls id actors [] left t f = subst IsTree (sym f.left) t
+tree-falls id actors (a ∷ given) left t f =
+    let next = f.1 in
+    tree-falls id f.0 given left (subst IsTree (sym next.left) (IsTree-without actors id a (post_order id f.0) t next.next)) f.2
+
+-- those who do not fall are a tree
+tree-others : (id : ℤ) (actors : List Actor) → IsTree actors → IsTree (others (post_order id actors) actors)
+tree-others id actors t =
+    tree-falls id actors (post_order id actors) (others (post_order id actors) actors) t ((gives_subtree id actors (post_order id actors) (others (post_order id actors) actors) t).1 (refl, refl))
+
+-- What keeps actors known
+
+pub known-counted : (protocol : ℕ) (ids : Ids) → AreKnown protocol ids → AreKnown protocol (record ids { sent = ids.sent + 1 })
+known-counted protocol ids h = record {
+  tree = h.tree;
+  top = h.top;
+  taken = λ id k. elim (h.taken id k) [
+    | inl e ↦ inl e
+    | inr t ↦ inr (elim t [ inl own ↦ inl (more_ids ids.side ids.sent (ids.sent + 1) id (omega arith) own) | inr others ↦ inr others ])
+  ];
+  waiting = h.waiting;
+  distinct = h.distinct;
+}
+
+-- this side builds its next actor
+pub known-own : (protocol : ℕ) (ids : Ids) (a : Actor) → AreKnown protocol ids → a.id ≡ id_of ids.side (ids.sent + 1) → lives a.manager ids.actors ≡ true
+    → AreKnown protocol (record ids { sent = ids.sent + 1; actors = ids.actors ++ a ∷ [] })
+known-own protocol ids a h is manager =
+    let free : lives a.id ids.actors ≡ false = lives-false a.id ids.actors (λ k. own_is_free ids (subst (IsTaken ids) is (h.taken a.id (lives-true a.id ids.actors k)))) in
+    record {
+      tree = IsTree-append ids.actors a h.tree free manager;
+      top = all-append (IsTopOf protocol) ids.actors (a ∷ []) h.top ((λ e. absurd (not_top ids.side (ids.sent + 1) (sym is ∙ e))), tt);
+      taken = λ id k. elim (living-append id ids.actors a k) [
+        | inl before ↦ (known-counted protocol ids h).taken id before
+        | inr e ↦ inr (inl (ids.sent + 1, omega arith, sym e ∙ is))
+      ];
+      waiting = all-map (IsNew ids) (IsNew (record ids { sent = ids.sent + 1; actors = ids.actors ++ a ∷ [] })) ids.waiting
+          (λ id new. (new.0, dead-append id ids.actors a new.1 (λ e. ids_apart ids.side (ids.sent + 1) new.0.0 (sym is ∙ sym e ∙ new.0.2)))) h.waiting;
+      distinct = h.distinct;
+    }
+
+-- an actor that has arrived is built
+pub known-arrived : (protocol : ℕ) (ids : Ids) (a : Actor) (before behind : List ℤ) → AreKnown protocol ids → ids.waiting ≡ before ++ a.id ∷ behind → lives a.manager ids.actors ≡ true
+    → AreKnown protocol (record ids { actors = ids.actors ++ a ∷ []; waiting = before ++ behind })
+known-arrived protocol ids a before behind h is manager =
+    let waiting : AllByRecursion (IsNew ids) (before ++ a.id ∷ behind) = subst (AllByRecursion (IsNew ids)) is h.waiting in
+    let distinct : AreDistinct (before ++ a.id ∷ behind) = subst AreDistinct is h.distinct in
+    let own : IsNew ids a.id = (all-behind (IsNew ids) before (a.id ∷ behind) waiting).0 in
+    let rest : AllByRecursion (IsNew ids) (before ++ behind) = all-append (IsNew ids) before behind (all-before (IsNew ids) before (a.id ∷ behind) waiting) (all-behind (IsNew ids) before (a.id ∷ behind) waiting).1 in
+    record {
+      tree = IsTree-append ids.actors a h.tree own.1 manager;
+      top = all-append (IsTopOf protocol) ids.actors (a ∷ []) h.top ((λ e. absurd (not_top (other ids.side) own.0.0 (sym own.0.2 ∙ e))), tt);
+      taken = λ id k. elim (living-append id ids.actors a k) [
+        | inl lived ↦ h.taken id lived
+        | inr e ↦ inr (inr (subst (IsIdOf (other ids.side) ids.delivered) e own.0))
+      ];
+      waiting = all-both (IsNew ids) (λ x. x ≢ a.id) (IsNew (record ids { actors = ids.actors ++ a ∷ []; waiting = before ++ behind })) (before ++ behind)
+          (λ id new differs. (new.0, dead-append id ids.actors a new.1 differs)) rest (distinct-from before a.id behind distinct);
+      distinct = distinct-without before a.id behind distinct;
+    }
+
+-- some that have arrived are dropped
+pub known-fewer : (protocol : ℕ) (ids : Ids) (some : List ℤ) → AreKnown protocol ids → Sublist some ids.waiting → AreKnown protocol (record ids { waiting = some })
+known-fewer protocol ids some h s = record {
+  tree = h.tree;
+  top = h.top;
+  taken = h.taken;
+  waiting = all-sublist (IsNew ids) some ids.waiting s h.waiting;
+  distinct = distinct-sublist some ids.waiting s h.distinct;
+}
+
+-- a constructor of the other side arrives
+pub known-arrives : (protocol : ℕ) (ids : Ids) (some : List ℤ) (made : ℤ) → AreKnown protocol ids → Sublist some ids.waiting → made ≡ id_of (other ids.side) (ids.delivered + 1)
+    → AreKnown protocol (record ids { delivered = ids.delivered + 1; waiting = some ++ made ∷ [] })
+known-arrives protocol ids some made h s is =
+    let new : Ids = record ids { delivered = ids.delivered + 1; waiting = some ++ made ∷ [] } in
+    let fewer : AllByRecursion (IsNew ids) some = all-sublist (IsNew ids) some ids.waiting s h.waiting in
+    let free : lives made ids.actors ≡ false = lives-false made ids.actors (λ k. others_is_free ids (subst (IsTaken ids) is (h.taken made (lives-true made ids.actors k)))) in
+    record {
+      tree = h.tree;
+      top = h.top;
+      taken = λ id k. elim (h.taken id k) [
+        | inl e ↦ inl e
+        | inr t ↦ inr (elim t [ inl own ↦ inl own | inr others ↦ inr (more_ids (other ids.side) ids.delivered (ids.delivered + 1) id (omega arith) others) ])
+      ];
+      waiting = all-append (IsNew new) some (made ∷ [])
+          (all-map (IsNew ids) (IsNew new) some (λ id old. (more_ids (other ids.side) ids.delivered (ids.delivered + 1) id (omega arith) old.0, old.1)) fewer)
+          (((ids.delivered + 1, omega arith, is), free), tt);
+      distinct = distinct-last some made (distinct-sublist some ids.waiting s h.distinct)
+          (all-map (IsNew ids) (λ x. x ≢ made) some (λ id old e. others_is_free ids (inr (inr (subst (IsIdOf (other ids.side) ids.delivered) (e ∙ is) old.0)))) fewer);
+    }
+
+-- a subtree falls
+pub known-fallen : (protocol : ℕ) (ids : Ids) (id : ℤ) → AreKnown protocol ids → AreKnown protocol (record ids { actors = others (post_order id ids.actors) ids.actors })
+known-fallen protocol ids id h =
+    let test : Actor → Bool = λ a. not (lives a.id (post_order id ids.actors)) in
+    record {
+      tree = tree-others id ids.actors h.tree;
+      top = all-filter (IsTopOf protocol) test ids.actors h.top;
+      taken = λ x k. h.taken x (lives-true x ids.actors (Has-filter x test ids.actors (has x (filter test ids.actors) k)));
+      waiting = all-map (IsNew ids) (IsNew (record ids { actors = filter test ids.actors })) ids.waiting (λ x new. (new.0, dead-filter x test ids.actors new.1)) h.waiting;
+      distinct = h.distinct;
+    }

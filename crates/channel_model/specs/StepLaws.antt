@@ -1,0 +1,62 @@
+-- What follows from the steps of ends, for every schema and every list of moves.
+use Rattle.std.specs.Prelude.{◌≡◌, ◌≢◌, ℕ, List, Some, None}
+use Rattle.std.specs.List.{AllByRecursion}
+use Rattle.ipdl_base.specs.declared.kinds.Side.{Side}
+use Rattle.ipdl_base.specs.declared.schema.Schema.{Schema}
+use Rattle.channel_model.specs.Ends.{End, Packet, opening, opening_end}
+use Rattle.channel_model.specs.Events.{Event, Move}
+use Rattle.channel_model.specs.Outputs.{Output}
+use Rattle.channel_model.specs.Runs.{run, history_of}
+use Rattle.channel_model.specs.Sends.{next_seq}
+use Rattle.channel_model.specs.Steps.{step}
+use Rattle.channel_model.specs.Actors.{IsAccepted, AreKnown, ids_of}
+use Rattle.channel_model.specs.EventLines.{IsEventWithEffects, EffectsFollow}
+use Rattle.channel_model.specs.Requests.{AreNumbered, requests_of}
+use Rattle.channel_model.specs.States.{IsInState}
+
+-- Each event prints its line, and then a line for each of its effects; the end keeps its side.
+pub record HasItsLines (e : End) (output : Output) : Type 0 where
+  pub lines : IsEventWithEffects e.side output.lines
+  pub side : output.end.side ≡ e.side
+
+abbrev pub EventsHaveTheirLines : Type 0
+EventsHaveTheirLines =
+    (schema : Schema) (e : End) (link : List Packet) (event : Event) (output : Output) → step schema e link event ≡ Some output → HasItsLines e output
+
+-- In every history each effect stands behind an event of its side, or behind another effect of that event.
+abbrev pub EffectsFollowEvents : Type 0
+EffectsFollowEvents = (schema : Schema) (top : ℕ) (moves : List Move) → EffectsFollow None (history_of schema top moves)
+
+-- Actors stay known: a step whose packet, if it delivers one, is not refused keeps them so.
+abbrev pub KnownActorsStay : Type 0
+KnownActorsStay =
+    (schema : Schema) (protocol : ℕ) (e : End) (link : List Packet) (event : Event) (output : Output)
+    → step schema e link event ≡ Some output → IsAccepted schema e link event → AreKnown protocol (ids_of schema e) → AreKnown protocol (ids_of schema output.end)
+
+-- At an end as it begins the top actor alone is known.
+abbrev pub FirstActorsAreKnown : Type 0
+FirstActorsAreKnown = (schema : Schema) (protocol : ℕ) (side : Side) → AreKnown protocol (ids_of schema (opening_end protocol side))
+
+-- Every step keeps what the state of an end says, where its actors are known.
+abbrev pub StatesStay : Type 0
+StatesStay =
+    (schema : Schema) (protocol : ℕ) (e : End) (link : List Packet) (event : Event) (output : Output)
+    → step schema e link event ≡ Some output → AreKnown protocol (ids_of schema e) → IsInState e → IsInState output.end
+
+abbrev pub FirstStates : Type 0
+FirstStates = (protocol : ℕ) (side : Side) → IsInState (opening_end protocol side)
+
+-- Every step keeps promises numbered, so the next request has a number that no promise has.
+abbrev pub NumbersStay : Type 0
+NumbersStay =
+    (schema : Schema) (e : End) (link : List Packet) (event : Event) (output : Output)
+    → step schema e link event ≡ Some output → AreNumbered (requests_of e) → AreNumbered (requests_of output.end)
+
+abbrev pub NextNumberIsFree : Type 0
+NextNumberIsFree = (e : End) → AreNumbered (requests_of e) → AllByRecursion (λ seq. seq ≢ next_seq e) (requests_of e).promised
+
+-- So at both ends of every run promises are numbered.
+abbrev pub NumbersInEveryRun : Type 0
+NumbersInEveryRun =
+    (schema : Schema) (top : ℕ) (moves : List Move)
+    → AreNumbered (requests_of (run schema moves (opening top)).world.parent) × AreNumbered (requests_of (run schema moves (opening top)).world.child)

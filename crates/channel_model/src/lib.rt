@@ -1,0 +1,17 @@
+//! The two ends of a channel as definitions: what an end keeps, what each kind of step does to it, the lines that it
+//! prints and the packets that it sends; and the laws of them that one end keeps by itself, part by part
+//! (docs/channel.md). No function that runs.
+#![tactic(auto)]
+
+mod laws;
+mod step_laws;
+
+pub use ipdl_base::EndState;
+pub use laws::{
+    decides_types, every_run_is_legal, impossible_moves_change_nothing, moves_go_one_after_another,
+    plain_forms_commute,
+};
+pub use step_laws::{
+    effects_follow_events, events_have_their_lines, first_actors_are_known, first_states,
+    known_actors_stay, next_number_is_free, numbers_in_every_run, numbers_stay, states_stay,
+};

@@ -1,0 +1,8 @@
+-- What contracts see of a history.
+use Rattle.std.specs.Prelude.{ℕ, List}
+use Rattle.ipdl_base.specs.declared.line.Line.{Line}
+
+-- the lines, oldest first, and how many more there is room for
+pub record HistoryView : Type 0 where
+  pub lines : List Line
+  pub spare : ℕ

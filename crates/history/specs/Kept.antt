@@ -1,8 +1,0 @@
--- What contracts see of a history.
-use Rattle.std.specs.Prelude.{ℕ, List}
-use Rattle.history.specs.declared.line.Line.{Line}
-
--- the lines, oldest first, and how many more there is room for
-pub record Kept : Type 0 where
-  pub lines : List Line
-  pub spare : ℕ

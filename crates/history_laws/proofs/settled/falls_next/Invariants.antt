@@ -1,7 +1,0 @@
-use Rattle.std.proofs.Common.{◌≡◌, drop}
-use Rattle.history_laws.specs.Settled.{falls_next}
-use Rattle.history_laws.proofs.settled.falls_next.Given as goal
-
--- the lines so far settle
-abbrev pub invariant-loop-line : goal.invariant-loop-line
-invariant-loop-line l = falls_next l.side l.id (drop l.line-index l.behind) ≡ falls_next l.side l.id l.behind

@@ -1,2 +1,0 @@
-pub mod Nulled
-pub mod Wanted

@@ -1,0 +1,16 @@
+use Rattle.ipdl_top.proofs.AtMostOne as law
+use Rattle.ipdl_top.proofs.laws.answer_is_determined.Goals as goal
+
+pub returns : goal.returns
+returns c = law.answer_is_determined (record {
+  texts = record { tokens = c.one_answer.ensures.tokens; tree = c.one_tree.ensures };
+  command = c.one_command.ensures;
+  list = c.one_list.ensures.list;
+  rules = c.break_alike.ensures;
+  listed = c.listed_alike.ensures;
+  schemas = c.schemas_alike.ensures;
+  schema = c.one_schema.ensures;
+  boxes = c.boxes_say_nothing.ensures;
+  frames_alike = c.frames_alike.ensures;
+  frames = c.one_list_of_frames.ensures;
+})

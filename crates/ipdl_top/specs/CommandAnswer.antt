@@ -1,0 +1,127 @@
+-- What the program answers.
+use Rattle.std.specs.Prelude.{◌≡◌, ◌≢◌, ◌⊎◌, ℕ, Bool, List, [], ◌∷◌, ◌++◌, map, length, Option, IsSomeAnd}
+use Rattle.ipdl_base.specs.Outside.{FileMap}
+use Rattle.ipdl_base.specs.declared.finding.Finding.{Finding}
+use Rattle.ipdl_base.specs.declared.schema.Schema.{Schema}
+use Rattle.ipdl_syntax.specs.declared.program.Entry.{Entry}
+use Rattle.ipdl_syntax.specs.Programs.{IsProgram}
+use Rattle.command_words.specs.Command.{IsNoCommand}
+use Rattle.command_words.specs.Compile.{IsCompile}
+use Rattle.command_words.specs.Frames.{IsFrames}
+use Rattle.findings.specs.Report.{IsReport}
+use Rattle.include_graph.specs.Load.{IsProgramOf}
+use Rattle.include_graph.specs.Reach.{IsReach}
+use Rattle.include_graph.specs.Rules.{IsBroken}
+use Rattle.include_graph.specs.Sources.{LoadInput, text_of}
+use Rattle.sync_list.specs.declared.list.Section.{Section}
+use Rattle.sync_list.specs.Broken as sync
+use Rattle.type_rules.specs.Broken as types
+use Rattle.proto_rules.specs.Broken as protocols
+use Rattle.program_schema.specs.SchemaOf.{IsSchemaOf}
+use Rattle.actor_tables.specs.TableText.{table_text}
+use Rattle.ipdl_top.specs.declared.answer.CommandAnswer.{CommandAnswer}
+use Rattle.ipdl_top.specs.declared.status.Status.TheVariants.{Done, Broken, Usage}
+use Rattle.ipdl_top.specs.Command.{usage_text}
+use Rattle.ipdl_top.specs.Frames.{SaysFrames}
+use Rattle.ipdl_top.specs.Lists.{IsFaultOfList, AreSections, list_names}
+use Rattle.ipdl_top.specs.Report.{report_text}
+use Rattle.ipdl_top.specs.FileViews.{FileViews}
+
+-- the answer that is a table
+abbrev pub table_answer : List ℕ → CommandAnswer
+table_answer text = record { status = Done; out = text; err = [] }
+
+-- the answer that is a report on files that are called so
+abbrev pub report_answer : List (List ℕ) → List Finding → CommandAnswer
+report_answer names report = record { status = Broken; out = []; err = report_text names report }
+
+-- the answer to words that are no command
+abbrev pub usage_answer : CommandAnswer
+usage_answer = record { status = Usage; out = []; err = usage_text }
+
+-- Rules on files
+
+-- What the files of the reach break by how they are read and named, and what the list breaks as the file behind them.
+abbrev pub IsBrokenFile : LoadInput → FileMap → Option (List ℕ) → List (List ℕ) → Finding → Type 0
+IsBrokenFile given lists list keys f = IsBroken given keys f ⊎ IsFaultOfList lists list (length keys) f
+
+-- The answer is the report on the files and the list, which is not empty.
+pub record IsFileReport (given : LoadInput) (lists : FileMap) (list : Option (List ℕ)) (answer : CommandAnswer) : Type 0 where
+  pub keys : List (List ℕ)
+  pub reach : IsReach given keys
+  pub report : List Finding
+  pub is_report : IsReport (IsBrokenFile given lists list keys) report
+  pub some : report ≢ []
+  pub says : answer ≡ report_answer (map (text_of given) keys ++ list_names list) report
+
+-- Rules of the language
+
+-- No rule on files is broken: this is the program, and these are the sections of the list where one is named.
+pub record IsReading (given : LoadInput) (lists : FileMap) (list : Option (List ℕ)) (program : List Entry) (sections : Option (List Section)) : Type 0 where
+  pub is_program : IsProgramOf given program
+  pub whole : IsProgram program
+  pub are_sections : AreSections lists list sections
+
+-- What a program breaks: rules on types and on protocols, and where there is a list those of the list.
+abbrev pub BreaksRules : List Entry → Option (List Section) → Finding → Type 0
+BreaksRules program sections f =
+    types.BrokenAt program f ⊎ (protocols.BrokenAt program f ⊎ IsSomeAnd sections (λ list. sync.BrokenAt program list f))
+
+-- The answer is the report on the program and the list, which is not empty.
+pub record IsRuleReport (given : LoadInput) (lists : FileMap) (list : Option (List ℕ)) (answer : CommandAnswer) : Type 0 where
+  pub program : List Entry
+  pub sections : Option (List Section)
+  pub reading : IsReading given lists list program sections
+  pub report : List Finding
+  pub is_report : IsReport (BreaksRules program sections) report
+  pub some : report ≢ []
+  pub says : answer ≡ report_answer (map (λ e. e.name) program ++ list_names list) report
+
+-- No rule is broken: this is the schema of the program that is read.
+pub record IsSchemaRead (given : LoadInput) (lists : FileMap) (list : Option (List ℕ)) (schema : Schema) : Type 0 where
+  pub program : List Entry
+  pub sections : Option (List Section)
+  pub reading : IsReading given lists list program sections
+  pub clean : (f : Finding) → ¬ BreaksRules program sections f
+  pub schema_of : IsSchemaOf program schema
+
+-- The answer is what is said of the schema of a program that breaks no rule.
+pub record IsSaidOf (Says : Schema → CommandAnswer → Type 0) (given : LoadInput) (lists : FileMap) (list : Option (List ℕ)) (answer : CommandAnswer) : Type 0 where
+  pub schema : Schema
+  pub read : IsSchemaRead given lists list schema
+  pub says : Says schema answer
+
+-- The answer of a command that compiles files: the report on them, or else the report on their program, or else what the
+-- command says of its schema.
+abbrev pub IsCompilation : (Schema → CommandAnswer → Type 0) → LoadInput → FileMap → Option (List ℕ) → CommandAnswer → Type 0
+IsCompilation Says given lists list answer = IsFileReport given lists list answer ⊎ (IsRuleReport given lists list answer ⊎ IsSaidOf Says given lists list answer)
+
+-- what the command that compiles says of a schema: its tables
+abbrev pub SaysTables : Schema → CommandAnswer → Type 0
+SaysTables schema answer = answer ≡ table_answer (table_text schema)
+
+-- what words of files and a path give, with these files
+abbrev pub given_by : FileMap → List (List ℕ) → List (List ℕ) → LoadInput
+given_by files path names = record { files = files; words = names; path = path }
+
+-- the answer of the command that compiles, where the words are it
+pub record IsCommandAnswer (seen : FileViews) (words : List (List ℕ)) (answer : CommandAnswer) : Type 0 where
+  pub list : Option (List ℕ)
+  pub path : List (List ℕ)
+  pub names : List (List ℕ)
+  pub command : IsCompile words list path names
+  pub compilation : IsCompilation SaysTables (given_by seen.files path names) seen.list list answer
+
+-- the answer of the command that prints frames, where the words are it
+pub record IsFramesAnswer (seen : FileViews) (words : List (List ℕ)) (answer : CommandAnswer) : Type 0 where
+  pub list : Option (List ℕ)
+  pub path : List (List ℕ)
+  pub file : List ℕ
+  pub frames : List ℕ
+  pub convert : Bool
+  pub command : IsFrames words list path file frames convert
+  pub compilation : IsCompilation (SaysFrames frames convert (seen.frames frames)) (given_by seen.files path (file ∷ [])) seen.list list answer
+
+-- The answer to words, with these files: that of the command that they are, or how the program is called where they are none.
+abbrev pub IsAnswer : FileViews → List (List ℕ) → CommandAnswer → Type 0
+IsAnswer seen words answer = IsCommandAnswer seen words answer ⊎ (IsFramesAnswer seen words answer ⊎ (IsNoCommand words × (answer ≡ usage_answer)))

@@ -1,0 +1,8 @@
+//! Least sets: which nodes are derived, where each needs all of its parts or one of them.
+#![tactic(auto)]
+
+mod marking;
+mod nodes;
+mod users;
+
+pub use nodes::{Need, Node, least_fixed_point};

@@ -1,7 +1,0 @@
-use Rattle.std.proofs.Common.{take}
-use Rattle.least_sets.specs.Marking.{Visits}
-use Rattle.least_sets.proofs.marking.visit_all.Given as goal
-
--- the users so far were visited
-abbrev pub invariant-loop-user : goal.invariant-loop-user
-invariant-loop-user l = Visits l.nodes (take l.user-index l.users) l.fn.marks.items l.fn.work.items l.marks.items l.work.items l.seen.items

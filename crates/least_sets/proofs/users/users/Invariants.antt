@@ -1,7 +1,0 @@
-use Rattle.std.proofs.Common.{length, take}
-use Rattle.least_sets.proofs.Rows.{AreUsersOf}
-use Rattle.least_sets.proofs.users.users.Given as goal
-
--- the rows have the users among the nodes so far
-abbrev pub invariant-loop-user : goal.invariant-loop-user
-invariant-loop-user l = AreUsersOf (length l.nodes) (take l.user l.nodes) l.users.items

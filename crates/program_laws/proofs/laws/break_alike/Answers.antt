@@ -1,7 +1,0 @@
-use Rattle.program_laws.proofs.Managers.{managers_alike}
-use Rattle.program_laws.proofs.Messages.{messages_alike}
-use Rattle.program_laws.proofs.Types.{types_alike}
-use Rattle.program_laws.proofs.laws.break_alike.Goals as goal
-
-pub returns : goal.returns
-returns c = λ program other f alike. (types_alike program other alike f, managers_alike program other alike f, messages_alike program other alike f)

@@ -1,5 +1,0 @@
-use Rattle.program_laws.proofs.SyncList as law
-use Rattle.program_laws.proofs.laws.listed_alike.Goals as goal
-
-pub returns : goal.returns
-returns c = λ program other list f alike. law.listed_alike program other alike list f

@@ -1,6 +1,0 @@
-use Rattle.sync_list.specs.Broken.{HasMessage}
-use Rattle.sync_list.proofs.Keys.{told_pair}
-use Rattle.sync_list.proofs.names.Known.names_async.Goals as goal
-
-pub returns : goal.returns
-returns c program knows = told_pair c.args.self.now.asyncs (HasMessage _ program) c.names_of.result _ _ c.names_of.ensures.protocol c.names_of.ensures.message knows.asyncs c.contains.result c.contains.ensures

@@ -1,5 +1,0 @@
-use Rattle.world_laws.proofs.Histories as law
-use Rattle.world_laws.proofs.laws.moves_go_one_after_another.Goals as goal
-
-pub returns : goal.returns
-returns c = law.moves_go_one_after_another
