@@ -5,10 +5,8 @@ ghost use Rattle.frame_list.specs.Frames.{all_plain};
 ghost use Rattle.frame_list.specs.Lines.{addressed, fault_line, frame_line, frames_lines, made_text, receiver_text, said_text};
 
 use crate::list::{FrameListFault, PlacedMessage};
-use history::{
-    params_of, push_listed, push_message, push_numbered, reason_word, returns_of_number,
-};
-use ipdl_base::{Body, Message, Schema};
+use history::{push_listed, push_message, push_numbered, reason_word};
+use ipdl_base::{Body, Message, Schema, params_of, returns_of};
 use std::alloc::{AllocError, Global};
 use value_types::boxes_say_nothing;
 
@@ -74,7 +72,7 @@ fn push_said(
         Body::Reply(values) => {
             push_addressed(out, alloc, schema, b"reply ", message)?;
             out.extend_from_slice(b" ok ")?;
-            let types = returns_of_number(schema, message.number);
+            let types = returns_of(schema, message.number);
             push_listed(out, alloc, schema, types, values)
         }
         Body::Fault(reason) => {

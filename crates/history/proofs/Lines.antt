@@ -8,7 +8,7 @@ use Rattle.ipdl_base.specs.declared.line.Line.{Line}
 use Rattle.history.specs.declared.messages.Messages.{Messages}
 use Rattle.history.specs.Messages.{message_of_number}
 use Rattle.history.specs.Noted.{Knows, noted_at}
-use Rattle.history.specs.Text.{line_saying, line_text, lines_text, returns_of}
+use Rattle.history.specs.Text.{line_saying, line_text, lines_text, returns_named}
 
 -- a piece that is put behind others, where there was room
 pub put_one : {X E : Type 0} (result : Result X E) (out piece new : List ℕ) → new ≡ cond (is_ok result) (out ++ piece) out → OnOk result (new ≡ out ++ piece)
@@ -39,7 +39,7 @@ lines_more schema lines i line out more whole within is written before =
 
 -- what is noted behind lines is what they say, so the line is the same
 pub line_known : (schema : Schema) (lines : List Line) (messages : Messages) (line : Line) → Knows lines messages
-    → line_saying schema (λ n. returns_of schema (noted_at messages line.side n)) line ≡ line_text schema lines line
+    → line_saying schema (λ n. returns_named schema (noted_at messages line.side n)) line ≡ line_text schema lines line
 line_known schema lines messages line knows =
     let known : noted_at messages line.side ≡ message_of_number line.side lines = fun_ext (knows line.side) in
-    ap (λ (named : ℤ → Option ℕ). line_saying schema (λ n. returns_of schema (named n)) line) known
+    ap (λ (named : ℤ → Option ℕ). line_saying schema (λ n. returns_named schema (named n)) line) known

@@ -2,15 +2,10 @@
 use Rattle.std.specs.Prelude.{ℕ, ℤ, Bool, true, false, if◌then◌else◌, List, [], ◌∷◌, Option, Some, None, is_some, option_and_then}
 use Rattle.std.specs.Ordering.{int_eq}
 use Rattle.ipdl_base.specs.declared.kinds.Side.{Side}
-use Rattle.ipdl_base.specs.declared.kinds.Side.TheVariants as side
+use Rattle.ipdl_base.specs.Lines.{same_side}
 use Rattle.ipdl_base.specs.declared.line.Line.{Line}
 use Rattle.ipdl_base.specs.declared.line.What.{What}
 use Rattle.ipdl_base.specs.declared.line.What.TheVariants as what
-
-abbrev pub same_side : Side → Side → Bool
-same_side side.Parent side.Parent = true
-same_side side.Child side.Child = true
-same_side _ _ = false
 
 -- the number of a request that a line gives a message, and that message: a send, a call or a take does
 abbrev pub given : What → Option (ℤ × ℕ)

@@ -2,6 +2,8 @@
 use Rattle.std.specs.Prelude.{ℕ, ◌/◌, ℤ, Bool, true, false, if◌then◌else◌, List, [], ◌∷◌, ◌++◌, codes, Option, Some, None, slice_get}
 use Rattle.std.specs.Fmt.{decimal, signed_decimal}
 use Rattle.std.specs.Option.{option_map_or}
+use Rattle.ipdl_base.specs.Lines.{is_effect}
+use Rattle.ipdl_base.specs.Signatures.{params_of, returns_of}
 use Rattle.ipdl_base.specs.Sound.{message_of}
 use Rattle.ipdl_base.specs.Words.{short_name}
 use Rattle.ipdl_base.specs.declared.kinds.SendRefusal.{SendRefusal}
@@ -24,18 +26,10 @@ protocol_text schema number = option_map_or (λ protocol. short_name protocol.na
 abbrev pub message_text : Schema → ℕ → List ℕ
 message_text schema number = protocol_text schema (number / 65536) ++ codes "." ++ option_map_or (λ message. message.name) (message_of schema number) []
 
--- the parameters of a message
-abbrev pub params_of : Schema → ℕ → List ParamRow
-params_of schema number = option_map_or (λ message. message.params) (message_of schema number) []
-
--- the returns of a message
-abbrev pub returns_of_row : MessageRow → List ParamRow
-returns_of_row message = option_map_or (λ returns. returns) message.returns []
-
 -- the returns of a message that is named, and none where none is
-abbrev pub returns_of : Schema → Option ℕ → List ParamRow
-returns_of schema None = []
-returns_of schema (Some number) = option_map_or returns_of_row (message_of schema number) []
+abbrev pub returns_named : Schema → Option ℕ → List ParamRow
+returns_named schema None = []
+returns_named schema (Some number) = returns_of schema number
 
 -- values between brackets, by their types
 abbrev pub listed_values : Schema → List ParamRow → Values → List ℕ
@@ -114,18 +108,6 @@ what_text schema types (what.Resolved n values) = tailed (codes "settle ") n (co
 what_text schema types (what.Rejected n reason) = tailed (codes "settle ") n (codes " rejected ") (reason_word reason)
 what_text schema types (what.Fall id destroy) = tailed (codes "fall ") id (codes " ") (destroy_word destroy)
 
--- whether a line is an effect of the event before it
-abbrev pub is_effect : What → Bool
-is_effect (what.Built id protocol) = true
-is_effect (what.Replaced n) = true
-is_effect (what.AnswerOk n values) = true
-is_effect (what.AnswerFault n reason) = true
-is_effect (what.Fails n) = true
-is_effect (what.Resolved n values) = true
-is_effect (what.Rejected n reason) = true
-is_effect (what.Fall id destroy) = true
-is_effect _ = false
-
 -- how a line begins: an event with its end, and an effect with two blanks
 abbrev pub line_begin : Line → List ℕ
 line_begin line = if is_effect line.what then codes "  " else side_word line.side ++ codes " "
@@ -136,7 +118,7 @@ line_saying schema types line = line_begin line ++ what_text schema types line.w
 
 -- the text of a line behind others
 abbrev pub line_text : Schema → List Line → Line → List ℕ
-line_text schema before line = line_saying schema (λ n. returns_of schema (message_of_number line.side before n)) line
+line_text schema before line = line_saying schema (λ n. returns_named schema (message_of_number line.side before n)) line
 
 -- the text of lines behind others
 abbrev pub lines_text : Schema → List Line → List Line → List ℕ

@@ -10,6 +10,6 @@ mod words;
 pub use history::History;
 pub use ipdl_base::{Line, What};
 pub use text::{
-    history_text, is_effect, params_of, push_listed, push_message, push_numbered, returns_of_number,
+    history_text, push_listed, push_message, push_numbered,
 };
 pub use words::reason_word;

@@ -4,9 +4,8 @@ ghost use Rattle.std.specs.Ordering.{int_eq};
 ghost use Rattle.history.specs.Messages.{given};
 ghost use Rattle.history.specs.Noted.{Gives, Knows, noted_at};
 
-use ipdl_base::{Line, What};
 use indexmap::IndexMap;
-use ipdl_base::Side;
+use ipdl_base::{Line, Side, What};
 use std::alloc::{AllocError, Global};
 
 /// The messages of the numbers of requests at either end, as the lines so far give them.

@@ -6,10 +6,9 @@ ghost use Rattle.history.specs.Noted.{Knows, noted_at};
 ghost use Rattle.history.specs.Text as text;
 
 use crate::history::History;
-use ipdl_base::{Line, What};
 use crate::messages::Messages;
 use crate::words::{destroy_word, reason_word, refusal_word, side_word};
-use ipdl_base::{MessageRow, ParamRow, Schema, SendRefusal, Side, Values, short_name};
+use ipdl_base::{Line, MessageRow, ParamRow, Schema, SendRefusal, Side, Values, What, short_name};
 use std::alloc::{AllocError, Global};
 use value_types::push_values;
 
@@ -35,47 +34,13 @@ fn message_name(schema: &Schema, number: u32) -> &[u8]
     }
 }
 
-/// The parameters of a message by the number of its request or reply, or none where there is no such
-/// message. Takes no memory.
-pub fn params_of(schema: &Schema, number: u32) -> &[ParamRow]
-    requires { IsSound schema.now }
-    ensures { result.now ≡ text.params_of schema.now number }
-{
-    match schema.message(number) {
-        Some(message) => message.params.as_slice(),
-        None => &[],
-    }
-}
-
-/// The returns of a message, or none where it has none.
-fn returns_of_row(message: &MessageRow) -> &[ParamRow]
-    ensures { result.now ≡ text.returns_of_row message.now }
-{
-    match &message.returns {
-        Some(returns) => returns.as_slice(),
-        None => &[],
-    }
-}
-
-/// The returns of a message by the number of its request or reply, or none where it has none. Takes no
-/// memory.
-pub fn returns_of_number(schema: &Schema, number: u32) -> &[ParamRow]
-    requires { IsSound schema.now }
-    ensures { result.now ≡ option_map_or text.returns_of_row (message_of schema.now number) [] }
-{
-    match schema.message(number) {
-        Some(message) => returns_of_row(message),
-        None => &[],
-    }
-}
-
 /// The returns of a message that is named, or none where none is.
-fn returns_of(schema: &Schema, named: Option<u32>) -> &[ParamRow]
+fn returns_named(schema: &Schema, named: Option<u32>) -> &[ParamRow]
     requires { IsSound schema.now }
-    ensures { result.now ≡ text.returns_of schema.now named }
+    ensures { result.now ≡ text.returns_named schema.now named }
 {
     match named {
-        Some(number) => returns_of_number(schema, number),
+        Some(number) => returns_of(schema, number),
         None => &[],
     }
 }
@@ -314,9 +279,9 @@ fn returns_at<'s>(
     number: i32,
 ) -> &'s [ParamRow]
     requires { IsSound schema.now }
-    ensures { result.now ≡ text.returns_of schema.now (noted_at messages.now side number) }
+    ensures { result.now ≡ text.returns_named schema.now (noted_at messages.now side number) }
 {
-    returns_of(schema, messages.find(side, number))
+    returns_named(schema, messages.find(side, number))
 }
 
 /// Appends what a line says behind its begin.
@@ -329,7 +294,7 @@ fn push_what(
     what: &What,
 ) -> Result<(), AllocError>
     requires { IsSound schema.now }
-    ensures { OnOk result (out.new.items ≡ out.old.items ++ text.what_text schema.now (λ n. text.returns_of schema.now (noted_at messages.now side n)) what.now) }
+    ensures { OnOk result (out.new.items ≡ out.old.items ++ text.what_text schema.now (λ n. text.returns_named schema.now (noted_at messages.now side n)) what.now) }
 {
     match what {
         What::Send(n, route, message, values) => {
@@ -424,23 +389,6 @@ fn push_what(
     }
 }
 
-/// Whether a line is an effect of the event before it.
-pub fn is_effect(what: &What) -> bool
-    ensures { result ≡ text.is_effect what.now }
-{
-    matches!(
-        what,
-        What::Built(..)
-            | What::Replaced(..)
-            | What::AnswerOk(..)
-            | What::AnswerFault(..)
-            | What::Fails(..)
-            | What::Resolved(..)
-            | What::Rejected(..)
-            | What::Fall(..)
-    )
-}
-
 /// Appends how a line begins.
 fn push_begin(out: &mut Vec<u8>, line: &Line) -> Result<(), AllocError>
     ensures { OnOk result (out.new.items ≡ out.old.items ++ text.line_begin line.now) }
@@ -462,7 +410,7 @@ fn push_line(
     line: &Line,
 ) -> Result<(), AllocError>
     requires { IsSound schema.now }
-    ensures { OnOk result (out.new.items ≡ out.old.items ++ text.line_saying schema.now (λ n. text.returns_of schema.now (noted_at messages.now line.now.side n)) line.now) }
+    ensures { OnOk result (out.new.items ≡ out.old.items ++ text.line_saying schema.now (λ n. text.returns_named schema.now (noted_at messages.now line.now.side n)) line.now) }
 {
     push_begin(out, line)?;
     push_what(out, alloc, schema, messages, line.side, &line.what)?;

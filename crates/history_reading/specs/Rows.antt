@@ -44,13 +44,3 @@ kind_cause Delete route = cause.Delete route
 
 abbrev pub delete_cause : Schema → ℕ → ℤ → Cause
 delete_cause schema number route = option_map_or (λ row. kind_cause row.kind route) (message_of schema number) cause.Nobody
-
--- the parameters and the returns of a message
-abbrev pub params_of : Schema → ℕ → List ParamRow
-params_of schema number = option_map_or (λ row. row.params) (message_of schema number) []
-
-abbrev pub returns_of_row : MessageRow → List ParamRow
-returns_of_row row = option_map_or (λ returns. returns) row.returns []
-
-abbrev pub returns_of : Schema → ℕ → List ParamRow
-returns_of schema number = option_map_or returns_of_row (message_of schema number) []

@@ -7,11 +7,11 @@ ghost use Rattle.history_reading.specs.Views.{packet_view};
 ghost use Rattle.history_reading.specs.Reading as read;
 
 use crate::numbers::NumberList;
-use crate::parts::{BuiltActor, Cause, EventKind, CallFrame, PacketKind, ActorPlace, EndState};
+use crate::parts::{ActorPlace, BuiltActor, CallFrame, Cause, EventKind, PacketKind};
 use crate::sent::SentList;
-use crate::stack::CallStack;
 use crate::sent_packet::SentPacket;
-use ipdl_base::Destroy;
+use crate::stack::CallStack;
+use ipdl_base::{Destroy, EndState};
 use std::alloc::{AllocError, Global};
 
 /// The id of the top actor.

@@ -1,21 +1,31 @@
-//! What is read from the lines of a history: a half for each end (docs/laws.md).
+//! What is read from the lines of a history, end by end, and the laws of histories as tests of what is
+//! read (docs/laws.md). The laws are decided by `law_checks`.
 #![tactic(auto)]
 
 mod end_reading;
+mod held;
+mod law;
 mod note;
+mod nulled;
 mod numbers;
 mod parts;
 mod reading;
 mod rows;
 mod sent;
-mod stack;
 mod sent_packet;
+mod shapes;
+mod stack;
 
 pub use end_reading::{EndReading, actor_place};
+pub use held::Held;
+pub use law::Law;
+pub use nulled::{all_live, is_nulled, missing};
 pub use numbers::NumberList;
-pub use parts::{BuiltActor, Call, Cause, EventKind, CallFrame, HandledRequest, PacketKind, ActorPlace, EndState};
+pub use parts::{
+    ActorPlace, BuiltActor, Call, CallFrame, Cause, EventKind, HandledRequest, PacketKind,
+};
 pub use reading::Reading;
-pub use rows::{is_request_number, params_of, returns_of};
+pub use rows::is_request_number;
 pub use sent::SentList;
+pub use sent_packet::{ReplyContent, Request, SentPacket};
 pub use stack::CallStack;
-pub use sent_packet::{Request, ReplyContent, SentPacket};

@@ -13,11 +13,10 @@ ghost use Rattle.history_reading.specs.Rows.{delete_cause};
 ghost use Rattle.history_reading.specs.SentPacket as told;
 
 use crate::end_reading::EndReading;
-use crate::parts::{Call, Cause, EventKind, CallFrame, HandledRequest, PacketKind};
+use crate::parts::{Call, CallFrame, Cause, EventKind, HandledRequest, PacketKind};
 use crate::rows::{delete_cause, is_constructor, is_sync_number, wants_number};
-use crate::sent_packet::{Request, ReplyContent, SentPacket};
-use ipdl_base::What;
-use ipdl_base::{Destroy, Schema, Values};
+use crate::sent_packet::{ReplyContent, Request, SentPacket};
+use ipdl_base::{Destroy, Schema, Values, What};
 use std::alloc::AllocError;
 
 impl<'h> EndReading<'h> {

@@ -5,8 +5,8 @@ ghost use Rattle.history_reading.specs.EndReadings.{end_view};
 ghost use Rattle.history_reading.specs.Nulled as nulled;
 ghost use Rattle.history_reading.specs.ActorQuery.{first_wanted, is_wanted};
 
-use crate::shapes::{component_of, element_of, fields_of, held_by, split_fields};
 use crate::end_reading::EndReading;
+use crate::shapes::{component_of, element_of, fields_of, held_by, split_fields};
 use ipdl_base::{ParamRow, Schema, Shape, Value, Values};
 
 /// Which actors in values are looked for: those that are missing, or those that are dead.

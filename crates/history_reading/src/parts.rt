@@ -1,14 +1,5 @@
 use ipdl_base::Destroy;
 
-/// The state of an end.
-#[derive(Clone, Copy, PartialEq, Eq)]
-pub enum EndState {
-    Open,
-    Draining,
-    Closed,
-    Dead,
-}
-
 /// What a line of a delivery shows of a packet: its kind, with the number of its request.
 #[derive(Clone, Copy)]
 pub enum PacketKind {

@@ -5,8 +5,7 @@ ghost use Rattle.history_reading.specs.Reading as read;
 ghost use Rattle.history_reading.specs.Readings.{reading_view};
 
 use crate::end_reading::EndReading;
-use ipdl_base::{Line, What, is_effect};
-use ipdl_base::{Schema, Side};
+use ipdl_base::{Line, Schema, Side, What, is_effect};
 use std::alloc::{AllocError, Global};
 
 /// What is read from the lines of a history: a half for each end, the end of the last event, and how

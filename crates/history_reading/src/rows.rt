@@ -90,19 +90,3 @@ pub fn delete_cause(schema: &Schema, number: u32, route: i32) -> Cause
         None => Cause::Nobody,
     }
 }
-
-/// The parameters of a message.
-pub fn params_of(schema: &Schema, number: u32) -> &[ParamRow]
-    requires { IsSound schema.now }
-    ensures { result.now ≡ rows.params_of schema.now number }
-{
-    history::params_of(schema, number)
-}
-
-/// The returns of the message of a number, or none where it has none.
-pub fn returns_of(schema: &Schema, number: u32) -> &[ParamRow]
-    requires { IsSound schema.now }
-    ensures { result.now ≡ rows.returns_of schema.now number }
-{
-    history::returns_of_number(schema, number)
-}

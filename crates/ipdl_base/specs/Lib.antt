@@ -1,9 +1,11 @@
 pub mod Builtins
 pub mod Deferral
+pub mod Lines
 pub mod Memory
 pub mod Outside
 pub mod Plain
 pub mod Rules
+pub mod Signatures
 pub mod Sound
 pub mod TokenView
 pub mod Tokens

@@ -6,7 +6,7 @@ use Rattle.std.specs.Cmp.Lexicographic.{pointwise}
 
 -- Files that are held in memory: names with their bytes, the numbers of the calls that fail, and how
 -- many calls there were and how many of them failed.
-pub record Files : Type 0 where
+pub record MemoryFilesView : Type 0 where
   pub files : List (List ℕ × List ℕ)
   pub fails : List ℕ
   pub calls : ℕ
@@ -30,7 +30,7 @@ abbrev pub faults_after : Bool → ℕ → ℕ
 faults_after fails n = if fails then counted n else n
 
 -- the files after a read: the call is counted, and the fault where it fails
-abbrev pub after_read : Files → Files
+abbrev pub after_read : MemoryFilesView → MemoryFilesView
 after_read m = record {
   files = m.files;
   fails = m.fails;
@@ -40,7 +40,7 @@ after_read m = record {
 
 -- A sink in memory: what was written, the greatest piece that it takes, the room that it has in all,
 -- the numbers of the calls that fail, and how many calls there were and how many of them failed.
-pub record Sink : Type 0 where
+pub record MemorySinkView : Type 0 where
   pub written : List ℕ
   pub piece : ℕ
   pub room : ℕ
@@ -49,7 +49,7 @@ pub record Sink : Type 0 where
   pub faults : ℕ
 
 -- how many bytes of a piece the next write takes, or nothing where it fails
-abbrev pub room_for : Sink → List ℕ → Option ℕ
+abbrev pub room_for : MemorySinkView → List ℕ → Option ℕ
 room_for s piece =
     if is_next s.fails s.calls || ((s.room - length s.written == 0) && not (length piece == 0)) then None else
     Some (min (min (length piece) s.piece) (s.room - length s.written))
@@ -59,7 +59,7 @@ answer_to None = Failed
 answer_to (Some n) = Took n
 
 -- the sink after a write: the call is counted, and the fault where it fails
-abbrev pub after_write : Sink → List ℕ → Sink
+abbrev pub after_write : MemorySinkView → List ℕ → MemorySinkView
 after_write s piece = record {
   written = s.written ++ take (unwrap_or (room_for s piece) 0) piece;
   piece = s.piece;

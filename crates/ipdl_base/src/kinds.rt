@@ -68,3 +68,16 @@ pub enum SendRefusal {
     InCall,
     DeadValue,
 }
+
+/// The state of an end (docs/channel.md).
+#[derive(Clone, Copy, Debug, PartialEq, Eq)]
+pub enum EndState {
+    /// It sends, and packets are delivered to it.
+    Open,
+    /// The end of the channel was delivered to it: it takes what has arrived, and sends nothing.
+    Draining,
+    /// It has closed.
+    Closed,
+    /// It has died.
+    Dead,
+}

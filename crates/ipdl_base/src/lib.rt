@@ -1,5 +1,5 @@
 //! What every other crate speaks of: names and lists, places and rules, the outside, the tables of a
-//! program, values and messages. It knows nothing of texts, of the grammar, or of how a channel works.
+//! program, values and messages, and the lines of a history. It knows nothing of texts, of the grammar, or of how a channel works.
 #![tactic(auto)]
 
 mod builtin;
@@ -9,9 +9,11 @@ mod finding;
 mod full_name;
 mod items;
 mod kinds;
+mod line;
 mod memory;
 mod message;
 mod schema;
+mod signature;
 mod sink;
 mod token;
 mod value;
@@ -22,13 +24,17 @@ pub use files::{Files, ReadAnswer};
 pub use finding::{Finding, Findings, Place, Rule};
 pub use full_name::short_name;
 pub use items::{Items, Name, Numbers, Texts};
-pub use kinds::{Compress, Destroy, Direction, Level, Reason, Semantics, SendRefusal, Side};
+pub use kinds::{
+    Compress, Destroy, Direction, EndState, Level, Reason, Semantics, SendRefusal, Side,
+};
+pub use line::{Line, What, is_effect};
 pub use memory::{MemoryFiles, MemorySink};
 pub use message::{Body, Message};
 pub use schema::{
     Kind, MessageRow, MessageRows, ParamRow, ParamRows, ProtocolRow, ProtocolRows, Schema, Shape,
     Shapes, TypeRow, TypeRows,
 };
+pub use signature::{params_of, returns_of, returns_of_row};
 pub use sink::{Sink, WriteAnswer};
 pub use token::{Token, TokenKind, Tokens};
 pub use value::{Value, Values};

@@ -1,4 +1,9 @@
-use ipdl_base::{Destroy, Name, Reason, SendRefusal, Side, Values};
+ghost use Rattle.std.specs.Prelude.{◌≡◌};
+ghost use Rattle.ipdl_base.specs.Lines.{is_effect};
+
+use crate::items::Name;
+use crate::kinds::{Destroy, Reason, SendRefusal, Side};
+use crate::value::Values;
 
 /// A line of a history: what happened at one end (docs/transcripts.md).
 #[derive(Drop)]
@@ -78,4 +83,21 @@ pub enum What {
     Rejected(i32, Reason),
     /// An effect: the actor of this id falls.
     Fall(i32, Destroy),
+}
+
+/// Whether a line is an effect of the event before it.
+pub fn is_effect(what: &What) -> bool
+    ensures { result ≡ is_effect what.now }
+{
+    matches!(
+        what,
+        What::Built(..)
+            | What::Replaced(..)
+            | What::AnswerOk(..)
+            | What::AnswerFault(..)
+            | What::Fails(..)
+            | What::Resolved(..)
+            | What::Rejected(..)
+            | What::Fall(..)
+    )
 }

@@ -44,7 +44,7 @@ impl Model for MemoryFiles {
     ghost use Rattle.std.specs.Prelude.{map, string_bytes};
     ghost use Rattle.ipdl_base.specs.Memory as memory;
 
-    ghost Value = { memory.Files };
+    ghost Value = { memory.MemoryFilesView };
 
     ghost view = { λ m. record {
       files = map (λ f. (string_bytes f.0, f.1.items)) m.files.items;
@@ -136,7 +136,7 @@ impl Model for MemorySink {
     ghost use Rattle.std.specs.Vec.{vec_capacity};
     ghost use Rattle.ipdl_base.specs.Memory as memory;
 
-    ghost Value = { memory.Sink };
+    ghost Value = { memory.MemorySinkView };
 
     ghost view = { λ s. record {
       written = s.written.items;

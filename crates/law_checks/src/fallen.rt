@@ -2,9 +2,8 @@ ghost use Rattle.std.specs.Prelude.{◌≡◌, ℤ, reverse};
 ghost use Rattle.history_reading.specs.Fallen as the;
 ghost use Rattle.history_reading.specs.EndReadings.{end_view};
 
-use history::What;
-use history_reading::{BuiltActor, Cause, EndReading, NumberList, ActorPlace, actor_place};
-use ipdl_base::Destroy;
+use history_reading::{ActorPlace, BuiltActor, Cause, EndReading, NumberList, actor_place};
+use ipdl_base::{Destroy, What};
 
 /// Whether a living actor has this manager.
 fn manages_living(built: &[BuiltActor], fallen: &NumberList, id: i32) -> bool

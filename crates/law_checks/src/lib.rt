@@ -1,4 +1,5 @@
-//! What is read from the lines of a history, and the five laws of histories (docs/laws.md).
+//! Whether lines can be read, whether each of the five laws of histories holds of them, and the calls that wait
+//! behind them (docs/laws.md).
 #![tactic(auto)]
 
 mod fallen;
@@ -12,7 +13,6 @@ mod unanswered;
 mod verdict;
 mod waits;
 
-pub use history_reading::Held;
-pub use history_reading::Law;
+pub use history_reading::{Held, Law};
 pub use unanswered::{can_read, chain};
 pub use verdict::holds;

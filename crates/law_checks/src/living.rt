@@ -5,10 +5,8 @@ ghost use Rattle.history_reading.specs.Views.{request_view};
 ghost use Rattle.history_reading.specs.Living as the;
 ghost use Rattle.history_reading.specs.Numbers.{id_of};
 
-use history::What;
-use history_reading::{EventKind, EndReading, Request, params_of};
-use history_reading::{all_live, missing};
-use ipdl_base::{ParamRow, Schema, Side, Values};
+use history_reading::{EndReading, EventKind, Request, all_live, missing};
+use ipdl_base::{ParamRow, Schema, Side, Values, What, params_of};
 
 /// The other end.
 fn other_side(side: Side) -> Side

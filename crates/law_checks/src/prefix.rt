@@ -6,10 +6,8 @@ ghost use Rattle.history_reading.specs.Numbers.{has_packet};
 ghost use Rattle.history_reading.specs.Prefix as the;
 ghost use Rattle.history_reading.specs.SentPacket.{packet_kind};
 
-use history::What;
-use history_reading::{EndReading, Request, PacketKind, SentPacket, params_of};
-use history_reading::is_nulled;
-use ipdl_base::{Schema, Values};
+use history_reading::{EndReading, PacketKind, Request, SentPacket, is_nulled};
+use ipdl_base::{Schema, Values, What, params_of};
 
 /// What a delivery shows of a packet.
 fn packet_kind(told: &SentPacket<'_>) -> PacketKind

@@ -4,9 +4,8 @@ ghost use Rattle.ipdl_base.specs.Lines.{same_side};
 ghost use Rattle.history_reading.specs.Holds as the;
 ghost use Rattle.history_reading.specs.Readings.{reading_view};
 
-use history::{Line, What};
-use history_reading::{CallStack, CallFrame, Reading, is_effect, is_request_number};
-use ipdl_base::{Schema, Side};
+use history_reading::{CallFrame, CallStack, Reading, is_request_number};
+use ipdl_base::{Line, Schema, Side, What, is_effect};
 
 /// Whether the dispatch of a request is on top.
 fn is_dispatch_on_top(stack: &CallStack, n: i32) -> bool

@@ -8,8 +8,7 @@ ghost use Rattle.history_reading.specs.Settled as settled;
 ghost use Rattle.history_reading.specs.SentPacket.{is_said, says};
 ghost use Rattle.history_reading.specs.Waits as waits;
 
-use history_reading::{EndReading, ReplyContent, SentPacket};
-use history_reading::{is_nulled, missing};
+use history_reading::{EndReading, ReplyContent, SentPacket, is_nulled, missing};
 use ipdl_base::{ParamRow, Reason, Schema, Values};
 
 /// Whether both are the same reason.

@@ -9,9 +9,8 @@ ghost use Rattle.history_reading.specs.Waits.{own_returns};
 
 use crate::readable::same_side;
 use crate::replies::{ReplyTest, says};
-use history::{Line, What};
-use history_reading::{EventKind, EndReading, NumberList, SentPacket, returns_of};
-use ipdl_base::{ParamRow, Reason, Schema, Side, Values};
+use history_reading::{EndReading, EventKind, NumberList, SentPacket};
+use ipdl_base::{Line, ParamRow, Reason, Schema, Side, Values, What, returns_of};
 
 /// The returns of an end's request of a number.
 pub fn own_returns<'s>(schema: &'s Schema, own: &EndReading<'_>, n: i32) -> &'s [ParamRow]

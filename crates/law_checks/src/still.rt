@@ -8,8 +8,8 @@ ghost use Rattle.history_reading.specs.Still as the;
 ghost use Rattle.history_reading.specs.Waits.{block_each_other, blocks};
 ghost use Rattle.law_checks.specs.Deferrals.{deferral_view};
 
-use history_reading::{Call, CallStack, CallFrame, EndReading, Reading, PacketKind, EndState};
-use ipdl_base::{Level, MessageRow, Schema, Semantics, Side, defers_request};
+use history_reading::{Call, CallFrame, CallStack, EndReading, PacketKind, Reading};
+use ipdl_base::{EndState, Level, MessageRow, Schema, Semantics, Side, defers_request};
 use nesting_core::Head;
 
 /// The head of a message with a number and a transaction.

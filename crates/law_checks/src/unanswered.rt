@@ -6,12 +6,11 @@ ghost use Rattle.history_reading.specs.Holds.{IsReadable, is_readable_list};
 ghost use Rattle.history_reading.specs.Reading.{opening_reading, read};
 ghost use Rattle.history_reading.specs.Readings.{reading_view};
 
-use history_reading::Held;
 use crate::readable::is_readable;
 use crate::still::head_of;
-use history::{History, Line, What};
-use history_reading::{CallFrame, Reading};
-use ipdl_base::Schema;
+use history::History;
+use history_reading::{CallFrame, Held, Reading};
+use ipdl_base::{Line, Schema, What};
 use nesting_core::Head;
 use std::alloc::{AllocError, Global};
 

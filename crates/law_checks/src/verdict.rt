@@ -5,15 +5,14 @@ ghost use Rattle.history_reading.specs.Reading.{end_reading_of, opening_reading,
 ghost use Rattle.history_reading.specs.Readings.{reading_view};
 
 use crate::fallen::{fallen_line, fallen_moment};
-use history_reading::Law;
 use crate::living::living_line;
 use crate::prefix::prefix_line;
 use crate::readable::is_readable;
 use crate::settled::{settled_line, settled_moment};
 use crate::waits::{waits_line, waits_moment};
-use history::{History, Line, What};
-use history_reading::{Reading, is_effect};
-use ipdl_base::Schema;
+use history::History;
+use history_reading::{Law, Reading};
+use ipdl_base::{Line, Schema, What, is_effect};
 use std::alloc::{AllocError, Global};
 
 /// The test of a law of a line, before the lines behind it.

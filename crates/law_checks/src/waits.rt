@@ -7,9 +7,8 @@ ghost use Rattle.history_reading.specs.Waits as the;
 use crate::replies::{ReplyTest, says};
 use crate::settled::own_returns;
 use crate::still::{block_each_other, is_still};
-use history::What;
-use history_reading::{EventKind, EndReading, Reading};
-use ipdl_base::{Reason, Schema, Values};
+use history_reading::{EndReading, EventKind, Reading};
+use ipdl_base::{Reason, Schema, Values, What};
 
 /// Whether the other end answered a call with these values.
 fn is_answered(schema: &Schema, own: &EndReading<'_>, other: &EndReading<'_>, n: i32, values: &Values) -> bool
