@@ -4,8 +4,8 @@ use super::chain_rows::{CHAINS, CHAINS_COUNT};
 use super::given::{note, schema_of};
 use super::lists::history_of;
 use history::History;
-use law_checks::{Held, can_read, chain};
 use ipdl_base::{Schema, Side};
+use law_checks::{Held, can_read, chain};
 use std::alloc::{AllocError, Global};
 use std::test::Fail;
 

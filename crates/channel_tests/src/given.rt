@@ -3,8 +3,8 @@ ghost use Rattle.ipdl_base.specs.Sound.{IsSound};
 
 use super::protocols::PROTOCOLS;
 use history::History;
-use law_checks::{Law, holds};
 use ipdl_base::{MemoryFiles, Schema};
+use law_checks::{Law, holds};
 use std::alloc::{AllocError, Global};
 use std::test::Fail;
 

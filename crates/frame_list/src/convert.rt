@@ -29,7 +29,11 @@ fn push_new(
 }
 
 /// The new frames of messages that have one.
-fn frames_anew(alloc: Global, schema: &Schema, frames: &[PlacedMessage]) -> Result<Vec<u8>, AllocError>
+fn frames_anew(
+    alloc: Global,
+    schema: &Schema,
+    frames: &[PlacedMessage],
+) -> Result<Vec<u8>, AllocError>
     requires sound { IsSound schema.now }
     requires new { HaveNewFrames schema.now frames.now }
     ensures { IfOk result (λ bytes. bytes.items ≡ new_frames schema.now frames.now) }
@@ -43,7 +47,11 @@ fn frames_anew(alloc: Global, schema: &Schema, frames: &[PlacedMessage]) -> Resu
 
 /// The messages of the frames of a file in new frames, one behind another (docs/frames.md). Each has
 /// one, since a payload takes in the new layout at most four times what it takes in the old one.
-pub fn convert_frames(alloc: Global, schema: &Schema, frames: &[PlacedMessage]) -> Result<Vec<u8>, AllocError>
+pub fn convert_frames(
+    alloc: Global,
+    schema: &Schema,
+    frames: &[PlacedMessage],
+) -> Result<Vec<u8>, AllocError>
     requires sound { IsSound schema.now }
     requires held { AreHeld schema.now frames.now }
     ensures { IfOk result (λ bytes. bytes.items ≡ new_frames schema.now (all_plain frames.now)) }

@@ -114,7 +114,11 @@ fn lines_of(alloc: Global, schema: &Schema, frames: &[PlacedMessage]) -> Result<
 }
 
 /// The lines of the frames of a file (docs/frames.md): for each its offset and what its message says.
-pub fn frames_text(alloc: Global, schema: &Schema, frames: &[PlacedMessage]) -> Result<Vec<u8>, AllocError>
+pub fn frames_text(
+    alloc: Global,
+    schema: &Schema,
+    frames: &[PlacedMessage],
+) -> Result<Vec<u8>, AllocError>
     requires { IsSound schema.now }
     ensures { IfOk result (λ text. text.items ≡ frames_lines schema.now (all_plain frames.now)) }
 {

@@ -14,7 +14,7 @@ use crate::rules::{Context, context_of, handled_in, side_of, types_of};
 use crate::term::Terms;
 use crate::typed::{copy_who, terms_of};
 use ipdl_base::{Items, Name, Schema};
-use script_reader::{WrittenMessage, LineReading, MessageName, Statement, Who, WrittenValues};
+use script_reader::{LineReading, MessageName, Statement, Who, WrittenMessage, WrittenValues};
 use std::alloc::{AllocError, Global};
 
 /// The number of a message's request.

@@ -332,7 +332,11 @@ fn is_second_main(reached: BlockProgress<'_>, statement: &Statement) -> bool
 }
 
 /// Whether a statement breaks the structure of blocks.
-pub fn breaks_blocks(reached: BlockProgress<'_>, statement: &Statement, after: &[LineReading]) -> bool
+pub fn breaks_blocks(
+    reached: BlockProgress<'_>,
+    statement: &Statement,
+    after: &[LineReading],
+) -> bool
     ensures { (before : List LineReadingType) → Knows before reached.entry → IsTrue result ↔ broken.BreaksBlocks before statement.now after.now }
 {
     let is_outside = reached.opened.is_none();

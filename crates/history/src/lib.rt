@@ -9,7 +9,5 @@ mod words;
 
 pub use history::History;
 pub use ipdl_base::{Line, What};
-pub use text::{
-    history_text, push_listed, push_message, push_numbered,
-};
+pub use text::{history_text, push_listed, push_message, push_numbered};
 pub use words::reason_word;

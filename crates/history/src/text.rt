@@ -8,7 +8,10 @@ ghost use Rattle.history.specs.Text as text;
 use crate::history::History;
 use crate::messages::Messages;
 use crate::words::{destroy_word, reason_word, refusal_word, side_word};
-use ipdl_base::{Line, MessageRow, ParamRow, Schema, SendRefusal, Side, Values, What, short_name};
+use ipdl_base::{
+    Line, ParamRow, Schema, SendRefusal, Side, Values, What, is_effect, params_of, returns_of,
+    short_name,
+};
 use std::alloc::{AllocError, Global};
 use value_types::push_values;
 

@@ -222,8 +222,10 @@ impl PacketKind {
         ensures { result ≡ same_packet self.now other.now }
     {
         match (self, other) {
-            (PacketKind::Request(m), PacketKind::Request(n)) | (PacketKind::Reply(m), PacketKind::Reply(n)) => *m == *n,
-            (PacketKind::Goodbye, PacketKind::Goodbye) | (PacketKind::Broken, PacketKind::Broken) => true,
+            (PacketKind::Request(m), PacketKind::Request(n))
+            | (PacketKind::Reply(m), PacketKind::Reply(n)) => *m == *n,
+            (PacketKind::Goodbye, PacketKind::Goodbye) | (PacketKind::Broken, PacketKind::Broken) =>
+                true,
             _ => false,
         }
     }

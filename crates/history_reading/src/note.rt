@@ -201,7 +201,11 @@ impl<'h> EndReading<'h> {
         ensures { end_view self.new ≡ read.popping (read.return_cause schema.now (end_view self.old).stack) (end_view self.old) }
     {
         let cause = match self.stack.top() {
-            Some(CallFrame::Dispatch(handled)) => delete_cause(schema, handled.number, handled.route),
+            Some(CallFrame::Dispatch(handled)) => delete_cause(
+                schema,
+                handled.number,
+                handled.route,
+            ),
             _ => Cause::Nobody,
         };
         self.pop(cause);

@@ -27,7 +27,12 @@ fn is_wanted(own: &EndReading<'_>, wanted: ActorQuery, nullable: bool, id: i32) 
 }
 
 /// An actor, where its type is one of actors and it is looked for.
-fn wanted_actor(own: &EndReading<'_>, wanted: ActorQuery, shape: Option<&Shape>, id: i32) -> Option<i32>
+fn wanted_actor(
+    own: &EndReading<'_>,
+    wanted: ActorQuery,
+    shape: Option<&Shape>,
+    id: i32,
+) -> Option<i32>
     ensures { result ≡ first_wanted wanted (lives (end_view own.now)) (nulled.named_actors (option_copied shape.entry) id) }
 {
     match shape {
@@ -225,8 +230,7 @@ fn same_nulled_fields(
         (Values::Nothing, Values::Nothing) => true,
         (Values::First(a, xs), Values::First(b, ys)) => {
             let (shape, others) = split_fields(fields);
-            same_nulled(a, schema, own, shape, b)
-                && same_nulled_fields(xs, schema, own, others, ys)
+            same_nulled(a, schema, own, shape, b) && same_nulled_fields(xs, schema, own, others, ys)
         }
         _ => false,
     }

@@ -28,7 +28,7 @@ pub enum ReplyContent<'h> {
 #[derive(Clone, Copy)]
 pub enum SentPacket<'h> {
     Request(Request<'h>),
-    ReplyContent(i32, ReplyContent<'h>),
+    Reply(i32, ReplyContent<'h>),
     Goodbye,
     Broken,
 }

@@ -38,7 +38,11 @@ fn whole(alloc: Global, gathered: FileSet) -> Result<LoadOutcome, AllocError>
 }
 
 /// The report of what was found in the files that are reached.
-fn report(alloc: Global, files: Vec<ReachedFile>, found: Vec<Finding>) -> Result<LoadOutcome, AllocError>
+fn report(
+    alloc: Global,
+    files: Vec<ReachedFile>,
+    found: Vec<Finding>,
+) -> Result<LoadOutcome, AllocError>
     ensures { IfOk result (λ outcome. (findings : List TheFinding) × (outcome ≡ Report findings (map (λ f. f.source.text) files.items)) × IsReport (Contains found.items) findings) }
 {
     let texts = texts_of(alloc, files)?;

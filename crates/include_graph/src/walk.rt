@@ -9,7 +9,7 @@ ghost use Rattle.include_graph.specs.Reading.{IsTarget, AreTargets, AreRead, IsG
 
 use crate::content::Content;
 use crate::keys::{key_of, named_key_of};
-use crate::read::{SourceFile, ReadStop, read_key};
+use crate::read::{ReadStop, SourceFile, read_key};
 use grammar_laws::names_hold;
 use indexmap::IndexSet;
 use ipdl_base::{Files, Items, Name};

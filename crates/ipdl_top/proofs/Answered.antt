@@ -3,7 +3,7 @@ use Rattle.std.proofs.Common.{◌≡◌, ◌≢◌, ℕ, Bool, List, [], ◌∷�
 use Rattle.std.specs.Prelude.{Option, Some, None}
 use Rattle.ipdl_base.specs.Outside.{FileMap}
 use Rattle.command_words.specs.Command.{IsNoCommand}
-use Rattle.frame_list.specs.declared.list.ListFault.{ListFault}
+use Rattle.frame_list.specs.declared.list.FrameListFault.{FrameListFault}
 use Rattle.ipdl_base.specs.declared.schema.Schema.{Schema}
 use Rattle.ipdl_top.specs.declared.answer.CommandAnswer.{CommandAnswer}
 use Rattle.ipdl_top.specs.declared.status.Status.TheVariants.{Usage}
@@ -25,7 +25,7 @@ not_usage a b e other usage = other (sym (status_of a b e) ∙ usage)
 tables : (schema : Schema) (answer : CommandAnswer) → SaysTables schema answer → IsNoUsage answer
 tables schema answer says = not_usage _ _ says (λ e. cc)
 
-listed : (name out : List ℕ) (fault : Option ListFault) → IsNoUsage (frames_answer name out fault)
+listed : (name out : List ℕ) (fault : Option FrameListFault) → IsNoUsage (frames_answer name out fault)
 listed name out None e = cc
 listed name out (Some fault) e = cc
 

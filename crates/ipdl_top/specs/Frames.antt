@@ -3,7 +3,7 @@ use Rattle.std.specs.Prelude.{◌≡◌, ℕ, ◌≤◌, ◌<◌, ◌⊎◌, Boo
 use Rattle.ipdl_base.specs.declared.schema.Schema.{Schema}
 use Rattle.ipdl_base.specs.Sound.{IsSound}
 use Rattle.codec_laws.specs.Laws.{AreBytes}
-use Rattle.frame_list.specs.declared.list.ListFault.{ListFault}
+use Rattle.frame_list.specs.declared.list.FrameListFault.{FrameListFault}
 use Rattle.frame_list.specs.declared.list.PlacedMessage.{PlacedMessage}
 use Rattle.frame_list.specs.Converted.{new_frames}
 use Rattle.frame_list.specs.Frames.{Holds}
@@ -20,7 +20,7 @@ abbrev pub frames_out : Bool → Schema → List PlacedMessage → List ℕ
 frames_out convert schema frames = if convert then new_frames schema frames else frames_lines schema frames
 
 -- the answer for a file of this name, by the text for its frames and by the fault behind them, where there is one
-abbrev pub frames_answer : List ℕ → List ℕ → Option ListFault → CommandAnswer
+abbrev pub frames_answer : List ℕ → List ℕ → Option FrameListFault → CommandAnswer
 frames_answer name out None = record { status = Done; out = out; err = [] }
 frames_answer name out (Some fault) = bad_frames_answer out (fault_line name fault)
 
@@ -36,7 +36,7 @@ pub record SaysBytes (name : List ℕ) (convert : Bool) (bytes : List ℕ) (sche
   pub sound : IsSound schema
   pub are_bytes : AreBytes bytes
   pub frames : List PlacedMessage
-  pub fault : Option ListFault
+  pub fault : Option FrameListFault
   pub holds : Holds schema 0 bytes frames fault
   pub says : answer ≡ frames_answer name (frames_out convert schema frames) fault
 

@@ -75,7 +75,11 @@ impl CommandAnswer {
     }
 
     /// The answer that files break rules: the text of the report on them, which calls each by its name in this list.
-    pub fn of_report(alloc: Global, names: &[&[u8]], report: &[Finding]) -> Result<CommandAnswer, Failure>
+    pub fn of_report(
+        alloc: Global,
+        names: &[&[u8]],
+        report: &[Finding],
+    ) -> Result<CommandAnswer, Failure>
         ensures answer { IfOk result (λ answer. answer ≡ report_answer (map (λ n. n.now) names.now) report.now) }
         ensures memory { IsOkUnless result Failure.NoMemory }
     {

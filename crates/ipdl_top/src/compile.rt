@@ -202,7 +202,10 @@ fn tables_of(alloc: Global, checked: CheckResult) -> Result<CommandAnswer, Failu
 {
     match checked {
         CheckResult::Report(report) => Ok(report),
-        CheckResult::Clean(schema) => Ok(CommandAnswer::of_table(alloc, table_text(alloc, &schema)?)),
+        CheckResult::Clean(schema) => Ok(CommandAnswer::of_table(
+            alloc,
+            table_text(alloc, &schema)?,
+        )),
     }
 }
 

@@ -13,7 +13,9 @@ ghost use Rattle.ipdl_top.specs.Steps.{IsHeld, IsSoundChecked, IsToldOf};
 use crate::answer::{CommandAnswer, Failure};
 use crate::checked::CheckResult;
 use crate::compile::checked;
-use frame_list::{ListFault, PlacedMessage, convert_frames, fault_text, frames_of, frames_text};
+use frame_list::{
+    FrameListFault, PlacedMessage, convert_frames, fault_text, frames_of, frames_text,
+};
 use ipdl_base::{Files, ReadAnswer, Schema};
 use std::alloc::{AllocError, Global};
 use std::slice::from_ref;
@@ -89,7 +91,7 @@ fn answer_of(
     alloc: Global,
     name: &str,
     out: Vec<u8>,
-    fault: &Option<ListFault>,
+    fault: &Option<FrameListFault>,
 ) -> Result<CommandAnswer, AllocError>
     ensures { IfOk result (λ answer. answer ≡ frames_answer name.now out.items fault.now) }
 {

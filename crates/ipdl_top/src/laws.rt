@@ -1,10 +1,9 @@
 ghost use Rattle.ipdl_top.specs.Laws.{OneAnswer};
 
+use answer_laws::{break_alike, frames_alike, listed_alike, one_list_of_frames, schemas_alike};
 use command_words::one_command;
-use answer_laws::{frames_alike, one_list_of_frames};
 use grammar_laws::one_tree;
 use ipdl_lex::one_answer;
-use answer_laws::{break_alike, listed_alike, schemas_alike};
 use program_schema::one_schema;
 use sync_list::one_list;
 use value_types::boxes_say_nothing;

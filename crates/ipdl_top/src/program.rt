@@ -16,7 +16,11 @@ use ipdl_base::{Files, Sink};
 use std::alloc::Global;
 
 /// The answer to the words of a call.
-fn answer_to<F: Files>(alloc: Global, words: &[String], files: &mut F) -> Result<CommandAnswer, Failure>
+fn answer_to<F: Files>(
+    alloc: Global,
+    words: &[String],
+    files: &mut F,
+) -> Result<CommandAnswer, Failure>
     ensures answer { ForMap (F.told files.old) (λ map'. IfOk result (IsAnswer map' (map string_bytes words.now))) }
     ensures no_command { IsNoCommand (map string_bytes words.now) → result ≢ Err Failure.ReadFault }
     ensures read_fault { result ≡ Err Failure.ReadFault → Rose (F.faults files.old) (F.faults files.new) }

@@ -84,7 +84,13 @@ fn is_missing_in(
 }
 
 /// Whether an actor is the first missing one in the values of the other end's request of a number.
-fn is_first_missing(schema: &Schema, own: &EndReading<'_>, other: &EndReading<'_>, n: i32, id: i32) -> bool
+fn is_first_missing(
+    schema: &Schema,
+    own: &EndReading<'_>,
+    other: &EndReading<'_>,
+    n: i32,
+    id: i32,
+) -> bool
     requires { IsSound schema.now }
     ensures { result ≡ the.is_first_missing schema.now (end_view own.now) (end_view other.now) n id }
 {

@@ -103,7 +103,12 @@ fn is_reply_there(own: &EndReading<'_>, n: i32) -> bool
 }
 
 /// Whether a line is as the law demands.
-pub fn prefix_line(schema: &Schema, own: &EndReading<'_>, other: &EndReading<'_>, what: &What) -> bool
+pub fn prefix_line(
+    schema: &Schema,
+    own: &EndReading<'_>,
+    other: &EndReading<'_>,
+    what: &What,
+) -> bool
     requires { IsSound schema.now }
     ensures { result ≡ the.prefix_line schema.now (end_view own.now) (end_view other.now) what.now }
 {

@@ -58,7 +58,12 @@ fn is_ok_with(
 }
 
 /// Whether a reply answers a call with values in which an actor is missing.
-fn is_ok_missing(said: &ReplyContent<'_>, schema: &Schema, own: &EndReading<'_>, types: &[ParamRow]) -> bool
+fn is_ok_missing(
+    said: &ReplyContent<'_>,
+    schema: &Schema,
+    own: &EndReading<'_>,
+    types: &[ParamRow],
+) -> bool
     ensures { result ≡ waits.is_ok_missing schema.now (end_view own.now) types.now (reply_view said.now) }
 {
     match said {
@@ -110,7 +115,12 @@ pub enum ReplyTest<'a> {
 }
 
 /// Whether a reply is as it is asked.
-fn answers(said: &ReplyContent<'_>, schema: &Schema, own: &EndReading<'_>, asked: &ReplyTest<'_>) -> bool
+fn answers(
+    said: &ReplyContent<'_>,
+    schema: &Schema,
+    own: &EndReading<'_>,
+    asked: &ReplyTest<'_>,
+) -> bool
     ensures { result ≡ is_asked schema.now (end_view own.now) asked.now (reply_view said.now) }
 {
     match asked {
@@ -118,13 +128,21 @@ fn answers(said: &ReplyContent<'_>, schema: &Schema, own: &EndReading<'_>, asked
         ReplyTest::Rejected => is_rejected(said),
         ReplyTest::OkWith(types, values) => is_ok_with(said, schema, own, types, values),
         ReplyTest::OkMissing(types) => is_ok_missing(said, schema, own, types),
-        ReplyTest::ResolvedWith(types, values) => is_resolved_with(said, schema, own, types, values),
+        ReplyTest::ResolvedWith(types, values) => is_resolved_with(
+            said, schema, own, types, values,
+        ),
         ReplyTest::ResolvedMissing(types) => is_resolved_missing(said, schema, own, types),
     }
 }
 
 /// Whether a packet is a reply to the request of a number that is as it is asked.
-fn is_said(told: &SentPacket<'_>, schema: &Schema, own: &EndReading<'_>, n: i32, asked: &ReplyTest<'_>) -> bool
+fn is_said(
+    told: &SentPacket<'_>,
+    schema: &Schema,
+    own: &EndReading<'_>,
+    n: i32,
+    asked: &ReplyTest<'_>,
+) -> bool
     ensures { result ≡ is_said (is_asked schema.now (end_view own.now) asked.now) n (packet_view told.now) }
 {
     match told {
@@ -143,13 +161,18 @@ fn some_is_said(
 ) -> bool
     ensures { result ≡ list_any (λ t. is_said (is_asked schema.now (end_view own.now) asked.now) n (packet_view t)) sent.now }
 {
-    sent.iter()
-        .any(|told| is_said(told, schema, own, n, asked))
+    sent.iter().any(|told| is_said(told, schema, own, n, asked))
 }
 
 /// Whether some reply of an end to the request of a number is as it is asked, where `half` is that of
 /// the end that reads it.
-pub fn says(schema: &Schema, own: &EndReading<'_>, other: &EndReading<'_>, n: i32, asked: &ReplyTest<'_>) -> bool
+pub fn says(
+    schema: &Schema,
+    own: &EndReading<'_>,
+    other: &EndReading<'_>,
+    n: i32,
+    asked: &ReplyTest<'_>,
+) -> bool
     ensures { result ≡ says (is_asked schema.now (end_view own.now) asked.now) (end_view other.now).sent n }
 {
     some_is_said(other.sent.as_slice(), schema, own, n, asked)

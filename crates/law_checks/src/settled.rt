@@ -165,7 +165,13 @@ fn is_cause(
 }
 
 /// Whether the other end resolved a promise with these values.
-fn is_resolved(schema: &Schema, own: &EndReading<'_>, other: &EndReading<'_>, n: i32, values: &Values) -> bool
+fn is_resolved(
+    schema: &Schema,
+    own: &EndReading<'_>,
+    other: &EndReading<'_>,
+    n: i32,
+    values: &Values,
+) -> bool
     requires { IsSound schema.now }
     ensures { result ≡ the.is_resolved schema.now (end_view own.now) (end_view other.now) n values.now }
 {

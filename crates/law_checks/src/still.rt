@@ -134,7 +134,12 @@ pub struct DeferralState {
 }
 
 /// What decides deferral at an end.
-fn deferral_of(schema: &Schema, side: Side, own: &EndReading<'_>, other: &EndReading<'_>) -> DeferralState
+fn deferral_of(
+    schema: &Schema,
+    side: Side,
+    own: &EndReading<'_>,
+    other: &EndReading<'_>,
+) -> DeferralState
     requires { IsSound schema.now }
     ensures { deferral_view result ≡ the.deferral_of schema.now side (end_view own.now) (end_view other.now) }
 {
@@ -163,7 +168,12 @@ fn defers_head(deferral: &DeferralState, head: Option<Head>) -> bool
 }
 
 /// Whether a packet that has arrived is deferred.
-fn defers_packet(schema: &Schema, other: &EndReading<'_>, deferral: &DeferralState, packet: PacketKind) -> bool
+fn defers_packet(
+    schema: &Schema,
+    other: &EndReading<'_>,
+    deferral: &DeferralState,
+    packet: PacketKind,
+) -> bool
     requires { IsSound schema.now }
     ensures { result ≡ the.defers_packet schema.now (end_view other.now) (deferral_view deferral.now) packet }
 {
@@ -175,7 +185,12 @@ fn defers_packet(schema: &Schema, other: &EndReading<'_>, deferral: &DeferralSta
 }
 
 /// Whether some packet is not deferred.
-fn some_is_free(schema: &Schema, other: &EndReading<'_>, deferral: &DeferralState, packets: &[PacketKind]) -> bool
+fn some_is_free(
+    schema: &Schema,
+    other: &EndReading<'_>,
+    deferral: &DeferralState,
+    packets: &[PacketKind],
+) -> bool
     requires { IsSound schema.now }
     ensures { result ≡ the.some_is_free schema.now (end_view other.now) (deferral_view deferral.now) packets.now }
 {

@@ -11,7 +11,13 @@ use history_reading::{EndReading, EventKind, Reading};
 use ipdl_base::{Reason, Schema, Values, What};
 
 /// Whether the other end answered a call with these values.
-fn is_answered(schema: &Schema, own: &EndReading<'_>, other: &EndReading<'_>, n: i32, values: &Values) -> bool
+fn is_answered(
+    schema: &Schema,
+    own: &EndReading<'_>,
+    other: &EndReading<'_>,
+    n: i32,
+    values: &Values,
+) -> bool
     requires { IsSound schema.now }
     ensures { result ≡ the.is_answered schema.now (end_view own.now) (end_view other.now) n values.now }
 {
@@ -20,7 +26,13 @@ fn is_answered(schema: &Schema, own: &EndReading<'_>, other: &EndReading<'_>, n:
 }
 
 /// Whether a fault comes to a call without a reply that says it.
-fn is_own_fault(schema: &Schema, own: &EndReading<'_>, other: &EndReading<'_>, n: i32, reason: Reason) -> bool
+fn is_own_fault(
+    schema: &Schema,
+    own: &EndReading<'_>,
+    other: &EndReading<'_>,
+    n: i32,
+    reason: Reason,
+) -> bool
     requires { IsSound schema.now }
     ensures { result ≡ the.is_own_fault schema.now (end_view own.now) (end_view other.now) n reason }
 {
@@ -35,7 +47,13 @@ fn is_own_fault(schema: &Schema, own: &EndReading<'_>, other: &EndReading<'_>, n
 }
 
 /// Whether a call goes on with a fault that has its cause.
-fn is_failed(schema: &Schema, own: &EndReading<'_>, other: &EndReading<'_>, n: i32, reason: Reason) -> bool
+fn is_failed(
+    schema: &Schema,
+    own: &EndReading<'_>,
+    other: &EndReading<'_>,
+    n: i32,
+    reason: Reason,
+) -> bool
     requires { IsSound schema.now }
     ensures { result ≡ the.is_failed schema.now (end_view own.now) (end_view other.now) n reason }
 {
@@ -58,7 +76,12 @@ fn is_reply_in_order(own: &EndReading<'_>, n: i32) -> bool
 }
 
 /// Whether a line is as the law demands.
-pub fn waits_line(schema: &Schema, own: &EndReading<'_>, other: &EndReading<'_>, what: &What) -> bool
+pub fn waits_line(
+    schema: &Schema,
+    own: &EndReading<'_>,
+    other: &EndReading<'_>,
+    what: &What,
+) -> bool
     requires { IsSound schema.now }
     ensures { result ≡ the.waits_line schema.now (end_view own.now) (end_view other.now) what.now }
 {

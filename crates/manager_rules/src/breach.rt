@@ -57,7 +57,12 @@ impl ManagerBreach {
 }
 
 /// Whether the protocol that a name finds does not name the subject on the other side.
-fn is_unanswered(known: &ManagementGraph<'_, '_>, subject: &Subject<'_>, name: &Name, side: Relation) -> bool
+fn is_unanswered(
+    known: &ManagementGraph<'_, '_>,
+    subject: &Subject<'_>,
+    name: &Name,
+    side: Relation,
+) -> bool
     requires known { IsKnown known.now }
     ensures { IsTrue result ↔ FindsWith (λ other q. ¬ NamesOn (other_side side) known.now.program.now other q subject.now.file) known.now.program.now subject.now.file name.now }
 {
@@ -106,7 +111,12 @@ pub fn is_unmanaged(known: &ManagementGraph<'_, '_>, subject: &Subject<'_>, name
 }
 
 /// Whether a name does this against a rule.
-pub fn breaks(known: &ManagementGraph<'_, '_>, subject: &Subject<'_>, name: &NameAt, breach: ManagerBreach) -> bool
+pub fn breaks(
+    known: &ManagementGraph<'_, '_>,
+    subject: &Subject<'_>,
+    name: &NameAt,
+    breach: ManagerBreach,
+) -> bool
     requires known { IsKnown known.now }
     requires subject { IsSubject known.now.program.now subject.now }
     ensures { IsTrue result ↔ Breaks breach known.now.program.now subject.now.file subject.now.protocol.now name.now }

@@ -43,7 +43,11 @@ fn without(alloc: Global, files: &[u32], one: u32) -> Result<Vec<u32>, AllocErro
 
 /// Whether managers lead from the protocol of a file to another one and back: whether a manager other than itself leads
 /// back to it. Each file is looked at once.
-pub fn is_in_cycle(alloc: Global, known: &ManagementGraph<'_, '_>, from: u32) -> Result<bool, AllocError>
+pub fn is_in_cycle(
+    alloc: Global,
+    known: &ManagementGraph<'_, '_>,
+    from: u32,
+) -> Result<bool, AllocError>
     requires known { IsKnown known.now }
     requires within { from < length known.now.program.now }
     ensures { IfOk result (λ is. IsTrue is ↔ IsInCycle known.now.program.now from) }

@@ -171,10 +171,30 @@ fn add_of_names(
     requires subject { IsSubject known.now.program.now subject.now }
     ensures { OnOk result (Gains (NamesBroken known.now.program.now subject.now.file subject.now.protocol.now) found.old.items found.new.items) }
 {
-    add_breaches(known, subject, ManagerBreach::Unknown(Relation::Managers), found)?;
-    add_breaches(known, subject, ManagerBreach::Unknown(Relation::Managed), found)?;
-    add_breaches(known, subject, ManagerBreach::Unanswered(Relation::Managed), found)?;
-    add_breaches(known, subject, ManagerBreach::Unanswered(Relation::Managers), found)?;
+    add_breaches(
+        known,
+        subject,
+        ManagerBreach::Unknown(Relation::Managers),
+        found,
+    )?;
+    add_breaches(
+        known,
+        subject,
+        ManagerBreach::Unknown(Relation::Managed),
+        found,
+    )?;
+    add_breaches(
+        known,
+        subject,
+        ManagerBreach::Unanswered(Relation::Managed),
+        found,
+    )?;
+    add_breaches(
+        known,
+        subject,
+        ManagerBreach::Unanswered(Relation::Managers),
+        found,
+    )?;
     add_breaches(known, subject, ManagerBreach::Stronger, found)?;
     add_breaches(known, subject, ManagerBreach::Unconstructed, found)
 }

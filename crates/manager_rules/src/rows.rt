@@ -77,7 +77,12 @@ fn set_of(alloc: Global, files: &[u32]) -> Result<HashSet<u32>, AllocError>
 }
 
 /// The row of these names in a file.
-fn row_of(alloc: Global, names: &Names<'_>, file: u32, list: &[NameAt]) -> Result<ManagerRow, AllocError>
+fn row_of(
+    alloc: Global,
+    names: &Names<'_>,
+    file: u32,
+    list: &[NameAt],
+) -> Result<ManagerRow, AllocError>
     ensures { IfOk result (IsRow (λ other. Any (λ n. FindsOneProtocol names.now file n.name other) list.now)) }
 {
     let files = files_of(alloc, names, file, list)?;

@@ -2,7 +2,7 @@
 ghost use Rattle.std.specs.Prelude.{◌≡◌, reverse};
 ghost use Rattle.nesting_core.specs.Frames.{has_wait, innermost, innermost_dispatch, innermost_sync_dispatch, innermost_wait, is_inside_sync, is_unanswered};
 
-use crate::frame::{StackFrame, Head};
+use crate::frame::{Head, StackFrame};
 
 pub(crate) fn innermost_dispatch(frames: &[StackFrame]) -> Option<Head>
     ensures { result ≡ innermost_dispatch (reverse frames.now) }

@@ -2,7 +2,7 @@
 ghost use Rattle.std.specs.Prelude.{◌≡◌, ◌==◌, ◌&&◌, reverse, length};
 ghost use Rattle.nesting_core.specs.Refusals.{has_level, is_below, is_nested_in_normal, is_inside_cpow, is_level_too_low};
 
-use crate::frame::{StackFrame, Head, SendHead};
+use crate::frame::{Head, SendHead, StackFrame};
 use crate::innermost::{innermost_dispatch, innermost_sync_dispatch, innermost_wait};
 use ipdl_base::Level;
 

@@ -10,7 +10,7 @@ ghost use Rattle.ipdl_base.specs.declared.kinds.Reason.TheVariants.{ChannelClose
 ghost use Rattle.nesting_core.specs.declared.frame.Answer.TheVariants.{Fault};
 ghost use Rattle.nesting_core.specs.declared.frame.StackFrame.TheVariants.{Dispatch, Wait};
 
-use crate::frame::{Answer, StackFrame, Head, Popped, SendHead, StackTop};
+use crate::frame::{Answer, Head, Popped, SendHead, StackFrame, StackTop};
 use crate::innermost::{has_wait, innermost_inside_sync, innermost_unanswered};
 use crate::refusals::{is_inside_cpow, is_level_too_low, is_nested_in_normal};
 use ipdl_base::{Level, Reason, SendRefusal, Side, defers_request};

@@ -19,5 +19,5 @@ mod written;
 
 pub use laws::one_reading;
 pub use line::{LineReading, LineReadings, MAX_LINE_LEN, read_lines};
-pub use statement::{WrittenMessage, MessageName, Statement};
+pub use statement::{MessageName, Statement, WrittenMessage};
 pub use written::{Atom, Who, WrittenValue, WrittenValues};

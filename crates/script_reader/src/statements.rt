@@ -11,7 +11,7 @@ ghost use Rattle.script_reader.specs.Reading.{Refuses, IsBehind};
 
 use crate::parts::{Bracket, Keyword};
 use crate::reader::LineTokens;
-use crate::statement::{WrittenMessage, MessageName, Statement};
+use crate::statement::{MessageName, Statement, WrittenMessage};
 use crate::stop::ReadFailure;
 use crate::token::ScriptToken;
 use crate::values::listed;
@@ -187,7 +187,11 @@ fn dying(reader: &LineTokens) -> Result<Statement, ReadFailure>
 }
 
 /// The statement behind a keyword.
-fn behind(alloc: Global, reader: &mut LineTokens, keyword: Keyword) -> Result<Statement, ReadFailure>
+fn behind(
+    alloc: Global,
+    reader: &mut LineTokens,
+    keyword: Keyword,
+) -> Result<Statement, ReadFailure>
     ensures read { IfOk result (IsBehind keyword reader.old) }
     ensures stops { IfErr result (Refuses ((s : StatementType) → ¬ IsBehind keyword reader.old s)) }
 {

@@ -8,7 +8,7 @@ ghost use Rattle.script_reader.specs.declared.token.ScriptToken.{ScriptToken};
 use crate::cursor::Cursor;
 use crate::pieces::{is_digit, is_mark, is_word_start};
 use crate::stop::ReadFailure;
-use crate::token::{TokenClass, ScriptToken};
+use crate::token::{ScriptToken, TokenClass};
 use ipdl_base::{Items, Name};
 use std::alloc::{AllocError, Global};
 
@@ -110,7 +110,11 @@ fn text(alloc: Global, cursor: &mut Cursor) -> Result<Name, ReadFailure>
 }
 
 /// Takes a token of a class.
-fn token_of(alloc: Global, cursor: &mut Cursor, class: TokenClass) -> Result<ScriptToken, ReadFailure>
+fn token_of(
+    alloc: Global,
+    cursor: &mut Cursor,
+    class: TokenClass,
+) -> Result<ScriptToken, ReadFailure>
     requires { class ≡ tokens.class_of cursor.old }
     ensures read { IfOk result (λ t. IsTokenOf class t cursor.old cursor.new) }
     ensures stops { IfErr result (Refuses ((t : ScriptToken) (to : List ℕ) → ¬ IsTokenOf class t cursor.old to)) }

@@ -9,7 +9,7 @@ ghost use Rattle.script_reader.specs.Grammar as grammar;
 ghost use Rattle.script_reader.specs.Reading.{Refuses};
 
 use crate::parts::Bracket;
-use crate::reader::{ValueForm, LineTokens};
+use crate::reader::{LineTokens, ValueForm};
 use crate::stop::ReadFailure;
 use crate::written::{WrittenValue, WrittenValues};
 use std::alloc::Global;
@@ -80,7 +80,11 @@ fn value(alloc: Global, reader: &mut LineTokens) -> Result<Box<WrittenValue>, Re
 
 /// Takes values, and the mark that closes them.
 #[cycle(values)]
-pub fn listed(alloc: Global, reader: &mut LineTokens, close: Bracket) -> Result<WrittenValues, ReadFailure>
+pub fn listed(
+    alloc: Global,
+    reader: &mut LineTokens,
+    close: Bracket,
+) -> Result<WrittenValues, ReadFailure>
     ensures read { IfOk result (λ vs. grammar.listed close vs reader.old reader.new) }
     ensures stops { IfErr result (Refuses ((vs : ValuesType) (to : List TokenType) → ¬ grammar.listed close vs reader.old to)) }
     ensures less { OnOk result (length reader.new < length reader.old) }
@@ -95,7 +99,11 @@ pub fn listed(alloc: Global, reader: &mut LineTokens, close: Bracket) -> Result<
 
 /// Takes the values behind the first one, and the mark that closes them.
 #[cycle(values)]
-fn more(alloc: Global, reader: &mut LineTokens, close: Bracket) -> Result<WrittenValues, ReadFailure>
+fn more(
+    alloc: Global,
+    reader: &mut LineTokens,
+    close: Bracket,
+) -> Result<WrittenValues, ReadFailure>
     ensures read { IfOk result (λ vs. grammar.more close vs reader.old reader.new) }
     ensures stops { IfErr result (Refuses ((vs : ValuesType) (to : List TokenType) → ¬ grammar.more close vs reader.old to)) }
     ensures less { OnOk result (length reader.new < length reader.old) }

@@ -1,6 +1,6 @@
 use handler_script::{Term, Terms, Who};
 use ipdl_base::{Name, Side};
-use script_reader::{Atom, Call, Statement, Written, WrittenValues};
+use script_reader::{Atom, Statement, WrittenMessage, WrittenValue, WrittenValues};
 use std::alloc::AllocError;
 
 /// The text of a name.
@@ -95,15 +95,15 @@ fn push_atom(atom: &Atom, out: &mut String) -> Result<(), AllocError> {
 
 /// Appends a value as it is written.
 #[cycle(written)]
-fn push_written(value: &Written, out: &mut String) -> Result<(), AllocError> {
+fn push_written(value: &WrittenValue, out: &mut String) -> Result<(), AllocError> {
     match value {
-        Written::Atom(atom) => push_atom(atom, out),
-        Written::Array(elements) => {
+        WrittenValue::Atom(atom) => push_atom(atom, out),
+        WrittenValue::Array(elements) => {
             out.push('[')?;
             push_values(elements, out)?;
             out.push(']')
         }
-        Written::Union(index, held) => {
+        WrittenValue::Union(index, held) => {
             write!(out, "@{index} ")?;
             push_written(held, out)
         }
@@ -125,7 +125,7 @@ fn push_values(values: &WrittenValues, out: &mut String) -> Result<(), AllocErro
 }
 
 /// Appends a message with its values.
-fn push_call(call: &Call, out: &mut String) -> Result<(), AllocError> {
+fn push_call(call: &WrittenMessage, out: &mut String) -> Result<(), AllocError> {
     let (protocol, message) = (text(&call.message.protocol), text(&call.message.message));
     write!(out, "{protocol}.{message} ")?;
     push_values(&call.values, out)

@@ -11,7 +11,7 @@ ghost use Rattle.sync_list.specs.Knowing.{Knows};
 ghost use Rattle.sync_list.specs.Sets.{same_pair, KeysAre};
 
 use crate::list::{Section, SyncList};
-use crate::names::{ProgramNames, MessagePair, listed};
+use crate::names::{MessagePair, ProgramNames, listed};
 use findings::sorted;
 use ipdl_base::{Finding, Findings, Place, Rule, Semantics, short_name};
 use ipdl_syntax::{Entry, MessageDecl, Program};

@@ -122,7 +122,10 @@ pub(crate) struct ProtocolBody {
 }
 
 /// Takes a protocol behind its `{`.
-pub(crate) fn protocol_body(alloc: Global, reader: &mut TokenReader) -> Result<ProtocolBody, TreeRefusal>
+pub(crate) fn protocol_body(
+    alloc: Global,
+    reader: &mut TokenReader,
+) -> Result<ProtocolBody, TreeRefusal>
     ensures read { IfOk result (λ b. IsBody b.managers b.manages b.messages reader.old reader.new) }
     ensures turns { OnOk result (Turns (managing ∷ []) reader.old [] reader.new) }
     ensures stops { IfErr result (Stops (managing ∷ []) reader.old) }

@@ -183,7 +183,11 @@ fn attributed(
 }
 
 /// Adds the include whose keyword is next. No namespace is open.
-fn add_include(alloc: Global, reader: &mut TokenReader, draft: &mut Draft) -> Result<(), TreeRefusal>
+fn add_include(
+    alloc: Global,
+    reader: &mut TokenReader,
+    draft: &mut Draft,
+) -> Result<(), TreeRefusal>
     requires including { first_symbol reader.old ≡ symbols.Include }
     requires outside { length draft.old.scope.items ≡ 0 }
     ensures read { OnOk result ((kind : FileKind) (tokens : List Token) → IsDraft kind tokens draft.old reader.old → IsDraft kind tokens draft.new reader.new) }
@@ -197,7 +201,11 @@ fn add_include(alloc: Global, reader: &mut TokenReader, draft: &mut Draft) -> Re
 }
 
 /// Opens the namespace whose keyword is next. Fewer than 16 are open.
-fn open_namespace(alloc: Global, reader: &mut TokenReader, draft: &mut Draft) -> Result<(), TreeRefusal>
+fn open_namespace(
+    alloc: Global,
+    reader: &mut TokenReader,
+    draft: &mut Draft,
+) -> Result<(), TreeRefusal>
     requires opening { first_symbol reader.old ≡ symbols.Namespace }
     requires room { length draft.old.scope.items < 16 }
     ensures read { OnOk result ((kind : FileKind) (tokens : List Token) → IsDraft kind tokens draft.old reader.old → IsDraft kind tokens draft.new reader.new) }

@@ -15,7 +15,11 @@ use std::alloc::Global;
 
 /// Takes the words of a name behind its first one, each with the `::` before it, and puts them
 /// behind the text.
-fn more_words(alloc: Global, reader: &mut TokenReader, text: &mut Vec<u8>) -> Result<(), TreeRefusal>
+fn more_words(
+    alloc: Global,
+    reader: &mut TokenReader,
+    text: &mut Vec<u8>,
+) -> Result<(), TreeRefusal>
     ensures read { OnOk result (AddsWords text.old.items text.new.items reader.old reader.new) }
     ensures ending { OnOk result (first_symbol reader.new ≢ Colons) }
     ensures turns { OnOk result ((f : Form) → IsNaming f → Turns (f ∷ []) reader.old (f ∷ []) reader.new) }
@@ -84,7 +88,10 @@ pub(crate) struct Named {
 }
 
 /// Takes a name, perhaps with an argument.
-pub(crate) fn name_with_argument(alloc: Global, reader: &mut TokenReader) -> Result<Named, TreeRefusal>
+pub(crate) fn name_with_argument(
+    alloc: Global,
+    reader: &mut TokenReader,
+) -> Result<Named, TreeRefusal>
     ensures read { IfOk result (λ n. at n.place (named n.name n.inner) reader.old reader.new) }
     ensures turns { OnOk result ((f : Form) (others : List Form) → IsNaming f → MayHaveArgument f others → Turns (take Word ∷ f ∷ []) reader.old others reader.new) }
     ensures stops { IfErr result (λ e. (f : Form) (others : List Form) → IsNaming f → MayHaveArgument f others → Stops (take Word ∷ f ∷ []) reader.old e) }

@@ -74,7 +74,11 @@ fn base(alloc: Global, reader: &mut TokenReader, room: usize) -> Result<(Base, P
 
 /// Takes a type, with room for so many `UniquePtr` inside one another.
 #[cycle(type_spec)]
-fn type_within(alloc: Global, reader: &mut TokenReader, room: usize) -> Result<TypeSpec, TreeRefusal>
+fn type_within(
+    alloc: Global,
+    reader: &mut TokenReader,
+    room: usize,
+) -> Result<TypeSpec, TreeRefusal>
     requires { room ≤ 4 }
     ensures read { IfOk result (λ spec. type_round spec.nullable (base room spec.base) spec.suffixes spec.place reader.old reader.new) }
     ensures turns { OnOk result ((e : Ending) → Turns (typed room e ∷ []) reader.old (take (last e) ∷ []) reader.new) }

@@ -7,7 +7,7 @@ use crate::compounds::{Compound, compounds_of};
 use crate::parts::nodes_of;
 use ipdl_base::{Finding, Rule};
 use ipdl_syntax::Entry;
-use least_fixed_points::derived;
+use least_fixed_points::least_fixed_point;
 use name_table::Names;
 use std::alloc::{AllocError, Global};
 
@@ -54,6 +54,6 @@ pub fn add_undefined_types(
 {
     let compounds = compounds_of(alloc, program)?;
     let nodes = nodes_of(alloc, names, &compounds)?;
-    let marks = derived(alloc, nodes.as_slice())?;
+    let marks = least_fixed_point(alloc, nodes.as_slice())?;
     add_unmarked(compounds.all.as_slice(), marks.as_slice(), found)
 }

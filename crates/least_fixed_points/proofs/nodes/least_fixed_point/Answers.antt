@@ -6,7 +6,7 @@ use Rattle.std.proofs.lemmas.Option.{slice_get_read}
 use Rattle.least_fixed_points.specs.Marking.{IsMarked}
 use Rattle.least_fixed_points.proofs.Growth.{none_marked}
 use Rattle.least_fixed_points.proofs.Working.{Working-first, Working-step, Working-end, has_reason, in_rows, starter_reason, Knows-first}
-use Rattle.least_fixed_points.proofs.nodes.derived.Goals as goal
+use Rattle.least_fixed_points.proofs.nodes.least_fixed_point.Goals as goal
 
 none_false : (count : ℕ) (marks : List Bool) → marks ≡ replicate count false → (k : ℕ) → ¬ IsMarked marks k
 none_false count marks e = none_marked count marks (λ k below. let P : List Bool → Type 0 = λ m. get_or m k false ≡ false in subst P (sym e) (get_or-replicate count k false false below)) (ap length e ∙ length-replicate count false)

@@ -1,7 +1,7 @@
 use Rattle.std.proofs.Common.{◌+◌, ◌*◌, length}
 use Rattle.least_fixed_points.specs.Marking.{unmarked}
 use Rattle.least_fixed_points.proofs.Working.{Working}
-use Rattle.least_fixed_points.proofs.nodes.derived.Given as goal
+use Rattle.least_fixed_points.proofs.nodes.least_fixed_point.Given as goal
 
 -- what is known while nodes leave the work
 abbrev pub invariant-loop-part : goal.invariant-loop-part
