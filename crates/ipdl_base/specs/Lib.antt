@@ -1,5 +1,6 @@
 pub mod Builtins
 pub mod Deferral
+pub mod NameBytes
 pub mod Memory
 pub mod Outside
 pub mod Plain

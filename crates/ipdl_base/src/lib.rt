@@ -11,6 +11,7 @@ mod items;
 mod kinds;
 mod memory;
 mod message;
+mod name;
 mod schema;
 mod sink;
 mod token;
@@ -21,10 +22,11 @@ pub use deferral::defers_request;
 pub use files::{Files, ReadAnswer};
 pub use finding::{Finding, Findings, Place, Rule};
 pub use full_name::short_name;
-pub use items::{Items, Name, Numbers, Texts};
+pub use items::{Items, Numbers};
 pub use kinds::{Compress, Destroy, Direction, Level, Reason, Semantics, SendRefusal, Side};
 pub use memory::{MemoryFiles, MemorySink};
 pub use message::{Body, Message};
+pub use name::{Name, Texts};
 pub use schema::{
     Kind, MessageRow, MessageRows, ParamRow, ParamRows, ProtocolRow, ProtocolRows, Schema, Shape,
     Shapes, TypeRow, TypeRows,
