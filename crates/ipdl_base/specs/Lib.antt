@@ -1,6 +1,7 @@
 pub mod Builtins
 pub mod Deferral
 pub mod Lines
+pub mod NameBytes
 pub mod Memory
 pub mod Outside
 pub mod Plain

@@ -1,7 +1,5 @@
-ghost use Rattle.std.specs.Prelude.{◌≡◌, ◌↔◌, ◌==◌, List, length, IfOk, IsTrue};
+ghost use Rattle.std.specs.Prelude.{◌≡◌, ◌==◌, List, length};
 
-use std::alloc::{AllocError, Global};
-use std::hash::{Hash, Hasher};
 use std::marker::Model;
 
 /// Values in their order; in a contract it is a list. Going from a `Vec` to it and back moves the
@@ -67,43 +65,5 @@ impl<T: PartialEq> PartialEq for Items<T> {
     }
 }
 
-impl Eq for Items<u8> {
-    ghost use Rattle.std.specs.Cmp.Rules.{comparing};
-    ghost use Rattle.std.proofs.Common.{rules};
-
-    ghost laws = { Prim.search (comparing, rules) };
-}
-
-impl Hash for Items<u8> {
-    ghost use Rattle.std.specs.Hash as fed;
-    ghost use Rattle.std.specs.Cmp.Rules.{hashing};
-    ghost use Rattle.std.proofs.Common.{rules};
-
-    ghost hash_input = { fed.slice fed.u8 };
-
-    ghost respects_eq = { Prim.search (hashing, rules) };
-
-    fn hash<H: Hasher>(&self, state: &mut H) {
-        self.items.hash(state);
-    }
-}
-
-/// A word, a quoted text, a name of a file or any other bytes.
-pub type Name = Items<u8>;
-
-/// A list of names.
-pub type Texts = Items<Name>;
-
 /// A list of numbers, as those of protocols.
 pub type Numbers = Items<u32>;
-
-impl Items<u8> {
-    /// A name with the same bytes.
-    pub fn copy(&self, alloc: Global) -> Result<Name, AllocError>
-        ensures { IfOk result (λ name. name ≡ self.now) }
-    {
-        Ok(Items {
-            items: Vec::from_slice(alloc, self.items.as_slice())?,
-        })
-    }
-}

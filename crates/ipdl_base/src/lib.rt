@@ -12,6 +12,7 @@ mod kinds;
 mod line;
 mod memory;
 mod message;
+mod name;
 mod schema;
 mod signature;
 mod sink;
@@ -23,13 +24,14 @@ pub use deferral::defers_request;
 pub use files::{Files, ReadAnswer};
 pub use finding::{Finding, Findings, Place, Rule};
 pub use full_name::short_name;
-pub use items::{Items, Name, Numbers, Texts};
+pub use items::{Items, Numbers};
 pub use kinds::{
     Compress, Destroy, Direction, EndState, Level, Reason, Semantics, SendRefusal, Side,
 };
 pub use line::{Line, What, is_effect};
 pub use memory::{MemoryFiles, MemorySink};
 pub use message::{Body, Message};
+pub use name::{Name, Texts};
 pub use schema::{
     Kind, MessageRow, MessageRows, ParamRow, ParamRows, ProtocolRow, ProtocolRows, Schema, Shape,
     Shapes, TypeRow, TypeRows,

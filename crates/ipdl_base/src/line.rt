@@ -1,8 +1,8 @@
 ghost use Rattle.std.specs.Prelude.{◌≡◌};
 ghost use Rattle.ipdl_base.specs.Lines.{is_effect};
 
-use crate::items::Name;
 use crate::kinds::{Destroy, Reason, SendRefusal, Side};
+use crate::name::Name;
 use crate::value::Values;
 
 /// A line of a history: what happened at one end (docs/transcripts.md).

@@ -2,8 +2,9 @@ ghost use Rattle.std.specs.Prelude.{◌≡◌, ◌↔◌, slice_get, option_map,
 ghost use Rattle.ipdl_base.specs.Plain.{plain_shape};
 
 use crate::builtin::Builtin;
-use crate::items::{Items, Name, Numbers};
+use crate::items::{Items, Numbers};
 use crate::kinds::{Compress, Direction, Level, Semantics};
+use crate::name::Name;
 use std::alloc::{AllocError, Global};
 
 /// The protocols and types of a program, by number.

@@ -1,7 +1,7 @@
 ghost use Rattle.std.specs.Prelude.{◌≡◌, ◌↔◌, IfOk, IsTrue};
 ghost use Rattle.ipdl_base.specs.Plain.{plain, plain_values};
 
-use crate::items::Name;
+use crate::name::Name;
 use std::alloc::{AllocError, Global};
 
 /// A value that a channel carries.
