@@ -49,7 +49,7 @@ fn add_repeated_many(
 ) -> Result<(), AllocError>
     ensures { OnOk result (Adds rule (IsRepeatedAt (map (λ n. (n.0.now, n.1)) names.now)) found.old.items found.new.items) }
 {
-    let mut seen = HashSet::new(alloc);
+    let mut seen = HashSet::with_capacity(alloc, names.len())?;
     for (name, place) in names {
         if !seen.insert(*name)? {
             found.push(Finding {

@@ -82,31 +82,31 @@ impl Builtin {
     }
 }
 
-/// The builtins whose names have so many bytes.
+/// The builtins whose names have so many bytes, those that files name most before the others.
 fn of_length(bytes: usize) -> &'static [Builtin]
     ensures { (other : Builtin) → length (builtin_name other) ≡ bytes → Contains result.now other }
 {
     match bytes {
         3 => &[Builtin::Int],
-        4 => &[Builtin::Bool, Builtin::Char, Builtin::Long],
-        5 => &[Builtin::Short, Builtin::Float, Builtin::Shmem],
-        6 => &[Builtin::Int8, Builtin::Double],
+        4 => &[Builtin::Bool, Builtin::Long, Builtin::Char],
+        5 => &[Builtin::Float, Builtin::Shmem, Builtin::Short],
+        6 => &[Builtin::Double, Builtin::Int8],
         7 => &[
-            Builtin::Uint8,
-            Builtin::Int16,
             Builtin::Int32,
+            Builtin::Uint8,
             Builtin::Int64,
             Builtin::ByteBuf,
+            Builtin::Int16,
         ],
         8 => &[
-            Builtin::Uint16,
+            Builtin::NsString,
             Builtin::Uint32,
             Builtin::Uint64,
             Builtin::NsResult,
+            Builtin::Uint16,
             Builtin::IntPtr,
-            Builtin::NsString,
         ],
-        9 => &[Builtin::UintPtr, Builtin::NsCString],
+        9 => &[Builtin::NsCString, Builtin::UintPtr],
         14 => &[Builtin::FileDescriptor],
         _ => &[],
     }

@@ -10,7 +10,7 @@ use Rattle.findings.proofs.repeats.add_repeated_many.Goals.{then-not-branch+in_o
 
 pub loop-name-init : goal.loop-name-init
 loop-name-init c = record {
-  told = λ q. (λ h. absurd (let e : contains (λ (x y : Bor (List ℕ)). pointwise nat_eq x.now y.now) c.new-seen.result q ≡ false = search rules in true≢false (sym h ∙ e)), λ h. absurd (let no : ⊥ = omega (arith, h.1) in no));
+  told = λ q. (λ h. absurd (let e : contains (λ (x y : Bor (List ℕ)). pointwise nat_eq x.now y.now) c.in_ok-seen.seen q ≡ false = search rules in true≢false (sym h ∙ e)), λ h. absurd (let no : ⊥ = omega (arith, h.1) in no));
   added = Adds-no_name c.args.rule c.args.found.now.items;
 }
 
