@@ -9,7 +9,7 @@ ghost use Rattle.tree_reader.specs.Reading.{Turns, Stops, IsStructBehind, IsUnio
 
 use crate::body::{ProtocolBody, protocol_body};
 use crate::fields::{components, fields};
-use crate::names::{Named, name_with_argument};
+use crate::names::{QualifiedName, name_with_argument};
 use crate::reader::TokenReader;
 use crate::refusal::TreeRefusal;
 use crate::symbol::Symbol;
@@ -172,7 +172,7 @@ pub(crate) fn using_decl(
     ensures less { OnOk result (length reader.new < length reader.old) }
 {
     kind_word(reader);
-    let Named { name, inner, place } = name_with_argument(alloc, reader)?;
+    let QualifiedName { name, inner, place } = name_with_argument(alloc, reader)?;
     from_file(reader)?;
     Ok(Using {
         full: whole_name(alloc, name, inner)?,

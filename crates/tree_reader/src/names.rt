@@ -81,7 +81,7 @@ fn argument(alloc: Global, reader: &mut TokenReader) -> Result<Option<Name>, Tre
 /// A name with its namespaces, and its argument where it has one; its place is that of its first
 /// word.
 #[derive(Drop)]
-pub(crate) struct Named {
+pub(crate) struct QualifiedName {
     pub(crate) name: Name,
     pub(crate) inner: Option<Name>,
     pub(crate) place: Place,
@@ -91,7 +91,7 @@ pub(crate) struct Named {
 pub(crate) fn name_with_argument(
     alloc: Global,
     reader: &mut TokenReader,
-) -> Result<Named, TreeRefusal>
+) -> Result<QualifiedName, TreeRefusal>
     ensures read { IfOk result (λ n. at n.place (named n.name n.inner) reader.old reader.new) }
     ensures turns { OnOk result ((f : Form) (others : List Form) → IsNaming f → MayHaveArgument f others → Turns (take Word ∷ f ∷ []) reader.old others reader.new) }
     ensures stops { IfErr result (λ e. (f : Form) (others : List Form) → IsNaming f → MayHaveArgument f others → Stops (take Word ∷ f ∷ []) reader.old e) }
@@ -99,5 +99,5 @@ pub(crate) fn name_with_argument(
 {
     let NameAt { name, place } = qualified(alloc, reader)?;
     let inner = argument(alloc, reader)?;
-    Ok(Named { name, inner, place })
+    Ok(QualifiedName { name, inner, place })
 }

@@ -5,7 +5,7 @@ ghost use Rattle.tree_reader.specs.Ending.{Ending};
 ghost use Rattle.tree_reader.specs.Machine.{take, suffixed, based, typed};
 ghost use Rattle.tree_reader.specs.Reading.{Turns, Stops, last, MaySuffix};
 
-use crate::names::{Named, name_with_argument};
+use crate::names::{QualifiedName, name_with_argument};
 use crate::reader::TokenReader;
 use crate::refusal::TreeRefusal;
 use crate::symbol::Symbol;
@@ -58,7 +58,7 @@ fn base(alloc: Global, reader: &mut TokenReader, room: usize) -> Result<(Base, P
 {
     match reader.symbol() {
         Symbol::Word => {
-            let Named { name, inner, place } = name_with_argument(alloc, reader)?;
+            let QualifiedName { name, inner, place } = name_with_argument(alloc, reader)?;
             Ok((Base::Named(name, inner), place))
         }
         Symbol::UniquePtr if room > 0 => {
