@@ -7,4 +7,4 @@ mod report;
 
 pub use laws::one_report;
 pub use repeats::{NamePlace, add_repeated};
-pub use report::sorted;
+pub use report::sort_findings;

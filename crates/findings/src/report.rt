@@ -5,7 +5,7 @@ use ipdl_base::{Finding, Findings, Items};
 
 /// The report of these findings: each of them once, by file, line, column, letter and number.
 /// Takes no memory.
-pub fn sorted(found: Vec<Finding>) -> Findings
+pub fn sort_findings(found: Vec<Finding>) -> Findings
     ensures { IsReport (Contains found.items) result }
 {
     let mut found = found;

@@ -13,7 +13,7 @@ use crate::rules::{
     Context, breaks_allowed, breaks_blocks, breaks_carried, breaks_direction, breaks_values,
     context_of, names_none,
 };
-use findings::sorted;
+use findings::sort_findings;
 use ipdl_base::{Finding, Findings, Place, Rule, Schema};
 use script_reader::{LineReading, Statement};
 use std::alloc::{AllocError, Global};
@@ -201,5 +201,5 @@ pub fn report_of(
     ensures { IfOk result (report.IsReport (broken.IsBroken schema.now top readings.now)) }
 {
     let found = gathered(alloc, schema, top, readings)?;
-    Ok(sorted(found))
+    Ok(sort_findings(found))
 }

@@ -11,7 +11,7 @@ ghost use Rattle.include_graph.specs.Sources.{LoadInput};
 use crate::program::{program_of, texts_of};
 use crate::rules::found_in;
 use crate::walk::{FileSet, ReachedFile};
-use findings::sorted;
+use findings::sort_findings;
 use grammar_laws::{files_hold, names_hold, one_tree, places_hold};
 use ipdl_base::{Finding, Findings, Texts};
 use ipdl_lex::{one_answer, words_hold};
@@ -46,7 +46,7 @@ fn report(
     ensures { IfOk result (λ outcome. (findings : List TheFinding) × (outcome ≡ Report findings (map (λ f. f.source.text) files.items)) × IsReport (Contains found.items) findings) }
 {
     let texts = texts_of(alloc, files)?;
-    Ok(LoadOutcome::Report(sorted(found), texts))
+    Ok(LoadOutcome::Report(sort_findings(found), texts))
 }
 
 /// What the files that are reached make.

@@ -64,7 +64,7 @@ impl Builtin {
     }
 
     /// The builtin with this name, or nothing where no builtin has it.
-    pub fn named(name: &[u8]) -> Option<Builtin>
+    pub fn from_name(name: &[u8]) -> Option<Builtin>
         ensures some { IfSome result (λ found. builtin_name found ≡ name.now) }
         ensures none { IfNone result ((other : Builtin) → ¬ (builtin_name other ≡ name.now)) }
     {

@@ -15,7 +15,7 @@ use crate::checked::CheckResult;
 use crate::list::{SyncListFile, read_listed};
 use crate::rules::rule_checked;
 use actor_tables::table_text;
-use findings::sorted;
+use findings::sort_findings;
 use include_graph::{LoadFault, load};
 use ipdl_base::{Files, Findings, Name};
 use ipdl_syntax::{Entry, Program};
@@ -71,9 +71,9 @@ fn files_report(findings: Findings, listed: &SyncListFile) -> Result<Findings, A
     match listed {
         SyncListFile::Broken(finding) => {
             found.push(*finding)?;
-            Ok(sorted(found))
+            Ok(sort_findings(found))
         }
-        SyncListFile::Sections(_) => Ok(sorted(found)),
+        SyncListFile::Sections(_) => Ok(sort_findings(found)),
     }
 }
 

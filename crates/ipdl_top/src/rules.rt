@@ -9,7 +9,7 @@ ghost use Rattle.ipdl_top.specs.Steps.{IsRuleChecked};
 use crate::answer::{CommandAnswer, Failure};
 use crate::checked::CheckResult;
 use actor_tables::schema;
-use findings::sorted;
+use findings::sort_findings;
 use ipdl_base::{Finding, Findings};
 use ipdl_syntax::Program;
 use name_table::Names;
@@ -51,7 +51,7 @@ fn rule_findings(
     requires of_program { names.now ≡ program.now }
     ensures { IfOk result (IsReport (BreaksRules program.now list.now)) }
 {
-    Ok(sorted(gathered(alloc, program, names, list)?))
+    Ok(sort_findings(gathered(alloc, program, names, list)?))
 }
 
 /// What is found of a program with its sync list, where it has one: the report on them by these

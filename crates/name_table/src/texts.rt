@@ -66,7 +66,7 @@ pub fn builtin_of(text: &[u8]) -> Option<Builtin>
     } else if text == b"mozilla::ipc::FileDescriptor".as_slice() {
         Some(Builtin::FileDescriptor)
     } else {
-        Builtin::named(text)
+        Builtin::from_name(text)
     }
 }
 

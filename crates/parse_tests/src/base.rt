@@ -88,7 +88,7 @@ fn writes(rt: HostRuntime) -> Result<(), Fail> {
 
 /// Whether this is the builtin of the name, and is carried as it should be.
 fn is_builtin(name: &str, builtin: Builtin) -> bool {
-    Builtin::named(name.as_bytes()) == Some(builtin)
+    Builtin::from_name(name.as_bytes()) == Some(builtin)
         && builtin.name() == name.as_bytes()
         && builtin.is_carried() == (name != "Shmem" && name != "FileDescriptor")
 }
@@ -123,7 +123,7 @@ fn builtins(rt: HostRuntime) {
     for (name, builtin) in rows {
         assert!(rt; is_builtin(name, builtin), "{name}");
     }
-    assert!(rt; Builtin::named(b"string").is_none());
+    assert!(rt; Builtin::from_name(b"string").is_none());
 }
 
 /// An end that awaits a reply of level `InsideSync` in the transaction 7.

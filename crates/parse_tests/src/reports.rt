@@ -1,5 +1,5 @@
 use super::checks::{check, cut};
-use findings::{one_report, sorted};
+use findings::{one_report, sort_findings};
 use ipdl_base::{Finding, Findings, Place, Rule};
 use std::alloc::Global;
 use std::test::Fail;
@@ -80,7 +80,7 @@ fn orders(rt: HostRuntime) -> Result<(), Fail> {
     one_report();
     for row in ROWS.split("====\n") {
         let (given, wanted) = cut(row, "\n---\n");
-        let report = sorted(findings(rt.alloc(), given)?);
+        let report = sort_findings(findings(rt.alloc(), given)?);
         let found = shown(rt.alloc(), &report)?;
         check(&rt, given, found.as_str(), wanted);
     }

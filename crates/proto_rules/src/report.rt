@@ -3,7 +3,7 @@ ghost use Rattle.std.specs.List.{Contains};
 ghost use Rattle.ipdl_base.specs.declared.finding.Finding.{Finding};
 ghost use Rattle.proto_rules.specs.Broken.{BrokenAt, IsReport};
 
-use findings::sorted;
+use findings::sort_findings;
 use ipdl_base::{Finding, Findings};
 use ipdl_syntax::Program;
 use manager_rules::add_of_managers;
@@ -35,5 +35,5 @@ pub fn proto_findings(
     ensures { IfOk result (IsReport program.now) }
 {
     let found = gathered(alloc, program, names)?;
-    Ok(sorted(found))
+    Ok(sort_findings(found))
 }

@@ -12,7 +12,7 @@ ghost use Rattle.sync_list.specs.Sets.{same_pair, KeysAre};
 
 use crate::list::{Section, SyncList};
 use crate::names::{MessagePair, ProgramNames, listed};
-use findings::sorted;
+use findings::sort_findings;
 use ipdl_base::{Finding, Findings, Place, Rule, Semantics, short_name};
 use ipdl_syntax::{Entry, MessageDecl, Program};
 use std::alloc::{AllocError, Global};
@@ -182,5 +182,5 @@ pub fn sync_findings(
     ensures { IfOk result (IsReport program.now list.now) }
 {
     let found = gathered(alloc, program.as_slice(), list.as_slice())?;
-    Ok(sorted(found))
+    Ok(sort_findings(found))
 }

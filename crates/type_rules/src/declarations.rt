@@ -168,7 +168,7 @@ fn stands_before(firsts: &Firsts<'_>, name: &[u8], place: Place) -> bool
 fn is_type_word(word: &[u8]) -> bool
     ensures { IsTrue result ↔ IsTypeWord word.now }
 {
-    Builtin::named(word).is_some()
+    Builtin::from_name(word).is_some()
         || word == b"Endpoint".as_slice()
         || word == b"ManagedEndpoint".as_slice()
 }

@@ -8,7 +8,7 @@ use crate::declarations::add_repeated_declarations;
 use crate::fields::add_repeated_fields;
 use crate::undefined::add_undefined_types;
 use crate::written::add_broken_types;
-use findings::sorted;
+use findings::sort_findings;
 use ipdl_base::{Finding, Findings};
 use ipdl_syntax::{Entry, Program};
 use name_table::Names;
@@ -41,5 +41,5 @@ pub fn type_findings(
     ensures { IfOk result (IsReport program.now) }
 {
     let found = gathered(alloc, program.as_slice(), names)?;
-    Ok(sorted(found))
+    Ok(sort_findings(found))
 }

@@ -2,4 +2,4 @@ use Rattle.findings.proofs.Reports.{report_of}
 use Rattle.handler_script.proofs.report.report_of.Goals as goal
 
 pub returns : goal.returns
-returns c = report_of c.in_ok-found.found.items c.sorted.result c.in_ok-found.ensures c.sorted.ensures
+returns c = report_of c.in_ok-found.found.items c.sort_findings.result c.in_ok-found.ensures c.sort_findings.ensures

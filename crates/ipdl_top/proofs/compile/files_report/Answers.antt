@@ -12,10 +12,10 @@ returns-in_ok-push-in-Broken c =
     let finding = c.in-Broken.finding in
     let items : c.push.new.self.items ≡ findings ++ finding ∷ [] = cc (c.in_ok-push-in-Broken.ensures.items, c.into_vec-found.ensures) in
     let has = subst (λ (xs : List Finding). Has xs (λ f. Contains findings f ⊎ (Broken finding ≡ Broken f))) (sym items) (with_broken findings finding) in
-    rw c.in-Broken.is (report_of c.push.new.self.items c.sorted.result has c.sorted.ensures)
+    rw c.in-Broken.is (report_of c.push.new.self.items c.sort_findings.result has c.sort_findings.ensures)
 
 pub returns-in-Sections : goal.returns-in-Sections
 returns-in-Sections c =
     let findings = c.args.findings in
     let has = subst (λ (xs : List Finding). Has xs (λ f. Contains findings f ⊎ (c.args.listed.now ≡ Broken f))) (sym c.into_vec-found.ensures) (without findings c.args.listed.now _ c.in-Sections.is) in
-    report_of c.into_vec-found.result.items c.sorted-in-Sections.result has c.sorted-in-Sections.ensures
+    report_of c.into_vec-found.result.items c.sort_findings-in-Sections.result has c.sort_findings-in-Sections.ensures

@@ -14,7 +14,7 @@ other_text text bytes word differ same e = true≢false (sym ((bytes_eq-Decides 
 
 pub returns-else-eq-3-clause-none : goal.returns-else-eq-3-clause-none
 returns-else-eq-3-clause-none c =
-    weaker_none c.named.result _ _
+    weaker_none c.from_name.result _ _
     (λ none other named. elim named [
       | inr word ↦ none other word
       | inl full ↦ elim (full_name_cases other) [
@@ -24,4 +24,4 @@ returns-else-eq-3-clause-none c =
         | inr (inr (inr d)) ↦ other_text c.args.text.now _ _ c.if-eq-3.ensures c.as_slice-else-eq-2.ensures (sym d ∙ full)
       ]
     ])
-    c.named.ensures.none
+    c.from_name.ensures.none

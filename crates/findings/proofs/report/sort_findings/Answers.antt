@@ -7,7 +7,7 @@ use Rattle.ipdl_base.specs.contracts.finding.FindingOrd.TheImpl.Laws.{matches_eq
 use Rattle.ipdl_base.specs.contracts.finding.FindingEq.TheImpl.Laws.{laws-law}
 use Rattle.findings.specs.Order.{finding_cmp}
 use Rattle.findings.proofs.Order.{finding_total, same_by_tie}
-use Rattle.findings.proofs.report.sorted.Goals as goal
+use Rattle.findings.proofs.report.sort_findings.Goals as goal
 
 pub returns : goal.returns
 returns c =
