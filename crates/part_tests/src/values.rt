@@ -34,7 +34,7 @@ fn name(alloc: Global, text: &str) -> Result<Name, AllocError> {
 
 /// The type of a word: 0 is a struct of the schema, 1 a union, and 2 none.
 fn word_shape(alloc: Global, word: &str) -> Result<Shape, Fail> {
-    if let Some(builtin) = Builtin::named(word.as_bytes()) {
+    if let Some(builtin) = Builtin::from_name(word.as_bytes()) {
         return Ok(Shape::Builtin(builtin));
     }
     match word {
