@@ -247,3 +247,114 @@ PH.ipdl
 protocol PI {
 };
 ";
+
+/// Names of 1, 21 to 24 and 256 bytes: in tables, each twice, with neighbours that differ in the last byte
+/// alone, and as names of files in a report.
+pub const NAMES: &str = "names-in-tables
+PN.ipdl
+0
+@ protocol 0 PN async not
+message 0 parent async not plain normal a()
+message 2 parent async not plain normal bbcdefghijklmnopqrstu()
+message 4 parent async not plain normal cbcdefghijklmnopqrstuv()
+message 6 parent async not plain normal dbcdefghijklmnopqrstuvw()
+message 8 parent async not plain normal ebcdefghijklmnopqrstuvwx()
+message 10 parent async not plain normal fbcdefghijklmnopqrstuvwxyz0123456789_bcdefghijklmnopqrstuvwxyz0123456789_bcdefghijklmnopqrstuvwxyz0123456789_bcdefghijklmnopqrstuvwxyz0123456789_bcdefghijklmnopqrstuvwxyz0123456789_bcdefghijklmnopqrstuvwxyz0123456789_bcdefghijklmnopqrstuvwxyz0123456789_bcd()
+@ @ PN.ipdl
+protocol PN {
+parent:
+  async a();
+  async bbcdefghijklmnopqrstu();
+  async cbcdefghijklmnopqrstuv();
+  async dbcdefghijklmnopqrstuvw();
+  async ebcdefghijklmnopqrstuvwx();
+  async fbcdefghijklmnopqrstuvwxyz0123456789_bcdefghijklmnopqrstuvwxyz0123456789_bcdefghijklmnopqrstuvwxyz0123456789_bcdefghijklmnopqrstuvwxyz0123456789_bcdefghijklmnopqrstuvwxyz0123456789_bcdefghijklmnopqrstuvwxyz0123456789_bcdefghijklmnopqrstuvwxyz0123456789_bcd();
+};
+====
+names-that-stand-twice
+PN.ipdl
+1
+@ @ PN.ipdl:4:9: B21 repeated name
+PN.ipdl:6:9: B21 repeated name
+PN.ipdl:8:9: B21 repeated name
+PN.ipdl:10:9: B21 repeated name
+PN.ipdl:12:9: B21 repeated name
+PN.ipdl:14:9: B21 repeated name
+@ PN.ipdl
+protocol PN {
+parent:
+  async a();
+  async a();
+  async bbcdefghijklmnopqrstu();
+  async bbcdefghijklmnopqrstu();
+  async cbcdefghijklmnopqrstuv();
+  async cbcdefghijklmnopqrstuv();
+  async dbcdefghijklmnopqrstuvw();
+  async dbcdefghijklmnopqrstuvw();
+  async ebcdefghijklmnopqrstuvwx();
+  async ebcdefghijklmnopqrstuvwx();
+  async fbcdefghijklmnopqrstuvwxyz0123456789_bcdefghijklmnopqrstuvwxyz0123456789_bcdefghijklmnopqrstuvwxyz0123456789_bcdefghijklmnopqrstuvwxyz0123456789_bcdefghijklmnopqrstuvwxyz0123456789_bcdefghijklmnopqrstuvwxyz0123456789_bcdefghijklmnopqrstuvwxyz0123456789_bcd();
+  async fbcdefghijklmnopqrstuvwxyz0123456789_bcdefghijklmnopqrstuvwxyz0123456789_bcdefghijklmnopqrstuvwxyz0123456789_bcdefghijklmnopqrstuvwxyz0123456789_bcdefghijklmnopqrstuvwxyz0123456789_bcdefghijklmnopqrstuvwxyz0123456789_bcdefghijklmnopqrstuvwxyz0123456789_bcd();
+};
+====
+names-that-differ-in-their-last-byte
+PN.ipdl
+0
+@ protocol 0 PN async not
+message 0 parent async not plain normal a()
+message 2 parent async not plain normal Z()
+message 4 parent async not plain normal bbcdefghijklmnopqrstu()
+message 6 parent async not plain normal bbcdefghijklmnopqrstZ()
+message 8 parent async not plain normal cbcdefghijklmnopqrstuv()
+message 10 parent async not plain normal cbcdefghijklmnopqrstuZ()
+message 12 parent async not plain normal dbcdefghijklmnopqrstuvw()
+message 14 parent async not plain normal dbcdefghijklmnopqrstuvZ()
+message 16 parent async not plain normal ebcdefghijklmnopqrstuvwx()
+message 18 parent async not plain normal ebcdefghijklmnopqrstuvwZ()
+message 20 parent async not plain normal fbcdefghijklmnopqrstuvwxyz0123456789_bcdefghijklmnopqrstuvwxyz0123456789_bcdefghijklmnopqrstuvwxyz0123456789_bcdefghijklmnopqrstuvwxyz0123456789_bcdefghijklmnopqrstuvwxyz0123456789_bcdefghijklmnopqrstuvwxyz0123456789_bcdefghijklmnopqrstuvwxyz0123456789_bcd()
+message 22 parent async not plain normal fbcdefghijklmnopqrstuvwxyz0123456789_bcdefghijklmnopqrstuvwxyz0123456789_bcdefghijklmnopqrstuvwxyz0123456789_bcdefghijklmnopqrstuvwxyz0123456789_bcdefghijklmnopqrstuvwxyz0123456789_bcdefghijklmnopqrstuvwxyz0123456789_bcdefghijklmnopqrstuvwxyz0123456789_bcZ()
+@ @ PN.ipdl
+protocol PN {
+parent:
+  async a();
+  async Z();
+  async bbcdefghijklmnopqrstu();
+  async bbcdefghijklmnopqrstZ();
+  async cbcdefghijklmnopqrstuv();
+  async cbcdefghijklmnopqrstuZ();
+  async dbcdefghijklmnopqrstuvw();
+  async dbcdefghijklmnopqrstuvZ();
+  async ebcdefghijklmnopqrstuvwx();
+  async ebcdefghijklmnopqrstuvwZ();
+  async fbcdefghijklmnopqrstuvwxyz0123456789_bcdefghijklmnopqrstuvwxyz0123456789_bcdefghijklmnopqrstuvwxyz0123456789_bcdefghijklmnopqrstuvwxyz0123456789_bcdefghijklmnopqrstuvwxyz0123456789_bcdefghijklmnopqrstuvwxyz0123456789_bcdefghijklmnopqrstuvwxyz0123456789_bcd();
+  async fbcdefghijklmnopqrstuvwxyz0123456789_bcdefghijklmnopqrstuvwxyz0123456789_bcdefghijklmnopqrstuvwxyz0123456789_bcdefghijklmnopqrstuvwxyz0123456789_bcdefghijklmnopqrstuvwxyz0123456789_bcdefghijklmnopqrstuvwxyz0123456789_bcdefghijklmnopqrstuvwxyz0123456789_bcZ();
+};
+====
+names-of-files
+Pxbcdefghijklmno.ipdl Pxbcdefghijklmnop.ipdl Pxbcdefghijklmnopq.ipdl Pxbcdefghijklmnopqr.ipdl
+1
+@ @ Pxbcdefghijklmno.ipdl:3:11: B1 unknown type
+Pxbcdefghijklmnop.ipdl:3:11: B1 unknown type
+Pxbcdefghijklmnopq.ipdl:3:11: B1 unknown type
+Pxbcdefghijklmnopqr.ipdl:3:11: B1 unknown type
+@ Pxbcdefghijklmno.ipdl
+protocol Pxbcdefghijklmno {
+parent:
+  async M(Nothing n);
+};
+@ Pxbcdefghijklmnop.ipdl
+protocol Pxbcdefghijklmnop {
+parent:
+  async M(Nothing n);
+};
+@ Pxbcdefghijklmnopq.ipdl
+protocol Pxbcdefghijklmnopq {
+parent:
+  async M(Nothing n);
+};
+@ Pxbcdefghijklmnopqr.ipdl
+protocol Pxbcdefghijklmnopqr {
+parent:
+  async M(Nothing n);
+};
+";

@@ -1,4 +1,4 @@
-use super::call_rows::{HELLO, LISTED, LISTS, REACHES, REPORTS, WORDS};
+use super::call_rows::{HELLO, LISTED, LISTS, NAMES, REACHES, REPORTS, WORDS};
 use super::frame_rows::{FLAG, FRAMES};
 use ipdl_base::{MemoryFiles, MemorySink};
 use ipdl_top::{Status, ipdl};
@@ -173,6 +173,7 @@ fn calls(rt: HostRuntime) -> Result<(), Fail> {
     assert_eq!(rt; wrong_calls(alloc, LISTS, LISTED)?.as_str(), "");
     assert_eq!(rt; wrong_calls(alloc, REACHES, "")?.as_str(), "");
     assert_eq!(rt; wrong_calls(alloc, REPORTS, "")?.as_str(), "");
+    assert_eq!(rt; wrong_calls(alloc, NAMES, "")?.as_str(), "");
     assert_eq!(rt; wrong_calls(alloc, FRAMES, FLAG)?.as_str(), "");
     Ok(())
 }
