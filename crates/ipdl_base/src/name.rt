@@ -20,7 +20,6 @@ enum NameBytes {
 
 /// A word, a quoted text, a name of a file or any other bytes; in a contract it is the list of its
 /// bytes. Up to 22 bytes take no memory.
-#[derive(Drop)]
 pub struct Name {
     held: NameBytes,
 }
@@ -35,6 +34,13 @@ impl Model for Name {
     ghost view = { λ name. held_bytes name.held };
 
     ghost invariant = { λ name. FitsRoom name.held };
+}
+
+// Not derived, since a derived one is a test of where the bytes are at each place where a name is let go.
+impl Drop for Name {
+    fn drop(self) {
+        let Name { held: _held } = self;
+    }
 }
 
 /// A list of names.

@@ -13,7 +13,7 @@ use crate::names::{QualifiedName, name_with_argument};
 use crate::reader::TokenReader;
 use crate::refusal::TreeRefusal;
 use crate::symbol::Symbol;
-use ipdl_base::{Items, Name, Semantics};
+use ipdl_base::{Name, Semantics};
 use ipdl_syntax::{
     Attributes, Include, IncludeKind, NameAt, ProtocolDecl, StructDecl, UnionDecl, Using,
 };
@@ -23,13 +23,13 @@ use std::alloc::{AllocError, Global};
 fn full_name(alloc: Global, scope: &[Name], name: &Name) -> Result<Name, AllocError>
     ensures { IfOk result (λ full. full ≡ joined (scope.now ++ name.now ∷ [])) }
 {
-    let mut full = Vec::new(alloc);
+    let mut full = Name::empty();
     'scope: for outer in scope {
-        full.extend_from_slice(outer.as_slice())?;
-        full.extend_from_slice(b"::")?;
+        full.append(alloc, outer.as_slice())?;
+        full.append(alloc, b"::")?;
     }
-    full.extend_from_slice(name.as_slice())?;
-    Ok(Items::from_vec(full))
+    full.append(alloc, name.as_slice())?;
+    Ok(full)
 }
 
 /// Takes the name that a declaration in these namespaces gives, and the `{` behind it.
@@ -138,11 +138,11 @@ fn whole_name(alloc: Global, name: Name, inner: Option<Name>) -> Result<Name, Al
 {
     match inner {
         Some(inner) => {
-            let mut full = name.into_vec();
-            full.extend_from_slice(b"<")?;
-            full.extend_from_slice(inner.as_slice())?;
-            full.extend_from_slice(b">")?;
-            Ok(Items::from_vec(full))
+            let mut full = name;
+            full.append(alloc, b"<")?;
+            full.append(alloc, inner.as_slice())?;
+            full.append(alloc, b">")?;
+            Ok(full)
         }
         None => Ok(name),
     }

@@ -9,27 +9,23 @@ ghost use Rattle.tree_reader.specs.Symbols.{first_symbol};
 use crate::reader::TokenReader;
 use crate::refusal::TreeRefusal;
 use crate::symbol::Symbol;
-use ipdl_base::{Items, Name, Place};
+use ipdl_base::{Name, Place};
 use ipdl_syntax::NameAt;
 use std::alloc::Global;
 
 /// Takes the words of a name behind its first one, each with the `::` before it, and puts them
 /// behind the text.
-fn more_words(
-    alloc: Global,
-    reader: &mut TokenReader,
-    text: &mut Vec<u8>,
-) -> Result<(), TreeRefusal>
-    ensures read { OnOk result (AddsWords text.old.items text.new.items reader.old reader.new) }
+fn more_words(alloc: Global, reader: &mut TokenReader, text: &mut Name) -> Result<(), TreeRefusal>
+    ensures read { OnOk result (AddsWords text.old text.new reader.old reader.new) }
     ensures ending { OnOk result (first_symbol reader.new ≢ Colons) }
     ensures turns { OnOk result ((f : Form) → IsNaming f → Turns (f ∷ []) reader.old (f ∷ []) reader.new) }
     ensures stops { IfErr result (λ e. (f : Form) → IsNaming f → Stops (f ∷ []) reader.old e) }
     ensures fewer { OnOk result (length reader.new ≤ length reader.old) }
 {
     'words: while reader.skips(Symbol::Colons) {
-        text.extend_from_slice(b"::")?;
+        text.append(alloc, b"::")?;
         let word = reader.word(alloc)?;
-        text.extend_from_slice(word.name.as_slice())?;
+        text.append(alloc, word.name.as_slice())?;
     }
     Ok(())
 }
@@ -42,13 +38,9 @@ fn qualified(alloc: Global, reader: &mut TokenReader) -> Result<NameAt, TreeRefu
     ensures stops { IfErr result (λ e. (f : Form) → IsNaming f → Stops (take Word ∷ f ∷ []) reader.old e) }
     ensures less { OnOk result (length reader.new < length reader.old) }
 {
-    let NameAt { name, place } = reader.word(alloc)?;
-    let mut text = name.into_vec();
-    more_words(alloc, reader, &mut text)?;
-    Ok(NameAt {
-        name: Items::from_vec(text),
-        place,
-    })
+    let NameAt { mut name, place } = reader.word(alloc)?;
+    more_words(alloc, reader, &mut name)?;
+    Ok(NameAt { name, place })
 }
 
 /// Takes the argument of a name behind its `<`, to its `>`.

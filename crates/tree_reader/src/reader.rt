@@ -9,7 +9,7 @@ ghost use Rattle.tree_reader.specs.Symbols.{first_symbol};
 
 use crate::refusal::TreeRefusal;
 use crate::symbol::{Symbol, first_symbol};
-use ipdl_base::{Items, Name, Place, Token, TokenKind};
+use ipdl_base::{Name, Place, Token, TokenKind};
 use ipdl_syntax::NameAt;
 use std::alloc::{AllocError, Global};
 use std::marker::Model;
@@ -21,7 +21,7 @@ const MOST_ROOM: usize = 16;
 fn name_of(alloc: Global, token: &Token) -> Result<Name, AllocError>
     ensures { IfOk result (λ name. name ≡ token.now.text) }
 {
-    Ok(Items::from_vec(Vec::from_slice(alloc, token.text())?))
+    Name::from_slice(alloc, token.text())
 }
 
 /// The tokens that are left.

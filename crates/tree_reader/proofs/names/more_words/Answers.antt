@@ -12,7 +12,7 @@ pub words-preserved : goal.words-preserved
 words-preserved c =
     let here = c.skips.ensures.yes c.words-test.true in
     record {
-      read = word_goes_on _ _ _ _ _ _ _ _ _ _ _ c.in_ok-extend_from_slice.ensures.items c.in_ok-extend_from_slice-2.ensures.items c.as_slice.ensures here c.in_ok-word.ensures.read c.words.invariant.read;
+      read = word_goes_on _ _ _ _ _ _ _ _ _ _ _ c.in_ok-append.ensures.ok c.in_ok-append-2.ensures.ok c.as_slice.ensures here c.in_ok-word.ensures.read c.words.invariant.read;
       turns = word_stays_on c.args.reader.now c.words.reader c.skips.new.self c.word.new.self c.words.invariant.turns here c.in_ok-word.ensures.turns;
       fewer = omega (arith, fewer_of _ _ _ here, c.in_ok-word.ensures.less);
     }

@@ -4,7 +4,7 @@ use Rattle.tree_reader.proofs.names.more_words.Given as goal
 
 abbrev pub invariant-words : goal.invariant-words
 invariant-words l = record {
-  read : WordsGoOn l.fn.text.items l.text.items l.fn.reader l.reader;
+  read : WordsGoOn l.fn.text l.text l.fn.reader l.reader;
   turns : StaysOn l.fn.reader l.reader;
   fewer : length l.reader ≤ length l.fn.reader;
 }
