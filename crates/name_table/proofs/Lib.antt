@@ -1,6 +1,7 @@
 pub mod Marking
 pub mod Places
 pub mod Listing
+pub mod MarkedEnds
 pub mod FullNames
 pub mod BuiltinNames
 pub mod Seeing

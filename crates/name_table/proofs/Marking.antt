@@ -1,15 +1,15 @@
 -- How marks grow, and why marks that are closed are on all that is reached.
-use Rattle.std.proofs.Common.{◌≡◌, ◌≢◌, ◌⊎◌, ◌∙◌, inl, inr, ◌<◌, ◌+◌, ℕ, zero, suc, Bool, true, false, List, [], ◌∷◌, ◌++◌, length, get_or, refl, sym, ap, subst, arith, Option, Some, None, IsSomeAnd, is_some, not, length-append, cond, eqb, true≢false, slice_get}
+use Rattle.std.proofs.Common.{◌≡◌, ◌≢◌, ◌⊎◌, ◌∙◌, inl, inr, ◌<◌, ◌+◌, ℕ, zero, suc, Bool, true, false, List, [], ◌∷◌, ◌++◌, length, get_or, refl, sym, ap, subst, arith, Option, Some, None, IsSomeAnd, is_some, not, length-append, cond, eqb, true≢false, slice_get, ◌≤◌, take, drop, append-nil, append_assoc}
 use Rattle.std.proofs.lemmas.Bool.Decides.{eqb_tells}
 use Rattle.std.proofs.lemmas.Bool.{cases_lt}
 use Rattle.std.proofs.Math.ListN.{get_or-eq_default}
 use Rattle.std.specs.List.{Contains, slice_set, slice_index_or}
-use Rattle.std.proofs.lemmas.List.{get_or-set_same, get_or-set_other, length-set}
+use Rattle.std.proofs.lemmas.List.{get_or-set_same, get_or-set_other, length-set, take_all, take_more, take-append-le, take-append-drop}
 use Rattle.std.proofs.lemmas.List.Sums.{sum_by-set}
-use Rattle.std.proofs.lemmas.List.Elements.{Contains-append_left, Contains-append_right, Contains-append_cases}
+use Rattle.std.proofs.lemmas.List.Elements.{Contains-append_left, Contains-append_right, Contains-append_cases, Contains-get_or}
 use Rattle.ipdl_syntax.specs.declared.program.Entry.{Entry}
 use Rattle.name_table.specs.Declares.{Includes, IsHeader}
-use Rattle.name_table.specs.Marks.{IsFollowed, Reaches, start, step, IsMarked, Marks, unmarked}
+use Rattle.name_table.specs.Marks.{IsFollowed, Reaches, start, step, IsMarked, Marks, Joins, AreFilesOf, unmarked}
 
 pub the_one : (x n : ℕ) → Contains (x ∷ []) n → n ≡ x
 the_one x n (zero, below, is) = sym is
@@ -164,3 +164,111 @@ is_none_tells (Some x) answer e h = absurd (true≢false (e ∙ ap not h))
 pub is_none_denies : {X : Type 0} (o : Option X) (answer : Bool) → is_some o ≡ not answer → answer ≡ false → ¬ (o ≡ None)
 is_none_denies None answer e h none = true≢false (sym (e ∙ ap not h))
 is_none_denies (Some x) answer e h none = true≢false (ap is_some none)
+
+-- What a list of files has while includes are followed from one: each is reached, and of each before a place that is followed it
+-- has what it includes.
+pub record Walks (program : List Entry) (from : ℕ) (files : List ℕ) (next : ℕ) : Type 0 where
+  pub begun : Contains files from
+  pub sound : (n : ℕ) → Contains files n → Reaches program from n
+  pub closed : (n : ℕ) → Contains (take next files) n → IsFollowed program from n → (m : ℕ) → Includes program n m → m < length program → Contains files m
+
+-- a list whose files are all followed has all that is reached
+all_reached : (program : List Entry) (from : ℕ) (files : List ℕ) (next : ℕ) → Walks program from files next → length files ≤ next → {n : ℕ} → Reaches program from n → Contains files n
+all_reached program from files next w all (start below) = w.begun
+all_reached program from files next w all (step {file} {other} r along e below) =
+    w.closed file (subst (λ (xs : List ℕ). Contains xs file) (sym (take_all next files all)) (all_reached program from files next w all r)) along other e below
+
+pub walks_all : (program : List Entry) (from : ℕ) (files : List ℕ) (next : ℕ) → Walks program from files next → length files ≤ next → AreFilesOf program from files
+walks_all program from files next w all file = (w.sound file, all_reached program from files next w all)
+
+pub walks_first : (program : List Entry) (from : ℕ) → from < length program → Walks program from (from ∷ []) 0
+walks_first program from below = record {
+  begun = has_one from;
+  sound = λ n h. subst (Reaches program from) (sym (the_one from n h)) (start below);
+  closed = λ n h. (let k = h.1 in absurd (omega arith));
+}
+
+-- a place in the front of a longer list, or its last
+front_or_last : (files more : List ℕ) (next n : ℕ) → next < length files → Contains (take (next + 1) (files ++ more)) n → Contains (take next files) n ⊎ (n ≡ get_or files next 0)
+front_or_last files more next n below h =
+    let longer = take-append-le (next + 1) files more (omega (arith, below)) in
+    let one = take_more files next 0 below in
+    elim (Contains-append_cases _ _ n (subst (λ (xs : List ℕ). Contains xs n) (longer ∙ one) h)) [ inl l ↦ inl l | inr r ↦ inr (the_one _ n r) ]
+
+in_front : (files : List ℕ) (next n : ℕ) → Contains (take next files) n → Contains files n
+in_front files next n h = subst (λ (xs : List ℕ). Contains xs n) (take-append-drop next files) (Contains-append_left _ (drop next files) n h)
+
+-- one file more is followed
+pub walks_more : (program : List Entry) (from : ℕ) (files : List ℕ) (next x : ℕ) (entry : Entry) (new : List ℕ)
+    → next < length files → x ≡ get_or files next 0 → slice_get program x ≡ Some entry → IsFollowed program from x
+    → Walks program from files next → Joins (length program) entry.includes files new → Walks program from new (next + 1)
+walks_more program from files next x entry new below is at along w j =
+    let mine : Contains files x = subst (Contains files) (sym is) (Contains-get_or files next 0 below) in
+    let kept : (n : ℕ) → Contains files n → Contains new n = λ n h. subst (λ (xs : List ℕ). Contains xs n) (sym j.grown) (Contains-append_left files j.more n h) in
+    record {
+      begun = kept from w.begun;
+      sound = λ n h. elim (Contains-append_cases files j.more n (subst (λ (xs : List ℕ). Contains xs n) j.grown h)) [
+        | inl o ↦ w.sound n o
+        | inr c ↦ (let fresh = j.only n c in step (w.sound x mine) along (included program x entry at n fresh.0) fresh.1)
+      ];
+      closed = λ n h f m e b. elim (front_or_last files j.more next n below (subst (λ (xs : List ℕ). Contains (take (next + 1) xs) n) j.grown h)) [
+        | inl o ↦ kept m (w.closed n o f m e b)
+        | inr last ↦ j.joined m (includes_at program x entry at m (subst (λ k. Includes program k m) (last ∙ sym is) e)) b
+      ];
+    }
+
+-- one file more is passed that is not followed
+pub walks_past : (program : List Entry) (from : ℕ) (files : List ℕ) (next x : ℕ) → next < length files → x ≡ get_or files next 0 → ¬ IsFollowed program from x → Walks program from files next → Walks program from files (next + 1)
+walks_past program from files next x below is never w = record {
+  begun = w.begun;
+  sound = w.sound;
+  closed = λ n h f m e b. elim (front_or_last files [] next n below (subst (λ (xs : List ℕ). Contains (take (next + 1) xs) n) (sym (append-nil files)) h)) [
+    | inl o ↦ w.closed n o f m e b
+    | inr last ↦ absurd (never (subst (IsFollowed program from) (last ∙ sym is) f))
+  ];
+}
+
+-- what is reached is a file of the program
+pub reached_within : (program : List Entry) (from : ℕ) {file : ℕ} → Reaches program from file → file < length program
+reached_within program from (start below) = below
+reached_within program from (step r along e below) = below
+
+-- what is not there joins, and what is there or is no file does not
+pub joins_new : (count file : ℕ) (files : List ℕ) → file < count → Joins count (file ∷ []) files (files ++ file ∷ [])
+joins_new count file files below = record {
+  more = file ∷ [];
+  grown = refl;
+  only = λ n h. (h, subst (λ k. k < count) (sym (the_one file n h)) below);
+  joined = λ n h b. Contains-append_right files (file ∷ []) n h;
+}
+
+pub joins_none : (count file : ℕ) (files : List ℕ) → (file < count → Contains files file) → Joins count (file ∷ []) files files
+joins_none count file files there = record {
+  more = [];
+  grown = sym (append-nil files);
+  only = λ n h. (let k = h.1 in absurd (omega arith));
+  joined = λ n h b. (let is = the_one file n h in subst (Contains files) (sym is) (there (subst (λ k. k < count) is b)));
+}
+
+pub joins_nothing : (count : ℕ) (files : List ℕ) → Joins count [] files files
+joins_nothing count files = record {
+  more = [];
+  grown = sym (append-nil files);
+  only = λ n h. (let k = h.1 in absurd (omega arith));
+  joined = λ n h b. (let k = h.1 in absurd (omega arith));
+}
+
+-- first these join, and then those
+pub joins_more : (count : ℕ) (these those a b c : List ℕ) → Joins count these a b → Joins count those b c → Joins count (these ++ those) a c
+joins_more count these those a b c p q = record {
+  more = p.more ++ q.more;
+  grown = q.grown ∙ ap (λ xs. xs ++ q.more) p.grown ∙ append_assoc a p.more q.more;
+  only = λ n h. elim (Contains-append_cases p.more q.more n h) [
+    | inl l ↦ (let is = p.only n l in (Contains-append_left these those n is.0, is.1))
+    | inr r ↦ (let is = q.only n r in (Contains-append_right these those n is.0, is.1))
+  ];
+  joined = λ n h below. elim (Contains-append_cases these those n h) [
+    | inl l ↦ subst (λ (xs : List ℕ). Contains xs n) (sym q.grown) (Contains-append_left b q.more n (p.joined n l below))
+    | inr r ↦ q.joined n r below
+  ];
+}

@@ -1,14 +1,14 @@
 -- A file sees what is declared in the files that are reached from it.
-use Rattle.std.proofs.Common.{◌≡◌, inl, inr, ◌∙◌, ◌<◌, ◌≤◌, ℕ, Bool, true, false, List, length, arith, get_or, Vec, Global, Option, Some, None, IsSomeAnd, slice_get, refl, sym, ap, subst, option_map, map}
+use Rattle.std.proofs.Common.{◌≡◌, inl, inr, ◌∙◌, ◌<◌, ◌≤◌, ℕ, Bool, true, false, List, length, arith, get_or, Option, Some, None, IsSomeAnd, slice_get, refl, sym, ap, subst}
 use Rattle.std.specs.Prelude.{option_and_then}
 use Rattle.std.specs.List.{slice_index_or}
-use Rattle.std.proofs.lemmas.List.{length-map}
-use Rattle.std.proofs.lemmas.Option.{slice_get_within, slice_get_read, slice_get-map, get_or_from_slice_get}
+use Rattle.std.proofs.lemmas.Option.{slice_get_within, slice_get_read, get_or_from_slice_get}
 use Rattle.ipdl_syntax.specs.declared.program.Entry.{Entry}
 use Rattle.name_table.specs.declared.decl.DeclId.{DeclId}
 use Rattle.name_table.specs.declared.decl.DeclId.TheVariants.{Builtin, Using, Struct, Union, Protocol, Endpoint}
 use Rattle.name_table.specs.Declares.{file_of, full_name_in, full_name_of, Declares, Includes, IsHeader}
-use Rattle.name_table.specs.Marks.{IsFollowed, Reaches, start, step, Shows, AreMarksOf, AreSights}
+use Rattle.name_table.specs.declared.sight.Reach.{Reach}
+use Rattle.name_table.specs.Marks.{IsFollowed, Reaches, start, step, Shows, AreMarksOf, IsSight, AreSights}
 use Rattle.name_table.proofs.Marking.{marked_within}
 use Rattle.name_table.specs.Visible.{Sees, own, protocol, header}
 
@@ -104,15 +104,14 @@ shown_sees program file (Builtin type) full s is = absurd s
 shown_sees program file (Endpoint p managed) full s is = absurd s
 
 -- from what is no file nothing is reached
-pub not_reached : (program : List Entry) (sights : List (Vec Bool Global)) (file other : ℕ) → AreSights program (map (λ marks. marks.items) sights) → length sights ≤ file → ¬ Reaches program file other
+pub not_reached : (program : List Entry) (sights : List Reach) (file other : ℕ) → AreSights program sights → length sights ≤ file → ¬ Reaches program file other
 not_reached program sights file other are past r =
     let below = reaches_from program file r in
-    absurd (omega (arith, below, past, are.size, length-map sights (λ (marks : Vec Bool Global). marks.items)))
+    absurd (omega (arith, below, past, are.size))
 
--- the marks of a file
-pub marks_at : (program : List Entry) (sights : List (Vec Bool Global)) (file : ℕ) (marks : Vec Bool Global) → AreSights program (map (λ marks'. marks'.items) sights) → file < length sights → marks ≡ get_or sights file marks → AreMarksOf program file marks.items
-marks_at program sights file marks are below at =
-    are.marks file marks.items (slice_get-map (λ (m : Vec Bool Global). m.items) sights file ∙ ap (option_map (λ (m : Vec Bool Global). m.items)) (slice_get_read sights (length sights) file marks refl below at))
+-- what is kept of a file
+pub sight_at : (program : List Entry) (sights : List Reach) (file : ℕ) (sight : Reach) → AreSights program sights → file < length sights → sight ≡ get_or sights file sight → IsSight program file sight
+sight_at program sights file sight are below at = are.of_file file sight (slice_get_read sights (length sights) file sight refl below at)
 
 -- a mark that was read tells whether a file is reached
 pub mark_tells : (program : List Entry) (file other : ℕ) (marks : List Bool) (mark : Bool) → AreMarksOf program file marks → other < length marks → mark ≡ get_or marks other mark → ((mark ≡ true) → Reaches program file other) × (Reaches program file other → mark ≡ true)

@@ -1,6 +1,7 @@
 pub mod Decls
 pub mod Declares
 pub mod Visible
+pub mod Ends
 pub mod Finds
 pub mod Kinds
 pub mod Marks

@@ -1,9 +1,11 @@
 -- Which files are marked for a file: itself, and what includes lead to through it and through headers.
-use Rattle.std.specs.Prelude.{◌≡◌, ◌⊎◌, ◌<◌, ◌≤◌, ◌+◌, ◌*◌, ℕ, Bool, true, false, if◌then◌else◌, List, length, slice_get, Some}
+use Rattle.std.specs.Prelude.{◌≡◌, ◌⊎◌, ◌<◌, ◌≤◌, ◌+◌, ◌*◌, ◌++◌, ℕ, Bool, true, false, if◌then◌else◌, List, length, slice_get, Some}
 use Rattle.std.specs.List.{Contains, slice_index_or, sum_by}
 use Rattle.ipdl_syntax.specs.declared.program.Entry.{Entry}
 use Rattle.name_table.specs.declared.decl.DeclId.{DeclId}
 use Rattle.name_table.specs.declared.decl.DeclId.TheVariants.{Builtin, Using, Struct, Union, Protocol, Endpoint}
+use Rattle.name_table.specs.declared.sight.Reach.{Reach}
+use Rattle.name_table.specs.declared.sight.Reach.TheVariants.{Few, Many}
 use Rattle.name_table.specs.Declares.{Includes, IsHeader}
 
 -- from a file its own includes are followed, and those of headers
@@ -31,10 +33,26 @@ IsMarked marks n = slice_index_or marks n false ≡ true
 abbrev pub AreMarksOf : List Entry → ℕ → List Bool → Type 0
 AreMarksOf program from marks = (file : ℕ) → (IsMarked marks file → Reaches program from file) × (Reaches program from file → IsMarked marks file)
 
--- for each file the marks on the files that are reached from it
-pub record AreSights (program : List Entry) (sights : List (List Bool)) : Type 0 where
+-- the files that are reached, in any order
+abbrev pub AreFilesOf : List Entry → ℕ → List ℕ → Type 0
+AreFilesOf program from files = (file : ℕ) → (Contains files file → Reaches program from file) × (Reaches program from file → Contains files file)
+
+-- these files were put behind others, each that there is and that was not there
+pub record Joins (count : ℕ) (these old new : List ℕ) : Type 0 where
+  pub more : List ℕ
+  pub grown : new ≡ old ++ more
+  pub only : (n : ℕ) → Contains more n → Contains these n × (n < count)
+  pub joined : (n : ℕ) → Contains these n → n < count → Contains new n
+
+-- what is kept of the files that are reached from one
+abbrev pub IsSight : List Entry → ℕ → Reach → Type 0
+IsSight program from (Few files) = AreFilesOf program from files.items
+IsSight program from (Many marks) = AreMarksOf program from marks.items
+
+-- that of each file
+pub record AreSights (program : List Entry) (sights : List Reach) : Type 0 where
   pub size : length sights ≡ length program
-  pub marks : (file : ℕ) (marks : List Bool) → slice_get sights file ≡ Some marks → AreMarksOf program file marks
+  pub of_file : (file : ℕ) (sight : Reach) → slice_get sights file ≡ Some sight → IsSight program file sight
 
 -- how many have no mark
 abbrev pub unmarked : List Bool → ℕ

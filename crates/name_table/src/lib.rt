@@ -4,6 +4,7 @@
 
 mod decl;
 mod decls;
+mod ends;
 mod kinds;
 mod names;
 mod rows;

@@ -10,8 +10,9 @@ ghost use Rattle.name_table.specs.Rows.{declared_from, listed_under};
 ghost use Rattle.name_table.specs.Visible.{Sees};
 
 use crate::decl::{DeclId, Found};
+use crate::ends::{ends, has_ends};
 use crate::rows::{Rows, rows};
-use crate::sight::sights;
+use crate::sight::{Reach, sights};
 use crate::texts::{builtin_of, endpoint_of, inner_of, is_name_of, word_of};
 use ipdl_base::Name;
 use ipdl_syntax::{Entry, Program};
@@ -23,14 +24,17 @@ use std::marker::Model;
 pub struct Names<'p> {
     program: &'p [Entry],
     rows: Rows<'p>,
-    sights: Vec<Vec<bool>>,
+    /// Marks on the ends of the texts that have a row.
+    ends: Vec<bool>,
+    sights: Vec<Reach>,
 }
 
 impl<'p> Model for Names<'p> {
-    ghost use Rattle.std.specs.Prelude.{List, map};
+    ghost use Rattle.std.specs.Prelude.{List};
     ghost use Rattle.std.specs.Coded.{codes};
     ghost use Rattle.ipdl_syntax.specs.declared.program.Entry.{Entry};
     ghost use Rattle.ipdl_syntax.specs.contracts.tree.Base as base;
+    ghost use Rattle.name_table.specs.Ends.{AreEnds};
     ghost use Rattle.name_table.specs.Marks.{AreSights};
     ghost use Rattle.name_table.specs.Rows.{AreRows};
 
@@ -38,7 +42,7 @@ impl<'p> Model for Names<'p> {
 
     ghost view = { λ a. a.program.now };
 
-    ghost invariant = { λ a. AreRows a.program.now a.rows × AreSights a.program.now (map (λ marks. marks.items) a.sights.items) };
+    ghost invariant = { λ a. AreRows a.program.now a.rows × AreSights a.program.now a.sights.items × AreEnds a.rows a.ends.items };
 
     ghost coded = { Prim.hlevel (codes, base.the_row.coded) };
 }
@@ -91,9 +95,12 @@ impl<'p> Names<'p> {
         ensures { IfOk result (λ names. names ≡ program.now) }
     {
         let program = program.as_slice();
+        let rows = rows(alloc, program)?;
+        let ends = ends(alloc, &rows)?;
         Ok(Names {
             program,
-            rows: rows(alloc, program)?,
+            rows,
+            ends,
             sights: sights(alloc, program)?,
         })
     }
@@ -130,6 +137,9 @@ impl<'p> Names<'p> {
     fn row(&self, text: &[u8]) -> &[DeclId]
         ensures { result.now ≡ listed_under text.now (declared_from 0 self.now) }
     {
+        if !has_ends(self.ends.as_slice(), text) {
+            return &[];
+        }
         match self.rows.get(text) {
             Some(row) => row.as_slice(),
             None => &[],
@@ -140,11 +150,8 @@ impl<'p> Names<'p> {
     fn is_reached(&self, file: u32, other: u32) -> bool
         ensures { IsTrue result ↔ Reaches self.now file other }
     {
-        let Some(marks) = self.sights.get(file as usize) else {
-            return false;
-        };
-        match marks.get(other as usize) {
-            Some(mark) => *mark,
+        match self.sights.get(file as usize) {
+            Some(sight) => sight.has(other),
             None => false,
         }
     }

@@ -1,8 +1,101 @@
-ghost use Rattle.std.specs.Prelude.{◌<◌, ◌∷◌, [], length, map, IfOk, OnOk};
-ghost use Rattle.name_table.specs.Marks.{AreMarksOf, AreSights, Marks};
+ghost use Rattle.std.specs.Prelude.{◌≡◌, ◌<◌, ◌≤◌, ◌↔◌, ◌⊎◌, ◌∷◌, [], ℕ, List, None, length, IfOk, IfSome, IsTrue, OnOk};
+ghost use Rattle.std.specs.List.{Contains};
+ghost use Rattle.ipdl_syntax.specs.declared.program.Entry.{Entry};
+ghost use Rattle.name_table.specs.Marks.{AreFilesOf, AreMarksOf, AreSights, IsSight, Joins, Marks, Reaches};
 
 use ipdl_syntax::Entry;
 use std::alloc::{AllocError, Global};
+
+/// The most files that are kept as a list.
+const FEW: usize = 8;
+
+/// What is kept of the files that are reached from one.
+#[derive(Drop)]
+pub enum Reach {
+    /// Their numbers.
+    Few(Vec<u32>),
+    /// Marks on them.
+    Many(Vec<bool>),
+}
+
+/// Whether a number is among others.
+fn is_among(files: &[u32], file: u32) -> bool
+    ensures { IsTrue result ↔ Contains files.now file }
+{
+    files.contains(&file)
+}
+
+/// Whether a file is marked.
+fn is_marked(marks: &[bool], file: usize) -> bool
+    ensures { (program : List Entry) (from : ℕ) → AreMarksOf program from marks.now → IsTrue result ↔ Reaches program from file }
+{
+    match marks.get(file) {
+        Some(mark) => *mark,
+        None => false,
+    }
+}
+
+impl Reach {
+    /// Whether a file is reached.
+    pub fn has(&self, file: u32) -> bool
+        ensures { (program : List Entry) (from : ℕ) → IsSight program from self.now → IsTrue result ↔ Reaches program from file }
+    {
+        match self {
+            Reach::Few(files) => is_among(files.as_slice(), file),
+            Reach::Many(marks) => is_marked(marks.as_slice(), file as usize),
+        }
+    }
+}
+
+/// Puts a file last, if it is one of so many and is not there yet.
+fn join(file: u32, count: usize, files: &mut Vec<u32>) -> Result<(), AllocError>
+    ensures { OnOk result (Joins count (file ∷ []) files.old.items files.new.items) }
+{
+    if (file as usize) < count && !is_among(files.as_slice(), file) {
+        files.push(file)?;
+    }
+    Ok(())
+}
+
+/// Puts files last, each if it is one of so many and is not there yet.
+fn join_all(these: &[u32], count: usize, files: &mut Vec<u32>) -> Result<(), AllocError>
+    ensures { OnOk result (Joins count these.now files.old.items files.new.items) }
+{
+    for file in these {
+        join(*file, count, files)?;
+    }
+    Ok(())
+}
+
+/// Whether the includes of a file are followed: those of the file from which all are reached, and those of headers.
+fn is_followed(entry: &Entry, file: usize, from: usize) -> bool
+    ensures { IsTrue result ↔ ((file ≡ from) ⊎ (entry.now.unit.protocol ≡ None)) }
+{
+    file == from || entry.unit.protocol.is_none()
+}
+
+/// The files that are reached from one of a program, where they are few.
+fn few(alloc: Global, program: &[Entry], from: usize) -> Result<Option<Vec<u32>>, AllocError>
+    requires within { from < length program.now }
+    requires few { length program.now ≤ 4096 }
+    ensures { IfOk result (λ found. IfSome found (λ files. AreFilesOf program.now from files.items)) }
+{
+    let mut files = Vec::new(alloc);
+    files.push(from as u32)?;
+    'files: for next in 0..FEW {
+        let Some(file) = files.get(next) else {
+            return Ok(Some(files));
+        };
+        let file = *file as usize;
+        let Some(entry) = program.get(file) else {
+            unreachable!()
+        };
+        if is_followed(entry, file, from) {
+            join_all(entry.includes.as_slice(), program.len(), &mut files)?;
+        }
+    }
+    Ok(None)
+}
 
 /// Marks a file, which joins the work where it is new. What is no file gets no mark.
 fn mark(file: usize, marks: &mut Vec<bool>, work: &mut Vec<usize>) -> Result<(), AllocError>
@@ -44,13 +137,26 @@ fn sight(alloc: Global, program: &[Entry], from: usize) -> Result<Vec<bool>, All
     Ok(marks)
 }
 
-/// For each file of a program, which files are reached from it.
-pub fn sights(alloc: Global, program: &[Entry]) -> Result<Vec<Vec<bool>>, AllocError>
-    ensures { IfOk result (λ all. AreSights program.now (map (λ marks. marks.items) all.items)) }
+/// What is kept of the files that are reached from one of a program.
+fn sight_of(alloc: Global, program: &[Entry], from: usize) -> Result<Reach, AllocError>
+    requires within { from < length program.now }
+    requires few { length program.now ≤ 4096 }
+    ensures { IfOk result (IsSight program.now from) }
+{
+    match few(alloc, program, from)? {
+        Some(files) => Ok(Reach::Few(files)),
+        None => Ok(Reach::Many(sight(alloc, program, from)?)),
+    }
+}
+
+/// For each file of a program, what is kept of the files that are reached from it.
+pub fn sights(alloc: Global, program: &[Entry]) -> Result<Vec<Reach>, AllocError>
+    requires { length program.now ≤ 4096 }
+    ensures { IfOk result (λ all. AreSights program.now all.items) }
 {
     let mut all = Vec::new(alloc);
     for from in 0..program.len() {
-        all.push(sight(alloc, program, from)?)?;
+        all.push(sight_of(alloc, program, from)?)?;
     }
     Ok(all)
 }

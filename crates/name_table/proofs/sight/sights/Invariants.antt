@@ -1,8 +1,9 @@
-use Rattle.std.proofs.Common.{◌≡◌, ℕ, List, Bool, length, map, slice_get, Some}
-use Rattle.name_table.specs.Marks.{AreMarksOf}
+use Rattle.std.proofs.Common.{◌≡◌, ℕ, length, slice_get, Some}
+use Rattle.name_table.specs.declared.sight.Reach.{Reach}
+use Rattle.name_table.specs.Marks.{IsSight}
 use Rattle.name_table.proofs.sight.sights.Given as goal
 
 abbrev pub invariant-loop-from : goal.invariant-loop-from
 invariant-loop-from l =
-    (length (map (λ marks. marks.items) l.all.items) ≡ l.from)
-    × ((file : ℕ) (marks : List Bool) → slice_get (map (λ marks. marks.items) l.all.items) file ≡ Some marks → AreMarksOf l.program file marks)
+    (length l.all.items ≡ l.from)
+    × ((file : ℕ) (sight : Reach) → slice_get l.all.items file ≡ Some sight → IsSight l.program file sight)
