@@ -1,7 +1,7 @@
 use super::given::{NotedFiles, files, note, push_finding, strings, text};
 use super::load_rows::LOADS;
-use include_graph::{LoadFault, are_file_words, key_of, load, one_reach};
-use ipdl_base::{Finding, Findings, MemoryFiles, Texts as Names};
+use include_graph::{LoadFault, are_file_words, load, one_reach};
+use ipdl_base::{Finding, Findings, MemoryFiles, Texts as Names, key_of};
 use ipdl_syntax::{Entry, Program};
 use std::alloc::{AllocError, Global};
 use std::test::Fail;

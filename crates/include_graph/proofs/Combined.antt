@@ -8,10 +8,11 @@ use Rattle.std.proofs.lemmas.Option.{same_Some, slice_get_within, get_or_from_sl
 use Rattle.ipdl_base.specs.Outside.{FileMap}
 use Rattle.include_graph.specs.declared.read.SourceFile.{SourceFile}
 use Rattle.include_graph.specs.declared.walk.ReachedFile.{ReachedFile}
-use Rattle.include_graph.specs.Keys.{key_of, is_same}
+use Rattle.ipdl_base.specs.FileNames.{key_of}
+use Rattle.include_graph.specs.Keys.{is_same}
 use Rattle.include_graph.specs.Reading.{IsContent, IsSource}
 use Rattle.include_graph.specs.Sources.{in_directory, word_of, name_on_path}
-use Rattle.include_graph.proofs.Ends.{by_test, same_is, is_itself}
+use Rattle.ipdl_base.proofs.Ends.{by_test, same_is, is_itself}
 use Rattle.include_graph.proofs.WholeKeys.{IsWhole, no_slash, slash}
 use Rattle.include_graph.proofs.WordKeys.{word_found}
 

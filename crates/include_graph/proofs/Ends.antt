@@ -1,50 +1,28 @@
--- When texts are the same, and how they end.
-use Rattle.std.proofs.Common.{◌≡◌, ℕ, ◌+◌, ◌-◌, Bool, true, false, List, ◌++◌, length, take, drop, refl, sym, ◌∙◌, ap, arith}
-use Rattle.std.specs.Prelude.{nat_eq}
+-- Words of files by their kinds, and keys that are cut before their endings.
+use Rattle.std.proofs.Common.{◌≡◌, inl, inr, ℕ, ◌+◌, Bool, true, false, List, ◌++◌, length, take, drop, sym, ◌∙◌, ap, arith}
 use Rattle.std.specs.Bool.{Decides}
-use Rattle.std.specs.Cmp.Lexicographic.{pointwise}
 use Rattle.std.proofs.lemmas.Bool.{true≢false}
-use Rattle.std.proofs.lemmas.Bool.Decides.{Decides-eqb}
 use Rattle.std.proofs.lemmas.List.{take_all, take-append-le, take-append-drop, length-append}
-use Rattle.std.proofs.lemmas.Slice.Eq.{slice_eq-Decides}
 use Rattle.std.proofs.Math.Seq.{drop-append_seam}
+use Rattle.ipdl_base.specs.FileNames.{IsFileWord}
+use Rattle.ipdl_base.proofs.Ends.{decided}
+use Rattle.ipdl_syntax.specs.declared.tree.FileKind.{FileKind}
 use Rattle.ipdl_syntax.specs.declared.tree.FileKind.TheVariants as file
-use Rattle.include_graph.specs.Keys.{is_same, HasKind, IsFileWord}
+use Rattle.include_graph.specs.Keys.{is_same, HasKind}
 
--- by the two answers of a test
-pub by_test : {P : Type 0} (t : Bool) → (t ≡ true → P) → (t ≡ false → P) → P
-by_test true one two = one refl
-by_test false one two = two refl
-
--- the test of two texts says whether they are the same
-pub decided : (xs ys : List ℕ) → Decides (is_same xs ys) (xs ≡ ys)
-decided xs ys = slice_eq-Decides Decides-eqb xs ys (pointwise nat_eq xs ys) refl
-
-pub same_is : (xs ys : List ℕ) → is_same xs ys ≡ true → xs ≡ ys
-same_is xs ys = (decided xs ys).0
-
-pub is_itself : (xs : List ℕ) → is_same xs xs ≡ true
-is_itself xs = (decided xs xs).1 refl
-
+-- texts that differ by their test
 pub other_is : (xs ys : List ℕ) → is_same xs ys ≡ false → ¬ (xs ≡ ys)
 other_is xs ys h e = true≢false (sym ((decided xs ys).1 e) ∙ h)
 
--- a text whose back is the ending has it behind some front
-pub ends : (text ending : List ℕ) → is_same ending (drop (length text - length ending) text) ≡ true → (front : List ℕ) × (text ≡ front ++ ending)
-ends text ending h =
-    let n = length text - length ending in
-    (take n text, sym (take-append-drop n text) ∙ ap (λ back. take n text ++ back) (sym (same_is ending (drop n text) h)))
-
--- and one that has it behind a front has it as its back
-pub has_ending : (text ending front : List ℕ) → text ≡ front ++ ending → is_same ending (drop (length text - length ending) text) ≡ true
-has_ending text ending front e =
-    let n : length text - length ending ≡ length front = omega (arith, ap length e, length-append front ending) in
-    (decided ending (drop (length text - length ending) text)).1 (sym (ap (λ k. drop k text) n ∙ ap (drop (length front)) e ∙ drop-append_seam front ending))
+-- a text of either kind names a file
+pub kind_word : (word : List ℕ) (kind : FileKind) → HasKind word kind → IsFileWord word
+kind_word word file.Protocol (front, e) = (front, inl e)
+kind_word word file.Header (front, e) = (front, inr e)
 
 -- by the two kinds of file
 pub of_kinds : {P : Type 0} (word : List ℕ) → IsFileWord word → (HasKind word file.Protocol → P) → (HasKind word file.Header → P) → P
-of_kinds word (file.Protocol, h) protocol header = protocol h
-of_kinds word (file.Header, h) protocol header = header h
+of_kinds word (front, inl e) protocol header = protocol (front, e)
+of_kinds word (front, inr e) protocol header = header (front, e)
 
 -- the parts of a key that is cut before its ending
 front_is : (key name ending : List ℕ) (n : ℕ) → n + length ending ≡ length key → key ≡ name ++ ending → take n key ≡ name

@@ -8,7 +8,7 @@ use Rattle.std.proofs.lemmas.List.Quantifiers.{all_pairs_push}
 use Rattle.include_graph.specs.Growth.{add_key, add_keys}
 use Rattle.include_graph.specs.Keys.{is_same}
 use Rattle.include_graph.specs.Reach.{first_place, IsLeftOut}
-use Rattle.include_graph.proofs.Ends.{by_test}
+use Rattle.ipdl_base.proofs.Ends.{by_test}
 use Rattle.include_graph.proofs.Places.{among, not_among, found_or_not, place_append, place_within, place_new}
 
 -- The keys begin with those of the words, and further ones follow in the order in which they are named first; all that

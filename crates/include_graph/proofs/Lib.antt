@@ -1,4 +1,3 @@
-pub mod Behind
 pub mod Combined
 pub mod Contents
 pub mod Ends

@@ -8,7 +8,8 @@ use Rattle.std.proofs.lemmas.Option.{slice_get-get_or}
 use Rattle.std.proofs.lemmas.Bool.{true≢false}
 use Rattle.include_graph.specs.Keys.{is_same}
 use Rattle.include_graph.specs.Reach.{first_place}
-use Rattle.include_graph.proofs.Ends.{by_test, same_is, is_itself, other_is}
+use Rattle.ipdl_base.proofs.Ends.{by_test, same_is, is_itself}
+use Rattle.include_graph.proofs.Ends.{other_is}
 
 -- what is in a list and is not its head is in its tail
 pub in_tail : (x : List ℕ) (xs : List (List ℕ)) (k : List ℕ) → Contains (x ∷ xs) k → ¬ (x ≡ k) → Contains xs k

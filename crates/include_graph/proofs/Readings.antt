@@ -16,7 +16,7 @@ use Rattle.include_graph.specs.Keys.{is_same}
 use Rattle.include_graph.specs.Load.{ForMap}
 use Rattle.include_graph.specs.Reading.{IsContent, IsFound, IsSource}
 use Rattle.include_graph.specs.Sources.{in_directory, name_on_path}
-use Rattle.include_graph.proofs.Ends.{by_test, same_is, is_itself}
+use Rattle.ipdl_base.proofs.Ends.{by_test, same_is, is_itself}
 use Rattle.include_graph.proofs.Places.{in_tail, in_none}
 
 -- a list may be as long as any number

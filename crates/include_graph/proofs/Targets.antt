@@ -13,7 +13,7 @@ use Rattle.include_graph.specs.declared.walk.Target.TheVariants.{Nothing, LeftOu
 use Rattle.include_graph.specs.Growth.{add_key, add_keys}
 use Rattle.include_graph.specs.Keys.{is_same}
 use Rattle.include_graph.specs.Reading.{IsTarget}
-use Rattle.include_graph.proofs.Ends.{by_test}
+use Rattle.ipdl_base.proofs.Ends.{by_test}
 use Rattle.include_graph.proofs.Grown.{add_old, add_new, add_past, add_full}
 
 -- an element of a list keeps its place when more follow

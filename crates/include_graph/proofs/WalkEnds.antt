@@ -11,7 +11,8 @@ use Rattle.std.proofs.lemmas.Slice.Zip.{AllZip-long}
 use Rattle.ipdl_base.specs.Outside.{FileMap}
 use Rattle.include_graph.specs.declared.walk.ReachedFile.{ReachedFile}
 use Rattle.include_graph.specs.Growth.{HasWords}
-use Rattle.include_graph.specs.Keys.{key_of, word_keys, IsFileWord, AreFileWords}
+use Rattle.ipdl_base.specs.FileNames.{key_of, IsFileWord}
+use Rattle.include_graph.specs.Keys.{word_keys, AreFileWords}
 use Rattle.include_graph.specs.Load.{ForMap}
 use Rattle.include_graph.specs.Reach.{IsReachBy}
 use Rattle.include_graph.specs.declared.read.SourceFile.{SourceFile}

@@ -21,7 +21,7 @@ use Rattle.include_graph.specs.Load.{ForMap}
 use Rattle.include_graph.specs.Reach.{all_named}
 use Rattle.include_graph.specs.Reading.{IsContent, IsSource, AreTargets, row_of, rows_of}
 use Rattle.include_graph.specs.Sources.{word_of, name_on_path}
-use Rattle.include_graph.proofs.Ends.{by_test}
+use Rattle.ipdl_base.proofs.Ends.{by_test}
 use Rattle.include_graph.proofs.Grown.{Grown, add_old, add_new, add_past, grown_more}
 use Rattle.include_graph.proofs.Places.{in_head, in_more, in_none}
 use Rattle.include_graph.proofs.Readings.{for_some}

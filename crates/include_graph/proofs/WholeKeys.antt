@@ -7,7 +7,9 @@ use Rattle.std.specs.Str.{IsAscii}
 use Rattle.std.proofs.lemmas.Str.Ascii.{IsAscii-nil, IsAscii-cons}
 use Rattle.std.proofs.lemmas.Str.{IsAscii-append}
 use Rattle.std.proofs.lemmas.List.Elements.{Contains-append_cases}
+use Rattle.ipdl_base.specs.FileNames.{key_of, IsFileWord}
 use Rattle.ipdl_base.specs.Words.{is_word_start, is_word_byte, IsWord}
+use Rattle.ipdl_base.proofs.Ends.{by_test}
 use Rattle.ipdl_syntax.specs.declared.tree.FileKind.{FileKind}
 use Rattle.ipdl_syntax.specs.declared.tree.FileKind.TheVariants as file
 use Rattle.ipdl_syntax.specs.declared.tree.Include.{Include}
@@ -15,8 +17,8 @@ use Rattle.ipdl_syntax.specs.declared.tree.IncludeKind.{IncludeKind}
 use Rattle.ipdl_syntax.specs.declared.tree.IncludeKind.TheVariants as kind
 use Rattle.ipdl_syntax.specs.Programs.{ending, named_key, named_keys}
 use Rattle.ipdl_syntax.specs.Units.{IncludeHasWord}
-use Rattle.include_graph.specs.Keys.{key_of, HasKind, IsFileWord}
-use Rattle.include_graph.proofs.Ends.{by_test}
+use Rattle.include_graph.specs.Keys.{HasKind}
+use Rattle.include_graph.proofs.Ends.{kind_word, of_kinds}
 use Rattle.include_graph.proofs.Places.{in_none, the_one}
 
 abbrev pub slash : ℕ → Bool
@@ -58,8 +60,11 @@ ends_so (b ∷ front) kind = by_test (list_any slash (front ++ ending kind))
     picked : list_any slash (front ++ ending kind) ≡ true → key_of (b ∷ front ++ ending kind) ≡ key_of (front ++ ending kind)
     picked e = rw e refl
 
+ended_so : (word : List ℕ) (kind : FileKind) → HasKind word kind → IsFileWord (key_of word)
+ended_so word kind h = kind_word (key_of word) kind (subst (λ x. HasKind (key_of x) kind) (sym h.1) (ends_so h.0 kind))
+
 pub word_ends : (word : List ℕ) → IsFileWord word → IsFileWord (key_of word)
-word_ends word w = (w.0, subst (λ x. HasKind (key_of x) w.0) (sym w.1.1) (ends_so w.1.0 w.0))
+word_ends word w = of_kinds word w (ended_so word file.Protocol) (ended_so word file.Header)
 
 -- A key is whole: it is its own key, and has an ending.
 pub record IsWhole (key : List ℕ) : Type 0 where
@@ -123,7 +128,7 @@ ascii_ending file.Header = small (ending file.Header) refl
 pub named_whole : (kind : FileKind) (name : List ℕ) → IsWord name → IsWhole (name ++ ending kind) × IsAscii (name ++ ending kind)
 named_whole kind name w =
     let plain = word_plain name w in
-    (record { own = bare (name ++ ending kind) (any_append name (ending kind) plain.1 ∙ no_slash_ending kind); ended = (kind, (name, refl)) }, IsAscii-append name (ending kind) plain.0 (ascii_ending kind))
+    (record { own = bare (name ++ ending kind) (any_append name (ending kind) plain.1 ∙ no_slash_ending kind); ended = kind_word (name ++ ending kind) kind (name, refl) }, IsAscii-append name (ending kind) plain.0 (ascii_ending kind))
 
 -- so is the key that an include names
 key_whole : (k : IncludeKind) (name key : List ℕ) → IncludeHasWord k name → Contains (named_key k name) key → IsWhole key × IsAscii key

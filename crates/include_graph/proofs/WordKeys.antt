@@ -10,9 +10,11 @@ use Rattle.std.proofs.lemmas.List.Quantifiers.{all_pairs_push}
 use Rattle.std.proofs.lemmas.Option.{same_Some}
 use Rattle.std.proofs.lemmas.Slice.Zip.{all_zipped_more}
 use Rattle.include_graph.specs.Growth.{HasWords}
-use Rattle.include_graph.specs.Keys.{key_of, is_same, different, word_keys}
+use Rattle.ipdl_base.specs.FileNames.{key_of}
+use Rattle.include_graph.specs.Keys.{is_same, different, word_keys}
 use Rattle.include_graph.specs.Sources.{word_of}
-use Rattle.include_graph.proofs.Ends.{by_test, same_is, is_itself, other_is}
+use Rattle.ipdl_base.proofs.Ends.{by_test, same_is, is_itself}
+use Rattle.include_graph.proofs.Ends.{other_is}
 use Rattle.include_graph.proofs.Places.{in_head, in_more, in_none, in_tail, among, not_among}
 
 -- a key that is in a list is its head or in its tail

@@ -6,7 +6,8 @@ use Rattle.std.proofs.lemmas.List.Kept.{AllPairs-cons}
 use Rattle.std.proofs.lemmas.List.Elements.{All-from_recursion}
 use Rattle.std.proofs.lemmas.Option.{same_Some, slice_get_within, get_or_from_slice_get}
 use Rattle.ipdl_base.specs.Outside.{FileMap}
-use Rattle.include_graph.specs.Keys.{key_of, is_same, word_keys}
+use Rattle.ipdl_base.specs.FileNames.{key_of}
+use Rattle.include_graph.specs.Keys.{is_same, word_keys}
 use Rattle.include_graph.specs.Reach.{all_named, first_place, IsReachBy}
 use Rattle.include_graph.specs.Sources.{LoadInput, in_directory, read_name, content, text_of}
 

@@ -2,7 +2,8 @@
 use Rattle.std.specs.Prelude.{◌≡◌, ℕ, if◌then◌else◌, List, ◌++◌, map, find, Option, Some, None, is_some, unwrap_or, codes}
 use Rattle.std.specs.Option.{option_and_then, option_or}
 use Rattle.ipdl_base.specs.Outside.{FileMap}
-use Rattle.include_graph.specs.Keys.{key_of, is_same}
+use Rattle.ipdl_base.specs.FileNames.{key_of}
+use Rattle.include_graph.specs.Keys.{is_same}
 
 -- what a load is given: what each name has, the words of the command, and the path
 pub record LoadInput : Type 0 where

@@ -1,5 +1,5 @@
 ghost use Rattle.std.specs.Prelude.{◌≡◌, IfOk, Some};
-ghost use Rattle.include_graph.specs.Keys.{IsFileWord};
+ghost use Rattle.ipdl_base.specs.FileNames.{IsFileWord};
 ghost use Rattle.include_graph.specs.Reading.{IsContentOfTokens, IsContent};
 
 use crate::keys::kind_of;

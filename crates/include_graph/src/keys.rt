@@ -1,41 +1,15 @@
 ghost use Rattle.std.specs.Prelude.{◌≡◌, ◌↔◌, ◌++◌, IfOk, IsTrue, map, string_bytes, option_to_list};
+ghost use Rattle.ipdl_base.specs.FileNames.{IsFileWord};
 ghost use Rattle.ipdl_base.specs.Words as words;
 ghost use Rattle.ipdl_syntax.specs.Programs.{ending, named_key};
 ghost use Rattle.include_graph.specs.Keys as keys;
 
-use ipdl_base::{Items, Name, short_name};
+use ipdl_base::{HEADER_ENDING, Items, Name, PROTOCOL_ENDING, is_file_word, short_name};
 use ipdl_syntax::{FileKind, Include, IncludeKind};
 use std::alloc::{AllocError, Global};
 
 /// The most words of a command.
 const MOST_WORDS: usize = 4096;
-
-/// How the names of protocol files end.
-const PROTOCOL_ENDING: &[u8] = b".ipdl";
-
-/// How the names of headers end.
-const HEADER_ENDING: &[u8] = b".ipdlh";
-
-/// What stands behind the last such byte of a text, or all of it where there is none.
-fn behind_last(text: &[u8], mark: u8) -> &[u8]
-    ensures { result.now ≡ keys.behind_last mark text.now }
-{
-    let mut behind = text;
-    for (i, b) in text.iter().enumerate() {
-        if *b == mark {
-            let (_, after) = text.split_at(i + 1);
-            behind = after;
-        }
-    }
-    behind
-}
-
-/// The key of a file by its name: the part behind the last `/` (docs/reach.md).
-pub fn key_of(name: &[u8]) -> &[u8]
-    ensures { result.now ≡ keys.key_of name.now }
-{
-    behind_last(name, b'/')
-}
 
 /// Whether a protocol of this full name has the name of the file of this key.
 pub fn bears_name(full: &[u8], key: &[u8]) -> bool
@@ -47,13 +21,6 @@ pub fn bears_name(full: &[u8], key: &[u8]) -> bool
     };
     let (front, back) = key.split_at(n);
     front == short && back == PROTOCOL_ENDING
-}
-
-/// Whether a word ends in `.ipdl` or `.ipdlh`.
-fn is_file_word(word: &[u8]) -> bool
-    ensures { IsTrue result ↔ keys.IsFileWord word.now }
-{
-    word.ends_with(PROTOCOL_ENDING) || word.ends_with(HEADER_ENDING)
 }
 
 /// Whether these words can be given to `load`: there are at most 4,096, and each ends in `.ipdl` or `.ipdlh`.
@@ -73,7 +40,7 @@ pub fn are_file_words(words: &[String]) -> bool
 
 /// The kind of the file of a key.
 pub fn kind_of(key: &[u8]) -> FileKind
-    requires { keys.IsFileWord key.now }
+    requires { IsFileWord key.now }
     ensures { keys.HasKind key.now result }
 {
     if key.ends_with(HEADER_ENDING) {

@@ -12,6 +12,6 @@ mod read;
 mod rules;
 mod walk;
 
-pub use keys::{are_file_words, key_of};
+pub use keys::are_file_words;
 pub use laws::one_reach;
 pub use loader::{LoadFault, load};

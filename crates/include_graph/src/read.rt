@@ -2,7 +2,7 @@ ghost use Rattle.std.specs.Prelude.{◌≡◌, ◌≤◌, ◌++◌, IfOk, IfSome
 ghost use Rattle.std.specs.Option.{option_copied, option_or};
 ghost use Rattle.std.specs.Str.{IsUtf8};
 ghost use Rattle.ipdl_base.specs.Outside.{Rose};
-ghost use Rattle.include_graph.specs.Keys.{IsFileWord};
+ghost use Rattle.ipdl_base.specs.FileNames.{IsFileWord};
 ghost use Rattle.include_graph.specs.Load.{ForMap};
 ghost use Rattle.include_graph.specs.Sources.{in_directory as the_name_in, name_on_path};
 ghost use Rattle.include_graph.specs.Reading.{IsContent, IsFound, IsSource};

@@ -8,11 +8,11 @@ ghost use Rattle.include_graph.specs.Load.{ForMap};
 ghost use Rattle.include_graph.specs.Reading.{IsTarget, AreTargets, AreRead, IsGathered, row_of};
 
 use crate::content::Content;
-use crate::keys::{key_of, named_key_of};
+use crate::keys::named_key_of;
 use crate::read::{ReadStop, SourceFile, read_key};
 use grammar_laws::names_hold;
 use indexmap::IndexSet;
-use ipdl_base::{Files, Items, Name};
+use ipdl_base::{Files, Items, Name, key_of};
 use ipdl_lex::words_hold;
 use ipdl_syntax::Include;
 use std::alloc::{AllocError, Global};

@@ -1,3 +1,5 @@
+pub mod Behind
+pub mod Ends
 pub mod FindLemmas
 pub mod Numbers
 mod ShortNames

@@ -1,5 +1,6 @@
 pub mod Builtins
 pub mod Deferral
+pub mod FileNames
 pub mod Lines
 pub mod NameBytes
 pub mod Memory

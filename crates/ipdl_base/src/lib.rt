@@ -4,6 +4,7 @@
 
 mod builtin;
 mod deferral;
+mod file_name;
 mod files;
 mod finding;
 mod full_name;
@@ -21,6 +22,7 @@ mod value;
 
 pub use builtin::Builtin;
 pub use deferral::defers_request;
+pub use file_name::{HEADER_ENDING, PROTOCOL_ENDING, is_file_word, key_of};
 pub use files::{Files, ReadAnswer};
 pub use finding::{Finding, Findings, Place, Rule};
 pub use full_name::short_name;

@@ -2,7 +2,7 @@ use Rattle.std.proofs.Common.{◌<◌, refl, map, length, get_or, sym, subst, �
 use Rattle.std.specs.List.{All}
 use Rattle.std.proofs.lemmas.List.{take_all, length-map, get_or-map}
 use Rattle.std.proofs.lemmas.List.Elements.{All-more, All-map, All-from_recursion, recursion_from_All, All-get_or}
-use Rattle.include_graph.specs.Keys.{IsFileWord}
+use Rattle.ipdl_base.specs.FileNames.{IsFileWord}
 use Rattle.include_graph.proofs.keys.are_file_words.Goals as goal
 
 pub loop-word-preserved : goal.loop-word-preserved

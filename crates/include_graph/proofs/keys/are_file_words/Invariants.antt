@@ -1,6 +1,6 @@
 use Rattle.std.proofs.Common.{take, string_bytes}
 use Rattle.std.specs.List.{All}
-use Rattle.include_graph.specs.Keys.{IsFileWord}
+use Rattle.ipdl_base.specs.FileNames.{IsFileWord}
 use Rattle.include_graph.proofs.keys.are_file_words.Given as goal
 
 abbrev pub invariant-loop-word : goal.invariant-loop-word

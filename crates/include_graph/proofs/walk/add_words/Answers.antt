@@ -3,7 +3,8 @@ use Rattle.std.specs.List.{list_any}
 use Rattle.std.specs.declared.vec.Vec.{Vec}
 use Rattle.std.proofs.lemmas.List.{take_more, map-append}
 use Rattle.include_graph.specs.Growth.{HasWords}
-use Rattle.include_graph.specs.Keys.{is_same, key_of}
+use Rattle.ipdl_base.specs.FileNames.{key_of}
+use Rattle.include_graph.specs.Keys.{is_same}
 use Rattle.include_graph.proofs.WordKeys.{words_old, words_new}
 use Rattle.include_graph.proofs.walk.add_words.Goals as goal
 use Rattle.include_graph.proofs.walk.add_words.Goals.{then-branch+in_ok-push, else-branch}

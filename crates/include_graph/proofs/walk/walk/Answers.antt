@@ -5,7 +5,7 @@ use Rattle.std.specs.Str.{IsUtf8}
 use Rattle.std.proofs.lemmas.Bool.{cases_lt}
 use Rattle.std.proofs.lemmas.Str.{IsUtf8-from_ascii}
 use Rattle.include_graph.specs.declared.walk.ReachedFile.{ReachedFile}
-use Rattle.include_graph.specs.Keys.{IsFileWord}
+use Rattle.ipdl_base.specs.FileNames.{IsFileWord}
 use Rattle.include_graph.specs.Load.{ForMap}
 use Rattle.include_graph.specs.Reading.{IsSource}
 use Rattle.include_graph.specs.Sources.{word_of, name_on_path}

@@ -3,10 +3,10 @@ use Rattle.std.proofs.lemmas.Bool.{eq-eqb}
 use Rattle.std.proofs.lemmas.Bool.Decides.{eqb_tells}
 use Rattle.std.proofs.lemmas.List.{take_more}
 use Rattle.std.proofs.Math.Seq.{drop-cons}
-use Rattle.include_graph.specs.Keys.{behind_last}
-use Rattle.include_graph.proofs.Behind.{behind_same, behind_other}
-use Rattle.include_graph.proofs.keys.behind_last.Goals as goal
-use Rattle.include_graph.proofs.keys.behind_last.Goals.{then-b-mark, else-b-mark}
+use Rattle.ipdl_base.specs.FileNames.{behind_last}
+use Rattle.ipdl_base.proofs.Behind.{behind_same, behind_other}
+use Rattle.ipdl_base.proofs.file_name.behind_last.Goals as goal
+use Rattle.ipdl_base.proofs.file_name.behind_last.Goals.{then-b-mark, else-b-mark}
 
 not_equal : (a b : ℕ) → ¬ (a ≡ b) → nat_eq a b ≡ false
 not_equal a b differ = elim (eqb_tells a b) [ inl e ↦ absurd (differ e.1) | inr n ↦ n.0 ]

@@ -1,8 +1,8 @@
 -- What stands behind the last byte of a kind, byte by byte.
 use Rattle.std.proofs.Common.{◌≡◌, ℕ, Bool, true, false, ◌||◌, cond, nat_eq, List, [], ◌∷◌, ◌++◌, refl, ◌∙◌}
 use Rattle.std.specs.List.{list_any}
-use Rattle.include_graph.specs.Keys.{behind_last}
-use Rattle.include_graph.proofs.Ends.{by_test}
+use Rattle.ipdl_base.specs.FileNames.{behind_last}
+use Rattle.ipdl_base.proofs.Ends.{by_test}
 
 any_push : (p : ℕ → Bool) (xs : List ℕ) (b : ℕ) → list_any p (xs ++ b ∷ []) ≡ list_any p xs || p b
 any_push p [] b = by_test (p b) (λ e. rw e refl) (λ e. rw e refl)

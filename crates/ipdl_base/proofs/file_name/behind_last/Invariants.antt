@@ -1,6 +1,6 @@
 use Rattle.std.proofs.Common.{◌≡◌, ◌++◌, take, drop}
-use Rattle.include_graph.specs.Keys.{behind_last}
-use Rattle.include_graph.proofs.keys.behind_last.Given as goal
+use Rattle.ipdl_base.specs.FileNames.{behind_last}
+use Rattle.ipdl_base.proofs.file_name.behind_last.Given as goal
 
 -- what stands behind the last such byte so far, and all that follows
 abbrev pub invariant-loop-i : goal.invariant-loop-i
