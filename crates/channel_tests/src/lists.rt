@@ -32,7 +32,7 @@ fn is_word_byte(byte: u8) -> bool {
 
 /// A name of bytes.
 fn name_of(alloc: Global, bytes: &[u8]) -> Option<Name> {
-    Some(Name::from_vec(Vec::from_slice(alloc, bytes).ok()?))
+    Name::from_slice(alloc, bytes).ok()
 }
 
 impl<'t> Reader<'t> {

@@ -5,7 +5,7 @@ ghost use Rattle.value_types.specs.Fits.{Fits, actor_ids, all_actor_ids};
 use super::checks::check;
 use super::schemas::the_schema;
 use super::shown::digits_of;
-use ipdl_base::{Body, Items, Kind, Message, MessageRow, Schema, Semantics, Value, Values};
+use ipdl_base::{Body, Kind, Message, MessageRow, Name, Schema, Semantics, Value, Values};
 use std::alloc::{AllocError, Global};
 use std::test::Fail;
 use value_codec::{Decoded, EncodeFault, decode, encode, frame_size};
@@ -68,12 +68,12 @@ fn values_of(alloc: Global, count: usize) -> Result<Values, AllocError> {
     for _ in 0..count {
         bytes.push(0)?;
     }
-    let none = Value::Bytes(Items::from_vec(Vec::new(alloc)));
+    let none = Value::Bytes(Name::empty());
     let mut values = before(alloc, none, Values::Nothing)?;
-    let none = Value::Bytes(Items::from_vec(Vec::new(alloc)));
+    let none = Value::Bytes(Name::empty());
     values = before(alloc, none, values)?;
-    values = before(alloc, Value::Bytes(Items::from_vec(bytes)), values)?;
-    let text = Value::Text(Items::from_vec(Vec::new(alloc)));
+    values = before(alloc, Value::Bytes(Name::from_vec(alloc, bytes)?), values)?;
+    let text = Value::Text(Name::empty());
     before(alloc, text, values)
 }
 

@@ -104,8 +104,8 @@ impl Declared {
     fn entry(self, alloc: Global, includes: &[u32]) -> Result<Entry, AllocError> {
         let includes = Vec::from_slice(alloc, includes)?;
         Ok(Entry {
-            key: Items::from_vec(Vec::new(alloc)),
-            name: Items::from_vec(Vec::new(alloc)),
+            key: Name::empty(),
+            name: Name::empty(),
             unit: Unit {
                 includes: Items::from_vec(Vec::new(alloc)),
                 usings: Items::from_vec(self.usings),
@@ -214,7 +214,7 @@ const HEADERS: u32 = 4096;
 
 /// A name that ends with a number.
 fn numbered(alloc: Global, text: &str, number: u32) -> Result<Name, AllocError> {
-    Ok(Name::from_vec(format!(in alloc; "{text}{number}")?.into_bytes()))
+    Name::from_vec(alloc, format!(in alloc; "{text}{number}")?.into_bytes())
 }
 
 /// The header of this number in a ring: with 24 usings, 24 structs, a union, and one using that all

@@ -36,7 +36,7 @@ pub fn files(alloc: Global, texts: &str, failing: u64) -> Result<MemoryFiles, Al
 
 /// A name of text.
 pub fn name(alloc: Global, text: &str) -> Result<Name, AllocError> {
-    Ok(Name::from_vec(Vec::from_slice(alloc, text.as_bytes())?))
+    Name::from_slice(alloc, text.as_bytes())
 }
 
 /// The text of a name.

@@ -4,7 +4,7 @@ ghost use Rattle.ipdl_base.specs.Words as words;
 ghost use Rattle.ipdl_syntax.specs.Programs.{ending, named_key};
 ghost use Rattle.include_graph.specs.Keys as keys;
 
-use ipdl_base::{HEADER_ENDING, Items, Name, PROTOCOL_ENDING, is_file_word, short_name};
+use ipdl_base::{HEADER_ENDING, Name, PROTOCOL_ENDING, is_file_word, short_name};
 use ipdl_syntax::{FileKind, Include, IncludeKind};
 use std::alloc::{AllocError, Global};
 
@@ -54,9 +54,9 @@ pub fn kind_of(key: &[u8]) -> FileKind
 fn with_ending(alloc: Global, name: &[u8], ending: &[u8]) -> Result<Name, AllocError>
     ensures { IfOk result (λ key. key ≡ name.now ++ ending.now) }
 {
-    let mut key = Vec::from_slice(alloc, name)?;
-    key.extend_from_slice(ending)?;
-    Ok(Items::from_vec(key))
+    let mut key = Name::from_slice(alloc, name)?;
+    key.append(alloc, ending)?;
+    Ok(key)
 }
 
 /// The key of the file that an include names, where it names one.

@@ -8,7 +8,7 @@ ghost use Rattle.include_graph.specs.Sources.{in_directory as the_name_in, name_
 ghost use Rattle.include_graph.specs.Reading.{IsContent, IsFound, IsSource};
 
 use crate::content::{Content, MOST_BYTES, content_of_bytes};
-use ipdl_base::{Files, Items, Name, ReadAnswer};
+use ipdl_base::{Files, Name, ReadAnswer};
 use std::alloc::{AllocError, Global};
 
 /// Why files are read no further.
@@ -99,7 +99,7 @@ fn read_word<F: Files>(
     let found = read_name(alloc, files, word)?;
     let content = content_of_found(alloc, number, key, &found)?;
     Ok(SourceFile {
-        text: Items::from_vec(Vec::from_slice(alloc, word.as_bytes())?),
+        text: Name::from_slice(alloc, word.as_bytes())?,
         content,
     })
 }
@@ -142,14 +142,14 @@ fn read_on_path<F: Files>(
             found => {
                 let content = content_of_found(alloc, number, key, &found)?;
                 return Ok(SourceFile {
-                    text: Items::from_vec(name.into_bytes()),
+                    text: Name::from_vec(alloc, name.into_bytes())?,
                     content,
                 });
             }
         }
     }
     Ok(SourceFile {
-        text: Items::from_vec(Vec::from_slice(alloc, key)?),
+        text: Name::from_slice(alloc, key)?,
         content: Content::Absent,
     })
 }

@@ -12,7 +12,7 @@ use crate::keys::named_key_of;
 use crate::read::{ReadStop, SourceFile, read_key};
 use grammar_laws::names_hold;
 use indexmap::IndexSet;
-use ipdl_base::{Files, Items, Name, key_of};
+use ipdl_base::{Files, Name, key_of};
 use ipdl_lex::words_hold;
 use ipdl_syntax::Include;
 use std::alloc::{AllocError, Global};
@@ -51,8 +51,8 @@ fn add_words<'a>(
     ensures { OnOk result (HasWords (map string_bytes words.now) keys.new.keys (map (λ first. first.now) firsts.new.items)) }
 {
     for word in words {
-        let key = Vec::from_slice(alloc, key_of(word.as_bytes()))?;
-        if keys.insert(Items::from_vec(key))? {
+        let key = Name::from_slice(alloc, key_of(word.as_bytes()))?;
+        if keys.insert(key)? {
             firsts.push(word.as_str())?;
         }
     }

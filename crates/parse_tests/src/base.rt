@@ -1,6 +1,6 @@
 use super::checks::{check, cut};
 use ipdl_base::{
-    Builtin, Files, Items, Level, MemoryFiles, MemorySink, Name, ReadAnswer, Side, Sink,
+    Builtin, Files, Level, MemoryFiles, MemorySink, Name, ReadAnswer, Side, Sink,
     WriteAnswer, defers_request,
 };
 use std::alloc::{AllocError, Global};
@@ -163,11 +163,11 @@ fn set_text(alloc: Global, name: Name, copy: &Name) -> Result<String, Fail> {
 
 /// A name and its copy: what they are, what a set says of them, and the copy's text at last.
 fn name_text(alloc: Global) -> Result<String, Fail> {
-    let name: Name = Items::from_vec(Vec::from_slice(alloc, b"word")?);
+    let name = Name::from_slice(alloc, b"word")?;
     let copy = name.copy(alloc)?;
     let copied = copy_text(alloc, &name, &copy)?;
     let seen = set_text(alloc, name, &copy)?;
-    let text = String::from_utf8(copy.into_vec())?;
+    let text = str::from_utf8(copy.as_slice())?;
     Ok(format!(in alloc; "{copied} {seen} {text}")?)
 }
 

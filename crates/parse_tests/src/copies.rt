@@ -1,10 +1,10 @@
 use super::checks::check;
-use ipdl_base::{Body, Items, Message, Name, Shape, Value, Values};
+use ipdl_base::{Body, Message, Name, Shape, Value, Values};
 use std::alloc::{AllocError, Global};
 use std::test::Fail;
 
 fn name_of(alloc: Global, text: &[u8]) -> Result<Name, AllocError> {
-    Ok(Items::from_vec(Vec::from_slice(alloc, text)?))
+    Name::from_slice(alloc, text)
 }
 
 fn before(alloc: Global, first: Value, rest: Values) -> Result<Values, AllocError> {

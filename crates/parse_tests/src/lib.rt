@@ -9,6 +9,8 @@ mod checks;
 #[cfg(test)]
 mod copies;
 #[cfg(test)]
+mod name_rows;
+#[cfg(test)]
 mod reports;
 #[cfg(test)]
 mod rules;

@@ -25,11 +25,11 @@ fn bytes_of(alloc: Global, digits: &str) -> Result<Name, Fail> {
             }
         };
     }
-    Ok(Items::from_vec(bytes))
+    Ok(Name::from_vec(alloc, bytes)?)
 }
 
 fn name(alloc: Global, text: &str) -> Result<Name, AllocError> {
-    Ok(Items::from_vec(Vec::from_slice(alloc, text.as_bytes())?))
+    Name::from_slice(alloc, text.as_bytes())
 }
 
 /// The type of a word: 0 is a struct of the schema, 1 a union, and 2 none.

@@ -7,7 +7,7 @@ ghost use Rattle.script_reader.specs.Tokens.{is_blank, is_digit, behind, value_o
 
 use crate::pieces::{character_at, hex_at, is_blank, is_digit, is_word_byte};
 use crate::stop::ReadFailure;
-use ipdl_base::{Items, Name};
+use ipdl_base::Name;
 use std::alloc::Global;
 use std::marker::Model;
 
@@ -165,7 +165,7 @@ impl<'a> Cursor<'a> {
         }
         self.rest = rest;
         if self.quote() {
-            Ok(Items::from_vec(bytes))
+            Ok(Name::from_vec(alloc, bytes)?)
         } else {
             Err(ReadFailure::NoReading)
         }
@@ -185,7 +185,7 @@ impl<'a> Cursor<'a> {
         }
         self.rest = rest;
         if self.quote() {
-            Ok(Items::from_vec(bytes))
+            Ok(Name::from_vec(alloc, bytes)?)
         } else {
             Err(ReadFailure::NoReading)
         }

@@ -9,7 +9,7 @@ use crate::cursor::Cursor;
 use crate::pieces::{is_digit, is_mark, is_word_start};
 use crate::stop::ReadFailure;
 use crate::token::{ScriptToken, TokenClass};
-use ipdl_base::{Items, Name};
+use ipdl_base::Name;
 use std::alloc::{AllocError, Global};
 
 /// The greatest number of a parameter, and the greatest index of a component.
@@ -52,7 +52,7 @@ fn class_of(bytes: &[u8]) -> TokenClass
 fn name(alloc: Global, bytes: &[u8]) -> Result<Name, AllocError>
     ensures { IfOk result (λ name. name ≡ bytes.now) }
 {
-    Ok(Items::from_vec(Vec::from_slice(alloc, bytes)?))
+    Name::from_slice(alloc, bytes)
 }
 
 /// Takes the number of a parameter or a component, behind its first byte.

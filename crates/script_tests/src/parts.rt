@@ -11,7 +11,7 @@ use std::test::Fail;
 
 /// A name of text.
 fn name(alloc: Global, text: &str) -> Result<Name, AllocError> {
-    Ok(Name::from_vec(Vec::from_slice(alloc, text.as_bytes())?))
+    Name::from_slice(alloc, text.as_bytes())
 }
 
 /// The message of this name; nothing where it is not there.
@@ -198,7 +198,7 @@ fn arrays(alloc: Global, count: u32) -> Result<Shape, AllocError> {
 /// One parameter of that type.
 fn field(alloc: Global, count: u32) -> Result<Vec<ParamRow>, AllocError> {
     let row = ParamRow {
-        name: Name::from_vec(Vec::new(alloc)),
+        name: Name::empty(),
         shape: arrays(alloc, count)?,
     };
     let mut rows = Vec::new(alloc);

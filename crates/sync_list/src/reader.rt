@@ -11,7 +11,7 @@ ghost use Rattle.std.specs.Str.{bytes_eq};
 use crate::line::{ListLine, are_blanks, line_of};
 use crate::list::{ListFault, Section, SyncList};
 use crate::names::MessagePair;
-use ipdl_base::Items;
+use ipdl_base::{Items, Name};
 use std::alloc::{AllocError, Global};
 use std::collections::HashSet;
 
@@ -40,11 +40,9 @@ fn new_section(
 ) -> Result<Section, AllocError>
     ensures { IfOk result (λ section. section ≡ record { protocol = protocol.now; message = message.now; described = false; line = number }) }
 {
-    let protocol = Items::from_vec(Vec::from_slice(alloc, protocol)?);
-    let message = Items::from_vec(Vec::from_slice(alloc, message)?);
     Ok(Section {
-        protocol,
-        message,
+        protocol: Name::from_slice(alloc, protocol)?,
+        message: Name::from_slice(alloc, message)?,
         described: false,
         line: number,
     })

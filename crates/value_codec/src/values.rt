@@ -12,7 +12,7 @@ use crate::fault::Refusal;
 use crate::reading::{broken, counted, field, flag, id, short, struct_byte, word};
 use crate::rules::{BAD_TAG, BAD_VALUE};
 use byteorder::{ByteOrder, LittleEndian};
-use ipdl_base::{Builtin, Items, ParamRow, Schema, Shape, TypeRow, Value, Values};
+use ipdl_base::{Builtin, Name, ParamRow, Schema, Shape, TypeRow, Value, Values};
 use std::alloc::Global;
 use value_types::Layout;
 
@@ -65,7 +65,7 @@ fn text(alloc: Global, layout: Layout, bytes: &[u8]) -> Result<(Value, &[u8]), R
     ensures { Gives (λ x. (plain x.0, x.1.now)) result (reading.text_at layout bytes.now) }
 {
     let (front, rest) = counted(layout, true, bytes)?;
-    let name = Items::from_vec(Vec::from_slice(alloc, front)?);
+    let name = Name::from_slice(alloc, front)?;
     Ok((Value::Text(name), rest))
 }
 
@@ -75,7 +75,7 @@ fn any_bytes(alloc: Global, layout: Layout, bytes: &[u8]) -> Result<(Value, &[u8
     ensures { Gives (λ x. (plain x.0, x.1.now)) result (reading.bytes_at layout bytes.now) }
 {
     let (front, rest) = counted(layout, false, bytes)?;
-    let name = Items::from_vec(Vec::from_slice(alloc, front)?);
+    let name = Name::from_slice(alloc, front)?;
     Ok((Value::Bytes(name), rest))
 }
 

@@ -35,7 +35,7 @@ loop-directory-preserved g c =
 pub returns-clause-source : goal.returns-clause-source
 returns-clause-source g c =
     let all = subst (λ (ds : List (String Global)). IfSome (g.F.Files.told c.loop-directory.files) (λ files. name_on_path files (map string_bytes ds) c.args.key.now ≡ None)) (take_all c.loop-directory.directory-index c.args.path.now c.loop-directory-test.false) c.loop-directory.invariant.none in
-    found_nowhere (g.F.Files.told c.args.files.now) c.args.number (map string_bytes c.args.path.now) c.args.key.now _ (c.from_vec-2.ensures ∙ c.in_ok-from_slice.ensures.items) refl
+    found_nowhere (g.F.Files.told c.args.files.now) c.args.number (map string_bytes c.args.path.now) c.args.key.now _ c.in_ok-from_slice.ensures.ok refl
     (subst (λ (o : Option FileMap). IfSome o (λ files. name_on_path files (map string_bytes c.args.path.now) c.args.key.now ≡ None)) c.loop-directory.invariant.told all)
 
 pub returns-in_default-2 : goal.returns-in_default-2
@@ -50,10 +50,10 @@ returns-in_default-2 g c =
     let here = subst (λ n. IfSome told (λ files. IsFound (files n) c.in_ok-found.found)) named c.in_ok-found.ensures.found in
     let front = ap (λ (s : String Global). map string_bytes (take i path) ++ string_bytes s ∷ []) c.directory-item.is ∙ sym (more path i item c.loop-directory-test.true) in
     let whole = ap (λ ds. ds ++ map string_bytes (drop (i + 1) path)) front ∙ sym (map-append string_bytes (take (i + 1) path) (drop (i + 1) path)) ∙ ap (map string_bytes) (take-append-drop (i + 1) path) in
-    let source : SourceFile = record { text = c.from_vec.result; content = c.in_ok-content-in_default-2.content } in
+    let source : SourceFile = record { text = c.in_ok-from_vec.field-0; content = c.in_ok-content-in_default-2.content } in
     let found = c.in_ok-found.found in
     let there : found ≢ Absent = c.in_default-2.not-Absent in
-    let called : source.text ≡ name = c.from_vec.ensures ∙ (ap (λ (v : Vec ℕ Global). v.items) c.into_bytes.ensures.value ∙ (sym c.as_str-in-loop-directory.ensures.value ∙ named)) in
+    let called : source.text ≡ name = c.in_ok-from_vec.ensures.ok ∙ (ap (λ (v : Vec ℕ Global). v.items) c.into_bytes.ensures.value ∙ (sym c.as_str-in-loop-directory.ensures.value ∙ named)) in
     let first = found_first told c.args.number (map string_bytes (take i path)) (map string_bytes (drop (i + 1) path)) (string_bytes item) key found source there called (λ held h. c.in_ok-content-in_default-2.ensures held h) c.loop-directory.invariant.none here in
     record {
       source = subst (λ (o : Option FileMap). ForMap o (λ files. IsSource c.args.number key files (name_on_path files (map string_bytes path) key) source)) c.loop-directory.invariant.told

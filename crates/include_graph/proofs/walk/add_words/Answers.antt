@@ -32,7 +32,7 @@ loop-word-preserved c =
     let firsts = map (λ (f : Bor (List ℕ)). f.now) c.loop-word.firsts.items in
     let before = map string_bytes (take i words) in
     let front = ap (λ (s : String Global). before ++ string_bytes s ∷ []) c.word-item.is ∙ sym (more words i c.word-item.result c.loop-word-test.true) in
-    let is : c.from_vec.result ≡ key_of word = c.from_vec.ensures ∙ (c.in_ok-key.ensures.items ∙ (c.key_of.ensures ∙ ap key_of c.as_bytes.ensures.value)) in
+    let is : c.in_ok-key.key ≡ key_of word = c.in_ok-key.ensures.ok ∙ (c.key_of.ensures ∙ ap key_of c.as_bytes.ensures.value) in
     let put = subst (λ k. c.insert.new.self.keys ≡ (if list_any (is_same k) list then list else list ++ k ∷ [])) is c.in_ok-insert.ensures.keys in
     let added = subst (λ k. c.in_ok-insert.field-0 ≡ not (list_any (is_same k) list)) is c.in_ok-insert.ensures.added in
     elim c.if-branch.branch [
