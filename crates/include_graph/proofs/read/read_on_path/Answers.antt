@@ -50,10 +50,10 @@ returns-in_default-2 g c =
     let here = subst (λ n. IfSome told (λ files. IsFound (files n) c.in_ok-found.found)) named c.in_ok-found.ensures.found in
     let front = ap (λ (s : String Global). map string_bytes (take i path) ++ string_bytes s ∷ []) c.directory-item.is ∙ sym (more path i item c.loop-directory-test.true) in
     let whole = ap (λ ds. ds ++ map string_bytes (drop (i + 1) path)) front ∙ sym (map-append string_bytes (take (i + 1) path) (drop (i + 1) path)) ∙ ap (map string_bytes) (take-append-drop (i + 1) path) in
-    let source : SourceFile = record { text = c.in_ok-from_vec.field-0; content = c.in_ok-content-in_default-2.content } in
+    let source : SourceFile = record { text = c.in_ok-from_vec-in_default-2.field-0; content = c.in_ok-content-in_default-2.content } in
     let found = c.in_ok-found.found in
     let there : found ≢ Absent = c.in_default-2.not-Absent in
-    let called : source.text ≡ name = c.in_ok-from_vec.ensures.ok ∙ (ap (λ (v : Vec ℕ Global). v.items) c.into_bytes.ensures.value ∙ (sym c.as_str-in-loop-directory.ensures.value ∙ named)) in
+    let called : source.text ≡ name = c.in_ok-from_vec-in_default-2.ensures.ok ∙ (ap (λ (v : Vec ℕ Global). v.items) c.into_bytes.ensures.value ∙ (sym c.as_str-in-loop-directory.ensures.value ∙ named)) in
     let first = found_first told c.args.number (map string_bytes (take i path)) (map string_bytes (drop (i + 1) path)) (string_bytes item) key found source there called (λ held h. c.in_ok-content-in_default-2.ensures held h) c.loop-directory.invariant.none here in
     record {
       source = subst (λ (o : Option FileMap). ForMap o (λ files. IsSource c.args.number key files (name_on_path files (map string_bytes path) key) source)) c.loop-directory.invariant.told
