@@ -1,4 +1,5 @@
-use command_words::{Command, WordsFault, key_of, read_words};
+use command_words::{Command, WordsFault, read_words};
+use ipdl_base::key_of;
 use std::alloc::{AllocError, Global};
 use std::test::Fail;
 

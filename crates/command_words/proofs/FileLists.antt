@@ -2,10 +2,9 @@
 use Rattle.std.proofs.Common.{◌≡◌, ◌≢◌, ◌∙◌, ◌<◌, ◌≤◌, ◌||◌, ◌⊎◌, ℕ, Bool, true, false, cond, not, List, [], ◌∷◌, ◌++◌, length, filter, refl, sym, ap, subst, inl, inr, arith, append_assoc, append-nil, length-append}
 use Rattle.std.specs.List.{AllByRecursion, list_any}
 use Rattle.std.specs.Str.{bytes_eq}
-use Rattle.command_words.specs.Compile.{AreListed, HasWord, IsFileWord, firsts}
-use Rattle.command_words.specs.Keys.{IsKeyOf}
+use Rattle.ipdl_base.specs.FileNames.{IsFileWord, key_of}
+use Rattle.command_words.specs.Compile.{AreListed, HasWord, firsts}
 use Rattle.command_words.proofs.Comparisons.{differs, same_text, text_is}
-use Rattle.command_words.proofs.OneKey.{one_key}
 
 abbrev Text : Type 0
 Text = List ℕ
@@ -142,40 +141,40 @@ again_listed seen files w h stands = record {
 }
 
 -- another word of a key that stands
-pub key_listed : (seen more files all : List Text) (v w key : Text) → AreListed seen files → HasWord files v → IsKeyOf v key → IsKeyOf w key → v ≢ w → ¬ AreListed (seen ++ w ∷ more) all
-key_listed seen more files all v w key h stands k l ne listed =
+pub key_listed : (seen more files all : List Text) (v w : Text) → AreListed seen files → HasWord files v → key_of v ≡ key_of w → v ≢ w → ¬ AreListed (seen ++ w ∷ more) all
+key_listed seen more files all v w h stands same ne listed =
     let into : (x : Text) → HasWord (firsts (seen ++ w ∷ more)) x → HasWord all x = λ x. subst (λ (xs : List Text). HasWord xs x) (sym listed.files_are) in
-    ne (listed.keys v w key (into v (firsts_keep seen (w ∷ more) v (subst (λ (xs : List Text). HasWord xs v) h.files_are stands))) (into w (firsts_new seen more w)) k l)
+    ne (listed.keys v w (into v (firsts_keep seen (w ∷ more) v (subst (λ (xs : List Text). HasWord xs v) h.files_are stands))) (into w (firsts_new seen more w)) same)
 
 -- a word of a new key
-new_has_none : (files : List Text) (w key : Text) → IsKeyOf w key → ((v : Text) → HasWord files v → ¬ IsKeyOf v key) → has files w ≡ false
-new_has_none files w key k none = go (has files w) refl
+new_has_none : (files : List Text) (w : Text) → ((v : Text) → HasWord files v → key_of v ≢ key_of w) → has files w ≡ false
+new_has_none files w none = go (has files w) refl
   where
     go : (b : Bool) → has files w ≡ b → b ≡ false
-    go true e = absurd (none w (has_word files w e) k)
+    go true e = absurd (none w (has_word files w e) refl)
     go false e = refl
 
-new_firsts : (seen files : List Text) (w key : Text) → AreListed seen files → IsKeyOf w key → ((v : Text) → HasWord files v → ¬ IsKeyOf v key) → files ++ w ∷ [] ≡ firsts (seen ++ w ∷ [])
-new_firsts seen files w key h k none =
-    sym (firsts_more seen w ∙ ap (λ (xs : List Text). with_word xs w) (sym h.files_are) ∙ ap (λ b. cond b files (files ++ w ∷ [])) (new_has_none files w key k none))
+new_firsts : (seen files : List Text) (w : Text) → AreListed seen files → ((v : Text) → HasWord files v → key_of v ≢ key_of w) → files ++ w ∷ [] ≡ firsts (seen ++ w ∷ [])
+new_firsts seen files w h none =
+    sym (firsts_more seen w ∙ ap (λ (xs : List Text). with_word xs w) (sym h.files_are) ∙ ap (λ b. cond b files (files ++ w ∷ [])) (new_has_none files w none))
 
-pub new_listed : (seen files : List Text) (w key : Text) → AreListed seen files → IsFileWord w → IsKeyOf w key → ((v : Text) → HasWord files v → ¬ IsKeyOf v key) → length files < 4096 → AreListed (seen ++ w ∷ []) (files ++ w ∷ [])
-new_listed seen files w key h file k none few = record {
-  files_are = new_firsts seen files w key h k none;
+pub new_listed : (seen files : List Text) (w : Text) → AreListed seen files → IsFileWord w → ((v : Text) → HasWord files v → key_of v ≢ key_of w) → length files < 4096 → AreListed (seen ++ w ∷ []) (files ++ w ∷ [])
+new_listed seen files w h file none few = record {
+  files_are = new_firsts seen files w h none;
   each = each_more IsFileWord files w h.each file;
   most = omega (arith, length-append files (w ∷ []));
-  keys = λ v u q hv hu kv ku. go v u q kv ku (in_or_end files v w hv) (in_or_end files u w hu);
+  keys = λ v u hv hu same. go v u same (in_or_end files v w hv) (in_or_end files u w hu);
 }
   where
-    go : (v u q : Text) → IsKeyOf v q → IsKeyOf u q → HasWord files v ⊎ (w ≡ v) → HasWord files u ⊎ (w ≡ u) → v ≡ u
-    go v u q kv ku (inl hv) (inl hu) = h.keys v u q hv hu kv ku
-    go v u q kv ku (inl hv) (inr e) = absurd (none v hv (subst (λ (t : Text). IsKeyOf v t) (one_key w q key (subst (λ (t : Text). IsKeyOf t q) (sym e) ku) k) kv))
-    go v u q kv ku (inr e) (inl hu) = absurd (none u hu (subst (λ (t : Text). IsKeyOf u t) (one_key w q key (subst (λ (t : Text). IsKeyOf t q) (sym e) kv) k) ku))
-    go v u q kv ku (inr e) (inr f) = sym e ∙ f
+    go : (v u : Text) → key_of v ≡ key_of u → HasWord files v ⊎ (w ≡ v) → HasWord files u ⊎ (w ≡ u) → v ≡ u
+    go v u same (inl hv) (inl hu) = h.keys v u hv hu same
+    go v u same (inl hv) (inr e) = absurd (none v hv (same ∙ ap key_of (sym e)))
+    go v u same (inr e) (inl hu) = absurd (none u hu (sym (ap key_of e ∙ same)))
+    go v u same (inr e) (inr f) = sym e ∙ f
 
 -- a word of a new key, where the list is full
-pub full_listed : (seen more files all : List Text) (w key : Text) → AreListed seen files → IsKeyOf w key → ((v : Text) → HasWord files v → ¬ IsKeyOf v key) → 4096 ≤ length files → ¬ AreListed (seen ++ w ∷ more) all
-full_listed seen more files all w key h k none full listed =
-    let one : length (files ++ w ∷ []) ≤ length (firsts ((seen ++ w ∷ []) ++ more)) = subst (λ (xs : List Text). length xs ≤ length (firsts ((seen ++ w ∷ []) ++ more))) (sym (new_firsts seen files w key h k none)) (firsts_grow (seen ++ w ∷ []) more) in
+pub full_listed : (seen more files all : List Text) (w : Text) → AreListed seen files → ((v : Text) → HasWord files v → key_of v ≢ key_of w) → 4096 ≤ length files → ¬ AreListed (seen ++ w ∷ more) all
+full_listed seen more files all w h none full listed =
+    let one : length (files ++ w ∷ []) ≤ length (firsts ((seen ++ w ∷ []) ++ more)) = subst (λ (xs : List Text). length xs ≤ length (firsts ((seen ++ w ∷ []) ++ more))) (sym (new_firsts seen files w h none)) (firsts_grow (seen ++ w ∷ []) more) in
     let most : length (firsts ((seen ++ w ∷ []) ++ more)) ≤ 4096 = subst (λ (xs : List Text). length xs ≤ 4096) (listed.files_are ∙ ap firsts (sym (append_assoc seen (w ∷ []) more))) listed.most in
     absurd (omega (arith, length-append files (w ∷ [])))

@@ -3,8 +3,6 @@ pub mod Lookups
 pub mod Spellings
 pub mod Views
 pub mod Walks
-pub mod KeyLemmas
-pub mod OneKey
 pub mod Rows
 pub mod Builders
 pub mod Parsed

@@ -1,16 +1,15 @@
 -- The files that are noted, by their keys.
-use Rattle.std.proofs.Common.{◌≡◌, ◌∙◌, ℕ, zero, suc, ◌<◌, take, drop, get_or, arith, Bool, true, false, cond, List, [], ◌∷◌, ◌++◌, Some, None, map, refl, sym, ap, subst, inl, inr, length}
+use Rattle.std.proofs.Common.{◌≡◌, ◌≢◌, ◌∙◌, ℕ, zero, suc, ◌<◌, take, drop, get_or, arith, Bool, true, false, cond, List, [], ◌∷◌, ◌++◌, Some, None, map, refl, sym, ap, subst, inl, inr, length}
 use Rattle.std.specs.List.{AllByRecursion}
 use Rattle.std.specs.Str.{bytes_eq}
 use Rattle.std.specs.Borrow.{Bor}
 use Rattle.std.specs.Map.{lookup}
 use Rattle.std.proofs.lemmas.List.{map-append}
 use Rattle.std.proofs.lemmas.Option.{same_Some}
+use Rattle.ipdl_base.specs.FileNames.{key_of}
 use Rattle.command_words.specs.Compile.{HasWord}
-use Rattle.command_words.specs.Keys.{IsKeyOf}
 use Rattle.command_words.proofs.Comparisons.{same_text, text_is}
 use Rattle.command_words.proofs.Lookups.{some_none}
-use Rattle.command_words.proofs.OneKey.{one_key}
 
 abbrev Entries : Type 0
 Entries = List (Bor (List ℕ) × Bor (List ℕ))
@@ -19,22 +18,22 @@ abbrev names : Entries → List (List ℕ)
 names es = map (λ e. e.1.now) es
 
 abbrev Keyed : Entries → Type 0
-Keyed es = AllByRecursion (λ e. IsKeyOf e.1.now e.0.now) es
+Keyed es = AllByRecursion (λ e. key_of e.1.now ≡ e.0.now) es
 
 -- the word that is found stands in the list, and has the key
-pub found_key : (key : List ℕ) (es : Entries) (v : Bor (List ℕ)) → Keyed es → Some v ≡ lookup (λ y. bytes_eq key y.now) es → HasWord (names es) v.now × IsKeyOf v.now key
+pub found_key : (key : List ℕ) (es : Entries) (v : Bor (List ℕ)) → Keyed es → Some v ≡ lookup (λ y. bytes_eq key y.now) es → HasWord (names es) v.now × (key_of v.now ≡ key)
 found_key key [] v k e = absurd (some_none v e)
 found_key key (x ∷ es) v k e = go (bytes_eq key x.0.now) refl e (found_key key es v k.1)
   where
     go : (b : Bool) → bytes_eq key x.0.now ≡ b → Some v ≡ cond b (Some x.1) (lookup (λ y. bytes_eq key y.now) es)
-        → (Some v ≡ lookup (λ y. bytes_eq key y.now) es → HasWord (names es) v.now × IsKeyOf v.now key) → HasWord (names (x ∷ es)) v.now × IsKeyOf v.now key
+        → (Some v ≡ lookup (λ y. bytes_eq key y.now) es → HasWord (names es) v.now × (key_of v.now ≡ key)) → HasWord (names (x ∷ es)) v.now × (key_of v.now ≡ key)
     go true f e later =
         let same : x.1 ≡ v = sym (same_Some v x.1 e) in
-        (inl (ap (λ (r : Bor (List ℕ)). r.now) same), subst (λ (t : List ℕ). IsKeyOf v.now t) (sym (text_is key x.0.now f)) (subst (λ (r : Bor (List ℕ)). IsKeyOf r.now x.0.now) same k.0))
+        (inl (ap (λ (r : Bor (List ℕ)). r.now) same), ap (λ (r : Bor (List ℕ)). key_of r.now) (sym same) ∙ k.0 ∙ sym (text_is key x.0.now f))
     go false f e later = let h = later e in (inr h.0, h.1)
 
 -- no word in the list has a key that is not found
-pub lacks_key : (key : List ℕ) (es : Entries) → Keyed es → None ≡ lookup (λ y. bytes_eq key y.now) es → (w : List ℕ) → HasWord (names es) w → ¬ IsKeyOf w key
+pub lacks_key : (key : List ℕ) (es : Entries) → Keyed es → None ≡ lookup (λ y. bytes_eq key y.now) es → (w : List ℕ) → HasWord (names es) w → key_of w ≢ key
 lacks_key key [] k e w h is = h
 lacks_key key (x ∷ es) k e w h is = go (bytes_eq key x.0.now) refl e h (λ f i. lacks_key key es k.1 f w i is)
   where
@@ -43,16 +42,16 @@ lacks_key key (x ∷ es) k e w h is = go (bytes_eq key x.0.now) refl e h (λ f i
     go true f e h later = some_none x.1 (sym e)
     go false f e (inr h) later = later e h
     go false f e (inl i) later =
-        let same : x.0.now ≡ key = one_key w x.0.now key (subst (λ (t : List ℕ). IsKeyOf t x.0.now) i k.0) is in
+        let same : x.0.now ≡ key = sym k.0 ∙ ap key_of i ∙ is in
         let clash : true ≡ false = sym (same_text key) ∙ ap (bytes_eq key) (sym same) ∙ f in
         cc
 
 -- a word under a new key goes last
-keyed_last : (es : Entries) (key word : Bor (List ℕ)) → Keyed es → IsKeyOf word.now key.now → Keyed (es ++ (key, word) ∷ [])
+keyed_last : (es : Entries) (key word : Bor (List ℕ)) → Keyed es → key_of word.now ≡ key.now → Keyed (es ++ (key, word) ∷ [])
 keyed_last [] key word k h = (h, tt)
 keyed_last (x ∷ es) key word k h = (k.0, keyed_last es key word k.1 h)
 
-pub keyed_new : (old new : Entries) (key word : Bor (List ℕ)) → Keyed old → IsKeyOf word.now key.now → new ≡ old ++ (key, word) ∷ [] → Keyed new
+pub keyed_new : (old new : Entries) (key word : Bor (List ℕ)) → Keyed old → key_of word.now ≡ key.now → new ≡ old ++ (key, word) ∷ [] → Keyed new
 keyed_new old new key word k h is = subst Keyed (sym is) (keyed_last old key word k h)
 
 pub names_new : (old new : Entries) (key word : Bor (List ℕ)) → new ≡ old ++ (key, word) ∷ [] → names old ++ word.now ∷ [] ≡ names new

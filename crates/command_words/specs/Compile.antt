@@ -1,9 +1,9 @@
 -- The command that compiles files: `ipdl [-s LIST] [--path DIRS] FILES`.
-use Rattle.std.specs.Prelude.{◌≡◌, ◌≢◌, ℕ, ◌≤◌, ◌⊎◌, not, List, [], ◌∷◌, ◌++◌, Option, Some, None, length, filter, codes}
+use Rattle.std.specs.Prelude.{◌≡◌, ◌≢◌, ℕ, ◌≤◌, ◌⊎◌, not, List, [], ◌∷◌, Option, Some, None, length, filter, codes}
 use Rattle.std.specs.Str.{bytes_eq}
 use Rattle.std.specs.List.{AllByRecursion, join_with_byte}
+use Rattle.ipdl_base.specs.FileNames.{IsFileWord, key_of}
 use Rattle.command_words.specs.Options.{Choice, WordUse, Reads, EachOnce, own_words, value_of}
-use Rattle.command_words.specs.Keys.{IsKeyOf}
 
 -- the word is in the list
 abbrev pub HasWord : List (List ℕ) → List ℕ → Type 0
@@ -51,11 +51,6 @@ abbrev pub IsPath : Option (List ℕ) → List (List ℕ) → Type 0
 IsPath None dirs = dirs ≡ codes "." ∷ []
 IsPath (Some text) dirs = AreDirs text dirs
 
--- a FILES word: it ends in `.ipdl` or `.ipdlh`
-pub record IsFileWord (word : List ℕ) : Type 0 where
-  pub front : List ℕ
-  pub ending : (word ≡ front ++ codes ".ipdl") ⊎ (word ≡ front ++ codes ".ipdlh")
-
 -- the words without repeats, in the order in which they first appear
 abbrev pub firsts : List (List ℕ) → List (List ℕ)
 firsts [] = []
@@ -66,7 +61,7 @@ pub record AreListed (words files : List (List ℕ)) : Type 0 where
   pub files_are : files ≡ firsts words
   pub each : AllByRecursion IsFileWord files
   pub most : length files ≤ 4096
-  pub keys : (v w key : List ℕ) → HasWord files v → HasWord files w → IsKeyOf v key → IsKeyOf w key → v ≡ w
+  pub keys : (v w : List ℕ) → HasWord files v → HasWord files w → key_of v ≡ key_of w → v ≡ w
 
 -- FILES as a list: at least one
 pub record AreFiles (words files : List (List ℕ)) : Type 0 where

@@ -2,7 +2,6 @@ pub mod Options
 pub mod Forms
 pub mod Tables
 pub mod Found
-pub mod Keys
 pub mod Compile
 pub mod Frames
 pub mod Command

@@ -1,11 +1,11 @@
 -- What is found on the way to a command: the pieces of a value, and the files that are noted so far.
-use Rattle.std.specs.Prelude.{ℕ, ◌==◌, List, map}
+use Rattle.std.specs.Prelude.{◌≡◌, ℕ, ◌==◌, List, map}
 use Rattle.std.specs.List.{AllByRecursion, slice_split}
 use Rattle.std.specs.Borrow.{Bor}
 use Rattle.std.specs.declared.hash.FoldHasher.{FoldHasher}
 use Rattle.std.specs.declared.hash.BuildHasherDefault.{BuildHasherDefault}
 use Rattle.indexmap.specs.IndexMap.{IndexMap}
-use Rattle.command_words.specs.Keys.{IsKeyOf}
+use Rattle.ipdl_base.specs.FileNames.{key_of}
 
 -- what stands between the colons of a text
 abbrev pub pieces : List ℕ → List (List ℕ)
@@ -21,4 +21,4 @@ names_of noted = map (λ entry. entry.1.now) noted.entries
 
 -- each stands under its key
 abbrev pub IsKeyed : Noted → Type 0
-IsKeyed noted = AllByRecursion (λ entry. IsKeyOf entry.1.now entry.0.now) noted.entries
+IsKeyed noted = AllByRecursion (λ entry. key_of entry.1.now ≡ entry.0.now) noted.entries

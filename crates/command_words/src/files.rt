@@ -1,22 +1,15 @@
-ghost use Rattle.std.specs.Prelude.{◌≡◌, ◌↔◌, ◌∷◌, ◌++◌, [], List, ℕ, IfErr, IfOk, IsTrue, OnOk, map, string_bytes};
-ghost use Rattle.command_words.specs.Compile.{AreFiles, AreListed, IsFileWord};
+ghost use Rattle.std.specs.Prelude.{◌≡◌, ◌∷◌, ◌++◌, [], List, ℕ, IfErr, IfOk, OnOk, map, string_bytes};
+ghost use Rattle.command_words.specs.Compile.{AreFiles, AreListed};
 ghost use Rattle.command_words.specs.Listed.{IsKeyed, names_of};
 
 use crate::WordsFault;
-use crate::keys::key_of;
 use crate::texts::copies_of;
 use indexmap::IndexMap;
+use ipdl_base::{is_file_word, key_of};
 use std::alloc::{AllocError, Global};
 
 /// The most files that a command may name.
 const MOST_FILES: usize = 4096;
-
-/// Whether a word names a protocol file or a header.
-fn is_file_word(word: &str) -> bool
-    ensures { IsTrue result ↔ IsFileWord word.now }
-{
-    word.ends_with(".ipdl") || word.ends_with(".ipdlh")
-}
 
 /// Adds the file that a word names, unless the same word named it already.
 fn note_file<'a>(files: &mut IndexMap<&'a [u8], &'a str>, word: &'a str) -> Result<(), WordsFault>
@@ -25,10 +18,11 @@ fn note_file<'a>(files: &mut IndexMap<&'a [u8], &'a str>, word: &'a str) -> Resu
     ensures noted { OnOk result ((seen : List (List ℕ)) → AreListed seen (names_of files.old) → AreListed (seen ++ word.entry.now ∷ []) (names_of files.new)) }
     ensures usage { IfErr result (λ fault. fault ≡ WordsFault.Usage → (seen more all : List (List ℕ)) → AreListed seen (names_of files.old) → ¬ AreListed (seen ++ word.entry.now ∷ more) all) }
 {
-    if !is_file_word(word) {
+    let bytes = word.as_bytes();
+    if !is_file_word(bytes) {
         return Err(WordsFault::Usage);
     }
-    let key = key_of(word.as_bytes());
+    let key = key_of(bytes);
     match files.get(&key) {
         Some(first) => {
             if *first == word {

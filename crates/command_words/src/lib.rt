@@ -8,12 +8,10 @@ mod fault;
 mod files;
 mod folders;
 mod frames;
-mod keys;
 mod laws;
 mod options;
 mod texts;
 
 pub use command::{Command, read_words};
 pub use fault::WordsFault;
-pub use keys::key_of;
 pub use laws::{one_command, other_commands_are_none};
