@@ -1,4 +1,4 @@
-ghost use Rattle.std.specs.Prelude.{◌≡◌, IfSome, IfNone, length};
+ghost use Rattle.std.specs.Prelude.{◌≡◌, IfSome, IfNone, length, true};
 ghost use Rattle.std.specs.List.{Contains};
 ghost use Rattle.ipdl_base.specs.Builtins.{builtin_name, is_carried};
 
@@ -68,6 +68,9 @@ impl Builtin {
         ensures some { IfSome result (λ found. builtin_name found ≡ name.now) }
         ensures none { IfNone result ((other : Builtin) → ¬ (builtin_name other ≡ name.now)) }
     {
+        if !ends_as_builtin(name) {
+            return None;
+        }
         of_length(name.len())
             .iter()
             .copied()
@@ -79,6 +82,16 @@ impl Builtin {
         ensures { result ≡ is_carried self }
     {
         !matches!(self, Builtin::Shmem | Builtin::FileDescriptor)
+    }
+}
+
+/// Whether a name ends in a byte in which that of some builtin ends.
+fn ends_as_builtin(name: &[u8]) -> bool
+    ensures { (other : Builtin) → builtin_name other ≡ name.now → result ≡ true }
+{
+    match name.last() {
+        Some(last) => matches!(last, b'e' | b'f' | b'g' | b'l' | b'm' | b'r' | b't'),
+        None => false,
     }
 }
 

@@ -1,3 +1,4 @@
+pub mod WordTable
 pub mod Words
 pub mod Classes
 pub mod Runs

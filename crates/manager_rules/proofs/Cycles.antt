@@ -137,3 +137,9 @@ pub no_cycle : (program : List Entry) (from : ℕ) (marks : List Bool) → Searc
 no_cycle program from marks f is =
     let m = first_other from refl is.differs is.back is.there in
     none_left from (f.met (complete f m.3 (leads_within is.there) (f.begun m.0 m.1 m.2 (leads_within m.3))))
+
+-- with no other manager a protocol is in none
+pub alone : (program : List Entry) (from : ℕ) (others : List ℕ) → others ≡ [] → ((n : ℕ) → Contains others n ↔ (HasManager program from n × (n ≢ from))) → ¬ IsInCycle program from
+alone program from others none are is =
+    let m = first_other from refl is.differs is.back is.there in
+    none_left m.0 (subst (λ (xs : List ℕ). Contains xs m.0) none ((are m.0).1 (m.2, m.1)))

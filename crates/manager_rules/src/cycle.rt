@@ -53,6 +53,9 @@ pub fn is_in_cycle(
     ensures { IfOk result (λ is. IsTrue is ↔ IsInCycle known.now.program.now from) }
 {
     let others = without(alloc, known.managers_of(from), from)?;
+    if others.is_empty() {
+        return Ok(false);
+    }
     let mut marks = Vec::from_elem(alloc, false, known.program.len())?;
     let mut work = Vec::new(alloc);
     mark_all(others.as_slice(), &mut marks, &mut work)?;

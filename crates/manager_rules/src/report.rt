@@ -117,7 +117,7 @@ fn places_of_messages(
 ) -> Result<Vec<NamePlace<'_>>, AllocError>
     ensures { IfOk result (λ places. map (λ n. (n.0.now, n.1)) places.items ≡ messages_at messages.now) }
 {
-    let mut places = Vec::new(alloc);
+    let mut places = Vec::with_capacity(alloc, messages.len())?;
     for message in messages {
         places.push((message.name.as_slice(), message.place))?;
     }

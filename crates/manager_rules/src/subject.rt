@@ -20,7 +20,7 @@ pub struct Subject<'a> {
 fn message_names(alloc: Global, messages: &[MessageDecl]) -> Result<HashSet<&[u8]>, AllocError>
     ensures { IfOk result (HasNames messages.now) }
 {
-    let mut names = HashSet::new(alloc);
+    let mut names = HashSet::with_capacity(alloc, messages.len())?;
     for message in messages {
         names.insert(message.name.as_slice())?;
     }

@@ -316,8 +316,29 @@ impl<'p> Names<'p> {
         requires { Counts (λ d. IsBuiltinOrEndpoint d × Finds self.now file text.now (option_map (λ inner. inner.now) argument) d) first }
         ensures { Counts (Finds self.now file text.now (option_map (λ inner. inner.now) argument.entry)) result }
     {
+        let row = self.row(text);
+        if row.is_empty() {
+            first
+        } else {
+            self.with_row(file, text, argument, row, first)
+        }
+    }
+
+    /// The same, where this is listed under the text.
+    fn with_row(
+        &self,
+        file: u32,
+        text: &[u8],
+        argument: Option<&[u8]>,
+        row: &[DeclId],
+        first: Found,
+    ) -> Found
+        requires row { row.now ≡ listed_under text.now (declared_from 0 self.now) }
+        requires first { Counts (λ d. IsBuiltinOrEndpoint d × Finds self.now file text.now (option_map (λ inner. inner.now) argument) d) first }
+        ensures { Counts (Finds self.now file text.now (option_map (λ inner. inner.now) argument.entry)) result }
+    {
         let mut found = first;
-        for id in self.row(text) {
+        for id in row {
             if self.is_candidate(file, text, argument, *id) {
                 match found {
                     Found::None => found = Found::One(*id),

@@ -1,11 +1,11 @@
-use Rattle.std.proofs.Common.{arith, ℕ, ◌≡◌, ◌<◌, ◌∙◌, List, [], ◌∷◌, length, Bool, false, true≢false, refl, sym, ap, subst}
+use Rattle.std.proofs.Common.{arith, rules, vec_len, ℕ, ◌≡◌, ◌<◌, ◌∙◌, List, [], ◌∷◌, length, Bool, false, true≢false, refl, sym, ap, subst}
 use Rattle.std.specs.List.{Contains}
 use Rattle.std.proofs.Math.ListN.{replicate}
 use Rattle.std.proofs.lemmas.List.{get_or-replicate, length-replicate, nil_from_length}
 use Rattle.std.proofs.lemmas.List.Elements.{Contains-append_right}
 use Rattle.name_table.specs.Marks.{IsMarked, Marks}
 use Rattle.name_table.proofs.Marking.{has_one, marked_within}
-use Rattle.manager_rules.proofs.Cycles.{Searches, searches_first, searches_more, others_are, cycle_met, no_cycle}
+use Rattle.manager_rules.proofs.Cycles.{Searches, searches_first, searches_more, others_are, alone, cycle_met, no_cycle}
 use Rattle.manager_rules.proofs.cycle.is_in_cycle.Goals as goal
 
 none_marked : (k n : ℕ) → ¬ IsMarked (replicate k false) n
@@ -43,3 +43,12 @@ returns c =
     let none : c.loop-file.work.items ≡ [] = nil_from_length _ (omega (arith, c.loop-file.work.ok.0)) in
     let f = subst (λ (u : List ℕ). Searches c.args.known.now.program.now c.args.from c.loop-file.marks.items u) none c.loop-file.invariant in
     (λ t. absurd (true≢false (sym t)), λ is. absurd (no_cycle c.args.known.now.program.now c.args.from _ f is))
+
+pub returns-then-is_empty : goal.returns-then-is_empty
+returns-then-is_empty c =
+    let program = c.args.known.now.program.now in
+    let from = c.args.from in
+    let others = c.in_ok-others.others.items in
+    let zero : vec_len c.in_ok-others.others ≡ 0 = search (rules, c.is_empty.ensures, c.if-is_empty.true) in
+    let none : others ≡ [] = nil_from_length others (omega (arith, zero, c.in_ok-others.others.ok.0)) in
+    (λ t. absurd (true≢false (sym t)), λ is. absurd (alone program from others none (others_are program from c.managers_of.result.now others c.in_ok-others.ensures c.managers_of.ensures) is))
