@@ -53,12 +53,12 @@ fn body_text(
     let mut out = Vec::new(alloc);
     let kind = match body {
         Body::Request(values) => {
-            push_values(alloc, schema, row.params.as_slice(), values, &mut out)?;
+            push_values(schema, row.params.as_slice(), values, &mut out)?;
             "request"
         }
         Body::Reply(values) => {
             if let Some(returns) = &row.returns {
-                push_values(alloc, schema, returns.as_slice(), values, &mut out)?;
+                push_values(schema, returns.as_slice(), values, &mut out)?;
             }
             "reply"
         }

@@ -2,3 +2,4 @@ pub mod Offsets
 pub mod Lists
 pub mod PlainLines
 pub mod PlainFrames
+pub mod Forms

@@ -1,7 +1,6 @@
 -- The frames of messages do not depend on where the boxes of their values lie.
-use Rattle.std.proofs.Common.{◌≡◌, ◌∙◌, ◌≤◌, ◌<◌, ℕ, zero, suc, ℤ, List, [], ◌∷◌, ◌++◌, ◌+◌, length, drop, Option, Some, None, Bool, true, false, refl, sym, ap, subst, arith, append-nil, append_assoc}
-use Rattle.std.specs.Prelude.{unwrap_or, if◌then◌else◌, slice_index_or}
-use Rattle.std.specs.List.{AllByRecursion}
+use Rattle.std.proofs.Common.{◌≡◌, ◌∙◌, ◌≤◌, ℕ, suc, ℤ, List, [], ◌∷◌, ◌++◌, length, Option, Some, None, Bool, true, false, refl, sym, ap, subst, arith}
+use Rattle.std.specs.Prelude.{unwrap_or, if◌then◌else◌}
 use Rattle.std.specs.Option.{option_map_or}
 use Rattle.ipdl_base.specs.declared.message.Body.{Body}
 use Rattle.ipdl_base.specs.declared.message.Body.TheVariants as body
@@ -23,11 +22,10 @@ use Rattle.value_types.specs.Shapes.{component_of, element_of, fields_of, held_b
 use Rattle.value_types.specs.Sizes.{payload_size}
 use Rattle.value_codec.specs.Decoding.{FrameBegins}
 use Rattle.value_codec.specs.Spelling.{value_bytes, held_bytes, elements_bytes, values_bytes, body_bytes, body_flags, frame_bytes, header_bytes, payload_bytes, count, index_bytes, made_bytes, part, struct_byte, word}
-use Rattle.frame_list.specs.declared.list.FrameListFault.{FrameListFault}
 use Rattle.frame_list.specs.declared.list.PlacedMessage.{PlacedMessage}
 use Rattle.frame_list.specs.Converted.{new_frame, new_frames}
-use Rattle.frame_list.specs.Frames.{Holds, ends, faults, frame, all_plain, placed_at, layout_at, plain_placed}
-use Rattle.frame_list.specs.Steps.{AreHeld, HasNewFrame, HaveNewFrames}
+use Rattle.frame_list.specs.Frames.{all_plain, layout_at, plain_placed}
+use Rattle.frame_list.specs.Steps.{HasNewFrame}
 
 count_plain : (vs : Values) → count (plain_values vs) ≡ count vs
 count_plain values.Nothing = refl
@@ -83,7 +81,7 @@ flags_plain row (body.Reply vs) = refl
 flags_plain row (body.Fault reason) = refl
 flags_plain row body.Goodbye = refl
 
-frame_plain : (layout : Layout) (schema : Schema) (m : Message) → frame_bytes layout schema (plain_message m) ≡ frame_bytes layout schema m
+pub frame_plain : (layout : Layout) (schema : Schema) (m : Message) → frame_bytes layout schema (plain_message m) ≡ frame_bytes layout schema m
 frame_plain layout schema m =
     let with : List ℕ → ℕ → List ℕ = λ payload flags. header_bytes layout (length payload) m.route m.number flags m.seq m.transaction ++ payload in
     ap (λ payload. with payload (body_flags (message_of schema m.number) (plain_body m.body))) (body_plain layout schema (message_of schema m.number) m.made m.body)
@@ -95,46 +93,14 @@ new_plain schema (f ∷ frames) =
     ap (λ bytes. bytes ++ new_frames schema frames) (sym (frame_plain NEW schema f.message))
     ∙ ap (λ bytes. new_frame schema (plain_placed f) ++ bytes) (new_plain schema frames)
 
--- Every message that a file holds has a new frame
+-- A message that bytes begin with has a new frame
 
 at_most : NewIsAtMostFourTimes → (schema : Schema) (m : Message) (marked : Bool)
     → payload_size (if marked then NEW else OLD) schema m ≤ (if marked then NEW else OLD).most_payload → payload_size NEW schema m ≤ 4096
 at_most four schema m true h = h
 at_most four schema m false h = let more = four schema m in omega arith
 
-first_has : BoxesSayNothing → NewIsAtMostFourTimes → (schema : Schema) (bytes : List ℕ) (m : Message) (n : ℕ) → FrameBegins (layout_at bytes) schema bytes (plain_message m) n → HasNewFrame schema m
+pub first_has : BoxesSayNothing → NewIsAtMostFourTimes → (schema : Schema) (bytes : List ℕ) (m : Message) (n : ℕ) → FrameBegins (layout_at bytes) schema bytes (plain_message m) n → HasNewFrame schema m
 first_has boxes four schema bytes m n begins =
     let small : payload_size (layout_at bytes) schema m ≤ (layout_at bytes).most_payload = subst (λ size. size ≤ (layout_at bytes).most_payload) (boxes.payload (layout_at bytes) schema m) begins.frame.small in
     ((boxes.fits schema m).0 begins.frame.fits, at_most four schema m _ small)
-
-same_message : (p q : PlacedMessage) (ps qs : List PlacedMessage) → p ∷ ps ≡ q ∷ qs → p.message ≡ q.message
-same_message p q ps qs e = cc
-
-same_rest : (p q : PlacedMessage) (ps qs : List PlacedMessage) → p ∷ ps ≡ q ∷ qs → ps ≡ qs
-same_rest p q ps qs e = cc
-
--- the messages of frames that some bytes hold have new frames
-each_has : BoxesSayNothing → NewIsAtMostFourTimes → (schema : Schema) (offset : ℕ) (bytes : List ℕ) (plain_frames : List PlacedMessage) (fault : Option FrameListFault) → Holds schema offset bytes plain_frames fault
-    → (fs : List PlacedMessage) → plain_frames ≡ all_plain fs → AllByRecursion (λ placed. HasNewFrame schema placed.message) fs
-each_has boxes four schema _ _ _ _ (ends offset) [] e = tt
-each_has boxes four schema _ _ _ _ (ends offset) (f ∷ fs) e = absurd (let x : ⊥ = cc in x)
-each_has boxes four schema _ _ _ _ (faults offset bytes fault some it) [] e = tt
-each_has boxes four schema _ _ _ _ (faults offset bytes fault some it) (f ∷ fs) e = absurd (let x : ⊥ = cc in x)
-each_has boxes four schema _ _ _ _ (frame offset n bytes m more fault begins rest) [] e = absurd (let x : ⊥ = cc in x)
-each_has boxes four schema _ _ _ _ (frame offset n bytes m more fault begins rest) (f ∷ fs) e = (
-  first_has boxes four schema bytes f.message n (subst (λ (x : Message). FrameBegins (layout_at bytes) schema bytes x n) (same_message (placed_at offset m) (plain_placed f) more (all_plain fs) e) begins),
-  each_has boxes four schema (offset + n) (drop n bytes) more fault rest fs (same_rest (placed_at offset m) (plain_placed f) more (all_plain fs) e),
-)
-
-by_place : (P : PlacedMessage → Type 0) (fs : List PlacedMessage) → AllByRecursion P fs → (k : ℕ) (d : PlacedMessage) → k < length fs → P (slice_index_or fs k d)
-by_place P [] all k d below = absurd (omega arith)
-by_place P (f ∷ fs) all zero d below = all.0
-by_place P (f ∷ fs) all (suc k) d below = by_place P fs all.1 k d (omega arith)
-
-pub all_have : BoxesSayNothing → NewIsAtMostFourTimes → (schema : Schema) (frames : List PlacedMessage) → AreHeld schema frames → HaveNewFrames schema frames
-all_have boxes four schema frames held = by_place (λ placed. HasNewFrame schema placed.message) frames (each_has boxes four schema held.offset held.bytes (all_plain frames) held.fault held.holds frames refl)
-
--- one new frame more
-pub one_more : (schema : Schema) (frames : List PlacedMessage) (last : PlacedMessage) → new_frames schema (frames ++ last ∷ []) ≡ new_frames schema frames ++ new_frame schema last
-one_more schema [] last = append-nil (new_frame schema last)
-one_more schema (f ∷ frames) last = ap (λ bytes. new_frame schema f ++ bytes) (one_more schema frames last) ∙ sym (append_assoc (new_frame schema f) (new_frames schema frames) (new_frame schema last))

@@ -21,8 +21,11 @@ said laws schema m (Reply vs) =
 said laws schema m (Fault reason) = refl
 said laws schema m Goodbye = refl
 
+pub line_plain : BoxesSayNothing → (schema : Schema) (f : PlacedMessage) → frame_line schema f ≡ frame_line schema (plain_placed f)
+line_plain laws schema f = ap (λ text. decimal f.offset ++ codes " " ++ text ++ codes "\n") (sym (said laws schema f.message f.message.body))
+
 pub plain_lines : BoxesSayNothing → (schema : Schema) (frames : List PlacedMessage) → frames_lines schema frames ≡ frames_lines schema (all_plain frames)
 plain_lines laws schema [] = refl
 plain_lines laws schema (f ∷ frames) =
-    ap (λ line. line ++ frames_lines schema frames) (ap (λ text. decimal f.offset ++ codes " " ++ text ++ codes "\n") (sym (said laws schema f.message f.message.body)))
+    ap (λ line. line ++ frames_lines schema frames) (line_plain laws schema f)
     ∙ ap (λ lines. frame_line schema (plain_placed f) ++ lines) (plain_lines laws schema frames)

@@ -1,12 +1,13 @@
-//! A file of frames: the messages that it holds, one frame behind another in either layout, and where
-//! it is no list of frames; the lines that say so, and the same messages in new frames
+//! A file of frames: the messages that it holds, one frame behind another in either layout, told by
+//! their lines or by new frames, and where it is no list of frames; the line that says so
 //! (docs/frames.md).
 #![tactic(auto)]
 
 mod convert;
 mod list;
 mod text;
+mod told;
 
-pub use convert::convert_frames;
-pub use list::{FrameList, FrameListFault, PlacedMessage, frames_of};
-pub use text::{fault_text, frames_text};
+pub use list::{FrameListFault, PlacedMessage};
+pub use text::fault_text;
+pub use told::{push_lines, push_new_frames};

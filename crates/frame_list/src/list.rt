@@ -1,12 +1,12 @@
-ghost use Rattle.std.specs.Prelude.{◌≡◌, ◌<◌, ◌≤◌, ◌+◌, IfOk, length, drop, take};
+ghost use Rattle.std.specs.Prelude.{◌≡◌, ◌≤◌, ◌+◌, IfOk, length, take};
 ghost use Rattle.std.specs.Str.{bytes_eq};
 ghost use Rattle.ipdl_base.specs.Sound.{IsSound};
 ghost use Rattle.value_types.specs.declared.layout.TheConstants.{MARK};
 ghost use Rattle.value_codec.specs.Decoding.{IsTrueOf};
-ghost use Rattle.frame_list.specs.Frames.{Holds, all_plain, layout_at};
+ghost use Rattle.frame_list.specs.Frames.{layout_at};
 ghost use Rattle.frame_list.specs.Steps.{IsFound};
 
-use ipdl_base::{Items, Message, Rule, Schema};
+use ipdl_base::{Message, Rule, Schema};
 use std::alloc::{AllocError, Global};
 use value_codec::{Decoded, decode, decode_old};
 use value_types::MARK;
@@ -27,16 +27,9 @@ pub enum FrameListFault {
     Broken(usize, Rule),
 }
 
-/// The frames of a file, in order, and where it holds no further ones.
-#[derive(Drop)]
-pub struct FrameList {
-    pub frames: Items<PlacedMessage>,
-    pub fault: Option<FrameListFault>,
-}
-
 /// What stands at an offset.
 #[derive(Drop)]
-enum FrameReading {
+pub(crate) enum FrameReading {
     /// A frame of this message, of so many bytes.
     Frame(Message, usize),
     /// No frame.
@@ -63,7 +56,7 @@ fn begun(alloc: Global, schema: &Schema, bytes: &[u8]) -> Decoded
 }
 
 /// What stands at an offset of a file, where these bytes are left.
-fn found_at(
+pub(crate) fn found_at(
     alloc: Global,
     schema: &Schema,
     offset: usize,
@@ -85,34 +78,4 @@ fn found_at(
         }
         Decoded::NoMemory => Err(AllocError),
     }
-}
-
-/// The frames that the bytes of a file hold, and where they hold no further ones.
-pub fn frames_of(alloc: Global, schema: &Schema, bytes: &[u8]) -> Result<FrameList, AllocError>
-    requires { IsSound schema.now }
-    ensures { IfOk result (λ list. Holds schema.now 0 bytes.now (all_plain list.frames) list.fault) }
-{
-    let mut frames = Vec::new(alloc);
-    let mut rest = bytes;
-    let mut offset = 0;
-    while !rest.is_empty() {
-        match found_at(alloc, schema, offset, rest)? {
-            FrameReading::Frame(message, size) => {
-                frames.push(PlacedMessage { offset, message })?;
-                let (_, behind) = rest.split_at(size);
-                rest = behind;
-                offset += size;
-            }
-            FrameReading::Fault(fault) => {
-                return Ok(FrameList {
-                    frames: Items::from_vec(frames),
-                    fault: Some(fault),
-                });
-            }
-        }
-    }
-    Ok(FrameList {
-        frames: Items::from_vec(frames),
-        fault: None,
-    })
 }

@@ -1,26 +1,20 @@
 ghost use Rattle.std.specs.Prelude.{◌≡◌, ◌++◌, IfOk, OnOk, [], if◌then◌else◌, pos, codes};
 ghost use Rattle.std.specs.Ordering.{int_eq};
 ghost use Rattle.ipdl_base.specs.Sound.{IsSound};
-ghost use Rattle.frame_list.specs.Frames.{all_plain};
-ghost use Rattle.frame_list.specs.Lines.{addressed, fault_line, frame_line, frames_lines, made_text, receiver_text, said_text};
+ghost use Rattle.frame_list.specs.Lines.{addressed, fault_line, frame_line, made_text, receiver_text, said_text};
 
 use crate::list::{FrameListFault, PlacedMessage};
 use history::{push_listed, push_message, push_numbered, reason_word};
 use ipdl_base::{Body, Message, Schema, params_of, returns_of};
 use std::alloc::{AllocError, Global};
-use value_types::boxes_say_nothing;
+use value_types::push_decimal;
 
 /// Appends the actor that a message goes to, and the message's name.
-fn push_receiver(
-    out: &mut Vec<u8>,
-    alloc: Global,
-    schema: &Schema,
-    message: &Message,
-) -> Result<(), AllocError>
+fn push_receiver(out: &mut Vec<u8>, schema: &Schema, message: &Message) -> Result<(), AllocError>
     requires { IsSound schema.now }
     ensures { OnOk result (out.new.items ≡ out.old.items ++ receiver_text schema.now message.now) }
 {
-    push_numbered(out, alloc, b" to ", message.route)?;
+    push_numbered(out, b" to ", message.route)?;
     out.extend_from_slice(b" ")?;
     push_message(out, schema, message.number)
 }
@@ -28,7 +22,6 @@ fn push_receiver(
 /// Appends a word, the number and the transaction of a message, and to whom which message goes.
 fn push_addressed(
     out: &mut Vec<u8>,
-    alloc: Global,
     schema: &Schema,
     word: &[u8],
     message: &Message,
@@ -36,47 +29,42 @@ fn push_addressed(
     requires { IsSound schema.now }
     ensures { OnOk result (out.new.items ≡ out.old.items ++ addressed schema.now word.now message.now) }
 {
-    push_numbered(out, alloc, word, message.seq)?;
-    push_numbered(out, alloc, b"/", message.transaction)?;
-    push_receiver(out, alloc, schema, message)
+    push_numbered(out, word, message.seq)?;
+    push_numbered(out, b"/", message.transaction)?;
+    push_receiver(out, schema, message)
 }
 
 /// Appends the new actor of a constructor's request.
-fn push_made(out: &mut Vec<u8>, alloc: Global, made: i32) -> Result<(), AllocError>
+fn push_made(out: &mut Vec<u8>, made: i32) -> Result<(), AllocError>
     ensures { OnOk result (out.new.items ≡ out.old.items ++ made_text made) }
 {
     if made == 0 {
         Ok(())
     } else {
-        push_numbered(out, alloc, b" made ", made)
+        push_numbered(out, b" made ", made)
     }
 }
 
 /// Appends what a message says.
-fn push_said(
-    out: &mut Vec<u8>,
-    alloc: Global,
-    schema: &Schema,
-    message: &Message,
-) -> Result<(), AllocError>
+fn push_said(out: &mut Vec<u8>, schema: &Schema, message: &Message) -> Result<(), AllocError>
     requires { IsSound schema.now }
     ensures { OnOk result (out.new.items ≡ out.old.items ++ said_text schema.now message.now message.now.body) }
 {
     match &message.body {
         Body::Request(values) => {
-            push_addressed(out, alloc, schema, b"request ", message)?;
+            push_addressed(out, schema, b"request ", message)?;
             let types = params_of(schema, message.number);
-            push_listed(out, alloc, schema, types, values)?;
-            push_made(out, alloc, message.made)
+            push_listed(out, schema, types, values)?;
+            push_made(out, message.made)
         }
         Body::Reply(values) => {
-            push_addressed(out, alloc, schema, b"reply ", message)?;
+            push_addressed(out, schema, b"reply ", message)?;
             out.extend_from_slice(b" ok ")?;
             let types = returns_of(schema, message.number);
-            push_listed(out, alloc, schema, types, values)
+            push_listed(out, schema, types, values)
         }
         Body::Fault(reason) => {
-            push_addressed(out, alloc, schema, b"reply ", message)?;
+            push_addressed(out, schema, b"reply ", message)?;
             out.extend_from_slice(b" fault ")?;
             out.extend_from_slice(reason_word(*reason))
         }
@@ -85,45 +73,18 @@ fn push_said(
 }
 
 /// Appends the line of a frame.
-fn push_frame(
+pub(crate) fn push_line(
     out: &mut Vec<u8>,
-    alloc: Global,
     schema: &Schema,
     placed: &PlacedMessage,
 ) -> Result<(), AllocError>
     requires { IsSound schema.now }
     ensures { OnOk result (out.new.items ≡ out.old.items ++ frame_line schema.now placed.now) }
 {
-    let offset = placed.offset.to_string(alloc)?;
-    out.extend_from_slice(offset.as_bytes())?;
+    push_decimal(out, placed.offset)?;
     out.extend_from_slice(b" ")?;
-    push_said(out, alloc, schema, &placed.message)?;
+    push_said(out, schema, &placed.message)?;
     out.extend_from_slice(b"\n")
-}
-
-/// The lines of frames, as they stand.
-fn lines_of(alloc: Global, schema: &Schema, frames: &[PlacedMessage]) -> Result<Vec<u8>, AllocError>
-    requires { IsSound schema.now }
-    ensures { IfOk result (λ text. text.items ≡ frames_lines schema.now frames.now) }
-{
-    let mut text = Vec::new(alloc);
-    for placed in frames {
-        push_frame(&mut text, alloc, schema, placed)?;
-    }
-    Ok(text)
-}
-
-/// The lines of the frames of a file (docs/frames.md): for each its offset and what its message says.
-pub fn frames_text(
-    alloc: Global,
-    schema: &Schema,
-    frames: &[PlacedMessage],
-) -> Result<Vec<u8>, AllocError>
-    requires { IsSound schema.now }
-    ensures { IfOk result (λ text. text.items ≡ frames_lines schema.now (all_plain frames.now)) }
-{
-    boxes_say_nothing();
-    lines_of(alloc, schema, frames)
 }
 
 /// The line that says why the file of this name holds no further frames (docs/frames.md).

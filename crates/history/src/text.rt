@@ -13,7 +13,7 @@ use ipdl_base::{
     short_name,
 };
 use std::alloc::{AllocError, Global};
-use value_types::push_values;
+use value_types::{push_decimal, push_values};
 
 /// The short name of a protocol, or nothing where there is none of this number.
 fn protocol_name(schema: &Schema, number: u32) -> &[u8]
@@ -49,17 +49,11 @@ fn returns_named(schema: &Schema, named: Option<u32>) -> &[ParamRow]
 }
 
 /// Appends a text and a number behind it, in decimal digits.
-pub fn push_numbered(
-    out: &mut Vec<u8>,
-    alloc: Global,
-    before: &[u8],
-    number: i32,
-) -> Result<(), AllocError>
+pub fn push_numbered(out: &mut Vec<u8>, before: &[u8], number: i32) -> Result<(), AllocError>
     ensures { OnOk result (out.new.items ≡ out.old.items ++ text.numbered before.now number) }
 {
     out.extend_from_slice(before)?;
-    let digits = number.to_string(alloc)?;
-    out.extend_from_slice(digits.as_bytes())
+    push_decimal(out, number)
 }
 
 /// Appends a message with its protocol, as `P.M`, by the number of its request or reply
@@ -76,7 +70,6 @@ pub fn push_message(out: &mut Vec<u8>, schema: &Schema, number: u32) -> Result<(
 /// Appends values between brackets, by their types (docs/values.md).
 pub fn push_listed(
     out: &mut Vec<u8>,
-    alloc: Global,
     schema: &Schema,
     types: &[ParamRow],
     values: &Values,
@@ -84,14 +77,13 @@ pub fn push_listed(
     ensures { OnOk result (out.new.items ≡ out.old.items ++ text.listed_values schema.now types.now values.now) }
 {
     out.extend_from_slice(b"(")?;
-    push_values(alloc, schema, types, values, out)?;
+    push_values(schema, types, values, out)?;
     out.extend_from_slice(b")")
 }
 
 /// Appends a blank and a message with its values.
 fn push_request(
     out: &mut Vec<u8>,
-    alloc: Global,
     schema: &Schema,
     number: u32,
     values: &Values,
@@ -101,13 +93,12 @@ fn push_request(
 {
     out.extend_from_slice(b" ")?;
     push_message(out, schema, number)?;
-    push_listed(out, alloc, schema, params_of(schema, number), values)
+    push_listed(out, schema, params_of(schema, number), values)
 }
 
 /// Appends a word and a number, and another word and number.
 fn push_routed(
     out: &mut Vec<u8>,
-    alloc: Global,
     word: &[u8],
     number: i32,
     between: &[u8],
@@ -115,14 +106,13 @@ fn push_routed(
 ) -> Result<(), AllocError>
     ensures { OnOk result (out.new.items ≡ out.old.items ++ (text.numbered word.now number ++ text.numbered between.now route)) }
 {
-    push_numbered(out, alloc, word, number)?;
-    push_numbered(out, alloc, between, route)
+    push_numbered(out, word, number)?;
+    push_numbered(out, between, route)
 }
 
 /// Appends what a line says that has a number and an end of its own.
 fn push_tailed(
     out: &mut Vec<u8>,
-    alloc: Global,
     word: &[u8],
     number: i32,
     between: &[u8],
@@ -130,7 +120,7 @@ fn push_tailed(
 ) -> Result<(), AllocError>
     ensures { OnOk result (out.new.items ≡ out.old.items ++ (text.numbered word.now number ++ between.now ++ tail.now)) }
 {
-    push_numbered(out, alloc, word, number)?;
+    push_numbered(out, word, number)?;
     out.extend_from_slice(between)?;
     out.extend_from_slice(tail)
 }
@@ -138,7 +128,6 @@ fn push_tailed(
 /// Appends what a line says that has a number and values of returns.
 fn push_returned(
     out: &mut Vec<u8>,
-    alloc: Global,
     schema: &Schema,
     types: &[ParamRow],
     word: &[u8],
@@ -148,9 +137,9 @@ fn push_returned(
 ) -> Result<(), AllocError>
     ensures { OnOk result (out.new.items ≡ out.old.items ++ (text.numbered word.now number ++ between.now ++ text.listed_values schema.now types.now values.now)) }
 {
-    push_numbered(out, alloc, word, number)?;
+    push_numbered(out, word, number)?;
     out.extend_from_slice(between)?;
-    push_listed(out, alloc, schema, types, values)
+    push_listed(out, schema, types, values)
 }
 
 /// Appends a refusal.
@@ -179,7 +168,6 @@ fn push_refused_send(
 /// Appends an async send.
 fn push_send(
     out: &mut Vec<u8>,
-    alloc: Global,
     schema: &Schema,
     number: i32,
     route: i32,
@@ -189,14 +177,13 @@ fn push_send(
     requires { IsSound schema.now }
     ensures { OnOk result (out.new.items ≡ out.old.items ++ text.send_text schema.now number route message values.now) }
 {
-    push_routed(out, alloc, b"send ", number, b" to ", route)?;
-    push_request(out, alloc, schema, message, values)
+    push_routed(out, b"send ", number, b" to ", route)?;
+    push_request(out, schema, message, values)
 }
 
 /// Appends a sync send.
 fn push_call(
     out: &mut Vec<u8>,
-    alloc: Global,
     schema: &Schema,
     number: i32,
     transaction: i32,
@@ -207,15 +194,14 @@ fn push_call(
     requires { IsSound schema.now }
     ensures { OnOk result (out.new.items ≡ out.old.items ++ text.call_text schema.now number transaction route message values.now) }
 {
-    push_routed(out, alloc, b"call ", number, b"/", transaction)?;
-    push_numbered(out, alloc, b" to ", route)?;
-    push_request(out, alloc, schema, message, values)
+    push_routed(out, b"call ", number, b"/", transaction)?;
+    push_numbered(out, b" to ", route)?;
+    push_request(out, schema, message, values)
 }
 
 /// Appends a request that is handled.
 fn push_take(
     out: &mut Vec<u8>,
-    alloc: Global,
     schema: &Schema,
     number: i32,
     route: i32,
@@ -225,8 +211,8 @@ fn push_take(
     requires { IsSound schema.now }
     ensures { OnOk result (out.new.items ≡ out.old.items ++ text.take_text schema.now number route message values.now) }
 {
-    push_routed(out, alloc, b"take ", number, b" at ", route)?;
-    push_request(out, alloc, schema, message, values)
+    push_routed(out, b"take ", number, b" at ", route)?;
+    push_request(out, schema, message, values)
 }
 
 /// Appends a blank and a message with its protocol.
@@ -241,7 +227,6 @@ fn push_blank_message(out: &mut Vec<u8>, schema: &Schema, number: u32) -> Result
 /// Appends a request that is dropped.
 fn push_drop(
     out: &mut Vec<u8>,
-    alloc: Global,
     schema: &Schema,
     number: i32,
     route: i32,
@@ -251,27 +236,26 @@ fn push_drop(
     requires { IsSound schema.now }
     ensures { OnOk result (out.new.items ≡ out.old.items ++ text.drop_text schema.now number route message id) }
 {
-    push_routed(out, alloc, b"drop ", number, b" at ", route)?;
+    push_routed(out, b"drop ", number, b" at ", route)?;
     push_blank_message(out, schema, message)?;
-    push_numbered(out, alloc, b" for ", id)
+    push_numbered(out, b" for ", id)
 }
 
 /// Appends that a name holds an actor.
-fn push_let(out: &mut Vec<u8>, alloc: Global, name: &[u8], id: i32) -> Result<(), AllocError>
+fn push_let(out: &mut Vec<u8>, name: &[u8], id: i32) -> Result<(), AllocError>
     ensures { OnOk result (out.new.items ≡ out.old.items ++ (codes "let " ++ name.now ++ text.numbered (codes " ") id)) }
 {
     out.extend_from_slice(b"let ")?;
     out.extend_from_slice(name)?;
-    push_numbered(out, alloc, b" ", id)
+    push_numbered(out, b" ", id)
 }
 
 /// Appends how many packets leave the outbox.
-fn push_flush(out: &mut Vec<u8>, alloc: Global, count: u32) -> Result<(), AllocError>
+fn push_flush(out: &mut Vec<u8>, count: u32) -> Result<(), AllocError>
     ensures { OnOk result (out.new.items ≡ out.old.items ++ (codes "flush " ++ decimal count)) }
 {
     out.extend_from_slice(b"flush ")?;
-    let digits = count.to_string(alloc)?;
-    out.extend_from_slice(digits.as_bytes())
+    push_decimal(out, count)
 }
 
 /// The returns of the message of a number at an end.
@@ -290,7 +274,6 @@ fn returns_at<'s>(
 /// Appends what a line says behind its begin.
 fn push_what(
     out: &mut Vec<u8>,
-    alloc: Global,
     schema: &Schema,
     messages: &Messages,
     side: Side,
@@ -301,19 +284,10 @@ fn push_what(
 {
     match what {
         What::Send(n, route, message, values) => {
-            push_send(out, alloc, schema, *n, *route, *message, values)
+            push_send(out, schema, *n, *route, *message, values)
         }
         What::Call(n, transaction, route, message, values) => {
-            push_call(
-                out,
-                alloc,
-                schema,
-                *n,
-                *transaction,
-                *route,
-                *message,
-                values,
-            )
+            push_call(out, schema, *n, *transaction, *route, *message, values)
         }
         What::RefusedSend(cause, message) => push_refused_send(out, schema, *cause, *message),
         What::RefusedClose(cause) => push_refused(out, *cause, b" close"),
@@ -321,74 +295,54 @@ fn push_what(
         What::RefusedReject(cause) => push_refused(out, *cause, b" reject"),
         What::Resolve(n, values) => {
             let types = returns_at(schema, messages, side, *n);
-            push_returned(out, alloc, schema, types, b"resolve ", *n, b" ", values)
+            push_returned(out, schema, types, b"resolve ", *n, b" ", values)
         }
-        What::Reject(n) => push_numbered(out, alloc, b"reject ", *n),
-        What::Keep(n, name) => push_tailed(out, alloc, b"keep ", *n, b" ", name.as_slice()),
-        What::Let(name, id) => push_let(out, alloc, name.as_slice(), *id),
+        What::Reject(n) => push_numbered(out, b"reject ", *n),
+        What::Keep(n, name) => push_tailed(out, b"keep ", *n, b" ", name.as_slice()),
+        What::Let(name, id) => push_let(out, name.as_slice(), *id),
         What::Close => out.extend_from_slice(b"close"),
         What::Die => out.extend_from_slice(b"die"),
-        What::DeliverRequest(n) => push_numbered(out, alloc, b"deliver request ", *n),
-        What::DeliverReply(n) => push_numbered(out, alloc, b"deliver reply ", *n),
+        What::DeliverRequest(n) => push_numbered(out, b"deliver request ", *n),
+        What::DeliverReply(n) => push_numbered(out, b"deliver reply ", *n),
         What::DeliverGoodbye => out.extend_from_slice(b"deliver goodbye"),
         What::DeliverBroken => out.extend_from_slice(b"deliver broken"),
         What::Take(n, route, message, values) => {
-            push_take(out, alloc, schema, *n, *route, *message, values)
+            push_take(out, schema, *n, *route, *message, values)
         }
-        What::Drop(n, route, message, id) => {
-            push_drop(out, alloc, schema, *n, *route, *message, *id)
-        }
-        What::TakeReply(n) => push_numbered(out, alloc, b"take reply ", *n),
+        What::Drop(n, route, message, id) => { push_drop(out, schema, *n, *route, *message, *id) }
+        What::TakeReply(n) => push_numbered(out, b"take reply ", *n),
         What::ShutNormal => out.extend_from_slice(b"shut NormalShutdown"),
         What::ShutAbnormal => out.extend_from_slice(b"shut AbnormalShutdown"),
-        What::Return(n) => push_numbered(out, alloc, b"return ", *n),
+        What::Return(n) => push_numbered(out, b"return ", *n),
         What::ResumeOk(n, values) => {
             let types = returns_at(schema, messages, side, *n);
-            push_returned(out, alloc, schema, types, b"resume ", *n, b" ok ", values)
+            push_returned(out, schema, types, b"resume ", *n, b" ok ", values)
         }
         What::ResumeFault(n, reason) => {
-            push_tailed(out, alloc, b"resume ", *n, b" fault ", reason_word(*reason))
+            push_tailed(out, b"resume ", *n, b" fault ", reason_word(*reason))
         }
-        What::Flush(count) => push_flush(out, alloc, *count),
+        What::Flush(count) => push_flush(out, *count),
         What::Built(id, protocol) => {
             let name = protocol_name(schema, *protocol);
-            push_tailed(out, alloc, b"built ", *id, b" ", name)
+            push_tailed(out, b"built ", *id, b" ", name)
         }
-        What::Replaced(n) => push_numbered(out, alloc, b"replaced ", *n),
+        What::Replaced(n) => push_numbered(out, b"replaced ", *n),
         What::AnswerOk(n, values) => {
             let types = returns_at(schema, messages, side, *n);
-            push_returned(out, alloc, schema, types, b"answer ", *n, b" ok ", values)
+            push_returned(out, schema, types, b"answer ", *n, b" ok ", values)
         }
         What::AnswerFault(n, reason) => {
-            push_tailed(out, alloc, b"answer ", *n, b" fault ", reason_word(*reason))
+            push_tailed(out, b"answer ", *n, b" fault ", reason_word(*reason))
         }
-        What::Fails(n) => push_numbered(out, alloc, b"fails ", *n),
+        What::Fails(n) => push_numbered(out, b"fails ", *n),
         What::Resolved(n, values) => {
             let types = returns_at(schema, messages, side, *n);
-            push_returned(
-                out,
-                alloc,
-                schema,
-                types,
-                b"settle ",
-                *n,
-                b" resolved ",
-                values,
-            )
+            push_returned(out, schema, types, b"settle ", *n, b" resolved ", values)
         }
         What::Rejected(n, reason) => {
-            push_tailed(
-                out,
-                alloc,
-                b"settle ",
-                *n,
-                b" rejected ",
-                reason_word(*reason),
-            )
+            push_tailed(out, b"settle ", *n, b" rejected ", reason_word(*reason))
         }
-        What::Fall(id, destroy) => {
-            push_tailed(out, alloc, b"fall ", *id, b" ", destroy_word(*destroy))
-        }
+        What::Fall(id, destroy) => { push_tailed(out, b"fall ", *id, b" ", destroy_word(*destroy)) }
     }
 }
 
@@ -407,7 +361,6 @@ fn push_begin(out: &mut Vec<u8>, line: &Line) -> Result<(), AllocError>
 /// Appends a line.
 fn push_line(
     out: &mut Vec<u8>,
-    alloc: Global,
     schema: &Schema,
     messages: &Messages,
     line: &Line,
@@ -416,14 +369,13 @@ fn push_line(
     ensures { OnOk result (out.new.items ≡ out.old.items ++ text.line_saying schema.now (λ n. text.returns_named schema.now (noted_at messages.now line.now.side n)) line.now) }
 {
     push_begin(out, line)?;
-    push_what(out, alloc, schema, messages, line.side, &line.what)?;
+    push_what(out, schema, messages, line.side, &line.what)?;
     out.extend_from_slice(b"\n")
 }
 
 /// Appends lines where nothing is noted yet.
 fn push_lines(
     out: &mut Vec<u8>,
-    alloc: Global,
     schema: &Schema,
     messages: &mut Messages,
     lines: &[Line],
@@ -433,7 +385,7 @@ fn push_lines(
     ensures { OnOk result (out.new.items ≡ out.old.items ++ text.transcript_text schema.now lines.now) }
 {
     for line in lines {
-        push_line(out, alloc, schema, messages, line)?;
+        push_line(out, schema, messages, line)?;
         messages.note(line)?;
     }
     Ok(())
@@ -451,6 +403,6 @@ pub fn history_text(
 {
     let mut messages = Messages::new(alloc);
     let mut out = Vec::new(alloc);
-    push_lines(&mut out, alloc, schema, &mut messages, history.lines())?;
+    push_lines(&mut out, schema, &mut messages, history.lines())?;
     Ok(out)
 }

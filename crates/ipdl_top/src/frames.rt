@@ -3,8 +3,7 @@ ghost use Rattle.ipdl_base.specs.Outside.{Rose};
 ghost use Rattle.ipdl_base.specs.Sound.{IsSound};
 ghost use Rattle.include_graph.specs.Keys.{AreFileWords};
 ghost use Rattle.include_graph.specs.Load as load;
-ghost use Rattle.frame_list.specs.Frames.{all_plain};
-ghost use Rattle.frame_list.specs.Steps.{AreHeld};
+ghost use Rattle.frame_list.specs.Told.{Tells};
 ghost use Rattle.ipdl_top.specs.CommandAnswer.{IsCompilation, given_by};
 ghost use Rattle.ipdl_top.specs.Frames.{SaysBytes, SaysFrames, bad_frames_answer, frames_answer, frames_out};
 ghost use Rattle.ipdl_top.specs.FileViews.{ForMap};
@@ -13,9 +12,7 @@ ghost use Rattle.ipdl_top.specs.Steps.{IsHeld, IsSoundChecked, IsToldOf};
 use crate::answer::{CommandAnswer, Failure};
 use crate::checked::CheckResult;
 use crate::compile::checked;
-use frame_list::{
-    FrameListFault, PlacedMessage, convert_frames, fault_text, frames_of, frames_text,
-};
+use frame_list::{FrameListFault, fault_text, push_lines, push_new_frames};
 use ipdl_base::{Files, ReadAnswer, Schema};
 use std::alloc::{AllocError, Global};
 use std::slice::from_ref;
@@ -68,21 +65,22 @@ fn read_held<F: Files>(alloc: Global, files: &mut F, name: &str) -> Result<Frame
     }
 }
 
-/// The text for frames: their lines, or the same messages in new frames.
-fn out_of(
+/// Appends the text for the frames of a file of these bytes, their lines or the same messages in new
+/// frames, and says where it holds no further ones.
+fn push_text(
+    out: &mut Vec<u8>,
     alloc: Global,
     schema: &Schema,
     convert: bool,
-    frames: &[PlacedMessage],
-) -> Result<Vec<u8>, AllocError>
-    requires sound { IsSound schema.now }
-    requires held { AreHeld schema.now frames.now }
-    ensures { IfOk result (λ text. text.items ≡ frames_out convert schema.now (all_plain frames.now)) }
+    bytes: &[u8],
+) -> Result<Option<ListFault>, AllocError>
+    requires { IsSound schema.now }
+    ensures { IfOk result (Tells (frames_out convert schema.now) schema.now bytes.now out.old.items out.new.items) }
 {
     if convert {
-        convert_frames(alloc, schema, frames)
+        push_new_frames(out, alloc, schema, bytes)
     } else {
-        frames_text(alloc, schema, frames)
+        push_lines(out, alloc, schema, bytes)
     }
 }
 
@@ -114,9 +112,9 @@ fn bytes_answer(
     requires { IsSound schema.now }
     ensures { IfOk result (SaysBytes wanted.now.name.now wanted.now.convert bytes.now schema.now) }
 {
-    let found = frames_of(alloc, schema, bytes)?;
-    let out = out_of(alloc, schema, wanted.convert, found.frames.as_slice())?;
-    answer_of(alloc, wanted.name, out, &found.fault)
+    let mut out = Vec::new(alloc);
+    let fault = push_text(&mut out, alloc, schema, wanted.convert, bytes)?;
+    answer_of(alloc, wanted.name, out, &fault)
 }
 
 /// The answer that there is no file of frames to read, with this word for it.

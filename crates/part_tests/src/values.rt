@@ -163,7 +163,7 @@ fn shown(alloc: Global, schema: &Schema, shape: &Shape, value: &Value) -> Result
     let old = value_size(schema, OLD, shape, value);
     let new = value_size(schema, NEW, shape, value);
     let mut out = format!(in alloc; "{old} {new} = ")?.into_bytes();
-    push_value(alloc, schema, shape, value, &mut out)?;
+    push_value(schema, shape, value, &mut out)?;
     Ok(String::from_utf8(out)?)
 }
 
@@ -221,7 +221,7 @@ fn params_shown(
     let old = values_size(schema, OLD, params, values);
     let new = values_size(schema, NEW, params, values);
     let mut out = format!(in alloc; "{old} {new} = ")?.into_bytes();
-    push_values(alloc, schema, params, values, &mut out)?;
+    push_values(schema, params, values, &mut out)?;
     Ok(String::from_utf8(out)?)
 }
 

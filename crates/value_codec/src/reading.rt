@@ -40,14 +40,17 @@ pub(crate) fn short() -> Refusal
 pub(crate) fn zeros(count: usize, bytes: &[u8]) -> Result<&[u8], Refusal>
     ensures { Gives (λ rest. rest.now) result (reading.zeros count bytes.now) }
 {
-    if count == 0 {
-        return Ok(bytes);
+    let mut left = count;
+    let mut rest = bytes;
+    while left > 0 {
+        match rest {
+            [] => return Err(short()),
+            [0, behind @ ..] => rest = behind,
+            [_, ..] => return Err(broken(BAD_PADDING, rest)),
+        }
+        left -= 1;
     }
-    match bytes {
-        [] => Err(short()),
-        [0, rest @ ..] => zeros(count - 1, rest),
-        [_, ..] => Err(broken(BAD_PADDING, bytes)),
-    }
+    Ok(rest)
 }
 
 /// Takes a number in four bytes.

@@ -2,6 +2,7 @@
 //! take in a frame, and the text by which scripts and transcripts write them.
 #![tactic(auto)]
 
+mod decimal;
 mod fits;
 mod laws;
 mod layout;
@@ -9,6 +10,7 @@ mod shapes;
 mod sizes;
 mod text;
 
+pub use decimal::push_decimal;
 pub use fits::{value_fits, values_fit};
 pub use laws::{boxes_say_nothing, new_is_at_most_four_times};
 pub use layout::{Layout, MARK, NEW, OLD};

@@ -1,11 +1,12 @@
 ghost use Rattle.std.specs.Prelude.{◌≡◌, ◌<◌, ◌++◌, OnOk, codes};
-ghost use Rattle.std.specs.Fmt.{decimal, signed_decimal};
+ghost use Rattle.std.specs.Fmt.{decimal};
 ghost use Rattle.std.specs.List.{flat_map};
 ghost use Rattle.value_types.specs.ValueText as text;
 
+use crate::decimal::push_decimal;
 use crate::shapes::{builtin_of, component_of, element_of, fields_of, held_by};
 use ipdl_base::{Builtin, ParamRow, Schema, Shape, Value, Values};
-use std::alloc::{AllocError, Global};
+use std::alloc::AllocError;
 
 /// A hexadecimal digit in lower case.
 fn hex_digit(n: u8) -> u8
@@ -47,7 +48,8 @@ fn push_escaped(byte: u8, out: &mut Vec<u8>) -> Result<(), AllocError>
                 out.extend_from_slice(b"\\x")?;
                 push_hex_byte(byte, out)
             } else {
-                out.extend_from_slice(&[byte])
+                out.push(byte)?;
+                Ok(())
             }
         }
     }
@@ -105,33 +107,23 @@ fn push_bits(shape: &Shape, bits: u64, out: &mut Vec<u8>) -> Result<(), AllocErr
 }
 
 /// Appends an actor by its id.
-fn push_actor(alloc: Global, id: i32, out: &mut Vec<u8>) -> Result<(), AllocError>
+fn push_actor(id: i32, out: &mut Vec<u8>) -> Result<(), AllocError>
     ensures { OnOk result (out.new.items ≡ out.old.items ++ text.actor_text id) }
 {
     if id == 0 {
         out.extend_from_slice(b"null")
     } else {
         out.extend_from_slice(b"#")?;
-        let digits = id.to_string(alloc)?;
-        out.extend_from_slice(digits.as_bytes())
+        push_decimal(out, id)
     }
 }
 
-/// Appends a number of at most 128 bits.
-fn push_number(alloc: Global, number: i128, out: &mut Vec<u8>) -> Result<(), AllocError>
-    ensures { OnOk result (out.new.items ≡ out.old.items ++ signed_decimal number) }
-{
-    let digits = number.to_string(alloc)?;
-    out.extend_from_slice(digits.as_bytes())
-}
-
 /// Appends the index of a union's component.
-fn push_index(alloc: Global, index: u32, out: &mut Vec<u8>) -> Result<(), AllocError>
+fn push_index(index: u32, out: &mut Vec<u8>) -> Result<(), AllocError>
     ensures { OnOk result (out.new.items ≡ out.old.items ++ (codes "@" ++ decimal index ++ codes " ")) }
 {
     out.extend_from_slice(b"@")?;
-    let digits = index.to_string(alloc)?;
-    out.extend_from_slice(digits.as_bytes())?;
+    push_decimal(out, index)?;
     out.extend_from_slice(b" ")
 }
 
@@ -139,7 +131,6 @@ fn push_index(alloc: Global, index: u32, out: &mut Vec<u8>) -> Result<(), AllocE
 #[cycle(text)]
 fn push_text(
     value: &Value,
-    alloc: Global,
     schema: &Schema,
     shape: &Shape,
     out: &mut Vec<u8>,
@@ -149,27 +140,27 @@ fn push_text(
     match value {
         Value::Bool(true) => out.extend_from_slice(b"true"),
         Value::Bool(false) => out.extend_from_slice(b"false"),
-        Value::Int(number) => push_number(alloc, *number, out),
+        Value::Int(number) => push_decimal(out, *number),
         Value::Text(bytes) => push_quoted(bytes.as_slice(), out),
         Value::Bytes(bytes) => push_bytes(bytes.as_slice(), out),
         Value::Bits(bits) => push_bits(shape, *bits, out),
         Value::Struct(values) => {
             let fields = fields_of(schema, shape).unwrap_or(&[]);
             out.extend_from_slice(b"{")?;
-            push_parts(values, alloc, schema, fields, b"", out)?;
+            push_parts(values, schema, fields, b"", out)?;
             out.extend_from_slice(b"}")
         }
         Value::Union(index, held) => {
-            push_index(alloc, *index, out)?;
+            push_index(*index, out)?;
             match component_of(schema, shape, *index) {
-                Some(component) => push_text(held, alloc, schema, component, out),
+                Some(component) => push_text(held, schema, component, out),
                 None => Ok(()),
             }
         }
         Value::Array(values) => {
             out.extend_from_slice(b"[")?;
             if let Some(element) = element_of(shape) {
-                push_elements(values, alloc, schema, element, b"", out)?;
+                push_elements(values, schema, element, b"", out)?;
             }
             out.extend_from_slice(b"]")
         }
@@ -177,11 +168,11 @@ fn push_text(
         Value::Maybe(Some(held)) => {
             out.extend_from_slice(b"some ")?;
             match held_by(shape) {
-                Some(inner) => push_text(held, alloc, schema, inner, out),
+                Some(inner) => push_text(held, schema, inner, out),
                 None => Ok(()),
             }
         }
-        Value::Actor(id) => push_actor(alloc, *id, out),
+        Value::Actor(id) => push_actor(*id, out),
     }
 }
 
@@ -190,7 +181,6 @@ fn push_text(
 #[cycle(text)]
 fn push_elements(
     values: &Values,
-    alloc: Global,
     schema: &Schema,
     shape: &Shape,
     before: &[u8],
@@ -202,8 +192,8 @@ fn push_elements(
         Values::Nothing => Ok(()),
         Values::First(value, rest) => {
             out.extend_from_slice(before)?;
-            push_text(value, alloc, schema, shape, out)?;
-            push_elements(rest, alloc, schema, shape, b", ", out)
+            push_text(value, schema, shape, out)?;
+            push_elements(rest, schema, shape, b", ", out)
         }
     }
 }
@@ -212,7 +202,6 @@ fn push_elements(
 #[cycle(text)]
 fn push_parts(
     values: &Values,
-    alloc: Global,
     schema: &Schema,
     fields: &[ParamRow],
     before: &[u8],
@@ -223,8 +212,8 @@ fn push_parts(
     match (values, fields.split_first()) {
         (Values::First(value, rest), Some((field, more))) => {
             out.extend_from_slice(before)?;
-            push_text(value, alloc, schema, &field.shape, out)?;
-            push_parts(rest, alloc, schema, more, b", ", out)
+            push_text(value, schema, &field.shape, out)?;
+            push_parts(rest, schema, more, b", ", out)
         }
         _ => Ok(()),
     }
@@ -232,7 +221,6 @@ fn push_parts(
 
 /// Appends the text of a value of a type. At an error a part of it may be appended.
 pub fn push_value(
-    alloc: Global,
     schema: &Schema,
     shape: &Shape,
     value: &Value,
@@ -240,13 +228,12 @@ pub fn push_value(
 ) -> Result<(), AllocError>
     ensures { OnOk result (out.new.items ≡ out.old.items ++ text.value_text schema.now shape.now value.now) }
 {
-    push_text(value, alloc, schema, shape, out)
+    push_text(value, schema, shape, out)
 }
 
 /// Appends the texts of the values of parameters, with a comma and a blank between each two. At an
 /// error a part of it may be appended.
 pub fn push_values(
-    alloc: Global,
     schema: &Schema,
     params: &[ParamRow],
     values: &Values,
@@ -254,5 +241,5 @@ pub fn push_values(
 ) -> Result<(), AllocError>
     ensures { OnOk result (out.new.items ≡ out.old.items ++ text.values_text schema.now params.now values.now) }
 {
-    push_parts(values, alloc, schema, params, b"", out)
+    push_parts(values, schema, params, b"", out)
 }

@@ -1,0 +1,10 @@
+use Rattle.std.proofs.Common.{◌≡◌}
+use Rattle.value_codec.specs.Reading as reading
+use Rattle.value_codec.proofs.reading.zeros.Given as goal
+
+-- what is left to be taken of what is left
+abbrev pub invariant-loop-left : goal.invariant-loop-left
+invariant-loop-left l = reading.zeros l.left l.rest ≡ reading.zeros l.count l.bytes
+
+abbrev pub decreases-loop-left : goal.decreases-loop-left
+decreases-loop-left l = l.left
