@@ -7,7 +7,7 @@ use Rattle.frame_list.specs.declared.list.PlacedMessage.{PlacedMessage}
 use Rattle.frame_list.specs.declared.told.Form.{Form}
 use Rattle.frame_list.specs.Frames.{Holds, ends, faults, frame, IsFault, placed_at}
 use Rattle.frame_list.specs.Steps.{WritesFrame, all_in_form, in_form}
-use Rattle.frame_list.specs.Told.{Tells}
+use Rattle.frame_list.specs.FramesTold.{Tells}
 
 -- What has been found of bytes so far, and written behind a text: what is left, from this offset on, makes what the bytes
 -- hold.

@@ -2,4 +2,4 @@ pub mod Frames
 pub mod Lines
 pub mod Converted
 pub mod Steps
-pub mod Told
+pub mod FramesTold

@@ -5,7 +5,7 @@ ghost use Rattle.ipdl_base.specs.Sound.{IsSound};
 ghost use Rattle.frame_list.specs.Converted.{new_frames};
 ghost use Rattle.frame_list.specs.Lines.{frames_lines};
 ghost use Rattle.frame_list.specs.Steps.{HasNewFrame, IsStep, all_in_form, in_form};
-ghost use Rattle.frame_list.specs.Told.{Tells};
+ghost use Rattle.frame_list.specs.FramesTold.{Tells};
 
 use crate::convert::push_new;
 use crate::list::{FrameReading, FrameListFault, PlacedMessage, found_at};

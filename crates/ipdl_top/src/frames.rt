@@ -3,7 +3,7 @@ ghost use Rattle.ipdl_base.specs.Outside.{Rose};
 ghost use Rattle.ipdl_base.specs.Sound.{IsSound};
 ghost use Rattle.include_graph.specs.Keys.{AreFileWords};
 ghost use Rattle.include_graph.specs.Load as load;
-ghost use Rattle.frame_list.specs.Told.{Tells};
+ghost use Rattle.frame_list.specs.FramesTold.{Tells};
 ghost use Rattle.ipdl_top.specs.CommandAnswer.{IsCompilation, given_by};
 ghost use Rattle.ipdl_top.specs.Frames.{SaysBytes, SaysFrames, bad_frames_answer, frames_answer, frames_out};
 ghost use Rattle.ipdl_top.specs.FileViews.{ForMap};
@@ -73,7 +73,7 @@ fn push_text(
     schema: &Schema,
     convert: bool,
     bytes: &[u8],
-) -> Result<Option<ListFault>, AllocError>
+) -> Result<Option<FrameListFault>, AllocError>
     requires { IsSound schema.now }
     ensures { IfOk result (Tells (frames_out convert schema.now) schema.now bytes.now out.old.items out.new.items) }
 {
