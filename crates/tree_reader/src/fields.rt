@@ -39,7 +39,7 @@ pub(crate) fn fields(alloc: Global, reader: &mut TokenReader) -> Result<Params, 
     ensures stops { IfErr result (Stops (fielded ∷ []) reader.old) }
     ensures less { OnOk result (length reader.new < length reader.old) }
 {
-    let mut all = Vec::new(alloc);
+    let mut all = Vec::with_capacity(alloc, reader.listed(0, b';', b'}'))?;
     'fields: while !reader.skips(Symbol::CloseBrace) {
         all.push(field(alloc, reader)?)?;
     }
@@ -67,7 +67,7 @@ pub(crate) fn components(alloc: Global, reader: &mut TokenReader) -> Result<Type
     ensures stops { IfErr result (Stops (typed 4 ending.Semicolon ∷ componented ∷ []) reader.old) }
     ensures less { OnOk result (length reader.new < length reader.old) }
 {
-    let mut all = Vec::new(alloc);
+    let mut all = Vec::with_capacity(alloc, reader.listed(0, b';', b'}'))?;
     all.push(component(alloc, reader)?)?;
     'components: while !reader.skips(Symbol::CloseBrace) {
         all.push(component(alloc, reader)?)?;

@@ -31,6 +31,7 @@ fn more_words(alloc: Global, reader: &mut TokenReader, text: &mut Name) -> Resul
 }
 
 /// Takes a name with its namespaces; its place is that of its first word.
+#[inline(always)]
 fn qualified(alloc: Global, reader: &mut TokenReader) -> Result<NameAt, TreeRefusal>
     ensures read { IfOk result (λ n. at n.place (qualified n.name) reader.old reader.new) }
     ensures ending { OnOk result (first_symbol reader.new ≢ Colons) }
@@ -80,6 +81,7 @@ pub(crate) struct QualifiedName {
 }
 
 /// Takes a name, perhaps with an argument.
+#[inline(always)]
 pub(crate) fn name_with_argument(
     alloc: Global,
     reader: &mut TokenReader,

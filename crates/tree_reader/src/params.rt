@@ -15,6 +15,7 @@ use ipdl_syntax::{NameAt, Param, Params};
 use std::alloc::Global;
 
 /// Takes a parameter.
+#[inline(always)]
 fn param(alloc: Global, reader: &mut TokenReader) -> Result<Param, TreeRefusal>
     ensures read { IfOk result (λ p. param p reader.old reader.new) }
     ensures turns { OnOk result (Turns (one_param ∷ []) reader.old [] reader.new) }
@@ -39,7 +40,7 @@ fn some_params(alloc: Global, reader: &mut TokenReader) -> Result<Params, TreeRe
     ensures stops { IfErr result (Stops (one_param ∷ more_parameters ∷ []) reader.old) }
     ensures less { OnOk result (length reader.new < length reader.old) }
 {
-    let mut all = Vec::with_capacity(alloc, reader.listed())?;
+    let mut all = Vec::with_capacity(alloc, reader.listed(1, b',', b')'))?;
     all.push(param(alloc, reader)?)?;
     'params: while reader.skips(Symbol::Comma) {
         all.push(param(alloc, reader)?)?;

@@ -45,6 +45,7 @@ impl<'a, 't> Model for TokenReader<'a, 't> {
 }
 
 impl<'a, 't> TokenReader<'a, 't> {
+    #[inline(always)]
     pub(crate) fn new(tokens: &'a [Token<'t>]) -> TokenReader<'a, 't>
         ensures { result ≡ tokens.now }
     {
@@ -61,14 +62,14 @@ impl<'a, 't> TokenReader<'a, 't> {
         self.next
     }
 
-    /// A guess at how many items, with a comma between each two, come before the next `)`: it says
-    /// for how many to take room, and nothing rests on it.
-    pub(crate) fn listed(&self) -> usize {
-        let mut count = 1;
+    /// A guess at how many items come before the next mark that ends a list, so many more than there
+    /// are marks between them: it says for how many to take room, and nothing rests on it.
+    pub(crate) fn listed(&self, more: usize, between: u8, end: u8) -> usize {
+        let mut count = more;
         for token in self.rest {
             match token.text() {
-                b")" => return count,
-                b"," if count < MOST_ROOM => count += 1,
+                [mark] if *mark == end => return count,
+                [mark] if *mark == between && count < MOST_ROOM => count += 1,
                 _ => {}
             }
         }

@@ -10,7 +10,7 @@ use Rattle.tree_reader.proofs.fields.fields.Goals as goal
 pub returns-in_err-field-clause-stops : goal.returns-in_err-field-clause-stops
 returns-in_err-field-clause-stops c =
     let other = c.skips.ensures.not c.fields-test.true in
-    thrown c.from_residual.result c.in_err-field.field-0.0 (Stops (fielded ∷ []) c.args.reader.now) c.from_residual.ensures.1
+    thrown c.from_residual-in_err-field.result c.in_err-field.field-0.0 (Stops (fielded ∷ []) c.args.reader.now) c.from_residual-in_err-field.ensures.1
     (field_stops c.args.reader.now c.fields.reader c.skips.new.self c.in_err-field.field-0.0 other c.fields.invariant.turns c.in_err-field.ensures.stops)
 
 pub fields-preserved : goal.fields-preserved
