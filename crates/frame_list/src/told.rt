@@ -8,7 +8,7 @@ ghost use Rattle.frame_list.specs.Steps.{HasNewFrame, IsStep, all_in_form, in_fo
 ghost use Rattle.frame_list.specs.FramesTold.{Tells};
 
 use crate::convert::push_new;
-use crate::list::{FrameReading, FrameListFault, PlacedMessage, found_at};
+use crate::list::{FrameListFault, FrameReading, PlacedMessage, found_at};
 use crate::text::push_line;
 use ipdl_base::Schema;
 use std::alloc::{AllocError, Global};

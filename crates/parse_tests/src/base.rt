@@ -1,7 +1,7 @@
 use super::checks::{check, cut};
 use ipdl_base::{
-    Builtin, Files, Level, MemoryFiles, MemorySink, Name, ReadAnswer, Side, Sink,
-    WriteAnswer, defers_request,
+    Builtin, Files, Level, MemoryFiles, MemorySink, Name, ReadAnswer, Side, Sink, WriteAnswer,
+    defers_request,
 };
 use std::alloc::{AllocError, Global};
 use std::collections::HashSet;

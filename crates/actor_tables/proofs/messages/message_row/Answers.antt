@@ -12,7 +12,7 @@ returns c =
     let n = numbering_of c.args.source.now.numbers in
     record {
       number_is = refl;
-      name = c.in_ok-copy.ensures;
+      name = c.in_ok-copy.ensures.ok;
       direction = refl;
       semantics = refl;
       level = c.message_level.ensures;
