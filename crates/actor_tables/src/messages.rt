@@ -195,7 +195,7 @@ pub fn protocol_rows(
     requires marked { AreMarked types.now }
     ensures { IfOk result (λ rows. AreRows (λ number file row. IsSomeAnd (the_protocol_of source.now.program.now file) (λ p. IsProtocolRow source.now.program.now (numbering_of source.now.numbers) types.now.rows.items number file p row)) 0 source.now.numbers.files.items rows.items) }
 {
-    let mut rows = Vec::new(alloc);
+    let mut rows = Vec::with_capacity(alloc, source.numbers.files.len())?;
     for (number, file) in source.numbers.files.as_slice().iter().enumerate() {
         rows.push(row_of_file(alloc, source, types, number as u32, *file)?)?;
     }

@@ -91,7 +91,8 @@ fn push_param(out: &mut Vec<u8>, schema: &Schema, param: &ParamRow) -> Result<()
     ensures { OnOk result (out.new.items ≡ out.old.items ++ text.param_text schema.now param.now) }
 {
     push_shape(out, schema, &param.shape)?;
-    push_behind(out, b" ", param.name.as_slice())
+    out.push(b' ')?;
+    out.extend_from_slice(param.name.as_slice())
 }
 
 /// Appends a parameter with a comma before it.
@@ -135,9 +136,9 @@ fn push_listed_params(
 fn push_params(out: &mut Vec<u8>, schema: &Schema, params: &[ParamRow]) -> Result<(), AllocError>
     ensures { OnOk result (out.new.items ≡ out.old.items ++ text.params_text schema.now params.now) }
 {
-    out.extend_from_slice(b"(")?;
+    out.push(b'(')?;
     push_listed_params(out, schema, params)?;
-    out.extend_from_slice(b")")
+    Ok(out.push(b')')?)
 }
 
 /// Appends the returns of a message, where it has them.
@@ -161,7 +162,8 @@ fn push_returns(
 fn push_word(out: &mut Vec<u8>, word: &[u8]) -> Result<(), AllocError>
     ensures { OnOk result (out.new.items ≡ out.old.items ++ (word.now ++ codes " ")) }
 {
-    push_behind(out, word, b" ")
+    out.extend_from_slice(word)?;
+    Ok(out.push(b' ')?)
 }
 
 /// Appends a number and a blank.
@@ -216,7 +218,7 @@ fn push_message(out: &mut Vec<u8>, schema: &Schema, message: &MessageRow) -> Res
     out.extend_from_slice(message.name.as_slice())?;
     push_params(out, schema, message.params.as_slice())?;
     push_returns(out, schema, &message.returns)?;
-    out.extend_from_slice(b"\n")
+    Ok(out.push(b'\n')?)
 }
 
 /// Appends the lines of messages.
@@ -269,7 +271,7 @@ fn push_protocol_line(
     push_word(out, protocol.name.as_slice())?;
     push_word(out, semantics_word(protocol.semantics))?;
     out.extend_from_slice(level_word(protocol.level))?;
-    out.extend_from_slice(b"\n")
+    Ok(out.push(b'\n')?)
 }
 
 /// Appends the lines of a protocol.
@@ -344,7 +346,7 @@ fn push_struct(
     push_number(out, number as u64)?;
     push_word(out, name)?;
     push_params(out, schema, fields)?;
-    out.extend_from_slice(b"\n")
+    Ok(out.push(b'\n')?)
 }
 
 /// Appends the line of a union.

@@ -11,20 +11,25 @@ use std::io::{ErrorKind, Read, Write};
 pub struct RealFiles<'r, R> {
     rt: &'r R,
     faults: u64,
+    /// Where a piece of a file is read to.
+    piece: [u8; 4096],
 }
 
 impl<'r, R: std::rt::Files> RealFiles<'r, R> {
     pub fn new(rt: &'r R) -> RealFiles<'r, R> {
-        RealFiles { rt, faults: 0 }
+        RealFiles {
+            rt,
+            faults: 0,
+            piece: [0; 4096],
+        }
     }
 }
 
 /// The bytes that are left of a file, at most `limit`.
-fn read_all<F: Read>(alloc: Global, file: &mut F, limit: usize) -> ReadAnswer {
+fn read_all<F: Read>(alloc: Global, file: &mut F, piece: &mut [u8], limit: usize) -> ReadAnswer {
     let mut bytes = Vec::new(alloc);
-    let mut piece = [0u8; 4096];
     'pieces: for _ in 0..u64::MAX {
-        let n = match file.read(&mut piece) {
+        let n = match file.read(piece) {
             Ok(0) => return ReadAnswer::Bytes(bytes),
             Ok(n) => n,
             Err(error) if error.kind() == ErrorKind::Interrupted => continue,
@@ -41,9 +46,15 @@ fn read_all<F: Read>(alloc: Global, file: &mut F, limit: usize) -> ReadAnswer {
 }
 
 /// What a real file has, if it is there.
-fn read_file<R: std::rt::Files>(rt: &R, alloc: Global, name: &str, limit: usize) -> ReadAnswer {
+fn read_file<R: std::rt::Files>(
+    rt: &R,
+    alloc: Global,
+    name: &str,
+    piece: &mut [u8],
+    limit: usize,
+) -> ReadAnswer {
     match File::open(rt, name) {
-        Ok(mut file) => read_all(alloc, &mut file, limit),
+        Ok(mut file) => read_all(alloc, &mut file, piece, limit),
         Err(error) if error.kind() == ErrorKind::NotFound => ReadAnswer::Absent,
         Err(error) if error.kind() == ErrorKind::OutOfMemory => ReadAnswer::NoMemory,
         Err(_) => ReadAnswer::Failed,
@@ -56,7 +67,7 @@ impl<R: std::rt::Files> Files for RealFiles<'_, R> {
     ghost faults = { λ f. f.faults };
 
     fn read(&mut self, alloc: Global, name: &str, limit: usize) -> ReadAnswer {
-        let answer = read_file(self.rt, alloc, name, limit);
+        let answer = read_file(self.rt, alloc, name, &mut self.piece, limit);
         if matches!(&answer, ReadAnswer::Failed) {
             self.faults = self.faults.saturating_add(1);
         }

@@ -20,6 +20,13 @@ use include_graph::{LoadFault, load};
 use ipdl_base::{Files, Findings, Name};
 use ipdl_syntax::{Entry, Program};
 use std::alloc::{AllocError, Global};
+use std::mem::forget;
+
+/// Leaves what a command has found where it lies. The process ends right behind the command, and gives all of its
+/// memory back at once, so nothing is let go piece by piece.
+fn leave<T>(found: T) {
+    forget(found);
+}
 
 /// Adds the name of the sync list, where one is named.
 fn add_list<'n>(names: &mut Vec<&'n [u8]>, list: &'n Option<String>) -> Result<(), AllocError>
@@ -183,7 +190,11 @@ pub fn checked<F: Files>(
     ensures read_fault { result ≡ Err Failure.ReadFault → Rose (F.faults files.old) (F.faults files.new) }
 {
     match load(alloc, files, names, path) {
-        Ok(program) => program_checked(alloc, files, list, &program),
+        Ok(program) => {
+            let found = program_checked(alloc, files, list, &program);
+            leave(program);
+            found
+        }
         Err(LoadFault::Broken(findings, texts)) => {
             match files_answer(alloc, files, list, findings, texts.as_slice()) {
                 Ok(report) => Ok(CheckResult::Report(report)),
@@ -202,10 +213,11 @@ fn tables_of(alloc: Global, checked: CheckResult) -> Result<CommandAnswer, Failu
 {
     match checked {
         CheckResult::Report(report) => Ok(report),
-        CheckResult::Clean(schema) => Ok(CommandAnswer::of_table(
-            alloc,
-            table_text(alloc, &schema)?,
-        )),
+        CheckResult::Clean(schema) => {
+            let text = table_text(alloc, &schema);
+            leave(schema);
+            Ok(CommandAnswer::of_table(alloc, text?))
+        }
     }
 }
 

@@ -20,18 +20,20 @@ fn add_names<'m>(params: &'m [Param], names: &mut Vec<NamePlace<'m>>) -> Result<
 }
 
 /// Adds a finding at each parameter or return that has the name of an earlier one of the message.
-pub fn add_repeated_of(
+/// What the list of names held before is let go.
+pub fn add_repeated_of<'m>(
     alloc: Global,
-    message: &MessageDecl,
+    message: &'m MessageDecl,
+    names: &mut Vec<NamePlace<'m>>,
     found: &mut Vec<Finding>,
 ) -> Result<(), AllocError>
     ensures { OnOk result (Adds Rule.REPEATED_PARAMETER
         (IsRepeatedAt (param_names (message.now.params ++ returns_of message.now.returns))) found.old.items found.new.items) }
 {
-    let mut names = Vec::new(alloc);
-    add_names(message.params.as_slice(), &mut names)?;
+    names.clear();
+    add_names(message.params.as_slice(), names)?;
     if let Some(returns) = &message.returns {
-        add_names(returns.as_slice(), &mut names)?;
+        add_names(returns.as_slice(), names)?;
     }
     add_repeated(alloc, Rule::REPEATED_PARAMETER, names.as_slice(), found)
 }

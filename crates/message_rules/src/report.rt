@@ -37,8 +37,9 @@ fn add_repeated_in(
 ) -> Result<(), AllocError>
     ensures { OnOk result (Gains (IsRepeatedIn messages.now) found.old.items found.new.items) }
 {
+    let mut names = Vec::new(alloc);
     for message in messages {
-        add_repeated_of(alloc, message, found)?;
+        add_repeated_of(alloc, message, &mut names, found)?;
     }
     Ok(())
 }

@@ -25,7 +25,7 @@ fn list<'p>(
     match rows.get_mut(text) {
         Some(row) => row.push(id)?,
         None => {
-            let mut row = Vec::new(alloc);
+            let mut row = Vec::with_capacity(alloc, 1)?;
             row.push(id)?;
             rows.insert(text, row)?;
         }

@@ -145,7 +145,7 @@ fn firsts_of<'p>(
 ) -> Result<Firsts<'p>, AllocError>
     ensures { IfOk result (FirstsAre own (map told all.now)) }
 {
-    let mut firsts = HashMap::new(alloc);
+    let mut firsts = HashMap::with_capacity(alloc, all.len())?;
     for declaration in all {
         if counts(own, declaration) {
             note(*declaration, &mut firsts)?;

@@ -14,7 +14,7 @@ use std::alloc::{AllocError, Global};
 fn names_of(alloc: Global, fields: &[Param]) -> Result<Vec<NamePlace<'_>>, AllocError>
     ensures { IfOk result (λ names. map name_place names.items ≡ map (λ f. (f.name, f.place)) fields.now) }
 {
-    let mut names = Vec::new(alloc);
+    let mut names = Vec::with_capacity(alloc, fields.len())?;
     for field in fields {
         names.push((field.name.as_slice(), field.place))?;
     }

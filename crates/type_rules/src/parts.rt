@@ -56,7 +56,7 @@ fn parts_of_fields(
     ensures { IfOk result (AreParts names.now files.now file (map (λ f. f.spec.base) fields.now)) }
 {
     let mut parts = Parts {
-        numbers: Vec::new(alloc),
+        numbers: Vec::with_capacity(alloc, fields.len())?,
         has_free: false,
     };
     for field in fields {
@@ -76,7 +76,7 @@ fn parts_of_components(
     ensures { IfOk result (AreParts names.now files.now file (map (λ c. c.base) components.now)) }
 {
     let mut parts = Parts {
-        numbers: Vec::new(alloc),
+        numbers: Vec::with_capacity(alloc, components.len())?,
         has_free: false,
     };
     for component in components {

@@ -13,7 +13,7 @@ use Rattle.message_rules.proofs.params.add_repeated_of.Goals.{in-Some+in_ok-add_
 pub returns : goal.returns
 returns c =
     let m = c.args.message.now in
-    let first : plain_names c.add_names.new.names.items ≡ param_names m.params = rw (c.new-names.ensures.items, c.as_slice.ensures) at c.in_ok-add_names.ensures in
+    let first : plain_names c.add_names.new.names.items ≡ param_names m.params = rw (c.clear.ensures.items, c.as_slice.ensures) at c.in_ok-add_names.ensures in
     let whole : plain_names c.match-message.names.items ≡ param_names (m.params ++ returns_of m.returns) = elim c.match-message.branch [
       | in-Some+in_ok-add_names-2 w ↦ all_names m.params m.returns w.in-Some.returns _ (ap returns_of w.in-Some.is) (rw w.names-is (rw (first, w.as_slice-in-Some.ensures) at w.in_ok-add_names-2.ensures))
       | in_default w ↦ all_names m.params m.returns [] _ (ap returns_of w.in_default.is) (rw w.names-is (first ∙ sym (append-nil (param_names m.params))))

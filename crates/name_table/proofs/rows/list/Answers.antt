@@ -15,4 +15,4 @@ returns-in_ok-push-in-Some c =
 pub returns-in_ok-insert-in-None : goal.returns-in_ok-insert-in-None
 returns-in_ok-insert-in-None c =
     listed_after c.args.rows.now c.get_mut.follows.lender-at-none c.insert.new.self c.args.text c.push-in-None.new.self c.args.id c.get_mut.follows.holds-at-none c.in_ok-insert-in-None.ensures.updates.0
-    (c.in_ok-push-in-None.ensures.items ∙ ap (λ xs. xs ++ c.args.id ∷ []) (c.new-row.ensures.items ∙ ap row_at c.in-None.ensures.value))
+    (c.in_ok-push-in-None.ensures.items ∙ ap (λ xs. xs ++ c.args.id ∷ []) (c.in_ok-row-in-None.ensures.items ∙ ap row_at c.in-None.ensures.value))
