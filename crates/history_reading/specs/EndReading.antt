@@ -47,7 +47,7 @@ pub record EndReading : Type 0 where
   pub cause : Cause
   pub falls : List ActorPlace
 
--- the half of no lines: the top actor lives
+-- what is read of no lines: the top actor lives
 abbrev pub opening : EndReading
 opening = record {
   state = state.Open;

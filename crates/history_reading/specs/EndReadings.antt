@@ -1,4 +1,4 @@
--- What the code keeps of an end shows its half.
+-- What the code keeps of an end shows what is read of it.
 use Rattle.history_reading.specs.declared.end_reading.EndReading as kept
 use Rattle.history_reading.specs.EndReading.{EndReading}
 use Rattle.history_reading.specs.Views.{sent_view}

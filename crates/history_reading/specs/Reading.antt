@@ -159,7 +159,7 @@ failing n own = record (answering n own) { failed = own.failed ++ n ∷ [] }
 abbrev pub settling : ℤ → EndReading → EndReading
 settling n own = record own { settled = own.settled ++ n ∷ [] }
 
--- The half of an end behind one more line of it, which stands at a place in the history.
+-- What is read of an end behind one more line of it, which stands at a place in the history.
 abbrev pub after_what : Schema → ℕ → What → EndReading → EndReading
 after_what schema place (what.Send n route number values) own = begun (event.Sends n route) (delete_cause schema number route) (sending schema n (pos 0) route number values own)
 after_what schema place (what.Call n transaction route number values) own =
@@ -197,7 +197,7 @@ after_what schema place (what.Resolved n values) own = settling n own
 after_what schema place (what.Rejected n reason) own = settling n own
 after_what schema place (what.Fall id destroy) own = falling id own
 
--- Both halves, the end of the last event, and how many lines there were.
+-- What is read of both ends, the end of the last event, and how many lines there were.
 pub record Reading : Type 0 where
   pub parent : EndReading
   pub child : EndReading
@@ -207,7 +207,7 @@ pub record Reading : Type 0 where
 abbrev pub opening_reading : Reading
 opening_reading = record { parent = opening; child = opening; last = None; lines = 0 }
 
--- the half of an end, and that of the other
+-- What is read of an end, and that of the other
 abbrev pub end_reading_of : Side → Reading → EndReading
 end_reading_of side.Parent reading = reading.parent
 end_reading_of side.Child reading = reading.child

@@ -1,4 +1,4 @@
--- How the code keeps what is read: its records show the halves and the reading.
+-- How the code keeps what is read: its records show what is read of each end and of both.
 use Rattle.std.specs.Prelude.{◌≡◌, ℤ, if◌then◌else◌, List, map, Option, Some, None, option_map}
 use Rattle.std.specs.Option.{option_or}
 use Rattle.std.specs.HashMap.{HashMap, get}
@@ -7,8 +7,8 @@ use Rattle.std.specs.Ordering.{int_eq}
 use Rattle.std.specs.declared.hash.FoldHasher.{FoldHasher}
 use Rattle.std.specs.declared.hash.BuildHasherDefault.{BuildHasherDefault}
 use Rattle.history_reading.specs.declared.sent_packet.Request as kept
-use Rattle.history_reading.specs.declared.sent_packet.Reply as kept_said
-use Rattle.history_reading.specs.declared.sent_packet.Reply.TheVariants as said
+use Rattle.history_reading.specs.declared.sent_packet.ReplyContent as kept_said
+use Rattle.history_reading.specs.declared.sent_packet.ReplyContent.TheVariants as said
 use Rattle.history_reading.specs.declared.sent_packet.SentPacket as kept_told
 use Rattle.history_reading.specs.declared.sent_packet.SentPacket.TheVariants as told
 use Rattle.history_reading.specs.Numbers.{has}

@@ -49,7 +49,7 @@ pub struct EndReading<'h> {
 }
 
 impl<'h> EndReading<'h> {
-    /// The half of no lines: the top actor lives.
+    /// What is read of no lines: the top actor lives.
     pub fn new(alloc: Global) -> Result<EndReading<'h>, AllocError>
         ensures { IfOk result (λ own. end_view own ≡ opening) }
     {

@@ -233,7 +233,7 @@ impl<'h> EndReading<'h> {
 }
 
 impl<'h> EndReading<'h> {
-    /// The half behind one more line of the end, which stands at a place in the history.
+    /// What is read behind one more line of the end, which stands at a place in the history.
     pub fn note(&mut self, schema: &Schema, place: usize, what: &'h What) -> Result<(), AllocError>
         requires { IsSound schema.now }
         ensures { OnOk result (end_view self.new ≡ read.after_what schema.now place what.now (end_view self.old)) }

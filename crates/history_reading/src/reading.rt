@@ -8,7 +8,7 @@ use crate::end_reading::EndReading;
 use ipdl_base::{Line, Schema, Side, What, is_effect};
 use std::alloc::{AllocError, Global};
 
-/// What is read from the lines of a history: a half for each end, the end of the last event, and how
+/// What is read from the lines of a history, end by end; the end of the last event, and how
 /// many lines there were.
 #[derive(Drop)]
 pub struct Reading<'h> {
@@ -31,8 +31,8 @@ impl<'h> Reading<'h> {
         })
     }
 
-    /// The half of an end.
-    pub fn own(&self, side: Side) -> &EndReading<'h>
+    /// What is read of an end.
+    pub fn end(&self, side: Side) -> &EndReading<'h>
         ensures { end_view result.now ≡ read.end_reading_of side (reading_view self.now) }
     {
         match side {
@@ -41,7 +41,7 @@ impl<'h> Reading<'h> {
         }
     }
 
-    /// The half of the other end.
+    /// What is read of the other end.
     pub fn other(&self, side: Side) -> &EndReading<'h>
         ensures { end_view result.now ≡ read.other_of side (reading_view self.now) }
     {

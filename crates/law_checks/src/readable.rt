@@ -71,6 +71,6 @@ pub fn is_readable(schema: &Schema, reading: &Reading<'_>, line: &Line) -> bool
     ensures { result ≡ the.is_readable schema.now (reading_view reading.now) line.now }
 {
     let follows = !is_effect(&line.what) || is_of_event(line.side, reading.last);
-    let own = reading.own(line.side);
+    let own = reading.end(line.side);
     follows && is_readable_what(schema, &own.stack, &line.what)
 }

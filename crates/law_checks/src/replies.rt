@@ -164,7 +164,7 @@ fn some_is_said(
     sent.iter().any(|told| is_said(told, schema, own, n, asked))
 }
 
-/// Whether some reply of an end to the request of a number is as it is asked, where `half` is that of
+/// Whether some reply of an end to the request of a number is as it is asked, where `own` is what is read of
 /// the end that reads it.
 pub fn says(
     schema: &Schema,

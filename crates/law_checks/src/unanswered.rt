@@ -61,7 +61,7 @@ fn held_at(schema: &Schema, reading: &Reading<'_>, place: usize, line: &Line) ->
     requires { IsSound schema.now }
     ensures { result ≡ the.held_at schema.now (reading_view reading.now) place line.now }
 {
-    if has_wait_from(reading.own(line.side).stack.outward(), place) {
+    if has_wait_from(reading.end(line.side).stack.outward(), place) {
         held_call(schema, line)
     } else {
         None

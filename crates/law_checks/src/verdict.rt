@@ -20,7 +20,7 @@ fn line_test(law: Law, schema: &Schema, reading: &Reading<'_>, line: &Line, behi
     requires { IsSound schema.now }
     ensures { result ≡ the.line_test law schema.now line.now.side (end_reading_of line.now.side (reading_view reading.now)) (other_of line.now.side (reading_view reading.now)) line.now.what behind.now }
 {
-    let own = reading.own(line.side);
+    let own = reading.end(line.side);
     let other = reading.other(line.side);
     match law {
         Law::Prefix => prefix_line(schema, own, other, &line.what),
