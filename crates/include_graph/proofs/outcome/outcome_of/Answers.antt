@@ -5,17 +5,17 @@ use Rattle.std.proofs.lemmas.Bool.{eqb-true, eqb-false}
 use Rattle.std.proofs.lemmas.List.{nil_from_length}
 use Rattle.std.proofs.lemmas.Result.{IfOk-weaker}
 use Rattle.ipdl_base.specs.declared.finding.Finding.{Finding}
-use Rattle.include_graph.specs.declared.walk.Reached.{Reached}
-use Rattle.include_graph.specs.Found.{IsFoundOf}
-use Rattle.include_graph.specs.Outcome.{IsOutcome, IsGood}
+use Rattle.include_graph.specs.declared.walk.ReachedFile.{ReachedFile}
+use Rattle.include_graph.specs.Additions.{IsFoundOf}
+use Rattle.include_graph.specs.LoadOutcome.{IsOutcome, IsGood}
 use Rattle.include_graph.proofs.Loaded.{Laws, clean_of, trees, the_program, a_program, bear, report_is}
 use Rattle.include_graph.proofs.outcome.outcome_of.Goals as goal
 
 -- what is found, told of the keys and the files themselves
-same : (count : ℕ) (found : List Finding) (keys keys' : List (List ℕ)) (files files' : List Reached) → keys ≡ keys' → files ≡ files' → ((f : Finding) → Contains found f ↔ ((n : ℕ) × IsFoundOf count keys files n f)) → (f : Finding) → Contains found f ↔ ((n : ℕ) × IsFoundOf count keys' files' n f)
+same : (count : ℕ) (found : List Finding) (keys keys' : List (List ℕ)) (files files' : List ReachedFile) → keys ≡ keys' → files ≡ files' → ((f : Finding) → Contains found f ↔ ((n : ℕ) × IsFoundOf count keys files n f)) → (f : Finding) → Contains found f ↔ ((n : ℕ) × IsFoundOf count keys' files' n f)
 same count found keys keys' files files' a b h f =
     subst (λ ks. Contains found f ↔ ((n : ℕ) × IsFoundOf count ks files' n f)) a
-    (subst (λ (fs : List Reached). Contains found f ↔ ((n : ℕ) × IsFoundOf count keys fs n f)) b (h f))
+    (subst (λ (fs : List ReachedFile). Contains found f ↔ ((n : ℕ) × IsFoundOf count keys fs n f)) b (h f))
 
 pub whole-requires-clause-trees : goal.whole-requires-clause-trees
 whole-requires-clause-trees c =
