@@ -22,7 +22,7 @@ use Rattle.ipdl_syntax.specs.declared.program.Entry.{Entry}
 use Rattle.ipdl_syntax.specs.declared.tree.ProtocolDecl.{ProtocolDecl}
 use Rattle.name_table.specs.Decls.{protocol_of}
 use Rattle.program_schema.specs.Numbers.{AreProtocolFiles}
-use Rattle.program_schema.proofs.NumberedProtocol.{file_below}
+use Rattle.program_schema.proofs.Numbered.{file_below}
 use Rattle.actor_tables.specs.Numbered.{AreNamedFiles, FindsNumbers}
 use Rattle.actor_tables.proofs.Protocols.{same_file}
 

@@ -14,10 +14,10 @@ use Rattle.script_reader.specs.declared.statement.WrittenMessage.{WrittenMessage
 use Rattle.script_reader.specs.declared.statement.MessageName.{MessageName}
 use Rattle.script_reader.specs.declared.statement.Statement.{Statement}
 use Rattle.script_reader.specs.declared.statement.Statement.TheVariants as forms
-use Rattle.script_reader.specs.declared.token.Class.{Class}
-use Rattle.script_reader.specs.declared.token.Class.TheVariants as class
-use Rattle.script_reader.specs.declared.token.Token.{Token}
-use Rattle.script_reader.specs.declared.token.Token.TheVariants as token
+use Rattle.script_reader.specs.declared.token.TokenClass.{TokenClass}
+use Rattle.script_reader.specs.declared.token.TokenClass.TheVariants as class
+use Rattle.script_reader.specs.declared.token.ScriptToken.{ScriptToken}
+use Rattle.script_reader.specs.declared.token.ScriptToken.TheVariants as token
 use Rattle.script_reader.specs.declared.written.Atom.{Atom}
 use Rattle.script_reader.specs.declared.written.Atom.TheVariants as atom
 use Rattle.script_reader.specs.declared.written.Who.{Who}
@@ -74,22 +74,22 @@ Names (forms.Return vs) = ValuesNames vs
 Names _ = Unit {0}
 
 -- tokens whose words are words, whose texts are UTF-8, and whose bytes are bytes
-abbrev pub IsWordToken : Token → Type 0
+abbrev pub IsWordToken : ScriptToken → Type 0
 IsWordToken (token.Word w) = IsWord w
 IsWordToken (token.Text text) = IsUtf8 text
 IsWordToken (token.Bytes bytes) = AreBytes bytes
 IsWordToken _ = Unit {0}
 
-abbrev pub AreWords : List Token → Type 0
+abbrev pub AreWords : List ScriptToken → Type 0
 AreWords [] = Unit {0}
 AreWords (t ∷ ts) = IsWordToken t × AreWords ts
 
 -- what is read of one token, and of parts behind one another
 
-tail_words : (t : Token) (from to : List Token) → from ≡ t ∷ to → AreWords from → AreWords to
+tail_words : (t : ScriptToken) (from to : List ScriptToken) → from ≡ t ∷ to → AreWords from → AreWords to
 tail_words t from to e ws = (subst AreWords e ws).1
 
-head_word : (t : Token) (from to : List Token) → from ≡ t ∷ to → AreWords from → IsWordToken t
+head_word : (t : ScriptToken) (from to : List ScriptToken) → from ≡ t ∷ to → AreWords from → IsWordToken t
 head_word t from to e ws = (subst AreWords e ws).0
 
 named_is : (w n : List ℕ) → IsWord w → named w ≡ Some n → IsName n
@@ -98,7 +98,7 @@ named_is w n h e = elim (cases_Bool (is_no_name w)) [
   | inr f ↦ (let P : Bool → Type 0 = λ b. (if b then None else Some w) ≡ Some n in let same : Some w ≡ Some n = subst P f e in let is : w ≡ n = cc in subst IsName is (h, f))
 ]
 
-name_is : (n : List ℕ) (t : Token) → IsWordToken t → name_of t ≡ Some n → IsName n
+name_is : (n : List ℕ) (t : ScriptToken) → IsWordToken t → name_of t ≡ Some n → IsName n
 name_is n (token.Word w) h e = named_is w n h e
 name_is n (token.Param k) h e = cc
 name_is n (token.Index k) h e = cc
@@ -107,7 +107,7 @@ name_is n (token.Text k) h e = cc
 name_is n (token.Bytes k) h e = cc
 name_is n (token.Mark k) h e = cc
 
-name_names : (n : List ℕ) (from to : List Token) → name n from to → AreWords from → IsName n × AreWords to
+name_names : (n : List ℕ) (from to : List ScriptToken) → name n from to → AreWords from → IsName n × AreWords to
 name_names n from to h ws = (name_is n h.0 (head_word h.0 from to h.1 ws) h.2, tail_words h.0 from to h.1 ws)
 
 if_cases : {X : Type 0} (b : Bool) (x y z : X) → (if b then x else y) ≡ z → (x ≡ z) ⊎ (y ≡ z)
@@ -130,7 +130,7 @@ who_word word w h e = elim (if_cases (bytes_eq word (codes "top")) (Some whos.To
   ]
 ]
 
-who_is : (w : Who) (t : Token) → IsWordToken t → who_of t ≡ Some w → IsNamed w
+who_is : (w : Who) (t : ScriptToken) → IsWordToken t → who_of t ≡ Some w → IsNamed w
 who_is w (token.Word word) h e = who_word word w h e
 who_is w (token.Param k) h e = let same : whos.Param k ≡ w = cc in subst IsNamed same tt
 who_is w (token.Index k) h e = cc
@@ -139,7 +139,7 @@ who_is w (token.Text k) h e = cc
 who_is w (token.Bytes k) h e = cc
 who_is w (token.Mark k) h e = cc
 
-who_names : (w : Who) (from to : List Token) → who w from to → AreWords from → IsNamed w × AreWords to
+who_names : (w : Who) (from to : List ScriptToken) → who w from to → AreWords from → IsNamed w × AreWords to
 who_names w from to h ws = (who_is w h.0 (head_word h.0 from to h.1 ws) h.2, tail_words h.0 from to h.1 ws)
 
 atom_who : (o : Option Who) (a : Atom) → option_map atom.Who o ≡ Some a → (w : Who) × (o ≡ Some w) × (atom.Who w ≡ a)
@@ -161,7 +161,7 @@ atom_word word a h e = elim (if_cases (bytes_eq word (codes "true")) (Some (atom
   ]
 ]
 
-atom_is : (a : Atom) (t : Token) → IsWordToken t → atom_of t ≡ Some a → AtomNames a
+atom_is : (a : Atom) (t : ScriptToken) → IsWordToken t → atom_of t ≡ Some a → AtomNames a
 atom_is a (token.Word word) h e = atom_word word a h e
 atom_is a (token.Param k) h e = let same : atom.Who (whos.Param k) ≡ a = cc in subst AtomNames same tt
 atom_is a (token.Index k) h e = cc
@@ -171,37 +171,37 @@ atom_is a (token.Bytes k) h e = let same : atom.Bytes k ≡ a = cc in subst Atom
 atom_is a (token.Mark k) h e = cc
 
 mutual
-  value_names : (v : WrittenValue) (from to : List Token) → value v from to → AreWords from → ValueNames v × AreWords to
+  value_names : (v : WrittenValue) (from to : List ScriptToken) → value v from to → AreWords from → ValueNames v × AreWords to
   value_names (written.Atom a) from to h ws = (atom_is a h.0 (head_word h.0 from to h.1 ws) h.2, tail_words h.0 from to h.1 ws)
   value_names (written.Struct vs) from to h ws = listed_names bracket.Curly vs h.0 to h.2 (tail_words _ from h.0 h.1 ws)
   value_names (written.Array vs) from to h ws = listed_names bracket.Square vs h.0 to h.2 (tail_words _ from h.0 h.1 ws)
   value_names (Union' index _ v) from to h ws = value_names v h.0 to h.2 (tail_words _ from h.0 h.1 ws)
   value_names (Held' _ v) from to h ws = value_names v h.0 to h.2 (tail_words _ from h.0 h.1 ws)
 
-  listed_names : (c : Bracket) (vs : WrittenValues) (from to : List Token) → listed c vs from to → AreWords from → ValuesNames vs × AreWords to
+  listed_names : (c : Bracket) (vs : WrittenValues) (from to : List ScriptToken) → listed c vs from to → AreWords from → ValuesNames vs × AreWords to
   listed_names c values.Nothing from to h ws = (tt, tail_words _ from to h ws)
   listed_names c (First' _ v _ vs) from to h ws =
       let one = value_names v from h.0 h.1 ws in
       let others = more_names c vs h.0 to h.2 one.1 in
       ((one.0, others.0), others.1)
 
-  more_names : (c : Bracket) (vs : WrittenValues) (from to : List Token) → more c vs from to → AreWords from → ValuesNames vs × AreWords to
+  more_names : (c : Bracket) (vs : WrittenValues) (from to : List ScriptToken) → more c vs from to → AreWords from → ValuesNames vs × AreWords to
   more_names c values.Nothing from to h ws = (tt, tail_words _ from to h ws)
   more_names c (First' _ v _ vs) from to h ws =
       let one = value_names v h.0 h.2.0 h.2.1 (tail_words _ from h.0 h.1 ws) in
       let others = more_names c vs h.2.0 to h.2.2 one.1 in
       ((one.0, others.0), others.1)
 
-arguments_names : (vs : WrittenValues) (from to : List Token) → arguments vs from to → AreWords from → ValuesNames vs × AreWords to
+arguments_names : (vs : WrittenValues) (from to : List ScriptToken) → arguments vs from to → AreWords from → ValuesNames vs × AreWords to
 arguments_names vs from to h ws = listed_names bracket.Round vs h.0 to h.2 (tail_words _ from h.0 h.1 ws)
 
-message_words : (m : MessageName) (from to : List Token) → message m from to → AreWords from → AreWords to
+message_words : (m : MessageName) (from to : List ScriptToken) → message m from to → AreWords from → AreWords to
 message_words m from to h ws = tail_words _ h.2.0 to h.2.2 (tail_words _ h.0 h.2.0 h.2.1 (tail_words _ from h.0 h.1 ws))
 
-call_names : (c : WrittenMessage) (from to : List Token) → call c from to → AreWords from → ValuesNames c.values × AreWords to
+call_names : (c : WrittenMessage) (from to : List ScriptToken) → call c from to → AreWords from → ValuesNames c.values × AreWords to
 call_names c from to h ws = arguments_names c.values h.0 to h.2 (message_words c.message from h.0 h.1 ws)
 
-behind_names : (s : Statement) (from to : List Token) → behind_keyword s from to → AreWords from → Names s
+behind_names : (s : Statement) (from to : List ScriptToken) → behind_keyword s from to → AreWords from → Names s
 behind_names (forms.Main s) from to h ws = tt
 behind_names (forms.On s m) from to h ws = tt
 behind_names forms.End from to h ws = tt
@@ -235,7 +235,7 @@ front_word b bs t =
     let byte : is_word_byte b ≡ true = or_left (is_word_start b) _ t in
     rw (take_while-cons is_word_byte b bs, byte) (and_from (is_word_start b) (list_all is_word_byte (take_while is_word_byte bs)) t (words_while bs))
 
-word_of : (c : Class) (w from to : List ℕ) → class_of from ≡ c → IsTokenOf c (token.Word w) from to → IsWord w
+word_of : (c : TokenClass) (w from to : List ℕ) → class_of from ≡ c → IsTokenOf c (token.Word w) from to → IsWord w
 word_of class.Word w [] to e h = absurd (let no : ⊥ = cc in no)
 word_of class.Word w (b ∷ bs) to e h = (let same : take_while is_word_byte (b ∷ bs) ≡ w = cc in subst IsWord same (front_word b bs (word_start b bs e)))
 word_of class.Param w from to e h = absurd (let is = h.1 in let no : ⊥ = cc in no)
@@ -299,7 +299,7 @@ bytes_in : (bytes from to : List ℕ) → InSequence hex_at bytes from to → Ar
 bytes_in [] from to h = tt
 bytes_in (b ∷ bs) from to h = (hex_at_less from b h.0 h.1, bytes_in bs h.0 to h.2)
 
-bytes_of : (c : Class) (bytes from to : List ℕ) → IsTokenOf c (token.Bytes bytes) from to → AreBytes bytes
+bytes_of : (c : TokenClass) (bytes from to : List ℕ) → IsTokenOf c (token.Bytes bytes) from to → AreBytes bytes
 bytes_of class.Bytes bytes from to h = let e = h.1 in let same : h.0 ≡ bytes = cc in subst AreBytes same (bytes_in h.0 (drop 2 from) (34 ∷ to) h.2)
 bytes_of class.Word bytes from to h = absurd (let is = h.0 in let no : ⊥ = cc in no)
 bytes_of class.Param bytes from to h = absurd (let is = h.1 in let no : ⊥ = cc in no)
@@ -310,7 +310,7 @@ bytes_of class.Text bytes from to h = absurd (let is = h.1 in let no : ⊥ = cc 
 bytes_of class.Mark bytes from to h = absurd (let is = h.0 in let no : ⊥ = cc in no)
 bytes_of class.Other bytes from to h = absurd h
 
-text_of : (c : Class) (text from to : List ℕ) → IsTokenOf c (token.Text text) from to → IsUtf8 text
+text_of : (c : TokenClass) (text from to : List ℕ) → IsTokenOf c (token.Text text) from to → IsUtf8 text
 text_of class.Text text from to h = let e = h.1 in let same : h.0 ≡ text = cc in subst IsUtf8 same h.2
 text_of class.Word text from to h = absurd (let is = h.0 in let no : ⊥ = cc in no)
 text_of class.Param text from to h = absurd (let is = h.1 in let no : ⊥ = cc in no)
@@ -321,7 +321,7 @@ text_of class.Bytes text from to h = absurd (let is = h.1 in let no : ⊥ = cc i
 text_of class.Mark text from to h = absurd (let is = h.0 in let no : ⊥ = cc in no)
 text_of class.Other text from to h = absurd h
 
-token_word : (t : Token) (from to : List ℕ) → IsToken t from to → IsWordToken t
+token_word : (t : ScriptToken) (from to : List ℕ) → IsToken t from to → IsWordToken t
 token_word (token.Word w) from to h = word_of (class_of from) w from to refl h
 token_word (token.Param k) from to h = tt
 token_word (token.Index k) from to h = tt
@@ -330,7 +330,7 @@ token_word (token.Text k) from to h = text_of (class_of from) k from to h
 token_word (token.Bytes k) from to h = bytes_of (class_of from) k from to h
 token_word (token.Mark k) from to h = tt
 
-tokens_words : (ts : List Token) (line : List ℕ) → AreTokens ts line → AreWords ts
+tokens_words : (ts : List ScriptToken) (line : List ℕ) → AreTokens ts line → AreWords ts
 tokens_words [] line h = tt
 tokens_words (t ∷ ts) line h = (token_word t (behind is_blank line) h.0 h.1, tokens_words ts h.0 h.2)
 

@@ -9,7 +9,7 @@ use Rattle.tree_reader.specs.Ending as ending
 use Rattle.tree_reader.specs.declared.symbol.Symbol.{Symbol}
 use Rattle.tree_reader.specs.declared.symbol.Symbol.TheVariants.{End, Word, Quoted, OtherWord, OtherMark, Colons, OpenBrace, CloseBrace, OpenParen, CloseParen, OpenBracket, CloseBracket, Less, Greater, Semicolon, Comma, Colon, Equals, Question, Async, Both, Child, Class, From, Include, Manager, Manages, Namespace, Nullable, Or, Parent, Protocol, Returns, Struct, Sync, Union, UniquePtr, Using}
 use Rattle.tree_reader.specs.Symbols.{symbol, mark_symbol, word_symbol}
-use Rattle.tree_reader.specs.Machine.{Form, proper, take, any_word, argument_name, argument_words, suffixed, named, based, typed, attributed, behind_attribute, more_attributed, one_param, parameters, more_parameters, behind_parameters, one_message, messaged, managing, more_managing, fielded, componented, using_named, using_word, behind_using, include_named, Stand, stand, stepped, step, gone_at, refusal, production}
+use Rattle.tree_reader.specs.Machine.{Form, proper, take, any_word, argument_name, argument_words, suffixed, named, based, typed, attributed, behind_attribute, more_attributed, one_param, parameters, more_parameters, behind_parameters, one_message, messaged, managing, more_managing, fielded, componented, using_named, using_word, behind_using, include_named, FileState, stand, stepped, step, gone_at, refusal, production}
 
 -- a token with a symbol
 abbrev of_kind : TokenKind → List ℕ → Token
@@ -134,7 +134,7 @@ completion include_named = Word ∷ Semicolon ∷ []
 
 -- a form is completed: the machine takes the tokens, and stands behind it
 abbrev Completes : Form → Type 0
-Completes f = (forms : List Form) (at : Stand) (rest : List Token) → refusal (f ∷ forms) at (tokens_of (completion f) ++ rest) ≡ refusal forms at rest
+Completes f = (forms : List Form) (at : FileState) (rest : List Token) → refusal (f ∷ forms) at (tokens_of (completion f) ++ rest) ≡ refusal forms at rest
 
 take_completes : (s : Symbol) → Completes (take s)
 unfolding refusal production mark_symbol word_symbol
@@ -234,7 +234,7 @@ abbrev completions : List Form → List Token
 completions [] = []
 completions (f ∷ fs) = tokens_of (completion f) ++ completions fs
 
-all_complete : (forms : List Form) (at : Stand) (rest : List Token) → refusal forms at (completions forms ++ rest) ≡ refusal [] at rest
+all_complete : (forms : List Form) (at : FileState) (rest : List Token) → refusal forms at (completions forms ++ rest) ≡ refusal [] at rest
 all_complete [] at rest = refl
 all_complete (f ∷ fs) at rest =
     ap (λ (x : List Token). refusal (f ∷ fs) at x) (append_assoc (tokens_of (completion f)) (completions fs) rest)
@@ -254,7 +254,7 @@ closed_steps may n =
 closings_complete : (n : ℕ) → refusal [] (stand false n false) (closings n) ≡ None
 unfolding refusal mark_symbol
 closings_complete zero = refl
-closings_complete (suc n) = ap (λ (o : Option (List Form × Stand)). gone_at o (length (closings n) + 1) (λ forms to. refusal forms to (closings n))) (closed_steps false n) ∙ closings_complete n
+closings_complete (suc n) = ap (λ (o : Option (List Form × FileState)). gone_at o (length (closings n) + 1) (λ forms to. refusal forms to (closings n))) (closed_steps false n) ∙ closings_complete n
 
 -- a protocol, where it may still come
 abbrev protocols : Bool → List Token
@@ -277,12 +277,12 @@ structs_complete may true n = protocols_complete may n
 structs_complete may false n = protocols_complete may n
 
 -- what completes where a file stands
-abbrev file_completion : Stand → List Token
+abbrev file_completion : FileState → List Token
 file_completion (stand may n headed) = structs headed ++ (protocols may ++ closings n)
 
-stand_complete : (at : Stand) → refusal [] at (file_completion at) ≡ None
+stand_complete : (at : FileState) → refusal [] at (file_completion at) ≡ None
 stand_complete (stand may n headed) = structs_complete may headed n
 
 -- Each state is completed.
-pub completed : (forms : List Form) (at : Stand) → (more : List Token) × (refusal forms at more ≡ None)
+pub completed : (forms : List Form) (at : FileState) → (more : List Token) × (refusal forms at more ≡ None)
 completed forms at = (completions forms ++ file_completion at, all_complete forms at (file_completion at) ∙ stand_complete at)

@@ -11,7 +11,7 @@ use Rattle.tree_reader.specs.Ending as ending
 use Rattle.tree_reader.specs.declared.symbol.Symbol.{Symbol}
 use Rattle.tree_reader.specs.declared.symbol.Symbol.TheVariants.{Word, OpenBrace, CloseBrace, OpenBracket, Async, Include, Namespace, Protocol, Struct, Sync, Union, Using}
 use Rattle.tree_reader.specs.Symbols.{symbol}
-use Rattle.tree_reader.specs.Machine.{take, typed, attributed, managing, fielded, componented, using_named, include_named, Stand, stand, step}
+use Rattle.tree_reader.specs.Machine.{take, typed, attributed, managing, fielded, componented, using_named, include_named, FileState, stand, step}
 use Rattle.std.specs.List.{flat_map}
 use Rattle.std.proofs.Common.{add-one}
 use Rattle.std.proofs.lemmas.Bool.{ltb-true}
@@ -89,7 +89,7 @@ close_built may (suc n) t rest is pos (m, eq, r) =
     (subst (λ (k : ℕ). Rest may k rest) e (subst (λ (x : List Token). Rest may (suc n - 1) x) (sym eq) r))
 
 -- What is left behind the step of a first token makes what is left before it.
-pub file_built : (at : Stand) (s : Symbol) (t : Token) (rest : List Token) → symbol t ≡ s → BehindAt (step at s) rest → FileRest at (t ∷ rest)
+pub file_built : (at : FileState) (s : Symbol) (t : Token) (rest : List Token) → symbol t ≡ s → BehindAt (step at s) rest → FileRest at (t ∷ rest)
 unfolding step
 file_built (stand may d true) s t rest is h = headed_built may d s t rest is h
 file_built (stand may d false) OpenBracket t rest is h = bracket_built may d t rest is h

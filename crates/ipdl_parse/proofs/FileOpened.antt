@@ -12,7 +12,7 @@ use Rattle.ipdl_syntax.specs.Grammar.{attributes, components, include, declared,
 use Rattle.tree_reader.specs.declared.symbol.Symbol.{Symbol}
 use Rattle.tree_reader.specs.declared.symbol.Symbol.TheVariants.{Word, OpenBrace, CloseBrace, OpenBracket, Async, Include, Namespace, Protocol, Struct, Sync, Union, Using}
 use Rattle.tree_reader.specs.Symbols.{symbol}
-use Rattle.tree_reader.specs.Machine.{take, managing, Stand, stand, step, is_end}
+use Rattle.tree_reader.specs.Machine.{take, managing, FileState, stand, step, is_end}
 use Rattle.std.proofs.Common.{add-one}
 use Rattle.std.proofs.lemmas.Bool.{lt-ltb}
 use Rattle.ipdl_syntax.specs.declared.tree.Include.{Include as IncludeDecl}
@@ -24,13 +24,13 @@ use Rattle.ipdl_parse.proofs.Meaning.{closed}
 use Rattle.ipdl_parse.proofs.Files.{ClosedRest, OpenRest, Rest, Headed, headed_struct, headed_union, headed_using, headed_protocol, FileRest, Whole, BehindAt, steps, rescoped, rescoped_holder}
 use Rattle.tree_reader.proofs.Symbols.{is_word, is_open_brace, is_close_brace, is_open_bracket, is_async, is_include, is_namespace, is_protocol, is_struct, is_sync, is_union, is_using}
 
-abbrev pub Begins : Stand → List Token → Type 0
+abbrev pub Begins : FileState → List Token → Type 0
 Begins at from = (t : Token) × (rest : List Token) × (from ≡ t ∷ rest) × BehindAt (step at (symbol t)) rest
 
-abbrev pub FileOpened : Stand → List Token → Type 0
+abbrev pub FileOpened : FileState → List Token → Type 0
 FileOpened at from = ((from ≡ []) × (is_end [] at ≡ true)) ⊎ Begins at from
 
-begin_by : (at : Stand) (s : Symbol) (from : List Token) (t : Token) (rest : List Token) → from ≡ t ∷ rest → symbol t ≡ s → BehindAt (step at s) rest → Begins at from
+begin_by : (at : FileState) (s : Symbol) (from : List Token) (t : Token) (rest : List Token) → from ≡ t ∷ rest → symbol t ≡ s → BehindAt (step at s) rest → Begins at from
 begin_by at s from t rest e is d = (t, rest, e, subst (λ (x : Symbol). BehindAt (step at x) rest) (sym is) d)
 
 is_zero : (d : ℕ) → d ≡ 0 → (d == 0) ≡ true
@@ -115,7 +115,7 @@ close_first may d from m (t, te, tk) r =
     (steps (nat_lt 0 (suc d)) _ _ m (lt-ltb 0 (suc d) (omega arith)) (m, refl, subst (λ (n : ℕ). Rest may n m) e r))
 
 -- the same from an equal list
-moved : (at : Stand) (from middle : List Token) → from ≡ middle → Begins at middle → Begins at from
+moved : (at : FileState) (from middle : List Token) → from ≡ middle → Begins at middle → Begins at from
 moved at from m same (t, rest, e, d) = (t, rest, same ∙ e, d)
 
 room_depth : (n : ℕ) → 0 < 15 - n → suc n < 16
@@ -177,7 +177,7 @@ open_opened (suc n) from (inside_namespace name held x, m, (m6, (pos, (m1, nd, (
     (h.0, m4, subst (λ (k : ℕ). inside k [] h.0 m3 m4) (one_less n) h.1, inl (m6, cd, (x, m, xd, r)))
 
 -- What is left is nothing where the file may end, or begins with a token that has a step.
-pub file_opened : (at : Stand) (from : List Token) → FileRest at from → FileOpened at from
+pub file_opened : (at : FileState) (from : List Token) → FileRest at from → FileOpened at from
 file_opened (stand may d true) from h = inr (headed_begins may d from h)
 file_opened (stand false d false) from r = closed_opened d from r
 file_opened (stand true d false) from r = inr (open_opened d from r)

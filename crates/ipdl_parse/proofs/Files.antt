@@ -5,7 +5,7 @@ use Rattle.ipdl_base.specs.declared.token.Token.{Token}
 use Rattle.ipdl_syntax.specs.declared.tree.Attribute.{Attribute}
 use Rattle.ipdl_syntax.specs.Parts.{Part, nothing, ◌⨾◌, either, mark, reserved, word, at}
 use Rattle.ipdl_syntax.specs.Grammar.{attributes, MessageSection, sections, Management, managements, fields, components, foreign_name, include, declared, protocol_semantics, managers_of, managed_of, protocol, struct_decl, union_decl, using_decl, Inside, inside_end, inside_struct, inside_union, inside_namespace, Outside, outside_end, outside_include, outside_using, outside_struct, outside_union, outside_namespace, Holder, holder_protocol, holder_namespace, inside, outside, holder, protocol_file}
-use Rattle.tree_reader.specs.Machine.{Form, Stand, stand, stepped}
+use Rattle.tree_reader.specs.Machine.{Form, FileState, stand, stepped}
 use Rattle.std.specs.List.{flat_map}
 use Rattle.ipdl_syntax.specs.declared.tree.Include.{Include as IncludeDecl}
 use Rattle.ipdl_syntax.specs.declared.tree.ProtocolDecl.{ProtocolDecl}
@@ -56,24 +56,24 @@ pub data Headed : Bool → ℕ → List Token → Type 0 where
   headed_protocol : {may : Bool} {d : ℕ} {from : List Token} (middle : List Token) (p : ProtocolDecl) → may ≡ true → bare_protocol p from middle → Rest false d middle → Headed may d from
 
 -- what is left
-abbrev pub FileRest : Stand → List Token → Type 0
+abbrev pub FileRest : FileState → List Token → Type 0
 FileRest (stand may d true) from = Headed may d from
 FileRest (stand may d false) from = Rest may d from
 
 -- forms, and what is left behind them
-abbrev pub Whole : List Form → Stand → List Token → Type 0
+abbrev pub Whole : List Form → FileState → List Token → Type 0
 Whole forms at from = (middle : List Token) × TakeAll forms from middle × FileRest at middle
 
 -- what comes behind a first token
-abbrev pub BehindAt : Option (List Form × Stand) → List Token → Type 0
+abbrev pub BehindAt : Option (List Form × FileState) → List Token → Type 0
 BehindAt None rest = ⊥
 BehindAt (Some next) rest = Whole next.0 next.1 rest
 
-pub was_stepped : (b : Bool) (forms : List Form) (to : Stand) (rest : List Token) → BehindAt (stepped b forms to) rest → (b ≡ true) × Whole forms to rest
+pub was_stepped : (b : Bool) (forms : List Form) (to : FileState) (rest : List Token) → BehindAt (stepped b forms to) rest → (b ≡ true) × Whole forms to rest
 was_stepped true forms to rest d = (refl, d)
 was_stepped false forms to rest d = absurd d
 
-pub steps : (b : Bool) (forms : List Form) (to : Stand) (rest : List Token) → b ≡ true → Whole forms to rest → BehindAt (stepped b forms to) rest
+pub steps : (b : Bool) (forms : List Form) (to : FileState) (rest : List Token) → b ≡ true → Whole forms to rest → BehindAt (stepped b forms to) rest
 steps true forms to rest e d = d
 steps false forms to rest e d = absurd (cc)
 

@@ -2,7 +2,7 @@
 use Rattle.std.proofs.Common.{◌≡◌, ℕ, suc, ◌-◌, ◌≤◌, List, [], ◌∷◌, ◌++◌, length, take, Some, None, refl, sym, ap, subst, ◌∙◌, arith, append_assoc, length-append, add-one}
 use Rattle.ipdl_base.specs.declared.token.Token.{Token}
 use Rattle.ipdl_syntax.specs.declared.tree.FileKind.{FileKind}
-use Rattle.tree_reader.specs.Machine.{Form, Stand, begin, refusal}
+use Rattle.tree_reader.specs.Machine.{Form, FileState, begin, refusal}
 use Rattle.ipdl_base.specs.declared.finding.Place.{Place}
 use Rattle.ipdl_parse.specs.declared.parser.SyntaxFault.{SyntaxFault}
 use Rattle.ipdl_parse.specs.declared.parser.SyntaxFault.TheVariants.{Fault, NoMemory}
@@ -21,7 +21,7 @@ one_more [] y ys = refl
 one_more (x ∷ xs) y ys = ap (λ (z : List Token). x ∷ z) (one_more xs y ys)
 
 -- what was taken, and what is left there
-module _ (kind : FileKind) (front : List Token) (forms : List Form) (at : Stand) (goes : (more : List Token) → refusal [] (begin kind) (front ++ more) ≡ refusal forms at more) where
+module _ (kind : FileKind) (front : List Token) (forms : List Form) (at : FileState) (goes : (more : List Token) → refusal [] (begin kind) (front ++ more) ≡ refusal forms at more) where
   front_goes_on : GoesOn kind front
   front_goes_on = let c = completed forms at in (c.0, taken_tree kind (front ++ c.0) (goes c.0 ∙ c.1))
 

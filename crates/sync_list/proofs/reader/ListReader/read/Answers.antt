@@ -1,7 +1,7 @@
 use Rattle.std.proofs.Common.{◌≡◌, not, length, vec_len, inl, inr, refl, sym, ap, ◌∙◌, subst, arith}
 use Rattle.std.specs.Prelude.{option_copied}
 use Rattle.std.proofs.lemmas.Result.{IfErr-weaker}
-use Rattle.sync_list.specs.declared.line.Line.{Line}
+use Rattle.sync_list.specs.declared.line.ListLine.{ListLine}
 use Rattle.sync_list.specs.Forms.{blank, comment, value, more}
 use Rattle.sync_list.specs.Reading.{IsLine}
 use Rattle.sync_list.proofs.Grown.{open_word-push}
@@ -17,7 +17,7 @@ returns-then-is_empty-clause-err c =
 
 pub returns-in-Blank-clause-ok : goal.returns-in-Blank-clause-ok
 returns-in-Blank-clause-ok c forms read counted =
-    let P : Line → Type 0 = IsLine c.args.line.now in
+    let P : ListLine → Type 0 = IsLine c.args.line.now in
     elim c.in-Blank.is [
       | inl e ↦ record {
         form = blank;
