@@ -8,7 +8,7 @@ use Rattle.type_rules.proofs.declarations.firsts_of.Goals as goal
 use Rattle.type_rules.proofs.declarations.firsts_of.Goals.{then-counts+in_ok-note, else-counts}
 
 pub loop-declaration-init : goal.loop-declaration-init
-loop-declaration-init c = firsts_none c.args.own _ (λ name. ap (lookup (λ k. bytes_eq name k.now)) c.new-firsts.ensures.empty)
+loop-declaration-init c = firsts_none c.args.own _ (λ name. ap (lookup (λ k. bytes_eq name k.now)) c.in_ok-firsts.ensures.empty)
 
 pub loop-declaration-preserved : goal.loop-declaration-preserved
 loop-declaration-preserved c =

@@ -5,7 +5,7 @@ use Rattle.type_rules.proofs.Needs.{parts_none, parts_turn}
 use Rattle.type_rules.proofs.parts.parts_of_components.Goals as goal
 
 pub loop-component-init : goal.loop-component-init
-loop-component-init c = parts_none c.args.names.now c.args.files.now c.args.file _ c.new.ensures.items refl
+loop-component-init c = parts_none c.args.names.now c.args.files.now c.args.file _ c.in_ok-with_capacity.ensures.items refl
 
 pub loop-component-preserved : goal.loop-component-preserved
 loop-component-preserved c =

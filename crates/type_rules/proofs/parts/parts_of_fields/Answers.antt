@@ -5,7 +5,7 @@ use Rattle.type_rules.proofs.Needs.{parts_none, parts_turn}
 use Rattle.type_rules.proofs.parts.parts_of_fields.Goals as goal
 
 pub loop-field-init : goal.loop-field-init
-loop-field-init c = parts_none c.args.names.now c.args.files.now c.args.file _ c.new.ensures.items refl
+loop-field-init c = parts_none c.args.names.now c.args.files.now c.args.file _ c.in_ok-with_capacity.ensures.items refl
 
 pub loop-field-preserved : goal.loop-field-preserved
 loop-field-preserved c =
