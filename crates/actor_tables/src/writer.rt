@@ -218,7 +218,7 @@ fn push_message(out: &mut Vec<u8>, schema: &Schema, message: &MessageRow) -> Res
     out.extend_from_slice(message.name.as_slice())?;
     push_params(out, schema, message.params.as_slice())?;
     push_returns(out, schema, &message.returns)?;
-    Ok(out.push(b'\n')?)
+    out.extend_from_slice(b"\n")
 }
 
 /// Appends the lines of messages.
