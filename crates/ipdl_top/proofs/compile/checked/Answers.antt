@@ -19,10 +19,10 @@ returns-in-Ok-clause-found g c =
     let list = option_map string_bytes c.args.list.now in
     let told = g.F.Files.told c.args.files.now in
     let program = c.in-Ok.program in
-    let R : FileViews → Type 0 = λ seen. IfOk c.program_checked.result (IsChecked (given_by seen.files path names) seen.list list) in
-    for_both told _ (λ files. load.IsProgramOf (given_by files path names) program) (λ lists. IfOk c.program_checked.result (IsProgramChecked lists list program)) R c.in-Ok.ensures.told
-    (λ files lists p a. IfOk-weaker c.program_checked.result (IsProgramChecked lists list program) (IsChecked (given_by files path names) lists list) (λ checked h. of_program (given_by files path names) lists list program checked p c.in-Ok.ensures.program h) a)
-    c.in-Ok.ensures.answer c.program_checked.ensures.found
+    let R : FileViews → Type 0 = λ seen. IfOk c.program_checked-found.result (IsChecked (given_by seen.files path names) seen.list list) in
+    for_both told _ (λ files. load.IsProgramOf (given_by files path names) program) (λ lists. IfOk c.program_checked-found.result (IsProgramChecked lists list program)) R c.in-Ok.ensures.told
+    (λ files lists p a. IfOk-weaker c.program_checked-found.result (IsProgramChecked lists list program) (IsChecked (given_by files path names) lists list) (λ checked h. of_program (given_by files path names) lists list program checked p c.in-Ok.ensures.program h) a)
+    c.in-Ok.ensures.answer c.program_checked-found.ensures.found
 
 pub returns-in-Ok-files_answer-clause-found : goal.returns-in-Ok-files_answer-clause-found
 returns-in-Ok-files_answer-clause-found g c =
