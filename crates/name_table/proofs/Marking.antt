@@ -233,29 +233,13 @@ pub reached_within : (program : List Entry) (from : ℕ) {file : ℕ} → Reache
 reached_within program from (start below) = below
 reached_within program from (step r along e below) = below
 
--- what is not there joins, and what is there or is no file does not
-pub joins_new : (count file : ℕ) (files : List ℕ) → file < count → Joins count (file ∷ []) files (files ++ file ∷ [])
-joins_new count file files below = record {
-  more = file ∷ [];
-  grown = refl;
-  only = λ n h. (h, subst (λ k. k < count) (sym (the_one file n h)) below);
-  joined = λ n h b. Contains-append_right files (file ∷ []) n h;
-}
-
+-- what is there, or is no file, does not join
 pub joins_none : (count file : ℕ) (files : List ℕ) → (file < count → Contains files file) → Joins count (file ∷ []) files files
 joins_none count file files there = record {
   more = [];
   grown = sym (append-nil files);
   only = λ n h. (let k = h.1 in absurd (omega arith));
   joined = λ n h b. (let is = the_one file n h in subst (Contains files) (sym is) (there (subst (λ k. k < count) is b)));
-}
-
-pub joins_nothing : (count : ℕ) (files : List ℕ) → Joins count [] files files
-joins_nothing count files = record {
-  more = [];
-  grown = sym (append-nil files);
-  only = λ n h. (let k = h.1 in absurd (omega arith));
-  joined = λ n h b. (let k = h.1 in absurd (omega arith));
 }
 
 -- first these join, and then those

@@ -9,7 +9,6 @@ use Rattle.name_table.specs.declared.decl.DeclId.TheVariants.{Builtin, Using, St
 use Rattle.name_table.specs.Declares.{file_of, full_name_in, full_name_of, Declares, Includes, IsHeader}
 use Rattle.name_table.specs.declared.sight.Reach.{Reach}
 use Rattle.name_table.specs.Marks.{IsFollowed, Reaches, start, step, Shows, AreMarksOf, IsSight, AreSights}
-use Rattle.name_table.proofs.Marking.{marked_within}
 use Rattle.name_table.specs.Visible.{Sees, own, protocol, header}
 
 -- what is said of an entry is said of a file that there is
@@ -118,11 +117,6 @@ pub mark_tells : (program : List Entry) (file other : ℕ) (marks : List Bool) (
 mark_tells program file other marks mark are below at =
     let same : slice_index_or marks other false ≡ mark = get_or_from_slice_get marks other mark false (slice_get_read marks (length marks) other mark refl below at) in
     (λ h. (are other).0 (same ∙ h), λ r. sym same ∙ (are other).1 r)
-
-pub no_mark_tells : (program : List Entry) (file other : ℕ) (marks : List Bool) → AreMarksOf program file marks → length marks ≤ other → ¬ Reaches program file other
-no_mark_tells program file other marks are past r =
-    let within = marked_within marks other ((are other).1 r) in
-    absurd (omega (arith, within, past))
 
 -- a declaration is seen under one full name
 pub seen_once : (program : List Entry) (file : ℕ) (d : DeclId) (a b : List ℕ) → Sees program file d a → Sees program file d b → a ≡ b
