@@ -17,3 +17,5 @@ pub mod FailedWaits
 pub mod StillWorlds
 pub mod GivingWay
 pub mod EndsTold
+mod WorkedSchema
+mod Worked
