@@ -7,8 +7,8 @@ use Rattle.nesting_laws.proofs.Deferrals.{beside-deferred, cpow-deferred, not-ta
 use Rattle.nesting_laws.proofs.Exchanges.{IsInside}
 use Rattle.nesting_laws.proofs.NestedSteps.{caller-inside, other-inside}
 use Rattle.nesting_laws.specs.Alone.{IsAlone, ReplyThenFarewell, RequestsThenFarewell, no_reply_comes, only_farewell, reply_comes, reply_first, request_ahead, request_first}
-use Rattle.nesting_laws.specs.Calls.{Call, SyncEnd, SyncFrame, SyncPacket, dispatch, farewell, reply, reply_of, request, sync_end, wait, with_packets}
-use Rattle.nesting_laws.specs.Chains.{Chain, Exchange, by_child, by_parent, inside, queued, replied, requested, running}
+use Rattle.nesting_laws.specs.Calls.{Call, SyncEnd, SyncFrame, SyncPacket, dispatch, farewell, reply, request, sync_end, wait, with_packets}
+use Rattle.nesting_laws.specs.Chains.{Exchange, queued, replied, requested, running}
 use Rattle.nesting_laws.specs.Laws.{AloneStays}
 use Rattle.nesting_laws.specs.Nested.{AreNested, IsBeside, at_hand, beside_child, beside_parent, crossed, crossed_back, crossed_behind, idle, in_arrived, in_link, of_child, of_parent, on_top, on_way, overtaken, to_arrive, to_take}
 use Rattle.nesting_laws.specs.Steps.{DefersCall, IsBelowCpow, IsInserted, IsTransactionOf, Step, calls, calls_inside, drops, here, reply_arrives, request_arrives, returns, takes, there}
@@ -69,16 +69,11 @@ alone-beside h (in_link i) (no_reply_comes l) = no_reply_comes (farewell-inserte
 alone-beside {side} h (in_arrived i) (reply_comes {w} k l) = reply_comes (all-inserted (DefersCall side w) i h k) l
 alone-beside h (in_link i) (reply_comes k l) = reply_comes k (reply-inserted h i l)
 
-answered-alone : {base : List SyncFrame} {t : ℤ} {s : Side} {q : Call} {mine theirs : List SyncFrame} → Chain base t s q mine theirs → IsAlone s (sync_end mine [] (reply (reply_of q) ∷ farewell ∷ []))
-answered-alone (by_parent a b c) = reply_comes tt (reply_first only_farewell)
-answered-alone (by_child a b c) = reply_comes tt (reply_first only_farewell)
-answered-alone (inside a b c d e f) = reply_comes tt (reply_first only_farewell)
-
 caller-alone : {base : List SyncFrame} {t : ℤ} {s : Side} {a b : SyncEnd} → Exchange base t s a b → IsAlone s (with_packets a (farewell ∷ []))
 caller-alone (requested chain) = no_reply_comes only_farewell
 caller-alone (queued chain) = no_reply_comes only_farewell
 caller-alone (running chain) = no_reply_comes only_farewell
-caller-alone (replied chain) = answered-alone chain
+caller-alone (replied chain) = reply_comes tt (reply_first only_farewell)
 
 other-alone : {base : List SyncFrame} {t : ℤ} {s o : Side} {a b : SyncEnd} → Exchange base t s a b → IsAlone o (with_packets b (farewell ∷ []))
 other-alone (requested chain) = no_reply_comes (request_first only_farewell)

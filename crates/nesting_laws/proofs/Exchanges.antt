@@ -28,30 +28,22 @@ pub data AfterCaller (base : List SyncFrame) (t : ℤ) (s : Side) : SyncEnd → 
   back : {o : Side} {next theirs : SyncEnd} → Faces s o → Exchange base t o theirs next → AfterCaller base t s next [] theirs
 
 -- a waiting end with nothing on its link has no step
-stuck : {base : List SyncFrame} {t : ℤ} {s : Side} {q : Call} {mine theirs : List SyncFrame} {next : SyncEnd} {sent : List SyncPacket} {A : Type 0} → Chain base t s q mine theirs → Step s (sync_end mine [] []) next sent → A
-stuck (by_parent a b c) (takes i may) = none-inserted i
-stuck (by_parent a b c) (drops i may) = none-inserted i
-stuck (by_child a b c) (takes i may) = none-inserted i
-stuck (by_child a b c) (drops i may) = none-inserted i
-stuck (inside a b c d e f) (takes i may) = none-inserted i
-stuck (inside a b c d e f) (drops i may) = none-inserted i
+stuck : {s : Side} {q : Call} {below : List SyncFrame} {next : SyncEnd} {sent : List SyncPacket} {A : Type 0} → Step s (sync_end (wait q ∷ below) [] []) next sent → A
+stuck (takes i may) = none-inserted i
+stuck (drops i may) = none-inserted i
 
-caller-answered : {base : List SyncFrame} {t : ℤ} {r : ReplyHead} {s : Side} {q : Call} {mine theirs : List SyncFrame} {next : SyncEnd} {sent : List SyncPacket} → Chain base t s q mine theirs → Step s (sync_end mine [] (reply r ∷ [])) next sent → AfterCaller base t s next sent (sync_end theirs [] [])
-caller-answered (by_parent a b c) reply_arrives = ended tt
-caller-answered (by_child a b c) reply_arrives = ended a
-caller-answered (inside f chain c d e g) reply_arrives = back f (running chain)
-caller-answered (by_parent a b c) (takes i may) = none-inserted i
-caller-answered (by_parent a b c) (drops i may) = none-inserted i
-caller-answered (by_child a b c) (takes i may) = none-inserted i
-caller-answered (by_child a b c) (drops i may) = none-inserted i
-caller-answered (inside a b c d e f) (takes i may) = none-inserted i
-caller-answered (inside a b c d e f) (drops i may) = none-inserted i
+answered : {base : List SyncFrame} {t : ℤ} {r : ReplyHead} {s : Side} {q : Call} {below theirs : List SyncFrame} {next : SyncEnd} {sent : List SyncPacket} → Chain base t s q below theirs → Step s (sync_end (wait q ∷ below) [] (reply r ∷ [])) next sent → AfterCaller base t s next sent (sync_end theirs [] [])
+answered (by_parent a b c) reply_arrives = ended tt
+answered (by_child a b c) reply_arrives = ended a
+answered (inside f chain c d e g) reply_arrives = back f (running chain)
+answered chain (takes i may) = none-inserted i
+answered chain (drops i may) = none-inserted i
 
 pub caller-step : {base : List SyncFrame} {t : ℤ} {s : Side} {a b next : SyncEnd} {sent : List SyncPacket} → Exchange base t s a b → Step s a next sent → AfterCaller base t s next sent b
-caller-step (requested chain) step = stuck chain step
-caller-step (queued chain) step = stuck chain step
-caller-step (running chain) step = stuck chain step
-caller-step (replied chain) step = caller-answered chain step
+caller-step (requested chain) step = stuck step
+caller-step (queued chain) step = stuck step
+caller-step (running chain) step = stuck step
+caller-step (replied chain) step = answered chain step
 
 -- The other end
 
@@ -61,20 +53,12 @@ IsBare [] = Unit {0}
 IsBare (wait q ∷ below) = Unit {0}
 IsBare (dispatch q ∷ below) = ⊥
 
-waiting-is_bare : {base : List SyncFrame} {t : ℤ} {s : Side} {q : Call} {mine theirs : List SyncFrame} → Chain base t s q mine theirs → IsBare mine
-waiting-is_bare (by_parent a b c) = tt
-waiting-is_bare (by_child a b c) = tt
-waiting-is_bare (inside a b c d e f) = tt
-
-bare : {base : List SyncFrame} {t : ℤ} {s : Side} {q : Call} {mine theirs : List SyncFrame} → Chain base t s q mine theirs → IsBare base → IsBare theirs
+bare : {base : List SyncFrame} {t : ℤ} {s : Side} {q : Call} {below theirs : List SyncFrame} → Chain base t s q below theirs → IsBare base → IsBare theirs
 bare (by_parent a b c) h = h
 bare (by_child a b c) h = h
-bare (inside f chain c d e g) h = waiting-is_bare chain
+bare (inside f chain c d e g) h = tt
 
-pub nobody-waits : {base : List SyncFrame} {t : ℤ} {s : Side} {q : Call} {theirs : List SyncFrame} {A : Type 0} → Chain base t s q [] theirs → A
-nobody-waits chain = elim chain [ ]
-
-pub chain-transaction : {base : List SyncFrame} {t : ℤ} {s : Side} {q : Call} {mine theirs : List SyncFrame} → Chain base t s q mine theirs → q.transaction ≡ t
+pub chain-transaction : {base : List SyncFrame} {t : ℤ} {s : Side} {q : Call} {below theirs : List SyncFrame} → Chain base t s q below theirs → q.transaction ≡ t
 chain-transaction (by_parent a b c) = b
 chain-transaction (by_child a b c) = b
 chain-transaction (inside f chain c d e g) = g
@@ -92,7 +76,7 @@ allows_child Not InsideCpow e h = absurd h
 allows_child InsideCpow q e h = absurd h
 
 -- a call inside the last one of a chain
-allowed : {base : List SyncFrame} {t : ℤ} {s o : Side} {q : Call} {mine theirs : List SyncFrame} (new : Call) → Faces o s → Chain base t s q mine theirs → HasLevelOf o new → Allows q.level new.level → (q.level ≡ InsideSync) × IsAboveNot new.level
+allowed : {base : List SyncFrame} {t : ℤ} {s o : Side} {q : Call} {below theirs : List SyncFrame} (new : Call) → Faces o s → Chain base t s q below theirs → HasLevelOf o new → Allows q.level new.level → (q.level ≡ InsideSync) × IsAboveNot new.level
 allowed {q} new f (by_parent a b c) h k = allows_parent q.level new.level a k
 allowed {q} new down (by_child a b c) h k = allows_child q.level new.level h k
 allowed {q} new up (inside f chain c d e g) h k = allows_parent q.level new.level d k
@@ -139,15 +123,15 @@ IsInside t [] = ⊥
 IsInside t (wait w ∷ below) = (w.level ≡ InsideSync) × (w.transaction ≡ t)
 IsInside t (dispatch d ∷ below) = Unit {0}
 
-pub parent-inside : {base : List SyncFrame} {t : ℤ} {q : Call} {mine theirs : List SyncFrame} → Chain base t Parent q mine theirs → IsInside t mine
+pub parent-inside : {base : List SyncFrame} {t : ℤ} {q : Call} {below theirs : List SyncFrame} → Chain base t Parent q below theirs → (q.level ≡ InsideSync) × (q.transaction ≡ t)
 parent-inside (by_parent a b c) = (a, b)
 parent-inside (inside f chain c d e g) = (d, g)
 
-pub parent-inside_too : {x : Call} {t : ℤ} {q : Call} {mine theirs : List SyncFrame} → Chain (wait x ∷ []) t Child q mine theirs → IsInside t theirs
+pub parent-inside_too : {x : Call} {t : ℤ} {q : Call} {below theirs : List SyncFrame} → Chain (wait x ∷ []) t Child q below theirs → IsInside t theirs
 parent-inside_too (by_child a b c) = cc
 parent-inside_too (inside up chain c d e g) = parent-inside chain
 
-pub of-parent : {x : Call} {t : ℤ} {s : Side} {q : Call} {mine theirs : List SyncFrame} → Chain (wait x ∷ []) t s q mine theirs → IsTransactionOf Parent t
+pub of-parent : {x : Call} {t : ℤ} {s : Side} {q : Call} {below theirs : List SyncFrame} → Chain (wait x ∷ []) t s q below theirs → IsTransactionOf Parent t
 of-parent (by_parent a b c) = c
 of-parent (by_child a b c) = cc
 of-parent (inside f chain c d e g) = of-parent chain

@@ -1,47 +1,37 @@
 -- One of two waits on top does not defer the call of the other.
-use Rattle.std.proofs.Common.{◌≡◌, ℤ, true, List, [], ◌∷◌, Some, refl}
+use Rattle.nesting_laws.proofs.Exchanges.{parent-inside}
+use Rattle.std.proofs.Common.{◌≡◌, ℤ, true, List, ◌∷◌, Some}
 use Rattle.ipdl_base.specs.declared.kinds.Level.{Level}
 use Rattle.ipdl_base.specs.declared.kinds.Level.TheVariants.{Not, InsideSync, InsideCpow}
 use Rattle.ipdl_base.specs.declared.kinds.Side.TheVariants.{Parent, Child}
 use Rattle.ipdl_base.specs.Deferral.{defers_request}
 use Rattle.nesting_laws.specs.Calls.{Call, SyncEnd, SyncFrame, SyncPacket, sync_end, wait}
-use Rattle.nesting_laws.specs.Chains.{Chain, Exchange, by_child, by_parent, inside, queued, replied, requested, running, up}
+use Rattle.nesting_laws.specs.Chains.{Chain, Exchange, by_child, inside, queued, replied, requested, running}
 use Rattle.nesting_laws.specs.Laws.{OneGivesWay}
 use Rattle.nesting_laws.specs.Nested.{AreNested, beside_child, beside_parent, crossed, crossed_back, crossed_behind, of_child, of_parent, overtaken, to_arrive, to_take}
 
-chain-level : {base : List SyncFrame} {t : ℤ} {w q : Call} {below theirs : List SyncFrame} → Chain base t Parent q (wait w ∷ below) theirs → w.level ≡ InsideSync
-chain-level (by_parent a b c) = a
-chain-level (inside f chain c d e g) = d
+-- the parent's wait on top has level inside_sync
 
-under_parent : {base : List SyncFrame} {t : ℤ} {w q : Call} {below mine : List SyncFrame} → base ≡ [] → Chain base t Child q mine (wait w ∷ below) → w.level ≡ InsideSync
-under_parent e (by_child a b c) = cc
-under_parent e (inside up chain c d e' g) = chain-level chain
+caller-level : {base : List SyncFrame} {t : ℤ} {w : Call} {below : List SyncFrame} {arrived : List Call} {link : List SyncPacket} {b : SyncEnd} → Exchange base t Parent (sync_end (wait w ∷ below) arrived link) b → w.level ≡ InsideSync
+caller-level (requested chain) = (parent-inside chain).0
+caller-level (queued chain) = (parent-inside chain).0
+caller-level (running chain) = (parent-inside chain).0
+caller-level (replied chain) = (parent-inside chain).0
 
-under_stray : {x : Call} {t : ℤ} {w q : Call} {below mine : List SyncFrame} → Chain (wait x ∷ []) t Child q mine (wait w ∷ below) → w.level ≡ InsideSync
-under_stray (by_child a b c) = cc
-under_stray (inside up chain c d e g) = chain-level chain
+under-level : {base : List SyncFrame} {t : ℤ} {w q : Call} {below mine : List SyncFrame} → Chain base t Child q below (wait w ∷ mine) → w.level ≡ InsideSync
+under-level (by_child a b c) = cc
+under-level (inside f chain c d e g) = c
 
-caller-level : {base : List SyncFrame} {t : ℤ} {w : Call} {below : List SyncFrame} {others : List Call} {link : List SyncPacket} {b : SyncEnd} → Exchange base t Parent (sync_end (wait w ∷ below) others link) b → w.level ≡ InsideSync
-caller-level (requested chain) = chain-level chain
-caller-level (queued chain) = chain-level chain
-caller-level (running chain) = chain-level chain
-caller-level (replied chain) = chain-level chain
-
-other-level : {t : ℤ} {w : Call} {below : List SyncFrame} {others : List Call} {link : List SyncPacket} {a : SyncEnd} → Exchange [] t Child a (sync_end (wait w ∷ below) others link) → w.level ≡ InsideSync
-other-level (requested chain) = under_parent refl chain
-other-level (queued chain) = under_parent refl chain
-other-level (replied chain) = under_parent refl chain
-
-stray-level : {x : Call} {t : ℤ} {w : Call} {below : List SyncFrame} {others : List Call} {link : List SyncPacket} {a : SyncEnd} → Exchange (wait x ∷ []) t Child a (sync_end (wait w ∷ below) others link) → w.level ≡ InsideSync
-stray-level (requested chain) = under_stray chain
-stray-level (queued chain) = under_stray chain
-stray-level (replied chain) = under_stray chain
+other-level : {base : List SyncFrame} {t : ℤ} {w : Call} {below : List SyncFrame} {arrived : List Call} {link : List SyncPacket} {a : SyncEnd} → Exchange base t Child a (sync_end (wait w ∷ below) arrived link) → w.level ≡ InsideSync
+other-level (requested chain) = under-level chain
+other-level (queued chain) = under-level chain
+other-level (replied chain) = under-level chain
 
 parent-level : {w : Call} {below : List SyncFrame} {others : List Call} {link : List SyncPacket} {c : SyncEnd} → AreNested (sync_end (wait w ∷ below) others link) c → w.level ≡ InsideSync
 parent-level (of_parent exchange) = caller-level exchange
 parent-level (of_child exchange) = other-level exchange
 parent-level (beside_parent h d exchange w) = caller-level exchange
-parent-level (beside_child h d exchange w) = stray-level exchange
+parent-level (beside_child h d exchange w) = other-level exchange
 parent-level (overtaken h k) = h.level
 parent-level (crossed h k is to_arrive comes) = h.level
 parent-level (crossed h k is to_take comes) = h.level

@@ -6,9 +6,9 @@ use Rattle.ipdl_base.specs.declared.kinds.Side.{Side}
 use Rattle.ipdl_base.specs.declared.kinds.Side.TheVariants.{Parent, Child}
 use Rattle.nesting_laws.proofs.Beside.{StepBeside, arrives, beside-append, may_take, step-beside, without}
 use Rattle.nesting_laws.proofs.Deferrals.{beside-not_taken, cpow-not_taken}
-use Rattle.nesting_laws.proofs.Exchanges.{AfterCaller, AfterOther, IsInside, back, called, called_beside, caller-step, ended, nobody-waits, none-inserted, of-parent, other-step, parent-inside, parent-inside_too, stays, with-nothing}
+use Rattle.nesting_laws.proofs.Exchanges.{AfterCaller, AfterOther, IsInside, back, called, called_beside, caller-step, ended, none-inserted, of-parent, other-step, parent-inside, parent-inside_too, stays, with-nothing}
 use Rattle.nesting_laws.specs.Calls.{Call, SyncEnd, SyncFrame, SyncPacket, reply, reply_of, request, sync_end, wait, with_packets}
-use Rattle.nesting_laws.specs.Chains.{Exchange, by_child, by_parent, down, inside, queued, replied, requested, running, up}
+use Rattle.nesting_laws.specs.Chains.{Exchange, by_child, by_parent, down, queued, replied, requested, running, up}
 use Rattle.nesting_laws.specs.Laws.{NestingStays}
 use Rattle.nesting_laws.specs.Nested.{AreNested, IsBeside, IsComing, IsFirstCall, IsServing, at_hand, beside_child, beside_parent, crossed, crossed_back, crossed_behind, idle, in_arrived, in_link, of_child, of_parent, on_top, on_way, overtaken, to_arrive, to_take}
 use Rattle.nesting_laws.specs.Steps.{Allows, IsBelowCpow, IsTransactionOf, Step, calls, calls_inside, drops, here, reply_arrives, request_arrives, returns, takes, there}
@@ -30,17 +30,11 @@ child_calls_below : (x : Call) {t : ℤ} {p : SyncEnd} {others : List Call} {lin
 child_calls_below x d of (requested (by_parent a b c)) = beside_parent (record { level = tt; transaction = of }) d (requested (by_parent a b c)) (in_link here)
 child_calls_below x d of (queued (by_parent a b c)) = beside_parent (record { level = tt; transaction = of }) d (queued (by_parent a b c)) (in_link here)
 child_calls_below x d of (replied (by_parent {q} a b c)) = beside_parent (record { level = tt; transaction = of }) d (replied (by_parent {q = q} a b c)) (in_link (there here))
-child_calls_below x d of (requested (inside f chain c d' e g)) = nobody-waits chain
-child_calls_below x d of (queued (inside f chain c d' e g)) = nobody-waits chain
-child_calls_below x d of (replied (inside f chain c d' e g)) = nobody-waits chain
 
 child_calls_cpow : (x : Call) {t : ℤ} {p : SyncEnd} {others : List Call} {link : List SyncPacket} → x.level ≡ InsideCpow → IsTransactionOf Child x.transaction → Exchange [] t Parent p (sync_end [] others link) → AreNested (with_packets p (request x ∷ [])) (sync_end (wait x ∷ []) others link)
 child_calls_cpow x is of (requested (by_parent a b c)) = crossed (record { level = a; transaction = subst (IsTransactionOf Parent) (sym b) c }) (record { level = tt; transaction = of }) is to_arrive on_way
 child_calls_cpow x is of (queued (by_parent a b c)) = crossed (record { level = a; transaction = subst (IsTransactionOf Parent) (sym b) c }) (record { level = tt; transaction = of }) is to_arrive at_hand
 child_calls_cpow x is of (replied (by_parent a b c)) = crossed_behind (record { level = a; transaction = subst (IsTransactionOf Parent) (sym b) c }) (record { level = tt; transaction = of }) is
-child_calls_cpow x is of (requested (inside f chain c d e g)) = nobody-waits chain
-child_calls_cpow x is of (queued (inside f chain c d e g)) = nobody-waits chain
-child_calls_cpow x is of (replied (inside f chain c d e g)) = nobody-waits chain
 
 child_calls : (x : Call) (level : Level) {t : ℤ} {p : SyncEnd} {others : List Call} {link : List SyncPacket} → x.level ≡ level → IsTransactionOf Child x.transaction → Exchange [] t Parent p (sync_end [] others link) → AreNested (with_packets p (request x ∷ [])) (sync_end (wait x ∷ []) others link)
 child_calls x Not is of exchange = child_calls_below x (below_cpow x Not is tt) of exchange
@@ -58,9 +52,6 @@ parent_calls : (q : Call) {t : ℤ} {c : SyncEnd} {others : List Call} {link : L
 parent_calls q h (requested (by_child {q = x} a b c)) = parent_beside q x x.level refl h (record { level = tt; transaction = subst (IsTransactionOf Child) (sym b) c }) (in_link here)
 parent_calls q h (queued (by_child {q = x} a b c)) = parent_beside q x x.level refl h (record { level = tt; transaction = subst (IsTransactionOf Child) (sym b) c }) (in_arrived here)
 parent_calls q h (replied (by_child {q = x} a b c)) = overtaken h (record { level = tt; transaction = subst (IsTransactionOf Child) (sym b) c })
-parent_calls q h (requested (inside f chain c d e g)) = nobody-waits chain
-parent_calls q h (queued (inside f chain c d e g)) = nobody-waits chain
-parent_calls q h (replied (inside f chain c d e g)) = nobody-waits chain
 
 -- Steps of the parent
 
@@ -81,9 +72,9 @@ freed h (in_link here) = of_child (requested (by_child refl refl h.transaction))
 
 -- with a stray below them the child's stack is not empty
 unmet : {x : Call} {t : ℤ} {s : Side} {a : SyncEnd} {others : List Call} {link : List SyncPacket} {A : Type 0} → Exchange (wait x ∷ []) t s a (sync_end [] others link) → A
-unmet (requested (inside f chain c d e g)) = nobody-waits chain
-unmet (queued (inside f chain c d e g)) = nobody-waits chain
-unmet (replied (inside f chain c d e g)) = nobody-waits chain
+unmet (requested chain) = elim chain [ ]
+unmet (queued chain) = elim chain [ ]
+unmet (replied chain) = elim chain [ ]
 
 -- the same beside a call of the child
 parent_returned_beside : {t : ℤ} {x : Call} {stack : List SyncFrame} {others all : List Call} {packets link : List SyncPacket} {c : SyncEnd} {sent : List SyncPacket} → IsFirstCall Child x → IsBelowCpow x.level → AfterCaller (wait x ∷ []) t Parent (sync_end stack others packets) sent c → IsBeside x others packets all link → AreNested (sync_end stack all link) (with_packets c sent)

@@ -1,5 +1,6 @@
 -- While somebody waits, something can happen by itself.
-use Rattle.std.proofs.Common.{◌≡◌, ℤ, true, false, List, [], ◌∷◌, Some, not, refl, sym, ap, ◌∙◌}
+use Rattle.nesting_laws.proofs.Exchanges.{chain-transaction}
+use Rattle.std.proofs.Common.{◌≡◌, ℤ, true, false, List, [], ◌∷◌, Some, not, refl, sym, ap, subst, ◌∙◌}
 use Rattle.std.specs.Ordering.{int_eq}
 use Rattle.std.proofs.lemmas.Bool.Decides.{Decides-int_eq}
 use Rattle.ipdl_base.specs.declared.kinds.Level.{Level}
@@ -39,23 +40,18 @@ takes_cpow o w InsideCpow m n e = refl
 takes_cpow o w Not m n e = cc
 takes_cpow o w InsideSync m n e = cc
 
--- the call before is on top of the end that has the last one
-may_inside : {base : List SyncFrame} {t : ℤ} {o : Side} {p : Call} {mine theirs : List SyncFrame} (q : Call) → Chain base t o p mine theirs → p.level ≡ InsideSync → IsAboveNot q.level → q.transaction ≡ t → MayTake o mine q
-may_inside {o} {p} q (by_parent a b c) l n e = takes_inside Parent p.level q.level p.transaction q.transaction l n (b ∙ sym e)
-may_inside {o} {p} q (by_child a b c) l n e = takes_inside Child p.level q.level p.transaction q.transaction l n (b ∙ sym e)
-may_inside {o} {p} q (inside f chain c d e' g) l n e = takes_inside o p.level q.level p.transaction q.transaction l n (g ∙ sym e)
+-- the end to which the last call of a chain goes may take it, where it may take the first
+may_take : {base : List SyncFrame} {t : ℤ} {s o : Side} {q : Call} {below theirs : List SyncFrame} → ((q : Call) → q.level ≡ InsideSync → MayTake Child base q) → Faces o s → Chain base t s q below theirs → MayTake o theirs q
+may_take {q} first up (by_parent a b c) = first q a
+may_take {q} first down (by_child a b c) = subst (λ (stack : List SyncFrame). MayTake Parent stack q) (sym a) tt
+may_take {o} {q} first f (inside {p} g chain c d e k) = takes_inside o p.level q.level p.transaction q.transaction c e (chain-transaction chain ∙ sym k)
 
-may_take : {t : ℤ} {s o : Side} {q : Call} {mine theirs : List SyncFrame} → Faces o s → Chain [] t s q mine theirs → MayTake o theirs q
-may_take f (by_parent a b c) = tt
-may_take f (by_child a b c) = tt
-may_take {q} up (inside down chain c d e g) = may_inside q chain c e g
-may_take {q} down (inside up chain c d e g) = may_inside q chain c e g
+-- the child may take the parent's first call: its stack is empty, or has the wait for a stray on it
+first-alone : (q : Call) → q.level ≡ InsideSync → MayTake Child [] q
+first-alone q e = tt
 
-may_take_beside : {x : Call} {t : ℤ} {s o : Side} {q : Call} {mine theirs : List SyncFrame} → IsBelowCpow x.level → Faces o s → Chain (wait x ∷ []) t s q mine theirs → MayTake o theirs q
-may_take_beside {x} {q} h up (by_parent a b c) = takes_first x.level q.level x.transaction q.transaction h a
-may_take_beside h f (by_child a b c) = cc
-may_take_beside {q} h up (inside down chain c d e g) = may_inside q chain c e g
-may_take_beside {q} h down (inside up chain c d e g) = may_inside q chain c e g
+first-beside : (x : Call) → IsBelowCpow x.level → (q : Call) → q.level ≡ InsideSync → MayTake Child (wait x ∷ []) q
+first-beside x h q e = takes_first x.level q.level x.transaction q.transaction h e
 
 -- one end of a chain moves, the one that waits first
 data OneMoves (s o : Side) (a b : SyncEnd) : Type 0 where
@@ -64,7 +60,7 @@ data OneMoves (s o : Side) (a b : SyncEnd) : Type 0 where
 
 talk_moves : {t : ℤ} {s o : Side} {a b : SyncEnd} → Faces o s → Exchange [] t s a b → OneMoves s o a b
 talk_moves f (requested chain) = other delivers
-talk_moves f (queued chain) = other (takes here (may_take f chain))
+talk_moves f (queued chain) = other (takes here (may_take first-alone f chain))
 talk_moves f (running chain) = other returns
 talk_moves f (replied chain) = caller delivers
 
@@ -80,13 +76,13 @@ take_moves may (in_link i) = takes here may
 
 beside_parent_moves : {x : Call} {t : ℤ} {stack : List SyncFrame} {others all : List Call} {packets link : List SyncPacket} {c : SyncEnd} → IsBelowCpow x.level → Exchange (wait x ∷ []) t Parent (sync_end stack others packets) c → IsBeside x others packets all link → IsNotStuck (sync_end stack all link) c
 beside_parent_moves h (requested chain) w = at_child delivers
-beside_parent_moves h (queued chain) w = at_child (takes here (may_take_beside h up chain))
+beside_parent_moves {x} h (queued chain) w = at_child (takes here (may_take (first-beside x h) up chain))
 beside_parent_moves h (running chain) w = at_child returns
 beside_parent_moves h (replied chain) w = at_parent (link_moves w)
 
 beside_child_moves : {x : Call} {t : ℤ} {stack : List SyncFrame} {others all : List Call} {packets link : List SyncPacket} {c : SyncEnd} → IsBelowCpow x.level → Exchange (wait x ∷ []) t Child c (sync_end stack others packets) → IsBeside x others packets all link → IsNotStuck (sync_end stack all link) c
 beside_child_moves h (requested chain) w = at_parent (link_moves w)
-beside_child_moves h (queued chain) w = at_parent (take_moves (may_take_beside h down chain) w)
+beside_child_moves {x} h (queued chain) w = at_parent (take_moves (may_take (first-beside x h) down chain) w)
 beside_child_moves h (running chain) w = at_parent returns
 beside_child_moves h (replied chain) w = at_child delivers
 

@@ -3,19 +3,14 @@ use Rattle.std.proofs.Common.{◌≡◌, ℤ, List, [], ◌∷◌, refl}
 use Rattle.ipdl_base.specs.declared.kinds.Side.{Side}
 use Rattle.nesting_laws.specs.Alone.{IsAlone, ReplyThenFarewell, no_reply_comes, reply_comes, reply_first}
 use Rattle.nesting_laws.specs.Calls.{Call, ReplyHead, SyncEnd, SyncFrame, SyncPacket, reply, reply_of, sync_end}
-use Rattle.nesting_laws.specs.Chains.{Chain, Exchange, by_child, by_parent, inside, replied}
+use Rattle.nesting_laws.specs.Chains.{Exchange, replied}
 use Rattle.nesting_laws.specs.Laws.{RepliesAreForTop}
 use Rattle.nesting_laws.specs.Nested.{AreNested, IsBeside, beside_child, beside_parent, crossed, crossed_back, crossed_behind, in_arrived, in_link, of_child, of_parent, overtaken}
 use Rattle.nesting_laws.specs.Progress.{IsForTop}
 use Rattle.nesting_laws.specs.Steps.{there}
 
-answered-top : {base : List SyncFrame} {t : ℤ} {s : Side} {q : Call} {mine theirs : List SyncFrame} → Chain base t s q mine theirs → IsForTop mine (reply_of q)
-answered-top (by_parent a b c) = refl
-answered-top (by_child a b c) = refl
-answered-top (inside a b c d e f) = refl
-
 caller-top : {base : List SyncFrame} {t : ℤ} {r : ReplyHead} {s : Side} {stack : List SyncFrame} {others : List Call} {link : List SyncPacket} {b : SyncEnd} → Exchange base t s (sync_end stack others (reply r ∷ link)) b → IsForTop stack r
-caller-top (replied chain) = answered-top chain
+caller-top (replied chain) = refl
 
 other-top : {base : List SyncFrame} {t : ℤ} {r : ReplyHead} {s : Side} {stack : List SyncFrame} {others : List Call} {link : List SyncPacket} {a : SyncEnd} → Exchange base t s a (sync_end stack others (reply r ∷ link)) → IsForTop stack r
 other-top exchange = elim exchange [ ]

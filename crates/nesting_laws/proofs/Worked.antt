@@ -107,7 +107,7 @@ parent_stack = wait q3 ∷ dispatch q2 ∷ wait q1 ∷ []
 abbrev child_stack : List SyncFrame
 child_stack = wait q2 ∷ dispatch q1 ∷ wait (x1 InsideSync) ∷ []
 
-three_deep : Chain (wait (x1 InsideSync) ∷ []) (pos 1) Parent q3 parent_stack child_stack
+three_deep : Chain (wait (x1 InsideSync) ∷ []) (pos 1) Parent q3 (dispatch q2 ∷ wait q1 ∷ []) child_stack
 three_deep = inside down (inside up (by_parent refl refl refl) refl tt tt refl) refl refl tt refl
 
 third_has_arrived : AreNested (sync_end parent_stack (x1 InsideSync ∷ []) []) (sync_end child_stack (q3 ∷ []) [])

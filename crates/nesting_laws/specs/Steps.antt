@@ -1,5 +1,5 @@
 -- What an open end may do with sync requests.
-use Rattle.std.specs.Prelude.{◌≡◌, ℤ, pos, int_lt, true, false, List, [], ◌∷◌, ◌++◌, Some}
+use Rattle.std.specs.Prelude.{◌≡◌, ℤ, pos, int_lt, Bool, true, false, List, [], ◌∷◌, ◌++◌, Some}
 use Rattle.ipdl_base.specs.declared.kinds.Level.{Level}
 use Rattle.ipdl_base.specs.declared.kinds.Level.TheVariants.{Not, InsideSync, InsideCpow}
 use Rattle.ipdl_base.specs.declared.kinds.Side.{Side}
@@ -37,14 +37,17 @@ Allows Not InsideCpow = ⊥
 Allows InsideSync level = IsAboveNot level
 Allows InsideCpow level = ⊥
 
--- an end that waits for the first call defers the second
+-- whether an end that waits for the first call defers the second
+abbrev pub defers_call : Side → Call → Call → Bool
+defers_call side w q = defers_request side w.level (Some w.transaction) true q.level q.transaction
+
 abbrev pub DefersCall : Side → Call → Call → Type 0
-DefersCall side w q = defers_request side w.level (Some w.transaction) true q.level q.transaction ≡ true
+DefersCall side w q = defers_call side w q ≡ true
 
 -- an end with this stack may take the call: it waits for nothing, or does not defer it
 abbrev pub MayTake : Side → List SyncFrame → Call → Type 0
 MayTake side [] q = Unit {0}
-MayTake side (wait w ∷ below) q = defers_request side w.level (Some w.transaction) true q.level q.transaction ≡ false
+MayTake side (wait w ∷ below) q = defers_call side w q ≡ false
 MayTake side (dispatch d ∷ below) q = ⊥
 
 -- the stack without its innermost wait
