@@ -1,5 +1,6 @@
--- Answers, names, a close and a death.
-use Rattle.std.proofs.Common.{◌≡◌, ℕ, ◌+◌, ℤ, pos, Bool, true, false, not, ◌&&◌, ◌||◌, ◌==◌, cond, if◌then◌else◌, int_eq, List, [], ◌∷◌, map, find, Option, Some, None, option_map, option_and_then, refl, sym, ap, subst, ◌∙◌}
+-- Answers, names, a close and a death, at an open end.
+use Rattle.channel_laws.proofs.Tests.{and-left, and-right}
+use Rattle.std.proofs.Common.{◌≡◌, ℕ, ◌+◌, ℤ, pos, Bool, true, false, not, ◌&&◌, ◌==◌, cond, if◌then◌else◌, int_eq, List, [], ◌∷◌, map, find, Option, Some, None, option_map, option_and_then, refl, sym, ap, subst, ◌∙◌}
 use Rattle.std.proofs.lemmas.Option.{same_Some}
 use Rattle.std.specs.List.{AllByRecursion}
 use Rattle.ipdl_base.specs.declared.line.What.TheVariants as what
@@ -10,9 +11,8 @@ use Rattle.ipdl_base.specs.declared.kinds.Side.{Side}
 use Rattle.ipdl_base.specs.declared.schema.Schema.{Schema}
 use Rattle.ipdl_base.specs.declared.value.Values.{Values}
 use Rattle.nesting_core.specs.declared.frame.StackFrame.{StackFrame}
-use Rattle.nesting_core.specs.declared.frame.StackFrame.TheVariants.{Dispatch, Wait}
-use Rattle.nesting_core.specs.Frames.{head_of, is_dispatch, is_wait, is_unanswered, has_wait}
-use Rattle.channel_model.specs.States.{IsAnswered}
+use Rattle.nesting_core.specs.declared.frame.StackFrame.TheVariants.{Dispatch}
+use Rattle.nesting_core.specs.Frames.{head_of, is_dispatch, has_wait}
 use Rattle.channel_model.specs.Acts as acts
 use Rattle.channel_model.specs.Answers as answers
 use Rattle.ipdl_base.specs.declared.kinds.EndState.{EndState}
@@ -21,11 +21,12 @@ use Rattle.channel_model.specs.Events.{Answering, handled, kept}
 use Rattle.channel_model.specs.Names.{has_name, held_by_name}
 use Rattle.channel_model.specs.Outputs.{Output, beginning, when, when_open, on_end, line, put, is_open, is_closed, resolver_answered, reply_to}
 use Rattle.channel_model.specs.Sends.{frames_of}
+use Rattle.channel_model.proofs.Known.{all-filter}
+use Rattle.channel_model.proofs.StateSteps.{no_waits, second_test}
 use Rattle.channel_laws.proofs.LastPackets.{empty-goes_on, ends-behind}
-use Rattle.channel_laws.proofs.Sends.{and-left, and-right}
 use Rattle.channel_laws.proofs.SyncSteps.{SyncStep, no_step, ends, track_of, at-beginning, at-open, keeps-sync_step}
 use Rattle.channel_laws.proofs.Takes.{found-passes}
-use Rattle.channel_laws.proofs.Track.{IsOnTrack, at-put, at-sent, keeps-renamed, MayHold, all-found, all-filter, held-agree, answered_reply}
+use Rattle.channel_laws.proofs.Track.{IsOnTrack, at-put, at-sent, keeps-renamed, MayHold, all-found, held-agree, answered_reply}
 use Rattle.channel_laws.specs.NestedWorlds.{EndsInLastPacket, last_alone}
 use Rattle.channel_laws.specs.OpenEnds.{EntryAgrees, PacketAgrees, NamingAgrees, IsOpenEnd}
 use Rattle.channel_laws.specs.SyncCalls.{is_sync_number, listed, sync_packets, sync_packet, sync_calls}
@@ -61,17 +62,7 @@ used-resolver : (schema : Schema) (rows : HasSoundRows schema) (e : End) (stack 
 used-resolver schema rows e stack (handled seq) r h is = handled-resolver schema rows e seq r h.entries is
 used-resolver schema rows e stack (kept name number) r h is = kept-resolver schema number (held_by_name name e.names) r (held-agree schema name e.names (find (has_name name) e.names) refl h.names) is
 
--- a stack where a resolver is used has the frames that it had
-
-released_one : (b : Bool) (entry : StackEntry) → (cond b (record entry { resolves = false }) entry).frame ≡ entry.frame
-released_one true entry = refl
-released_one false entry = refl
-
-pub released-frames : (seq : ℤ) (stack : List StackEntry) → map (λ (entry : StackEntry). entry.frame) (answers.released seq stack) ≡ map (λ (entry : StackEntry). entry.frame) stack
-released-frames seq [] = refl
-released-frames seq (entry ∷ stack) =
-    ap (λ (frame : StackFrame). frame ∷ map (λ (entry : StackEntry). entry.frame) (answers.released seq stack)) (released_one (answers.has_resolver seq entry) entry)
-    ∙ ap (λ (frames : List StackFrame). entry.frame ∷ frames) (released-frames seq stack)
+-- a stack where a resolver is used agrees with its rows as it did
 
 released-agree_one : (schema : Schema) (b : Bool) (entry : StackEntry) → EntryAgrees schema entry → EntryAgrees schema (cond b (record entry { resolves = false }) entry)
 released-agree_one schema true entry h = record { row = h.row; found = h.found; is_sync = h.is_sync; resolves = λ r. cc }
@@ -131,9 +122,9 @@ without-arrived : (e : End) (by : Answering) → (answers.without_resolver by e)
 without-arrived e (handled seq) = refl
 without-arrived e (kept name number) = refl
 
--- a step of which the first part changes the end, and the others are calm
-then-calm : (schema : Schema) (e next : End) (stack : List SyncFrame) (link : List Packet) (o : Output) → next.arrived ≡ e.arrived → IsOpenEnd schema next stack → IsOnTrack schema (track_of next) o.end o.packets → SyncStep schema e stack link link o
-then-calm schema e next stack link o arrived h a =
+-- a step of which the first part changes the end, and the others keep its track
+then-keeps : (schema : Schema) (e next : End) (stack : List SyncFrame) (link : List Packet) (o : Output) → next.arrived ≡ e.arrived → IsOpenEnd schema next stack → IsOnTrack schema (track_of next) o.end o.packets → SyncStep schema e stack link link o
+then-keeps schema e next stack link o arrived h a =
     no_step (at-open schema (track_of next) o.end o.packets stack a h.shows h.entries h.arrived) (ap sync_calls (a.arrived_is ∙ arrived)) refl a.sent_is a.agree
 
 -- Answers
@@ -154,7 +145,7 @@ resolved schema rows e stack link by vs r h is =
     let open_end : IsOpenEnd schema next stack = without-open schema e by stack h in
     let nothing : sync_packet schema p ≡ [] = answer-body_sync_packets schema r vs ∙ ap (λ (b : Bool). listed b (reply (answered_reply (resolver_answered r)))) (used-resolver schema rows e stack by r h is) in
     let a = at-put schema p (answer-body_agree schema r vs) (track_of next) begun (at-beginning schema next stack open_end) in
-    then-calm schema e next stack link (put p begun) (without-arrived e by) open_end
+    then-keeps schema e next stack link (put p begun) (without-arrived e by) open_end
     (at-sent schema (track_of next) (sync_packet schema p) [] (put p begun).end (put p begun).packets nothing a)
 
 answered-unless : (schema : Schema) (rows : HasSoundRows schema) (e : End) (stack : List SyncFrame) (link : List Packet) (cause : Option SendRefusal) (by : Answering) (vs : Option Values) (r : Option Resolver) → IsOpenEnd schema e stack → answers.resolver_used e by ≡ r → SyncStep schema e stack link link (answers.answered_unless cause by vs r (beginning e))
@@ -181,7 +172,7 @@ keeps schema rows e stack link seq name h =
     let open_end : IsOpenEnd schema next stack = released-open schema e seq stack h in
     let holds : Option NameContent = option_and_then (answers.kept_by e) (answers.handled_resolver e seq) in
     let agrees : MayHold schema holds = kept-holds schema e (answers.handled_resolver e seq) (λ r is. handled-resolver schema rows e seq r h.entries is) in
-    then-calm schema e next stack link (answers.keep e seq name (beginning e)) refl open_end
+    then-keeps schema e next stack link (answers.keep e seq name (beginning e)) refl open_end
     (keeps-renamed schema name holds agrees (track_of next) (on_end (λ e. record e { stack = answers.released seq e.stack }) (line (what.Keep seq name) (beginning e))) (at-beginning schema next stack open_end))
 
 named-holds : (schema : Schema) (b : Bool) (id : ℤ) → MayHold schema (if b then Some (actor id) else None)
@@ -196,30 +187,11 @@ named schema e stack link name id h =
 
 -- The end of an end
 
-no_wait-answered_at : (f : StackFrame) → is_wait f ≡ false → is_unanswered f ≡ false
-no_wait-answered_at (Dispatch head) e = refl
-no_wait-answered_at (Wait head a) e = cc
-
-none-first : (b c : Bool) → b || c ≡ false → (b ≡ false) × (c ≡ false)
-none-first true c e = cc
-none-first false c e = (refl, e)
-
-no_wait-answered : (frames : List StackFrame) → has_wait frames ≡ false → AllByRecursion IsAnswered frames
-no_wait-answered [] e = tt
-no_wait-answered (f ∷ frames) e =
-    let r = none-first (is_wait f) (has_wait frames) e in
-    (no_wait-answered_at f r.0, no_wait-answered frames r.1)
-
-no_call : (a b : Bool) (x y : SendRefusal) → (if a then Some x else (if b then Some y else None)) ≡ None → b ≡ false
-no_call true b x y e = cc
-no_call false true x y e = cc
-no_call false false x y e = refl
-
 close-unless : (schema : Schema) (e : End) (stack : List SyncFrame) (link : List Packet) (cause : Option SendRefusal) → acts.close_refusal e ≡ cause → IsOpenEnd schema e stack → SyncStep schema e stack link link (acts.close_unless cause (beginning e))
 close-unless schema e stack link (Some cause) is h = keeps-sync_step schema e stack link (line (what.RefusedClose cause) (beginning e)) h (at-beginning schema e stack h)
 close-unless schema e stack link None is h =
     let a = at-put schema (message acts.goodbye) tt (track_of e) (line what.Close (beginning e)) (at-beginning schema e stack h) in
-    ends refl (λ k. cc) (no_wait-answered (frames_of e) (no_call (not (is_open e.state)) (has_wait (frames_of e)) refusal.Closed refusal.InCall is)) (ends-behind (map message e.outbox) (message acts.goodbye ∷ []) (empty-goes_on schema (map message e.outbox) h.outbox) (last_alone refl)) a.sent_is a.agree
+    ends refl (λ k. cc) (no_waits (frames_of e) (second_test (is_open e.state) (has_wait (frames_of e)) refusal.Closed refusal.InCall is)) (ends-behind (map message e.outbox) (message acts.goodbye ∷ []) (empty-goes_on schema (map message e.outbox) h.outbox) (last_alone refl)) a.sent_is a.agree
 
 pub closes : (schema : Schema) (e : End) (stack : List SyncFrame) (link : List Packet) → IsOpenEnd schema e stack → SyncStep schema e stack link link (acts.close e (beginning e))
 closes schema e stack link h = close-unless schema e stack link (acts.close_refusal e) refl h

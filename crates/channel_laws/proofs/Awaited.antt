@@ -1,4 +1,5 @@
--- What the skeleton says of the frames themselves.
+-- What sync frames say of the innermost wait, and of what is possible at an end.
+use Rattle.channel_laws.proofs.Track.{frames_in}
 use Rattle.std.proofs.Common.{◌≡◌, pos, Bool, true, false, not, ◌&&◌, cond, List, [], ◌∷◌, ◌++◌, map, find, Option, Some, None, option_and_then, is_some, refl, sym, ap, subst, ◌∙◌}
 use Rattle.std.specs.List.{AllByRecursion}
 use Rattle.std.specs.Option.{unwrap_or}
@@ -32,7 +33,6 @@ use Rattle.channel_model.specs.Returns as returns
 use Rattle.channel_model.specs.Sends.{frames_of}
 use Rattle.channel_model.specs.Steps.{step, provided}
 use Rattle.channel_model.specs.Takes as takes
-use Rattle.channel_laws.proofs.Sends.{frames_in}
 use Rattle.channel_laws.proofs.Takes.{holding-same}
 use Rattle.channel_laws.specs.Laws.{awaited_reply}
 use Rattle.channel_laws.specs.NestedWorlds.{sync_end_of}

@@ -1,4 +1,5 @@
--- Deliveries.
+-- Deliveries to an open end.
+use Rattle.channel_laws.proofs.Tests.{and-left, and-right}
 use Rattle.std.proofs.Common.{◌≡◌, ℕ, zero, suc, ◌+◌, ◌-◌, Bool, true, false, not, ◌&&◌, ◌==◌, cond, if◌then◌else◌, int_eq, List, [], ◌∷◌, ◌++◌, map, length, take, ◌⊎◌, Option, Some, None, option_and_then, is_some, refl, sym, ap, subst, ◌∙◌}
 use Rattle.std.proofs.Math.Numerals.{sub-one}
 use Rattle.std.proofs.lemmas.List.{append-nil}
@@ -38,9 +39,8 @@ use Rattle.std.proofs.lemmas.Bool.{eqb-true}
 use Rattle.channel_model.proofs.InState.{all_failed-answered}
 use Rattle.channel_model.proofs.Known.{all-append, all-map}
 use Rattle.channel_model.proofs.Sublists.{all-sublist, staying-sublist}
-use Rattle.channel_laws.proofs.Sends.{and-left, and-right, frames_in}
-use Rattle.channel_laws.proofs.SyncSteps.{SyncStep, no_step, one_step, drains, at-open}
-use Rattle.channel_laws.proofs.Track.{Track, IsOnTrack, KeepsTrack, keeps-when, keeps-answered}
+use Rattle.channel_laws.proofs.SyncSteps.{SyncStep, no_step, one_step, drains, at-open, at-start}
+use Rattle.channel_laws.proofs.Track.{Track, IsOnTrack, KeepsTrack, keeps-when, keeps-answered, frames_in}
 use Rattle.channel_laws.proofs.Rows.{request-message}
 use Rattle.channel_laws.specs.Laws.{IsReply}
 use Rattle.channel_laws.specs.OpenEnds.{EntryAgrees, IsRequestNumber, BodyAgrees, PacketAgrees, ArrivedAgrees, ItemAgrees, IsOpenEnd}
@@ -212,7 +212,7 @@ staying-silent compress.Plain new items h = refl
 staying-silent compress.Last new items h = staying-last new items (replaced compress.Last new items) refl h
 staying-silent compress.All new items h = latest-silent (are_alike new) items h
 
--- what is replaced is alike, and fits
+-- what is replaced is alike, and what holds of all that is alike holds of it
 latest-found_at : (p : Item → Bool) (P : Item → Type 0) (b c : Bool) (x old : Item) (later : Option Item) → c ≡ true ⊎ c ≡ false → cond c later (cond b (Some x) None) ≡ Some old → (b ≡ true → P x) → (later ≡ Some old → P old) → P old
 latest-found_at p P true false x old later k e h rest = subst P (same_Some x old e) (h refl)
 latest-found_at p P false false x old later k e h rest = cc
@@ -278,17 +278,7 @@ module _ (schema : Schema) (rows : HasSoundRows schema) (m : Message) (row : Mes
     counted = on_end (delivery.counted row new) (line (what.DeliverRequest m.seq) (beginning e))
 
     at-counted : IsOnTrack schema come_track counted.end []
-    at-counted = record {
-      side_is = refl;
-      state_is = h.state;
-      stack_is = refl;
-      arrived_is = refl;
-      sent_is = refl;
-      agree = tt;
-      named = h.names;
-      outbox_is = h.outbox;
-      waiting = h.waiting;
-    }
+    at-counted = at-start schema e counted.end stack refl refl refl h
 
     new-agree : ItemAgrees schema new
     new-agree = subst (ArrivedAgrees schema m (is_sync_row row) row.level) (sym body_is) (record { row = row; found = found; is_sync = refl; has_level = refl })

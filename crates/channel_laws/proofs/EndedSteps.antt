@@ -1,5 +1,6 @@
 -- Every step of an end that is not open: it sends nothing, and opens no more.
-use Rattle.std.proofs.Common.{◌≡◌, ℕ, ℤ, Bool, true, false, not, ◌||◌, if◌then◌else◌, List, [], ◌∷◌, map, drop, Option, Some, None, option_and_then, refl, sym, ap, subst, ◌∙◌}
+use Rattle.channel_laws.proofs.Tests.{and-left}
+use Rattle.std.proofs.Common.{◌≡◌, ℕ, ℤ, Bool, true, false, not, ◌||◌, if◌then◌else◌, List, [], ◌∷◌, Option, Some, None, option_and_then, refl, sym, ap, subst, ◌∙◌}
 use Rattle.std.specs.List.{AllByRecursion}
 use Rattle.std.specs.Option.{option_map_or}
 use Rattle.ipdl_base.specs.declared.line.What.TheVariants as what
@@ -40,8 +41,7 @@ use Rattle.channel_model.specs.Steps.{step, provided, first_packet}
 use Rattle.channel_model.specs.Takes as takes
 use Rattle.channel_model.specs.ValueActors.{nulled, received}
 use Rattle.channel_model.proofs.Provided.{provided-gives, found-gives}
-use Rattle.channel_laws.proofs.Acts.{released-frames}
-use Rattle.channel_laws.proofs.Sends.{and-left}
+use Rattle.channel_model.proofs.InState.{released-frames, popped-answered}
 
 -- an end of a state, with nothing sent, that waits for nothing
 record IsSilent (state : EndState) (o : Output) : Type 0 where
@@ -82,10 +82,6 @@ silent-by_constructs : (state : EndState) (id route : ℤ) (kind : Kind) → Kee
 silent-by_constructs state id route Normal o h = h
 silent-by_constructs state id route (Constructor protocol) o h = record { state_is = h.state_is; nothing = h.nothing; nobody = h.nobody }
 silent-by_constructs state id route Delete o h = h
-
-popped-answered : (stack : List StackEntry) → AllByRecursion IsAnswered (map (λ (entry : StackEntry). entry.frame) stack) → AllByRecursion IsAnswered (map (λ (entry : StackEntry). entry.frame) (drop 1 stack))
-popped-answered [] h = tt
-popped-answered (entry ∷ stack) h = h.1
 
 -- What an end that is not open makes.
 pub record StaysOver (e : End) (o : Output) : Type 0 where

@@ -1,4 +1,5 @@
 -- Two waits do not defer the request of one another.
+use Rattle.channel_laws.proofs.Track.{frames_in}
 use Rattle.std.proofs.Common.{◌≡◌, ℤ, Bool, true, false, List, [], ◌∷◌, Some, None, sym, ap, subst, ◌∙◌, ℕ}
 use Rattle.std.specs.List.{AllByRecursion}
 use Rattle.ipdl_base.specs.declared.kinds.Side.{Side}
@@ -14,7 +15,6 @@ use Rattle.nesting_core.specs.Top.{top_of}
 use Rattle.channel_model.specs.Ends.{World, StackEntry}
 use Rattle.channel_model.specs.Sends.{frames_of}
 use Rattle.channel_model.specs.States.{IsAnswered}
-use Rattle.channel_laws.proofs.Sends.{frames_in}
 use Rattle.channel_laws.proofs.Takes.{deferral-same}
 use Rattle.channel_laws.specs.Laws.{WaitsGiveWay, world_of}
 use Rattle.channel_laws.specs.NestedWorlds.{EndsAreNested, both_open, mine_open, theirs_open, both_over, IsNestedWorld}

@@ -8,23 +8,16 @@ use Rattle.ipdl_base.specs.declared.message.Message.{Message}
 use Rattle.ipdl_base.specs.declared.schema.Schema.{Schema}
 use Rattle.channel_model.specs.Ends.{Packet, message, mark}
 use Rattle.channel_model.specs.States.{is_goodbye}
+use Rattle.channel_model.proofs.Known.{all-before, all-behind}
 use Rattle.channel_laws.specs.NestedWorlds.{is_last_packet, HasNoLastPacket, EndsInLastPacket, last_alone, last_later}
 use Rattle.channel_laws.specs.SyncCalls.{is_sync_number, level_of, sync_body, sync_packet, sync_packets}
 use Rattle.nesting_laws.specs.Calls.{SyncPacket, request, reply, farewell}
 
--- no parcel is a last packet
+-- a packet, as far as sync requests go, is no last one
 abbrev pub IsNoFarewell : SyncPacket → Type 0
 IsNoFarewell (request q) = Unit {0}
 IsNoFarewell (reply r) = Unit {0}
 IsNoFarewell farewell = ⊥
-
-all-first : (P : SyncPacket → Type 0) (xs ys : List SyncPacket) → AllByRecursion P (xs ++ ys) → AllByRecursion P xs
-all-first P [] ys h = tt
-all-first P (x ∷ xs) ys h = (h.0, all-first P xs ys h.1)
-
-all-second : (P : SyncPacket → Type 0) (xs ys : List SyncPacket) → AllByRecursion P (xs ++ ys) → AllByRecursion P ys
-all-second P [] ys h = h
-all-second P (x ∷ xs) ys h = all-second P xs ys h.1
 
 body-goes_on : (sync : Bool) (level : Level) (m : Message) (body : Body) → AllByRecursion IsNoFarewell (sync_body sync level m body) → is_goodbye body ≡ false
 body-goes_on sync level m (Request vs) h = refl
@@ -39,7 +32,7 @@ packet-goes_on schema mark h = absurd h.0
 pub link-goes_on : (schema : Schema) (link : List Packet) → AllByRecursion IsNoFarewell (sync_packets schema link) → HasNoLastPacket link
 link-goes_on schema [] h = tt
 link-goes_on schema (packet ∷ link) h =
-    (packet-goes_on schema packet (all-first IsNoFarewell (sync_packet schema packet) (sync_packets schema link) h), link-goes_on schema link (all-second IsNoFarewell (sync_packet schema packet) (sync_packets schema link) h))
+    (packet-goes_on schema packet (all-before IsNoFarewell (sync_packet schema packet) (sync_packets schema link) h), link-goes_on schema link (all-behind IsNoFarewell (sync_packet schema packet) (sync_packets schema link) h))
 
 pub empty-goes_on : (schema : Schema) (link : List Packet) → sync_packets schema link ≡ [] → HasNoLastPacket link
 empty-goes_on schema link e = link-goes_on schema link (subst (AllByRecursion IsNoFarewell) (sym e) tt)

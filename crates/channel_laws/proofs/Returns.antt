@@ -1,4 +1,4 @@
--- Handlers that return, calls that go on, the outbox, answers, names, a close and a death.
+-- Handlers that return, calls that go on and the outbox, at an open end.
 use Rattle.std.proofs.Common.{◌≡◌, ℕ, ◌+◌, ℤ, Bool, true, false, List, [], ◌∷◌, drop, Option, Some, None, refl, sym, ap, subst, ◌∙◌}
 use Rattle.std.proofs.lemmas.Option.{same_Some}
 use Rattle.std.specs.List.{AllByRecursion}
@@ -20,7 +20,7 @@ use Rattle.channel_model.specs.Outputs.{Output, Change, beginning, when, line, a
 use Rattle.channel_model.specs.Returns as returns
 use Rattle.nesting_laws.specs.Steps as sync_step
 use Rattle.channel_laws.proofs.Sends.{when-true, keeps-when_not}
-use Rattle.channel_laws.proofs.SyncSteps.{SyncStep, no_step, track_of, at-open, track-steps}
+use Rattle.channel_laws.proofs.SyncSteps.{SyncStep, no_step, track_of, at-open, track-steps, at-start}
 use Rattle.channel_laws.proofs.Track.{Track, IsOnTrack, keeps-when, keeps-chain, at-sent, at-answered, keeps-destroyed, keeps-deletes, answered_reply}
 use Rattle.channel_laws.specs.OpenEnds.{EntryAgrees, IsOpenEnd}
 use Rattle.channel_laws.specs.SyncCalls.{is_sync_number, listed, call_of_head, sync_calls}
@@ -59,17 +59,7 @@ on_top [] entry e = cc
 on_top (first ∷ below) entry e = on_top_at first below first.frame entry refl e
 
 at-popped : (schema : Schema) (e : End) (stack : List SyncFrame) → IsOpenEnd schema e stack → IsOnTrack schema (record (track_of e) { stack = drop 1 e.stack }) (record e { stack = drop 1 e.stack }) []
-at-popped schema e stack h = record {
-  side_is = refl;
-  state_is = h.state;
-  stack_is = refl;
-  arrived_is = refl;
-  sent_is = refl;
-  agree = tt;
-  named = h.names;
-  outbox_is = h.outbox;
-  waiting = h.waiting;
-}
+at-popped schema e stack h = at-start schema e (record e { stack = drop 1 e.stack }) stack refl refl refl h
 
 entries-popped : (schema : Schema) (stack : List StackEntry) → AllByRecursion (EntryAgrees schema) stack → AllByRecursion (EntryAgrees schema) (drop 1 stack)
 entries-popped schema [] h = tt

@@ -1,4 +1,5 @@
--- Sends.
+-- Sends of an open end: refused ones, async requests, and calls.
+use Rattle.channel_laws.proofs.Tests.{and-left, and-right, not-false}
 use Rattle.std.proofs.Common.{◌≡◌, ℕ, ◌+◌, ℤ, pos, Bool, true, false, not, ◌&&◌, ◌||◌, cond, if◌then◌else◌, List, [], ◌∷◌, ◌++◌, map, Option, Some, None, is_some, is_none, arith, refl, sym, ap, subst, ◌∙◌}
 use Rattle.std.proofs.Math.Numerals.{add-one}
 use Rattle.std.proofs.lemmas.Bool.Decides.{nat_tests}
@@ -33,7 +34,7 @@ use Rattle.channel_model.specs.ValueActors.{lives_as}
 use Rattle.channel_model.specs.Outputs.{Output, Change, beginning, ◌▷◌, when, on_end, line, put, is_open, is_dead_end}
 use Rattle.channel_model.specs.Sends as send
 use Rattle.channel_laws.proofs.SyncSteps.{SyncStep, track_of, at-beginning, keeps-sync_step, track-steps}
-use Rattle.channel_laws.proofs.Track.{Track, IsOnTrack, KeepsTrack, keeps-chain, keeps-when, at-like, at-put, at-sent, keeps-names_actor, keeps-constructs, keeps-deletes}
+use Rattle.channel_laws.proofs.Track.{Track, IsOnTrack, KeepsTrack, keeps-chain, keeps-when, at-changed, at-like, at-put, at-sent, keeps-names_actor, keeps-constructs, keeps-deletes, frames_in}
 use Rattle.channel_laws.specs.OpenEnds.{EntryAgrees, PacketAgrees, IsOpenEnd}
 use Rattle.channel_laws.specs.SyncCalls.{level_of, listed, call_of, call_of_head, sync_packets, sync_packet, sync_calls}
 use Rattle.channel_laws.specs.SyncStack.{empty, async_base, waits, handles, Shows, no_answer, has_answer, cpow_on_top, no_cpow, entry_of}
@@ -91,9 +92,6 @@ cpow-refuses head l below e h = cpow-refuses_at head.level l head.sync head.seq 
 pub record CallStep (side : Side) (entries : List StackEntry) (stack : List SyncFrame) (route : ℤ) (number : ℕ) (head : Head) : Type 0 where
   pub shows : Shows side (entry_of (Wait head None) route number false ∷ entries) (wait (call_of_head route number head) ∷ stack)
   pub step : (arrived : List Call) (link : List SyncPacket) → Step side (sync_end stack arrived link) (sync_end (wait (call_of_head route number head) ∷ stack) arrived link) (request (call_of_head route number head) ∷ [])
-
-abbrev pub frames_in : List StackEntry → List StackFrame
-frames_in entries = map (λ (entry : StackEntry). entry.frame) entries
 
 pub called : (side : Side) (entries : List StackEntry) (stack : List SyncFrame) (level : Level) (seq route : ℤ) (number : ℕ) → Shows side entries stack → send.is_wait_on_top (top_of (frames_in entries)) ≡ false → refusal_of (frames_in entries) (record { sync = true; level = level }) ≡ None
     → ((t : ℤ) → HasLevelOf side (record { level = level; seq = seq; transaction = t; route = route; number = number })) → IsTransactionOf side seq → CallStep side entries stack route number (record { sync = true; level = level; seq = seq; transaction = transaction_of (frames_in entries) seq })
@@ -159,17 +157,9 @@ outbox-more schema (x ∷ outbox) m e f =
     ∙ (ap (λ (ps : List SyncPacket). sync_packet schema (message x) ++ ps) (append-nil (sync_packets schema (map message outbox))) ∙ e)))
 
 keeps-posted : (schema : Schema) (lazy : Bool) (m : Message) → sync_packet schema (message m) ≡ [] → PacketAgrees schema (message m) → KeepsTrack schema (send.posted_by lazy m)
-keeps-posted schema true m nothing agrees w o h = record {
-  side_is = h.side_is;
-  state_is = h.state_is;
-  stack_is = h.stack_is;
-  arrived_is = h.arrived_is;
-  sent_is = h.sent_is;
-  agree = h.agree;
-  named = h.named;
-  outbox_is = outbox-more schema o.end.outbox m h.outbox_is nothing;
-  waiting = subst (AllByRecursion (PacketAgrees schema)) (sym (map-append message o.end.outbox (m ∷ []))) (all-append (PacketAgrees schema) (map message o.end.outbox) (message m ∷ []) h.waiting (agrees, tt));
-}
+keeps-posted schema true m nothing agrees w o h =
+    at-changed schema w o.end (record o.end { outbox = o.end.outbox ++ m ∷ [] }) o.packets refl refl refl refl h.named (outbox-more schema o.end.outbox m h.outbox_is nothing)
+    (subst (AllByRecursion (PacketAgrees schema)) (sym (map-append message o.end.outbox (m ∷ []))) (all-append (PacketAgrees schema) (map message o.end.outbox) (message m ∷ []) h.waiting (agrees, tt))) h
 keeps-posted schema false m nothing agrees w o h =
     at-sent schema w (w.sent ++ sync_packet schema (message m)) w.sent (put (message m) o).end (put (message m) o).packets (ap (λ (ps : List SyncPacket). w.sent ++ ps) nothing ∙ append-nil w.sent) (at-put schema (message m) agrees w o h)
 
@@ -216,7 +206,7 @@ module _ (schema : Schema) (e : End) (row : MessageRow) (route : ℤ) (vs : Valu
   entry-agree : is_sync_row row ≡ true → EntryAgrees schema (send.wait_for row m)
   entry-agree is = record { row = row; found = found; is_sync = is; resolves = λ r. cc }
 
-  -- the place of the call, on the link and on the stack
+  -- the track behind the call, which is on the link and on the stack
   abbrev called_track : Track
   called_track = record { side = e.side; stack = send.wait_for row m ∷ e.stack; arrived = e.arrived; sent = request (call_of row.level m) ∷ [] }
 
@@ -245,18 +235,6 @@ module _ (schema : Schema) (e : End) (row : MessageRow) (route : ℤ) (vs : Valu
       track-steps schema e stack (wait (call_of_head route row.number head) ∷ stack) link called_track (send.sent row m vs name (beginning e)) (at-call is) c.shows (entry-agree is, h.entries) h.arrived (c.step (sync_calls e.arrived) (sync_packets schema link))
 
 -- A send
-
-pub and-left : (a b : Bool) → a && b ≡ true → a ≡ true
-and-left true b e = refl
-and-left false b e = e
-
-pub and-right : (a b : Bool) → a && b ≡ true → b ≡ true
-and-right true b e = e
-and-right false b e = cc
-
-pub not-false : (b : Bool) → not b ≡ true → b ≡ false
-not-false true e = cc
-not-false false e = refl
 
 pub acts-top : (e : End) → send.may_act e ≡ true → send.is_wait_on_top (top_of (send.frames_of e)) ≡ false
 acts-top e may = not-false (send.is_wait_on_top (top_of (send.frames_of e))) (and-right (not (is_dead_end e.state)) (not (send.is_wait_on_top (top_of (send.frames_of e)))) may)

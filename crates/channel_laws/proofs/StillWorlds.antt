@@ -1,4 +1,6 @@
 -- Where nothing can happen by itself, no end waits.
+use Rattle.channel_laws.proofs.Track.{frames_in}
+use Rattle.channel_laws.proofs.Tests.{and-left, and-right, not-false}
 use Rattle.std.proofs.Common.{◌≡◌, ℤ, Bool, true, false, not, ◌&&◌, List, [], ◌∷◌, Some, None, refl, sym, subst, ◌∙◌, ℕ}
 use Rattle.std.specs.List.{AllByRecursion}
 use Rattle.ipdl_base.specs.declared.kinds.Side.{Side}
@@ -13,7 +15,6 @@ use Rattle.channel_model.specs.Runs.{is_possible, is_still_at}
 use Rattle.channel_model.specs.Sends.{frames_of}
 use Rattle.channel_model.specs.States.{IsAnswered}
 use Rattle.channel_laws.proofs.Awaited.{nothing_awaited, IsAtRest, rests-no_move}
-use Rattle.channel_laws.proofs.Sends.{and-left, and-right, not-false, frames_in}
 use Rattle.channel_laws.specs.Laws.{StillEndsWaitForNothing, world_of}
 use Rattle.channel_laws.specs.NestedWorlds.{sync_end_of, EndsAreNested, both_open, mine_open, theirs_open, both_over, IsNestedWorld}
 use Rattle.channel_laws.specs.OpenEnds.{IsOpenEnd}

@@ -1,17 +1,18 @@
 -- What a step of an open end is among sync requests.
-use Rattle.std.proofs.Common.{◌≡◌, false, List, [], ◌∷◌, refl, sym, ap, subst}
+use Rattle.std.proofs.Common.{◌≡◌, false, List, [], ◌∷◌, refl, sym, ap, subst, map, ◌∙◌}
 use Rattle.std.specs.List.{AllByRecursion}
 use Rattle.ipdl_base.specs.declared.kinds.Side.{Side}
+use Rattle.ipdl_base.specs.declared.message.Message.{Message}
 use Rattle.ipdl_base.specs.declared.schema.Schema.{Schema}
 use Rattle.pending_queue.specs.declared.item.Item.{Item}
 use Rattle.ipdl_base.specs.declared.kinds.EndState.TheVariants.{Draining}
-use Rattle.channel_model.specs.Ends.{End, StackEntry, Packet}
+use Rattle.channel_model.specs.Ends.{End, StackEntry, Packet, message}
 use Rattle.channel_model.specs.Outputs.{Output, is_open}
 use Rattle.channel_model.specs.Sends.{frames_of}
 use Rattle.channel_model.specs.States.{IsAnswered}
 use Rattle.channel_laws.proofs.Track.{Track, IsOnTrack}
 use Rattle.channel_laws.specs.NestedWorlds.{EndsInLastPacket}
-use Rattle.channel_laws.specs.OpenEnds.{EntryAgrees, ItemAgrees, PacketAgrees, IsOpenEnd}
+use Rattle.channel_laws.specs.OpenEnds.{EntryAgrees, ItemAgrees, PacketAgrees, NamingAgrees, IsOpenEnd}
 use Rattle.channel_laws.specs.SyncCalls.{sync_packets, sync_calls}
 use Rattle.channel_laws.specs.SyncStack.{Shows}
 use Rattle.nesting_laws.specs.Calls.{SyncPacket, farewell, sync_end, SyncFrame}
@@ -28,18 +29,22 @@ pub data SyncStep (schema : Schema) (e : End) (stack : List SyncFrame) (link res
 abbrev pub track_of : End → Track
 track_of e = record { side = e.side; stack = e.stack; arrived = e.arrived; sent = [] }
 
-pub at-beginning : (schema : Schema) (e : End) (stack : List SyncFrame) → IsOpenEnd schema e stack → IsOnTrack schema (track_of e) e []
-at-beginning schema e stack h = record {
+-- an end before it has sent anything, that is open as another is
+pub at-start : (schema : Schema) (e next : End) (stack : List SyncFrame) → next.state ≡ e.state → next.names ≡ e.names → next.outbox ≡ e.outbox → IsOpenEnd schema e stack → IsOnTrack schema (track_of next) next []
+at-start schema e next stack s n o h = record {
   side_is = refl;
-  state_is = h.state;
+  state_is = s ∙ h.state;
   stack_is = refl;
   arrived_is = refl;
   sent_is = refl;
   agree = tt;
-  named = h.names;
-  outbox_is = h.outbox;
-  waiting = h.waiting;
+  named = subst (AllByRecursion (NamingAgrees schema)) (sym n) h.names;
+  outbox_is = ap (λ (ms : List Message). sync_packets schema (map message ms)) o ∙ h.outbox;
+  waiting = subst (λ (ms : List Message). AllByRecursion (PacketAgrees schema) (map message ms)) (sym o) h.waiting;
 }
+
+pub at-beginning : (schema : Schema) (e : End) (stack : List SyncFrame) → IsOpenEnd schema e stack → IsOnTrack schema (track_of e) e []
+at-beginning schema e stack h = at-start schema e e stack refl refl refl h
 
 pub at-open : (schema : Schema) (w : Track) (e : End) (packets : List Packet) (stack : List SyncFrame) → IsOnTrack schema w e packets → Shows w.side w.stack stack → AllByRecursion (EntryAgrees schema) w.stack → AllByRecursion (ItemAgrees schema) w.arrived → IsOpenEnd schema e stack
 at-open schema w e packets stack h shows entries items = record {
@@ -52,7 +57,7 @@ at-open schema w e packets stack h shows entries items = record {
   waiting = h.waiting;
 }
 
--- a calm step
+-- a step that keeps its track
 pub keeps-sync_step : (schema : Schema) (e : End) (stack : List SyncFrame) (link : List Packet) (o : Output) → IsOpenEnd schema e stack → IsOnTrack schema (track_of e) o.end o.packets → SyncStep schema e stack link link o
 keeps-sync_step schema e stack link o h a =
     no_step (at-open schema (track_of e) o.end o.packets stack a h.shows h.entries h.arrived) (ap sync_calls a.arrived_is) refl a.sent_is a.agree

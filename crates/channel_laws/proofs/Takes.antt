@@ -1,4 +1,4 @@
--- Takes.
+-- Takes of an open end.
 use Rattle.std.proofs.Common.{◌≡◌, ◌+◌, ℤ, pos, Bool, true, false, not, ◌&&◌, ◌||◌, cond, List, [], ◌∷◌, ◌++◌, find, Option, Some, None, is_some, refl, sym, ap, subst, ◌∙◌, ℕ}
 use Rattle.std.proofs.lemmas.Option.{same_Some}
 use Rattle.std.specs.List.{AllByRecursion}
@@ -35,10 +35,11 @@ use Rattle.channel_model.specs.Takes as takes
 use Rattle.channel_model.specs.ValueActors.{nulled, received}
 use Rattle.channel_model.proofs.Sublists.{all-sublist, without_first-sublist, TakenOut, taken_out}
 use Rattle.nesting_laws.specs.Steps as sync_step
+use Rattle.channel_laws.proofs.Tests.{not-false}
 use Rattle.channel_laws.proofs.Rows.{request-message}
-use Rattle.channel_laws.proofs.Sends.{frames_in, at-push, when-true, not-false, is-sync_head}
-use Rattle.channel_laws.proofs.SyncSteps.{SyncStep, no_step, at-open, track-steps}
-use Rattle.channel_laws.proofs.Track.{answered_reply, Track, IsOnTrack, KeepsTrack, keeps-when, at-like, at-sent, at-answered, keeps-answered, keeps-constructs, all-found}
+use Rattle.channel_laws.proofs.Sends.{at-push, when-true, is-sync_head}
+use Rattle.channel_laws.proofs.SyncSteps.{SyncStep, no_step, at-open, track-steps, at-start}
+use Rattle.channel_laws.proofs.Track.{answered_reply, Track, IsOnTrack, KeepsTrack, keeps-when, at-like, at-sent, at-answered, keeps-answered, keeps-constructs, all-found, frames_in}
 use Rattle.channel_laws.specs.OpenEnds.{EntryAgrees, RequestAgrees, ArrivedAgrees, ItemAgrees, IsOpenEnd}
 use Rattle.channel_laws.specs.SyncCalls.{is_sync_number, listed, call_of, call_of_head, body_call, item_call, sync_calls}
 use Rattle.channel_laws.specs.SyncStack.{empty, async_base, waits, handles, Shows, no_answer, cpow_on_top, no_cpow, entry_of, has_answer}
@@ -144,17 +145,7 @@ module _ (schema : Schema) (rows : HasSoundRows schema) (e : End) (stack : List 
   left = on_end (λ e. record e { arrived = without_first (is_free (takes.holding_of e)) e.arrived }) (beginning e)
 
   at-left : IsOnTrack schema left_track left.end []
-  at-left = record {
-    side_is = refl;
-    state_is = h.state;
-    stack_is = refl;
-    arrived_is = refl;
-    sent_is = refl;
-    agree = tt;
-    named = h.names;
-    outbox_is = h.outbox;
-    waiting = h.waiting;
-  }
+  at-left = at-start schema e left.end stack refl refl refl h
 
   rest-agree : AllByRecursion (ItemAgrees schema) rest
   rest-agree = all-sublist (ItemAgrees schema) rest e.arrived (without_first-sublist (is_free (takes.holding_of e)) e.arrived) h.arrived
@@ -222,7 +213,7 @@ module _ (schema : Schema) (rows : HasSoundRows schema) (e : End) (stack : List 
     entry-agree : EntryAgrees schema (takes.dispatch_of row m)
     entry-agree = record { row = row; found = agrees.found; is_sync = refl; resolves = promise-async (is_sync_row row) (is_some row.returns) }
 
-    -- the place behind a dispatch
+    -- the track behind a dispatch
     abbrev handled_track : Track
     handled_track = record { side = e.side; stack = takes.dispatch_of row m ∷ e.stack; arrived = rest; sent = [] }
 

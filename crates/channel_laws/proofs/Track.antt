@@ -1,5 +1,5 @@
 -- Parts of a step of an open end, and what they send.
-use Rattle.std.proofs.Common.{◌≡◌, ℕ, ◌+◌, ℤ, Bool, true, false, not, cond, List, [], ◌∷◌, ◌++◌, map, filter, find, Option, Some, None, option_map, refl, sym, ap, subst, ◌∙◌}
+use Rattle.std.proofs.Common.{◌≡◌, ℕ, ◌+◌, ℤ, Bool, true, false, not, cond, List, [], ◌∷◌, ◌++◌, map, find, Option, Some, None, option_map, refl, sym, ap, subst, ◌∙◌}
 use Rattle.std.specs.List.{AllByRecursion}
 use Rattle.std.proofs.lemmas.Grind.{flat_map-append}
 use Rattle.std.proofs.lemmas.List.{append-nil}
@@ -11,6 +11,7 @@ use Rattle.ipdl_base.specs.declared.schema.Kind.TheVariants.{Normal, Constructor
 use Rattle.ipdl_base.specs.declared.schema.Schema.{Schema}
 use Rattle.nesting_core.specs.declared.frame.Answer.{Answer}
 use Rattle.nesting_core.specs.declared.frame.Answer.TheVariants as answer
+use Rattle.nesting_core.specs.declared.frame.StackFrame.{StackFrame}
 use Rattle.pending_queue.specs.declared.item.Item.{Item}
 use Rattle.ipdl_base.specs.declared.kinds.EndState.TheVariants.{Open}
 use Rattle.channel_model.specs.Ends.{End, StackEntry, Naming, NameContent, actor, resolver, Resolver, Packet, message}
@@ -18,10 +19,14 @@ use Rattle.channel_model.specs.Falls.{fallen, why_deleted, deletes}
 use Rattle.channel_model.specs.Names.{has_name, held_by_name, without_name, let_go, holding, renamed}
 use Rattle.channel_model.specs.Outputs.{Output, Change, ◌▷◌, when, when_open, on_end, line, put, is_open, AnsweredRequest, answered, destroyed, resolver_answered, answer_line, reply_to, body_of}
 use Rattle.channel_model.specs.Sends as sends
-use Rattle.channel_model.proofs.Known.{all-append}
+use Rattle.channel_model.proofs.Known.{all-append, all-filter}
 use Rattle.channel_laws.specs.OpenEnds.{PacketAgrees, ContentAgrees, NamingAgrees}
 use Rattle.channel_laws.specs.SyncCalls.{is_sync_number, listed, sync_packet, sync_packets}
 use Rattle.nesting_laws.specs.Calls.{SyncPacket, reply, ReplyHead}
+
+-- the frames of entries
+abbrev pub frames_in : List StackEntry → List StackFrame
+frames_in entries = map (λ (entry : StackEntry). entry.frame) entries
 
 -- What is followed of an open end, and what it has sent of sync requests.
 pub record Track : Type 0 where
@@ -52,23 +57,29 @@ pub keeps-when : (schema : Schema) (b : Bool) (change : Change) → KeepsTrack s
 keeps-when schema true change c w o h = c w o h
 keeps-when schema false change c w o h = h
 
--- an end that is as another but for its actors, promises and counts
-pub at-like : (schema : Schema) (w : Track) (e next : End) (packets : List Packet) → next.side ≡ e.side → next.state ≡ e.state → next.stack ≡ e.stack → next.arrived ≡ e.arrived → next.names ≡ e.names → next.outbox ≡ e.outbox → IsOnTrack schema w e packets → IsOnTrack schema w next packets
-at-like schema w e next packets a b c d n o h = record {
+-- an end that is as another but for its names and outbox, and for its actors, promises and counts
+pub at-changed : (schema : Schema) (w : Track) (e next : End) (packets : List Packet) → next.side ≡ e.side → next.state ≡ e.state → next.stack ≡ e.stack → next.arrived ≡ e.arrived → AllByRecursion (NamingAgrees schema) next.names → sync_packets schema (map message next.outbox) ≡ [] → AllByRecursion (PacketAgrees schema) (map message next.outbox) → IsOnTrack schema w e packets → IsOnTrack schema w next packets
+at-changed schema w e next packets a b c d named outbox waiting h = record {
   side_is = a ∙ h.side_is;
   state_is = b ∙ h.state_is;
   stack_is = c ∙ h.stack_is;
   arrived_is = d ∙ h.arrived_is;
   sent_is = h.sent_is;
   agree = h.agree;
-  named = subst (AllByRecursion (NamingAgrees schema)) (sym n) h.named;
-  outbox_is = ap (λ (ms : List Message). sync_packets schema (map message ms)) o ∙ h.outbox_is;
-  waiting = subst (λ (ms : List Message). AllByRecursion (PacketAgrees schema) (map message ms)) (sym o) h.waiting;
+  named = named;
+  outbox_is = outbox;
+  waiting = waiting;
 }
 
--- the parcels of packets behind the outbox
-parcels-behind : (schema : Schema) (packets outbox : List Packet) (packet : Packet) (sent : List SyncPacket) → sync_packets schema packets ≡ sent → sync_packets schema outbox ≡ [] → sync_packets schema (packets ++ outbox ++ packet ∷ []) ≡ sent ++ sync_packet schema packet
-parcels-behind schema packets outbox packet sent e f =
+-- one that has the same names and outbox too
+pub at-like : (schema : Schema) (w : Track) (e next : End) (packets : List Packet) → next.side ≡ e.side → next.state ≡ e.state → next.stack ≡ e.stack → next.arrived ≡ e.arrived → next.names ≡ e.names → next.outbox ≡ e.outbox → IsOnTrack schema w e packets → IsOnTrack schema w next packets
+at-like schema w e next packets a b c d n o h =
+    at-changed schema w e next packets a b c d (subst (AllByRecursion (NamingAgrees schema)) (sym n) h.named) (ap (λ (ms : List Message). sync_packets schema (map message ms)) o ∙ h.outbox_is)
+    (subst (λ (ms : List Message). AllByRecursion (PacketAgrees schema) (map message ms)) (sym o) h.waiting) h
+
+-- what is sent where a packet goes behind the outbox
+sent-behind : (schema : Schema) (packets outbox : List Packet) (packet : Packet) (sent : List SyncPacket) → sync_packets schema packets ≡ sent → sync_packets schema outbox ≡ [] → sync_packets schema (packets ++ outbox ++ packet ∷ []) ≡ sent ++ sync_packet schema packet
+sent-behind schema packets outbox packet sent e f =
     flat_map-append (sync_packet schema) (packets ++ outbox) (packet ∷ [])
     ∙ (ap (λ (ps : List SyncPacket). ps ++ (sync_packet schema packet ++ [])) (flat_map-append (sync_packet schema) packets outbox)
     ∙ (ap (λ (ps : List SyncPacket). (sync_packets schema packets ++ ps) ++ (sync_packet schema packet ++ [])) f
@@ -82,7 +93,7 @@ at-put schema packet agrees w o h = record {
   state_is = h.state_is;
   stack_is = h.stack_is;
   arrived_is = h.arrived_is;
-  sent_is = parcels-behind schema o.packets (map message o.end.outbox) packet w.sent h.sent_is h.outbox_is;
+  sent_is = sent-behind schema o.packets (map message o.end.outbox) packet w.sent h.sent_is h.outbox_is;
   agree = all-append (PacketAgrees schema) (o.packets ++ map message o.end.outbox) (packet ∷ []) (all-append (PacketAgrees schema) o.packets (map message o.end.outbox) h.agree h.waiting) (agrees, tt);
   named = h.named;
   outbox_is = refl;
@@ -90,7 +101,7 @@ at-put schema packet agrees w o h = record {
 }
 
 pub at-sent : (schema : Schema) (w : Track) (more some : List SyncPacket) (e : End) (packets : List Packet) → more ≡ some → IsOnTrack schema (record w { sent = more }) e packets → IsOnTrack schema (record w { sent = some }) e packets
-at-sent schema w more some e packets no_step h = subst (λ (ps : List SyncPacket). IsOnTrack schema (record w { sent = ps }) e packets) no_step h
+at-sent schema w more some e packets equal h = subst (λ (ps : List SyncPacket). IsOnTrack schema (record w { sent = ps }) e packets) equal h
 
 -- an open end
 when_open-is : (change : Change) (o : Output) → o.end.state ≡ Open → when_open change o ≡ change o
@@ -115,8 +126,8 @@ pub at-answered : (schema : Schema) (q : AnsweredRequest) (a : Answer) (w : Trac
 at-answered schema q a w o h =
     let change : Change = line (answer_line q.seq a) ▷ put (message (reply_to q (body_of a))) in
     let done = at-put schema (message (reply_to q (body_of a))) (answer-agree schema q a) w (line (answer_line q.seq a) o) h in
-    let no_step = at-sent schema w (w.sent ++ sync_packet schema (message (reply_to q (body_of a)))) (w.sent ++ listed (is_sync_number schema (q.number + 1)) (reply (answered_reply q))) (change o).end (change o).packets (ap (λ (ps : List SyncPacket). w.sent ++ ps) (answer-sync_packets schema q a)) done in
-    subst (λ (n : Output). IsOnTrack schema (record w { sent = w.sent ++ listed (is_sync_number schema (q.number + 1)) (reply (answered_reply q)) }) n.end n.packets) (sym (when_open-is change o h.state_is)) no_step
+    let replied = at-sent schema w (w.sent ++ sync_packet schema (message (reply_to q (body_of a)))) (w.sent ++ listed (is_sync_number schema (q.number + 1)) (reply (answered_reply q))) (change o).end (change o).packets (ap (λ (ps : List SyncPacket). w.sent ++ ps) (answer-sync_packets schema q a)) done in
+    subst (λ (n : Output). IsOnTrack schema (record w { sent = w.sent ++ listed (is_sync_number schema (q.number + 1)) (reply (answered_reply q)) }) n.end n.packets) (sym (when_open-is change o h.state_is)) replied
 
 pub keeps-answered : (schema : Schema) (q : AnsweredRequest) (a : Answer) → is_sync_number schema (q.number + 1) ≡ false → KeepsTrack schema (answered q a)
 keeps-answered schema q a async w o h =
@@ -136,13 +147,6 @@ pub all-found : {A : Type 0} (P : A → Type 0) (test : A → Bool) (xs : List A
 all-found P test [] x h e = cc
 all-found P test (y ∷ ys) x h e = found-has P test y ys x (test y) e h.0 (λ k. all-found P test ys x h.1 k)
 
-pub all-filter : {A : Type 0} (P : A → Type 0) (test : A → Bool) (xs : List A) → AllByRecursion P xs → AllByRecursion P (filter test xs)
-all-filter P test [] h = tt
-all-filter P test (x ∷ xs) h = elim (test x) as (λ b. AllByRecursion P (cond b (x ∷ filter test xs) (filter test xs))) [
-  | true ↦ (h.0, all-filter P test xs h.1)
-  | false ↦ all-filter P test xs h.1
-]
-
 abbrev pub MayHold : Schema → Option NameContent → Type 0
 MayHold schema None = Unit {0}
 MayHold schema (Some holds) = ContentAgrees schema holds
@@ -161,17 +165,7 @@ keeps-let_go schema (Some (actor id)) agrees w o h = h
 keeps-let_go schema (Some (resolver r)) agrees w o h = keeps-destroyed schema r agrees w o h
 
 pub at-names : (schema : Schema) (w : Track) (e : End) (names : List Naming) (packets : List Packet) → AllByRecursion (NamingAgrees schema) names → IsOnTrack schema w e packets → IsOnTrack schema w (record e { names = names }) packets
-at-names schema w e names packets agrees h = record {
-  side_is = h.side_is;
-  state_is = h.state_is;
-  stack_is = h.stack_is;
-  arrived_is = h.arrived_is;
-  sent_is = h.sent_is;
-  agree = h.agree;
-  named = agrees;
-  outbox_is = h.outbox_is;
-  waiting = h.waiting;
-}
+at-names schema w e names packets agrees h = at-changed schema w e (record e { names = names }) packets refl refl refl refl agrees h.outbox_is h.waiting h
 
 pub keeps-renamed : (schema : Schema) (name : List ℕ) (holds : Option NameContent) → MayHold schema holds → KeepsTrack schema (renamed name holds)
 keeps-renamed schema name holds agrees w o h =

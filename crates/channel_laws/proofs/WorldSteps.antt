@@ -142,12 +142,12 @@ module _ (schema : Schema) (rows : HasSoundRows schema) (side : Side) (mine thei
   abbrev Then : Type 0
   Then = EndsAreNested schema side output.end theirs (after_event happening to_me) (to_them ++ output.packets)
 
-  same_half : (stack : List SyncFrame) → sync_calls output.end.arrived ≡ sync_calls mine.arrived → sync_packets schema (after_event happening to_me) ≡ sync_packets schema to_me → sync_end_of schema mine to_me stack ≡ sync_end_of schema output.end (after_event happening to_me) stack
-  same_half stack a b = ap (λ (qs : List Call). sync_end stack qs (sync_packets schema to_me)) (sym a) ∙ ap (sync_end stack (sync_calls output.end.arrived)) (sym b)
+  same_end : (stack : List SyncFrame) → sync_calls output.end.arrived ≡ sync_calls mine.arrived → sync_packets schema (after_event happening to_me) ≡ sync_packets schema to_me → sync_end_of schema mine to_me stack ≡ sync_end_of schema output.end (after_event happening to_me) stack
+  same_end stack a b = ap (λ (qs : List Call). sync_end stack qs (sync_packets schema to_me)) (sym a) ∙ ap (sync_end stack (sync_calls output.end.arrived)) (sym b)
 
   both-then : (stack under : List SyncFrame) → IsOpenEnd schema theirs under → AreNestedFrom side (sync_end_of schema mine to_me stack) (sync_end_of schema theirs to_them under) → SyncStep schema mine stack to_me (after_event happening to_me) output → Then
   both-then stack under t n (no_step h a b sent f) =
-      let moved = subst (λ (x : SyncEnd). AreNestedFrom side x (sync_end_of schema theirs to_them under)) (same_half stack a b) n in
+      let moved = subst (λ (x : SyncEnd). AreNestedFrom side x (sync_end_of schema theirs to_them under)) (same_end stack a b) n in
       let back : sync_end_of schema theirs to_them under ≡ sync_end_of schema theirs (to_them ++ output.packets) under = ap (sync_end under (sync_calls theirs.arrived)) (sym (link-more [] sent ∙ append-nil (sync_packets schema to_them))) in
       both_open h t (subst (AreNestedFrom side (sync_end_of schema output.end (after_event happening to_me) stack)) back moved)
   both-then stack under t n (one_step {new} h s f) =
@@ -166,7 +166,7 @@ module _ (schema : Schema) (rows : HasSoundRows schema) (side : Side) (mine thei
 
   alone-then : (stack : List SyncFrame) → IsGone theirs → EndsInLastPacket to_me → IsAlone side (sync_end_of schema mine to_me stack) → SyncStep schema mine stack to_me (after_event happening to_me) output → Then
   alone-then stack gone l n (no_step h a b sent f) =
-      let moved = subst (IsAlone side) (same_half stack a b) n in
+      let moved = subst (IsAlone side) (same_end stack a b) n in
       mine_open h gone (left-ends stack moved l) moved
   alone-then stack gone l n (one_step {new} h s f) =
       let moved = alone_stays.stays side (sync_end_of schema mine to_me stack) (sync_end_of schema output.end (after_event happening to_me) new) (sync_packets schema output.packets) n
@@ -188,7 +188,7 @@ module _ (schema : Schema) (rows : HasSoundRows schema) (side : Side) (mine thei
       let o = ended_step schema mine a.over a.nobody to_me happening output is in
       both_over (record { over = o.over; nobody = o.nobody }) b
 
-  -- what is sent fits
+  -- what is sent agrees
   simulated-agree : (stack : List SyncFrame) → SyncStep schema mine stack to_me (after_event happening to_me) output → AllByRecursion (PacketAgrees schema) output.packets
   simulated-agree stack (no_step h a b sent f) = f
   simulated-agree stack (one_step h s f) = f
