@@ -1,15 +1,17 @@
 -- Where nothing can happen by itself, no end waits.
 use Rattle.channel_laws.proofs.Track.{frames_in}
 use Rattle.channel_laws.proofs.Tests.{and-left, and-right, not-false}
-use Rattle.std.proofs.Common.{◌≡◌, ℤ, Bool, true, false, not, ◌&&◌, List, [], ◌∷◌, Some, None, refl, sym, subst, ◌∙◌, ℕ}
-use Rattle.std.specs.List.{AllByRecursion}
+use Rattle.std.proofs.Common.{◌≡◌, ℤ, Bool, true, false, not, ◌&&◌, List, [], ◌∷◌, ◌++◌, map, filter, cond, Some, None, refl, sym, ap, subst, ◌∙◌, ℕ}
+use Rattle.std.specs.List.{AllByRecursion, list_any}
+use Rattle.std.specs.Ordering.{int_eq}
 use Rattle.ipdl_base.specs.declared.kinds.Side.{Side}
 use Rattle.ipdl_base.specs.declared.kinds.Side.TheVariants.{Parent, Child}
 use Rattle.ipdl_base.specs.declared.schema.Schema.{Schema}
 use Rattle.nesting_core.specs.declared.frame.StackFrame.{StackFrame}
 use Rattle.nesting_core.specs.declared.frame.StackFrame.TheVariants.{Dispatch, Wait}
 use Rattle.nesting_core.specs.Answers.{awaited}
-use Rattle.channel_model.specs.Ends.{End, World, Packet, end_of, link_to, StackEntry}
+use Rattle.nesting_core.specs.Frames.{head_of, is_unanswered}
+use Rattle.channel_model.specs.Ends.{End, World, Packet, end_of, link_to, opening, StackEntry}
 use Rattle.channel_model.specs.Events as event
 use Rattle.channel_model.specs.Runs.{is_possible, is_still_at}
 use Rattle.channel_model.specs.Sends.{frames_of}
@@ -25,8 +27,9 @@ use Rattle.nesting_laws.specs.Calls.{Call, SyncPacket, SyncEnd, sync_end, SyncFr
 use Rattle.nesting_laws.specs.Progress.{CanMove, delivers, IsNotStuck, nobody, at_parent, at_child}
 use Rattle.ipdl_base.specs.Sound.{IsSound}
 use Rattle.channel_model.specs.Events.{Move}
-use Rattle.channel_model.specs.Runs.{is_still}
-use Rattle.channel_laws.specs.Laws.{StillHistoriesLeaveNoEndWaiting}
+use Rattle.channel_model.specs.Runs.{is_still, happens, run}
+use Rattle.channel_model.proofs.Histories.{moves_go_one_after_another}
+use Rattle.channel_laws.specs.Laws.{StillHistoriesLeaveNoEndWaiting, EndsWait, waits_for}
 use Rattle.channel_laws.proofs.EveryRun.{nesting_in_every_run}
 
 rests-at : (schema : Schema) (w : World) (side : Side) → is_still_at schema w side ≡ true → IsAtRest schema (end_of side w) (link_to side w)
@@ -99,8 +102,33 @@ not-still : (schema : Schema) → IsSound schema → (top : ℕ) (moves : List M
 not-still schema sound top moves side seq h true still = let k : None ≡ Some seq = sym (still_ends_wait_for_nothing schema sound top moves side still) ∙ h in cc
 not-still schema sound top moves side seq h false still = refl
 
+-- Each wait has ended
+
+answered-none : (frames : List StackFrame) → AllByRecursion IsAnswered frames → filter is_unanswered frames ≡ []
+answered-none [] h = refl
+answered-none (frame ∷ frames) h = ap (λ (b : Bool). cond b (frame ∷ filter is_unanswered frames) (filter is_unanswered frames)) h.0 ∙ answered-none frames h.1
+
+waits-for_none : (side : Side) (seq : ℤ) (w : World) → AllByRecursion IsAnswered (frames_of (end_of side w)) → waits_for side seq w ≡ false
+waits-for_none side seq w h = ap (λ (frames : List StackFrame). list_any (λ n. int_eq n seq) (map (λ (frame : StackFrame). (head_of frame).seq) frames)) (answered-none (frames_of (end_of side w)) h)
+
+-- where a wait stands, and does not behind some moves, one of these ends it
+ends-wait : (schema : Schema) (side : Side) (seq : ℤ) (w : World) (moves : List Move) → waits_for side seq w ≡ true → waits_for side seq (run schema moves w).world ≡ false → EndsWait schema side seq w moves
+ends-wait schema side seq w [] h gone = let k : true ≡ false = sym h ∙ gone in cc
+ends-wait schema side seq w (move ∷ moves) h gone = by (waits_for side seq (happens schema w move).world) refl (λ k. ends-wait schema side seq (happens schema w move).world moves k gone)
+  where
+    by : (b : Bool) → waits_for side seq (happens schema w move).world ≡ b → (waits_for side seq (happens schema w move).world ≡ true → EndsWait schema side seq (happens schema w move).world moves) → EndsWait schema side seq w (move ∷ moves)
+    by false is later = record { before = []; move = move; behind = moves; whole = refl; stands = h; gone = is }
+    by true is later = let e = later is in record { before = move ∷ e.before; move = e.move; behind = e.behind; whole = ap (λ (ms : List Move). move ∷ ms) e.whole; stands = e.stands; gone = e.gone }
+
+all_ended : (schema : Schema) → IsSound schema → (top : ℕ) (front back : List Move) (side : Side) (seq : ℤ) → waits_for side seq (world_of schema top front) ≡ true → is_still schema (world_of schema top (front ++ back)) ≡ true → EndsWait schema side seq (world_of schema top front) back
+all_ended schema sound top front back side seq h still =
+    let follow = moves_go_one_after_another schema front back (opening top) in
+    ends-wait schema side seq (world_of schema top front) back h
+    (ap (waits_for side seq) (sym follow.world) ∙ waits-for_none side seq (world_of schema top (front ++ back)) (awaits-answered (frames_of (end_of side (world_of schema top (front ++ back)))) (still_ends_wait_for_nothing schema sound top (front ++ back) side still)))
+
 pub still_histories_leave_no_end_waiting : StillHistoriesLeaveNoEndWaiting
 still_histories_leave_no_end_waiting = record {
   answered = λ schema sound top moves side still. awaits-answered (frames_of (end_of side (world_of schema top moves))) (still_ends_wait_for_nothing schema sound top moves side still);
+  ended = λ schema sound top front back side seq h still. all_ended schema sound top front back side seq h still;
   goes_on = λ schema sound top moves side seq h. not-still schema sound top moves side seq h (is_still schema (world_of schema top moves)) refl;
 }

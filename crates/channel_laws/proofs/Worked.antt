@@ -1,5 +1,5 @@
 -- Worked runs: what their worlds are, and that they meet the premises of each law.
-use Rattle.std.proofs.Common.{◌≡◌, ◌+◌, ℤ, pos, negsuc, true, false, List, [], ◌∷◌, Some, None, refl}
+use Rattle.std.proofs.Common.{◌≡◌, ◌+◌, ℤ, pos, negsuc, true, false, List, [], ◌∷◌, Some, None, refl, ◌++◌}
 use Rattle.ipdl_base.specs.declared.kinds.Level.TheVariants.{InsideSync, InsideCpow}
 use Rattle.ipdl_base.specs.declared.kinds.Side.TheVariants as side
 use Rattle.ipdl_base.specs.declared.line.What.TheVariants as what
@@ -18,7 +18,7 @@ use Rattle.channel_model.specs.Refusals.{is_waited_for}
 use Rattle.channel_model.specs.Runs.{is_still}
 use Rattle.channel_model.specs.Sends.{frames_of}
 use Rattle.channel_model.specs.Steps.{step}
-use Rattle.channel_laws.specs.Laws.{world_of, awaited_reply, EndsAreTold}
+use Rattle.channel_laws.specs.Laws.{world_of, awaited_reply, EndsWait, EndsAreTold}
 use Rattle.channel_laws.specs.NestedWorlds.{sync_end_of, EndsInLastPacket, IsNestedWorld}
 use Rattle.channel_laws.specs.SyncCalls.{reply_head}
 use Rattle.channel_laws.proofs.EndsTold.{ends_are_told_in_runs}
@@ -95,11 +95,9 @@ reply_is_not_stray = sync_replies_are_not_stray calling calling_is_sound 0 first
 
 -- All is answered, and the world is still.
 
-abbrev all_answered : List Move
-all_answered =
-    parent (event.send top tell Nothing None)
-    ∷ child (event.send top ask Nothing None)
-    ∷ child event.deliver
+abbrev answers : List Move
+answers =
+    child event.deliver
     ∷ child event.take
     ∷ child (event.return None)
     ∷ parent event.deliver
@@ -110,8 +108,12 @@ all_answered =
     ∷ child event.deliver
     ∷ child event.resume ∷ []
 
-child_awaits_nothing : awaited (frames_of (behind all_answered).child) ≡ None
-child_awaits_nothing = still_ends_wait_for_nothing calling calling_is_sound 0 all_answered side.Child refl
+child_awaits_nothing : awaited (frames_of (behind (at_once ++ answers)).child) ≡ None
+child_awaits_nothing = still_ends_wait_for_nothing calling calling_is_sound 0 (at_once ++ answers) side.Child refl
+
+-- one of these moves has ended the wait of the parent
+parent_wait_ends : EndsWait calling side.Parent (pos 1) (behind at_once) answers
+parent_wait_ends = still_histories_leave_no_end_waiting.ended calling calling_is_sound 0 at_once answers side.Parent (pos 1) refl refl
 
 -- The parent has answered the child's call, and calls before the reply is delivered: the stray is overtaken.
 

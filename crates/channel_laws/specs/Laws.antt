@@ -1,6 +1,7 @@
 -- No end waits for ever: what follows for every sound schema, in every run.
-use Rattle.std.specs.Prelude.{◌≡◌, ℕ, ◌+◌, ℤ, true, false, List, ◌∷◌, map, find, Option, Some, None, option_map}
-use Rattle.std.specs.List.{AllByRecursion}
+use Rattle.std.specs.Prelude.{◌≡◌, ℕ, ◌+◌, ℤ, Bool, true, false, List, ◌∷◌, ◌++◌, map, find, Option, Some, None, option_map}
+use Rattle.std.specs.List.{AllByRecursion, list_any}
+use Rattle.std.specs.Ordering.{int_eq}
 use Rattle.ipdl_base.specs.declared.kinds.EndState.TheVariants.{Open, Draining}
 use Rattle.ipdl_base.specs.declared.kinds.Side.{Side}
 use Rattle.ipdl_base.specs.declared.kinds.Side.TheVariants.{Parent, Child}
@@ -100,10 +101,25 @@ StillEndsWaitForNothing =
     (schema : Schema) → IsSound schema → (top : ℕ) (moves : List Move) (side : Side) → is_still schema (world_of schema top moves) ≡ true
     → awaited (frames_of (end_of side (world_of schema top moves))) ≡ None
 
+-- whether an end waits for the answer to the request of a number
+abbrev pub waits_for : Side → ℤ → World → Bool
+waits_for side seq w = list_any (λ n. int_eq n seq) (unanswered (end_of side w))
+
+-- One of these moves, from a world on, ends the wait for a number: the wait stands before that move, and not behind it.
+pub record EndsWait (schema : Schema) (side : Side) (seq : ℤ) (w : World) (moves : List Move) : Type 0 where
+  pub before : List Move
+  pub move : Move
+  pub behind : List Move
+  pub whole : moves ≡ before ++ move ∷ behind
+  pub stands : waits_for side seq (run schema before w).world ≡ true
+  pub gone : waits_for side seq (happens schema (run schema before w).world move).world ≡ false
+
 -- A history that becomes still leaves no end waiting: behind moves that lead to a still world each wait that is left has
--- its answer. And as long as one has none, something can happen by itself.
+-- its answer. So each wait that stands behind some of these moves is ended by one of the others. And as long as one has
+-- no answer, something can happen by itself.
 pub record StillHistoriesLeaveNoEndWaiting : Type 0 where
   pub answered : (schema : Schema) → IsSound schema → (top : ℕ) (moves : List Move) (side : Side) → is_still schema (world_of schema top moves) ≡ true → AllByRecursion IsAnswered (frames_of (end_of side (world_of schema top moves)))
+  pub ended : (schema : Schema) → IsSound schema → (top : ℕ) (front back : List Move) (side : Side) (seq : ℤ) → waits_for side seq (world_of schema top front) ≡ true → is_still schema (world_of schema top (front ++ back)) ≡ true → EndsWait schema side seq (world_of schema top front) back
   pub goes_on : (schema : Schema) → IsSound schema → (top : ℕ) (moves : List Move) (side : Side) (seq : ℤ) → awaited (frames_of (end_of side (world_of schema top moves))) ≡ Some seq → is_still schema (world_of schema top moves) ≡ false
 
 -- Two waits without an answer, each on top at its end, do not defer each other's request.
@@ -120,5 +136,6 @@ pub record EndsAreTold (w : World) (side : Side) : Type 0 where
   pub goes_on : (end_of (other side) w).state ≡ Open → HasNoLastPacket (link_to side w)
   pub ends : is_open (end_of (other side) w).state ≡ false → EndsInLastPacket (link_to side w)
 
+-- In every run an open end may rely on it.
 abbrev pub EndsAreToldInRuns : Type 0
 EndsAreToldInRuns = (schema : Schema) → IsSound schema → (top : ℕ) (moves : List Move) (side : Side) → (end_of side (world_of schema top moves)).state ≡ Open → EndsAreTold (world_of schema top moves) side

@@ -29,14 +29,14 @@ pub record IsRequestNumber (schema : Schema) (number : ℕ) : Type 0 where
   pub row : MessageRow
   pub found : request_row schema number ≡ Some row
 
--- a request on a link has the number of one
-
+-- a request on a link has the number of a request of the schema
 abbrev pub BodyAgrees : Schema → Message → Body → Type 0
 BodyAgrees schema m (Request vs) = IsRequestNumber schema m.number
 BodyAgrees schema m (Reply vs) = Unit {0}
 BodyAgrees schema m (Fault reason) = Unit {0}
 BodyAgrees schema m Goodbye = Unit {0}
 
+-- so of a packet; a mark agrees
 abbrev pub PacketAgrees : Schema → Packet → Type 0
 PacketAgrees schema (message m) = BodyAgrees schema m m.body
 PacketAgrees schema mark = Unit {0}
@@ -48,24 +48,24 @@ pub record RequestAgrees (schema : Schema) (m : Message) (sync : Bool) (level : 
   pub is_sync : is_sync_row row ≡ sync
   pub has_level : row.level ≡ level
 
--- what has arrived agrees, and is no farewell
-
+-- what has arrived at an open end agrees with its row, and is no goodbye
 abbrev pub ArrivedAgrees : Schema → Message → Bool → Level → Body → Type 0
 ArrivedAgrees schema m sync level (Request vs) = RequestAgrees schema m sync level
 ArrivedAgrees schema m sync level (Reply vs) = Unit {0}
 ArrivedAgrees schema m sync level (Fault reason) = Unit {0}
 ArrivedAgrees schema m sync level Goodbye = ⊥
 
+-- so of an item, which is no mark
 abbrev pub ItemAgrees : Schema → Item → Type 0
 ItemAgrees schema (item.Message m sync level) = ArrivedAgrees schema m sync level m.body
 ItemAgrees schema item.Broken = ⊥
 
 -- a resolver that a name holds is of an async request
-
 abbrev pub ContentAgrees : Schema → NameContent → Type 0
 ContentAgrees schema (actor id) = Unit {0}
 ContentAgrees schema (resolver r) = is_sync_number schema (r.number + 1) ≡ false
 
+-- so of a name
 abbrev pub NamingAgrees : Schema → Naming → Type 0
 NamingAgrees schema naming = ContentAgrees schema naming.holds
 

@@ -24,5 +24,6 @@ pub record IsSoundRow (schema : Schema) (n : ℕ) (row : MessageRow) : Type 0 wh
   pub compress : is_sync_row row ≡ true → row.compress ≡ Plain
   pub of_parent : is_sync_row row ≡ true → sends Parent row.direction ≡ true → row.level ≡ InsideSync
 
+-- each request of a schema has a sound row
 abbrev pub HasSoundRows : Schema → Type 0
 HasSoundRows schema = (n : ℕ) (row : MessageRow) → request_row schema n ≡ Some row → IsSoundRow schema n row

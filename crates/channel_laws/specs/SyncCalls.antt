@@ -16,11 +16,11 @@ use Rattle.nesting_laws.specs.Calls.{Call, ReplyHead, SyncPacket, request, reply
 use Rattle.channel_model.specs.Ends.{Packet, message, mark}
 use Rattle.channel_model.specs.Numbers.{is_sync_row}
 
--- whether the message of a number is sync, and its level
-
+-- whether the message of a number is sync
 abbrev pub is_sync_number : Schema → ℕ → Bool
 is_sync_number schema number = option_map_or is_sync_row (message_of schema number) false
 
+-- the level of the message of a number
 abbrev pub level_of : Schema → ℕ → Level
 level_of schema number = option_map_or (λ row. row.level) (message_of schema number) Not
 
@@ -41,32 +41,34 @@ call_of_head route number head = record { level = head.level; seq = head.seq; tr
 abbrev pub reply_head : Message → ReplyHead
 reply_head m = record { seq = m.seq; route = m.route; number = m.number }
 
--- what a body, a packet and a link carry of sync requests, and the last packet
-
+-- what the body of a message is to sync requests: one, the reply to one, the last packet, or nothing
 abbrev pub sync_body : Bool → Level → Message → Body → List SyncPacket
 sync_body sync level m (Request vs) = listed sync (request (call_of level m))
 sync_body sync level m (Reply vs) = listed sync (reply (reply_head m))
 sync_body sync level m (Fault reason) = listed sync (reply (reply_head m))
 sync_body sync level m Goodbye = farewell ∷ []
 
+-- what a packet is
 abbrev pub sync_packet : Schema → Packet → List SyncPacket
 sync_packet schema (message m) = sync_body (is_sync_number schema m.number) (level_of schema m.number) m m.body
 sync_packet schema mark = farewell ∷ []
 
+-- what a link carries
 abbrev pub sync_packets : Schema → List Packet → List SyncPacket
 sync_packets schema link = flat_map (sync_packet schema) link
 
--- the sync requests among what has arrived
-
+-- the call that a body is which has arrived, if it is a sync request
 abbrev pub body_call : Bool → Level → Message → Body → List Call
 body_call sync level m (Request vs) = listed sync (call_of level m)
 body_call sync level m (Reply vs) = []
 body_call sync level m (Fault reason) = []
 body_call sync level m Goodbye = []
 
+-- the call that an item is
 abbrev pub item_call : Item → List Call
 item_call (item.Message m sync level) = body_call sync level m m.body
 item_call item.Broken = []
 
+-- the calls among what has arrived
 abbrev pub sync_calls : List Item → List Call
 sync_calls items = flat_map item_call items

@@ -11,6 +11,7 @@ use Rattle.nesting_laws.specs.Steps.{HasLevelOf, IsBelowCpow}
 use Rattle.channel_model.specs.Ends.{StackEntry}
 use Rattle.channel_laws.specs.SyncCalls.{call_of_head}
 
+-- an entry by its parts
 abbrev pub entry_of : StackFrame → ℤ → ℕ → Bool → StackEntry
 entry_of frame route number resolves = record { frame = frame; route = route; number = number; resolves = resolves }
 
@@ -20,8 +21,8 @@ HasNoWaitOnTop [] = Unit {0}
 HasNoWaitOnTop (wait q ∷ below) = ⊥
 HasNoWaitOnTop (dispatch q ∷ below) = Unit {0}
 
--- The entries are waits without an answer and dispatches of sync requests, no wait directly above another; or below all
--- of them is the dispatch of an async request, of a level below inside_cpow.
+-- The entries are waits without an answer and dispatches of sync requests, no wait directly above another. Below all of
+-- them there may be the dispatch of one async request, of a level below inside_cpow.
 pub data ShowsFrames (side : Side) : List StackEntry → List SyncFrame → Type 0 where
   empty : ShowsFrames side [] []
   async_base : {head : Head} {route : ℤ} {number : ℕ} {resolves : Bool} → head.sync ≡ false → IsBelowCpow head.level → ShowsFrames side (entry_of (Dispatch head) route number resolves ∷ []) []

@@ -41,6 +41,7 @@ Allows InsideCpow level = ⊥
 abbrev pub defers_call : Side → Call → Call → Bool
 defers_call side w q = defers_request side w.level (Some w.transaction) true q.level q.transaction
 
+-- it defers it
 abbrev pub DefersCall : Side → Call → Call → Type 0
 DefersCall side w q = defers_call side w q ≡ true
 
