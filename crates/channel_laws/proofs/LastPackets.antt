@@ -11,13 +11,7 @@ use Rattle.channel_model.specs.States.{is_goodbye}
 use Rattle.channel_model.proofs.Known.{all-before, all-behind}
 use Rattle.channel_laws.specs.NestedWorlds.{is_last_packet, HasNoLastPacket, EndsInLastPacket, last_alone, last_later}
 use Rattle.channel_laws.specs.SyncCalls.{is_sync_number, level_of, sync_body, sync_packet, sync_packets}
-use Rattle.nesting_laws.specs.Calls.{SyncPacket, request, reply, farewell}
-
--- a packet, as far as sync requests go, is no last one
-abbrev pub IsNoFarewell : SyncPacket → Type 0
-IsNoFarewell (request q) = Unit {0}
-IsNoFarewell (reply r) = Unit {0}
-IsNoFarewell farewell = ⊥
+use Rattle.nesting_laws.specs.Calls.{IsNoFarewell}
 
 body-goes_on : (sync : Bool) (level : Level) (m : Message) (body : Body) → AllByRecursion IsNoFarewell (sync_body sync level m body) → is_goodbye body ≡ false
 body-goes_on sync level m (Request vs) h = refl

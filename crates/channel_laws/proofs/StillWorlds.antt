@@ -22,9 +22,8 @@ use Rattle.channel_laws.specs.NestedWorlds.{sync_end_of, EndsAreNested, both_ope
 use Rattle.channel_laws.specs.OpenEnds.{IsOpenEnd}
 use Rattle.channel_laws.specs.SyncStack.{Shows}
 use Rattle.nesting_laws.proofs.Progress.{nobody_is_stuck}
-use Rattle.nesting_laws.specs.Alone.{IsAlone, no_reply_comes, reply_comes, only_farewell, request_first, reply_first, request_ahead}
-use Rattle.nesting_laws.specs.Calls.{Call, SyncPacket, SyncEnd, sync_end, SyncFrame}
-use Rattle.nesting_laws.specs.Progress.{CanMove, delivers, IsNotStuck, nobody, at_parent, at_child}
+use Rattle.nesting_laws.specs.Calls.{Call, SyncPacket, sync_end, SyncFrame}
+use Rattle.nesting_laws.specs.Progress.{CanMove, IsNotStuck, nobody, at_parent, at_child}
 use Rattle.ipdl_base.specs.Sound.{IsSound}
 use Rattle.channel_model.specs.Events.{Move}
 use Rattle.channel_model.specs.Runs.{is_still, happens, run}
@@ -52,12 +51,6 @@ answered-awaits (Dispatch head ∷ frames) h = answered-awaits frames h.1
 answered-awaits (Wait head None ∷ frames) h = let k : true ≡ false = h.0 in cc
 answered-awaits (Wait head (Some a) ∷ frames) h = answered-awaits frames h.1
 
-alone-moves : {side : Side} {h : SyncEnd} → IsAlone side h → CanMove side h
-alone-moves (no_reply_comes only_farewell) = delivers
-alone-moves (no_reply_comes (request_first l)) = delivers
-alone-moves (reply_comes k (reply_first l)) = delivers
-alone-moves (reply_comes k (request_ahead a l)) = delivers
-
 -- neither end moves
 still-both : {ps cs : List SyncFrame} {qs rs : List Call} {ls ks : List SyncPacket} (mine theirs : List StackEntry) → IsNotStuck (sync_end ps qs ls) (sync_end cs rs ks) → Shows Parent mine ps → Shows Child theirs cs → (CanMove Parent (sync_end ps qs ls) → ⊥) → (CanMove Child (sync_end cs rs ks) → ⊥) → (awaited (frames_in mine) ≡ None) × (awaited (frames_in theirs) ≡ None)
 still-both mine theirs nobody s t p c = (nothing_awaited Parent s, nothing_awaited Child t)
@@ -72,11 +65,11 @@ still-waits schema w h p c = by h.ends
   where
     by : EndsAreNested schema Parent w.parent w.child w.to_parent w.to_child → (awaited (frames_of w.parent) ≡ None) × (awaited (frames_of w.child) ≡ None)
     by (both_open {stack} {under} a b n) =
-        still-both w.parent.stack w.child.stack (nobody_is_stuck (sync_end_of schema w.parent w.to_parent stack) (sync_end_of schema w.child w.to_child under) n)
+        still-both w.parent.stack w.child.stack (nobody_is_stuck.nested (sync_end_of schema w.parent w.to_parent stack) (sync_end_of schema w.child w.to_child under) n)
         (subst (λ (s : Side). Shows s w.parent.stack stack) h.parent a.shows) (subst (λ (s : Side). Shows s w.child.stack under) h.child b.shows)
         (no-move schema Parent w.parent w.to_parent stack a h.parent p) (no-move schema Child w.child w.to_child under b h.child c)
-    by (mine_open {stack} a gone l n) = absurd (no-move schema Parent w.parent w.to_parent stack a h.parent p (alone-moves n))
-    by (theirs_open {stack} a gone l n) = absurd (no-move schema Child w.child w.to_child stack a h.child c (alone-moves n))
+    by (mine_open {stack} a gone l n) = absurd (no-move schema Parent w.parent w.to_parent stack a h.parent p (nobody_is_stuck.alone _ _ n))
+    by (theirs_open {stack} a gone l n) = absurd (no-move schema Child w.child w.to_child stack a h.child c (nobody_is_stuck.alone _ _ n))
     by (both_over a b) = (answered-awaits (frames_of w.parent) a.nobody, answered-awaits (frames_of w.child) b.nobody)
 
 of-side : (w : World) (side : Side) → (awaited (frames_of w.parent) ≡ None) × (awaited (frames_of w.child) ≡ None) → awaited (frames_of (end_of side w)) ≡ None

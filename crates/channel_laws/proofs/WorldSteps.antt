@@ -1,5 +1,5 @@
 -- Every move keeps how the two ends wait.
-use Rattle.std.proofs.Common.{◌≡◌, ℤ, List, [], ◌∷◌, ◌++◌, drop, Option, Some, None, refl, sym, ap, subst, ◌∙◌}
+use Rattle.std.proofs.Common.{◌≡◌, List, [], ◌∷◌, ◌++◌, drop, Option, Some, None, refl, sym, ap, subst, ◌∙◌}
 use Rattle.std.proofs.lemmas.List.{append-nil}
 use Rattle.std.proofs.lemmas.Grind.{flat_map-append}
 use Rattle.std.specs.List.{AllByRecursion}
@@ -16,7 +16,7 @@ use Rattle.channel_model.specs.Steps.{step}
 use Rattle.channel_model.proofs.Events.{events_have_their_lines}
 use Rattle.channel_model.proofs.Known.{all-append}
 use Rattle.channel_laws.proofs.EndedSteps.{StaysOver, ended_step}
-use Rattle.channel_laws.proofs.LastPackets.{IsNoFarewell, link-goes_on, ends-behind, ends-left}
+use Rattle.channel_laws.proofs.LastPackets.{link-goes_on, ends-behind, ends-left}
 use Rattle.channel_laws.proofs.OpenSteps.{ReplyIsForTop, open_step}
 use Rattle.channel_laws.proofs.SyncSteps.{SyncStep, no_step, one_step, ends, drains}
 use Rattle.channel_laws.specs.NestedWorlds.{AreNestedFrom, sync_end_of, IsGone, EndsAreNested, both_open, mine_open, theirs_open, both_over, IsNestedWorld, EndsInLastPacket}
@@ -26,12 +26,12 @@ use Rattle.channel_laws.specs.SyncStack.{no_answer, empty, no_cpow}
 use Rattle.nesting_laws.proofs.AloneSteps.{alone_stays}
 use Rattle.nesting_laws.proofs.NestedSteps.{nesting_stays}
 use Rattle.nesting_laws.proofs.Replies.{replies_are_for_top}
-use Rattle.nesting_laws.specs.Alone.{IsAlone, no_reply_comes, reply_comes}
-use Rattle.nesting_laws.specs.Calls.{ReplyHead, Call, SyncFrame, SyncPacket, reply, farewell, SyncEnd, sync_end, with_packets, request}
-use Rattle.nesting_laws.specs.Chains.{Exchange, requested, queued, running, replied}
-use Rattle.nesting_laws.specs.Nested.{IsBeside, in_arrived, in_link, AreNested, idle, of_parent, of_child, beside_parent, beside_child, crossed, crossed_back, to_arrive, to_take, on_top, on_way, at_hand, overtaken, crossed_behind}
+use Rattle.nesting_laws.specs.Alone.{IsAlone}
+use Rattle.nesting_laws.specs.Calls.{IsNoFarewell, ReplyHead, Call, SyncFrame, SyncPacket, reply, farewell, SyncEnd, sync_end, with_packets}
+use Rattle.nesting_laws.proofs.Farewells.{links_tell_of_ends}
+use Rattle.nesting_laws.specs.Nested.{idle}
 use Rattle.nesting_laws.specs.Progress.{IsForTop}
-use Rattle.nesting_laws.specs.Steps.{there, Step, IsInserted, here}
+use Rattle.nesting_laws.specs.Steps.{Step}
 use Rattle.channel_laws.specs.Rows.{HasSoundRows}
 
 -- Both ends
@@ -50,64 +50,13 @@ nested_top Child stack others seq link theirs n = replies_are_for_top.child stac
 
 -- no last packet is on a link between open ends
 
-caller-goes_on : {base : List SyncFrame} {t : ℤ} {s : Side} {stack : List SyncFrame} {others : List Call} {link : List SyncPacket} {b : SyncEnd} → Exchange base t s (sync_end stack others link) b → AllByRecursion IsNoFarewell link
-caller-goes_on (requested chain) = tt
-caller-goes_on (queued chain) = tt
-caller-goes_on (running chain) = tt
-caller-goes_on (replied chain) = (tt, tt)
-
-other-goes_on : {base : List SyncFrame} {t : ℤ} {s : Side} {stack : List SyncFrame} {others : List Call} {link : List SyncPacket} {a : SyncEnd} → Exchange base t s a (sync_end stack others link) → AllByRecursion IsNoFarewell link
-other-goes_on (requested chain) = (tt, tt)
-other-goes_on (queued chain) = tt
-other-goes_on (running chain) = tt
-other-goes_on (replied chain) = tt
-
-inserted-goes_on : {x : Call} {packets link : List SyncPacket} → IsInserted (request x) packets link → AllByRecursion IsNoFarewell packets → AllByRecursion IsNoFarewell link
-inserted-goes_on here h = (tt, h)
-inserted-goes_on (there i) h = (h.0, inserted-goes_on i h.1)
-
-waits-goes_on : {x : Call} {others all : List Call} {packets link : List SyncPacket} → IsBeside x others packets all link → AllByRecursion IsNoFarewell packets → AllByRecursion IsNoFarewell link
-waits-goes_on (in_arrived i) h = h
-waits-goes_on (in_link i) h = inserted-goes_on i h
-
-parent-goes_on : {stack : List SyncFrame} {others : List Call} {link : List SyncPacket} {c : SyncEnd} → AreNested (sync_end stack others link) c → AllByRecursion IsNoFarewell link
-parent-goes_on idle = tt
-parent-goes_on (of_parent exchange) = caller-goes_on exchange
-parent-goes_on (of_child exchange) = other-goes_on exchange
-parent-goes_on (beside_parent h d exchange w) = waits-goes_on w (caller-goes_on exchange)
-parent-goes_on (beside_child h d exchange w) = waits-goes_on w (other-goes_on exchange)
-parent-goes_on (overtaken h k) = tt
-parent-goes_on (crossed h k is to_arrive comes) = (tt, tt)
-parent-goes_on (crossed h k is to_take comes) = tt
-parent-goes_on (crossed h k is on_top comes) = tt
-parent-goes_on (crossed_back h k is w) = tt
-parent-goes_on (crossed_behind h k is) = (tt, (tt, tt))
-
-child-goes_on : {stack : List SyncFrame} {others : List Call} {link : List SyncPacket} {p : SyncEnd} → AreNested p (sync_end stack others link) → AllByRecursion IsNoFarewell link
-child-goes_on idle = tt
-child-goes_on (of_parent exchange) = other-goes_on exchange
-child-goes_on (of_child exchange) = caller-goes_on exchange
-child-goes_on (beside_parent h d exchange w) = other-goes_on exchange
-child-goes_on (beside_child h d exchange w) = caller-goes_on exchange
-child-goes_on (overtaken h k) = (tt, (tt, tt))
-child-goes_on (crossed h k is serves on_way) = (tt, tt)
-child-goes_on (crossed h k is serves at_hand) = tt
-child-goes_on (crossed_back h k is w) = waits-goes_on w (tt, tt)
-child-goes_on (crossed_behind h k is) = tt
-
 pub nested-goes_on : (side : Side) (stack : List SyncFrame) (others : List Call) (link : List SyncPacket) (theirs : SyncEnd) → AreNestedFrom side (sync_end stack others link) theirs → AllByRecursion IsNoFarewell link
-nested-goes_on Parent stack others link theirs n = parent-goes_on n
-nested-goes_on Child stack others link theirs n = child-goes_on n
+nested-goes_on Parent stack others link theirs n = links_tell_of_ends.to_parent stack others link theirs n
+nested-goes_on Child stack others link theirs n = links_tell_of_ends.to_child stack others link theirs n
 
-pub theirs-go_on : (side : Side) (mine : SyncEnd) (stack : List SyncFrame) (others : List Call) (link : List SyncPacket) → AreNestedFrom side mine (sync_end stack others link) → AllByRecursion IsNoFarewell link
-theirs-go_on Parent mine stack others link n = child-goes_on n
-theirs-go_on Child mine stack others link n = parent-goes_on n
-
--- an end that is alone has something on its link
-alone-some : (side : Side) (stack : List SyncFrame) (others : List Call) (link : List SyncPacket) → IsAlone side (sync_end stack others link) → link ≡ [] → ⊥
-alone-some side stack others [] (no_reply_comes l) e = elim l [ ]
-alone-some side _ others [] (reply_comes h l) e = elim l [ ]
-alone-some side stack others (p ∷ link) a e = cc
+theirs-go_on : (side : Side) (mine : SyncEnd) (stack : List SyncFrame) (others : List Call) (link : List SyncPacket) → AreNestedFrom side mine (sync_end stack others link) → AllByRecursion IsNoFarewell link
+theirs-go_on Parent mine stack others link n = links_tell_of_ends.to_child stack others link mine n
+theirs-go_on Child mine stack others link n = links_tell_of_ends.to_parent stack others link mine n
 
 -- what an event leaves of a link that ends
 after-ends : (schema : Schema) (happening : Event) (link : List Packet) → (after_event happening link ≡ [] → ⊥) → EndsInLastPacket link → EndsInLastPacket (after_event happening link)
@@ -162,7 +111,7 @@ module _ (schema : Schema) (rows : HasSoundRows schema) (side : Side) (mine thei
 
   -- what is left on the link of an end that is alone
   left-ends : (stack : List SyncFrame) → IsAlone side (sync_end_of schema output.end (after_event happening to_me) stack) → EndsInLastPacket to_me → EndsInLastPacket (after_event happening to_me)
-  left-ends stack a e = after-ends schema happening to_me (λ empty. alone-some side stack (sync_calls output.end.arrived) (sync_packets schema (after_event happening to_me)) a (ap (sync_packets schema) empty)) e
+  left-ends stack a e = after-ends schema happening to_me (λ empty. links_tell_of_ends.alone side stack (sync_calls output.end.arrived) (sync_packets schema (after_event happening to_me)) a (ap (sync_packets schema) empty)) e
 
   alone-then : (stack : List SyncFrame) → IsGone theirs → EndsInLastPacket to_me → IsAlone side (sync_end_of schema mine to_me stack) → SyncStep schema mine stack to_me (after_event happening to_me) output → Then
   alone-then stack gone l n (no_step h a b sent f) =

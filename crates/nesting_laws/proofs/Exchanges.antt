@@ -17,7 +17,7 @@ none-inserted i = elim i [ ]
 
 -- The end that waits for the last call
 
--- what the end that began a chain knows of the floor
+-- what the end that began a chain knows of the base
 abbrev pub IsBaseOf : Side → List SyncFrame → Type 0
 IsBaseOf Parent base = Unit {0}
 IsBaseOf Child base = base ≡ []

@@ -6,4 +6,5 @@ pub mod AloneSteps
 pub mod Replies
 pub mod GivingWay
 pub mod Progress
+pub mod Farewells
 mod Worked

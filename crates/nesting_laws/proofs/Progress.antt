@@ -8,6 +8,7 @@ use Rattle.ipdl_base.specs.declared.kinds.Level.TheVariants.{Not, InsideSync, In
 use Rattle.ipdl_base.specs.declared.kinds.Side.{Side}
 use Rattle.ipdl_base.specs.declared.kinds.Side.TheVariants.{Parent, Child}
 use Rattle.ipdl_base.specs.Deferral.{defers_request}
+use Rattle.nesting_laws.specs.Alone.{IsAlone, no_reply_comes, reply_comes, only_farewell, request_first, reply_first, request_ahead}
 use Rattle.nesting_laws.specs.Calls.{Call, SyncEnd, SyncFrame, SyncPacket, sync_end, wait}
 use Rattle.nesting_laws.specs.Chains.{Chain, Exchange, Faces, by_child, by_parent, down, inside, queued, replied, requested, running, up}
 use Rattle.nesting_laws.specs.Laws.{NobodyIsStuck}
@@ -107,5 +108,12 @@ moves (crossed h k is on_top comes) = at_parent returns
 moves (crossed_back h k is w) = at_child (link_moves w)
 moves (crossed_behind h k is) = at_parent delivers
 
+-- a packet is on the link toward an end that is alone
+alone_moves : {side : Side} {e : SyncEnd} → IsAlone side e → CanMove side e
+alone_moves (no_reply_comes only_farewell) = delivers
+alone_moves (no_reply_comes (request_first l)) = delivers
+alone_moves (reply_comes k (reply_first l)) = delivers
+alone_moves (reply_comes k (request_ahead a l)) = delivers
+
 pub nobody_is_stuck : NobodyIsStuck
-nobody_is_stuck p c n = moves n
+nobody_is_stuck = record { nested = λ p c n. moves n; alone = λ side e a. alone_moves a }

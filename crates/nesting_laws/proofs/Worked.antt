@@ -70,7 +70,7 @@ child_does_not_defer h = one_gives_way q1 (x1 InsideSync) [] [] [] [] (request (
 
 -- and something can happen
 at_once_goes_on : IsNotStuck parent_calls child_calls
-at_once_goes_on = nobody_is_stuck parent_calls child_calls at_once
+at_once_goes_on = nobody_is_stuck.nested parent_calls child_calls at_once
 
 -- a delivery at the child keeps them nested
 delivered_at_child : AreNested parent_calls (sync_end (wait (x1 InsideSync) ∷ []) (q1 ∷ []) [])

@@ -32,6 +32,12 @@ pub data SyncPacket : Type 0 where
   reply : ReplyHead → SyncPacket
   farewell : SyncPacket
 
+-- a packet is not the last one of an end
+abbrev pub IsNoFarewell : SyncPacket → Type 0
+IsNoFarewell (request q) = Unit {0}
+IsNoFarewell (reply r) = Unit {0}
+IsNoFarewell farewell = ⊥
+
 -- An end: its stack, the innermost frame first; its arrived sync requests and the link toward it, the oldest first.
 pub data SyncEnd : Type 0 where
   sync_end : List SyncFrame → List Call → List SyncPacket → SyncEnd

@@ -1,12 +1,13 @@
 -- What follows for two ends, each of which may take any step at any time.
-use Rattle.std.specs.Prelude.{List, [], ◌∷◌}
+use Rattle.std.specs.Prelude.{◌≡◌, List, [], ◌∷◌}
+use Rattle.std.specs.List.{AllByRecursion}
 use Rattle.ipdl_base.specs.declared.kinds.Side.{Side}
 use Rattle.ipdl_base.specs.declared.kinds.Side.TheVariants.{Parent, Child}
-use Rattle.nesting_laws.specs.Calls.{Call, ReplyHead, SyncFrame, wait, SyncPacket, reply, farewell, SyncEnd, sync_end, with_packets}
+use Rattle.nesting_laws.specs.Calls.{Call, ReplyHead, SyncFrame, wait, SyncPacket, reply, farewell, IsNoFarewell, SyncEnd, sync_end, with_packets}
 use Rattle.nesting_laws.specs.Steps.{DefersCall, Step}
 use Rattle.nesting_laws.specs.Nested.{AreNested}
 use Rattle.nesting_laws.specs.Alone.{IsAlone}
-use Rattle.nesting_laws.specs.Progress.{IsForTop, IsNotStuck}
+use Rattle.nesting_laws.specs.Progress.{IsForTop, CanMove, IsNotStuck}
 
 -- Every step of one of two open ends keeps them nested.
 pub record NestingStays : Type 0 where
@@ -25,9 +26,17 @@ pub record RepliesAreForTop : Type 0 where
   pub child : (stack : List SyncFrame) (arrived : List Call) (r : ReplyHead) (link : List SyncPacket) (p : SyncEnd) → AreNested p (sync_end stack arrived (reply r ∷ link)) → IsForTop stack r
   pub alone : (side : Side) (stack : List SyncFrame) (arrived : List Call) (r : ReplyHead) (link : List SyncPacket) → IsAlone side (sync_end stack arrived (reply r ∷ link)) → IsForTop stack r
 
--- While somebody waits, something can happen by itself.
-abbrev pub NobodyIsStuck : Type 0
-NobodyIsStuck = (p c : SyncEnd) → AreNested p c → IsNotStuck p c
+-- While one of two open ends waits, something can happen by itself; and where an end is alone, it always can there.
+pub record NobodyIsStuck : Type 0 where
+  pub nested : (p c : SyncEnd) → AreNested p c → IsNotStuck p c
+  pub alone : (side : Side) (e : SyncEnd) → IsAlone side e → CanMove side e
+
+-- A link tells of the end that sends. Between two open ends it carries no last packet, and toward an end that is alone it
+-- is not empty.
+pub record LinksTellOfEnds : Type 0 where
+  pub to_parent : (stack : List SyncFrame) (arrived : List Call) (link : List SyncPacket) (c : SyncEnd) → AreNested (sync_end stack arrived link) c → AllByRecursion IsNoFarewell link
+  pub to_child : (stack : List SyncFrame) (arrived : List Call) (link : List SyncPacket) (p : SyncEnd) → AreNested p (sync_end stack arrived link) → AllByRecursion IsNoFarewell link
+  pub alone : (side : Side) (stack : List SyncFrame) (arrived : List Call) (link : List SyncPacket) → IsAlone side (sync_end stack arrived link) → link ≡ [] → ⊥
 
 -- Where both ends have a wait on top, not both of these defer the other's call.
 abbrev pub OneGivesWay : Type 0

@@ -1,4 +1,4 @@
-ghost use Rattle.nesting_laws.specs.Laws.{AloneStays, NestingStays, NobodyIsStuck, OneGivesWay, RepliesAreForTop};
+ghost use Rattle.nesting_laws.specs.Laws.{AloneStays, LinksTellOfEnds, NestingStays, NobodyIsStuck, OneGivesWay, RepliesAreForTop};
 
 /// The law of nesting: every step of one of two open ends keeps them nested.
 pub fn nesting_stays()
@@ -15,9 +15,14 @@ pub fn replies_are_for_top()
     ensures { RepliesAreForTop }
 {}
 
-/// The law of progress: while one of two open ends waits, something can happen by itself.
+/// The law of progress: while one of two open ends waits, something can happen by itself, and so at an end that is alone.
 pub fn nobody_is_stuck()
     ensures { NobodyIsStuck }
+{}
+
+/// The law of links: what they carry says whether the end that sends is open.
+pub fn links_tell_of_ends()
+    ensures { LinksTellOfEnds }
 {}
 
 /// The law of two waits: one of them does not defer the other's call.

@@ -4,4 +4,7 @@
 
 mod laws;
 
-pub use laws::{alone_stays, nesting_stays, nobody_is_stuck, one_gives_way, replies_are_for_top};
+pub use laws::{
+    alone_stays, links_tell_of_ends, nesting_stays, nobody_is_stuck, one_gives_way,
+    replies_are_for_top,
+};
