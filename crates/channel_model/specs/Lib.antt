@@ -21,3 +21,5 @@ pub mod StepLaws
 pub mod Actors
 pub mod States
 pub mod Requests
+pub mod Phases
+pub mod Parts
