@@ -26,3 +26,5 @@ pub mod SendParts
 pub mod DeliveryParts
 pub mod TakeParts
 pub mod StepParts
+pub mod TypedValues
+pub mod SoundRows

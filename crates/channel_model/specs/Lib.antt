@@ -23,3 +23,4 @@ pub mod States
 pub mod Requests
 pub mod Phases
 pub mod Parts
+pub mod Fitting

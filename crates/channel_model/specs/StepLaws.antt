@@ -1,9 +1,10 @@
 -- What follows from the steps of ends, for every schema and every list of moves.
-use Rattle.std.specs.Prelude.{◌≡◌, ◌≢◌, ℕ, true, List, map, Some, None}
+use Rattle.std.specs.Prelude.{◌≡◌, ◌≢◌, ℕ, ◌<◌, true, List, map, Some, None}
 use Rattle.std.specs.List.{AllByRecursion}
 use Rattle.ipdl_base.specs.declared.kinds.Side.{Side}
 use Rattle.ipdl_base.specs.declared.line.What.{What}
 use Rattle.ipdl_base.specs.declared.schema.Schema.{Schema}
+use Rattle.ipdl_base.specs.Sound.{IsSound}
 use Rattle.channel_model.specs.Ends.{End, Packet, opening, opening_end}
 use Rattle.channel_model.specs.Events.{Event, Move}
 use Rattle.channel_model.specs.Events as event
@@ -14,6 +15,7 @@ use Rattle.channel_model.specs.Runs.{run, history_of}
 use Rattle.channel_model.specs.Sends.{next_seq}
 use Rattle.channel_model.specs.Steps.{step, first_packet}
 use Rattle.channel_model.specs.Actors.{IsAccepted, AreKnown, ids_of}
+use Rattle.channel_model.specs.Fitting.{IsFitting, FitsPacket, IsFittingDelivery}
 use Rattle.channel_model.specs.EventLines.{IsEventWithEffects, EffectsFollow}
 use Rattle.channel_model.specs.Requests.{AreNumbered, requests_of}
 use Rattle.channel_model.specs.States.{IsInState}
@@ -85,3 +87,19 @@ abbrev pub NumbersInEveryRun : Type 0
 NumbersInEveryRun =
     (schema : Schema) (top : ℕ) (moves : List Move)
     → AreNumbered (requests_of (run schema moves (opening top)).world.parent) × AreNumbered (requests_of (run schema moves (opening top)).world.child)
+
+-- A step leaves an end that fits, and each of its packets fits.
+pub record FitsOutput (schema : Schema) (output : Output) : Type 0 where
+  pub end : IsFitting schema output.end
+  pub packets : AllByRecursion (FitsPacket schema) output.packets
+
+-- What an end keeps and sends fits a sound schema, while it has sent less than 2^28 requests and nothing is delivered
+-- that does not fit or is refused.
+abbrev pub FittingEndsStay : Type 0
+FittingEndsStay =
+    (schema : Schema) (e : End) (link : List Packet) (event : Event) (output : Output)
+    → step schema e link event ≡ Some output → IsSound schema → e.sent < 268435456 → IsFittingDelivery schema e link event → IsFitting schema e → FitsOutput schema output
+
+-- An end fits as it begins.
+abbrev pub FirstEndsFit : Type 0
+FirstEndsFit = (schema : Schema) (protocol : ℕ) (side : Side) → IsFitting schema (opening_end protocol side)
