@@ -28,3 +28,4 @@ pub mod TakeParts
 pub mod StepParts
 pub mod TypedValues
 pub mod SoundRows
+pub mod FittingValues
