@@ -63,7 +63,7 @@ all-behind : {A : Type 0} (P : A → Type 0) (xs ys : List A) → AllByRecursion
 all-behind P [] ys h = h
 all-behind P (x ∷ xs) ys h = all-behind P xs ys h.1
 
-all-filter : {A : Type 0} (P : A → Type 0) (test : A → Bool) (xs : List A) → AllByRecursion P xs → AllByRecursion P (filter test xs)
+pub all-filter : {A : Type 0} (P : A → Type 0) (test : A → Bool) (xs : List A) → AllByRecursion P xs → AllByRecursion P (filter test xs)
 all-filter P test [] h = tt
 all-filter P test (x ∷ xs) h = elim (test x) as (λ b. AllByRecursion P (cond b (x ∷ filter test xs) (filter test xs))) [
   | true ↦ (h.0, all-filter P test xs h.1)

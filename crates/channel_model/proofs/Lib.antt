@@ -29,3 +29,5 @@ pub mod StepParts
 pub mod TypedValues
 pub mod SoundRows
 pub mod FittingValues
+pub mod FittingRequests
+pub mod FittingEnds
