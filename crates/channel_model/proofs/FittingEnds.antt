@@ -126,7 +126,7 @@ module _ (schema : Schema) where
 
   -- what the answer to the innermost wait without one has to be
   abbrev pub AnswerFits : Answer → (StackEntry → Bool) → Type 0
-  AnswerFits a test = (entry : StackEntry) (h : FitsEntry schema entry) → test entry ≡ true → FitsAnswer schema h.row a
+  AnswerFits a test = (entry : StackEntry) (h : FitsEntry schema entry) → is_sync_row h.row ≡ true → test entry ≡ true → FitsAnswer schema h.row a
 
   -- the innermost wait without an answer gets one that fits
   pub answered-stack : (a : Answer) (test : StackEntry → Bool) (stack : List StackEntry) → AnswerFits a test → AllByRecursion (FitsEntry schema) stack → option_map_or test (find (λ (entry : StackEntry). is_unanswered entry.frame) stack) false ≡ true
@@ -140,7 +140,7 @@ module _ (schema : Schema) where
       by (Dispatch head) k e rest = (k, rest e)
       by (Wait head (Some b)) k e rest = (k, rest e)
       by (Wait head None) k e rest = (
-        record { row = k.row; request = k.request; sync = k.sync; level = k.level; resolves = k.resolves; frame = (k.frame, fits (record entry { frame = Wait head None }) k e) },
+        record { row = k.row; request = k.request; sync = k.sync; level = k.level; resolves = k.resolves; frame = (k.frame, fits (record entry { frame = Wait head None }) k k.frame e) },
         subst (AllByRecursion (FitsEntry schema)) (sym (same-frames stack)) h.1,
       )
 

@@ -31,3 +31,5 @@ pub mod SoundRows
 pub mod FittingValues
 pub mod FittingRequests
 pub mod FittingEnds
+pub mod FittingSends
+pub mod FittingParts

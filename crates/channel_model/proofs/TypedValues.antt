@@ -1,5 +1,5 @@
 -- Nulls keep types, and typed values hold just the ids that their actors have.
-use Rattle.std.proofs.Common.{◌≡◌, ℤ, pos, Bool, true, false, not, ◌&&◌, ◌||◌, cond, List, [], ◌∷◌, ◌++◌, map, unwrap_or, Option, Some, None, refl, sym, ap, ◌∙◌}
+use Rattle.std.proofs.Common.{◌≡◌, ℤ, pos, Bool, true, false, not, ◌&&◌, ◌||◌, cond, List, [], ◌∷◌, ◌++◌, map, unwrap_or, is_some, if◌then◌else◌, Option, Some, None, refl, sym, ap, ◌∙◌}
 use Rattle.std.specs.Option.{option_map_or}
 use Rattle.std.specs.Ordering.{int_eq}
 use Rattle.std.proofs.lemmas.List.{map-append}
@@ -12,10 +12,16 @@ use Rattle.ipdl_base.specs.declared.value.Value.{Value, Union', Maybe', Held-Val
 use Rattle.ipdl_base.specs.declared.value.Value.TheVariants as value
 use Rattle.ipdl_base.specs.declared.value.Values.{Values, First'}
 use Rattle.ipdl_base.specs.declared.value.Values.TheVariants as values
+use Rattle.ipdl_base.specs.declared.kinds.Reason.TheVariants.{ActorDestroyed}
+use Rattle.ipdl_base.specs.declared.schema.MessageRow.{MessageRow}
+use Rattle.ipdl_base.specs.Signatures.{returns_of_row}
+use Rattle.nesting_core.specs.declared.frame.Answer.{Answer}
+use Rattle.nesting_core.specs.declared.frame.Answer.TheVariants as answer
+use Rattle.channel_model.specs.Laws.{NullsKeepTypes}
 use Rattle.value_types.specs.Fits.{actor_ids, held_actor_ids, all_actor_ids}
 use Rattle.value_types.specs.Shapes.{element_of, held_by, fields_of, component_of}
 use Rattle.channel_model.specs.Typed.{is_actor_of, has_type, held_has_type, all_have_type, have_types}
-use Rattle.channel_model.specs.ValueActors.{ActorValue, lives_as, actor_at, actors_in, actors_held, actors_in_all, actors_in_parts, received_id, nulled_value, nulled_held, nulled_all, nulled}
+use Rattle.channel_model.specs.ValueActors.{ActorValue, lives_as, actor_at, actors_in, actors_held, actors_in_all, actors_in_parts, received_id, nulled_value, nulled_held, nulled_all, nulled, missing}
 
 pub and-left : (a b : Bool) → a && b ≡ true → a ≡ true
 and-left true b e = refl
@@ -134,3 +140,13 @@ module _ (schema : Schema) where
     typed-ids [] (First' at v more vs) e = cc
     typed-ids (field ∷ fields) (First' at v more vs) e =
         ids-append (actors_in schema field.shape v) (actors_in_parts schema fields vs) (actor_ids v) (all_actor_ids vs) (value-ids field.shape v (and-left (has_type schema field.shape v) (have_types schema fields vs) e)) (typed-ids fields vs (and-right (has_type schema field.shape v) (have_types schema fields vs) e))
+
+-- The law
+
+pub nulls_keep_types : NullsKeepTypes
+nulls_keep_types = record { taken = nulled-typed; received = λ schema living row vs ws is. received-typed schema living row vs ws (is_some (missing schema living (returns_of_row row) vs)) is }
+  where
+    received-typed : (schema : Schema) (living : List LivingActor) (row : MessageRow) (vs ws : Values) (b : Bool) → (if b then answer.Fault ActorDestroyed else answer.Ok (nulled schema living (returns_of_row row) vs)) ≡ answer.Ok ws
+        → have_types schema (returns_of_row row) ws ≡ have_types schema (returns_of_row row) vs
+    received-typed schema living row vs ws true is = cc
+    received-typed schema living row vs ws false is = let same : nulled schema living (returns_of_row row) vs ≡ ws = cc in ap (have_types schema (returns_of_row row)) (sym same) ∙ nulled-typed schema living (returns_of_row row) vs

@@ -9,7 +9,9 @@ use Rattle.ipdl_base.specs.declared.schema.Shape.{Shape}
 use Rattle.ipdl_base.specs.declared.value.Value.{Value}
 use Rattle.ipdl_base.specs.declared.value.Values.{Values}
 use Rattle.ipdl_base.specs.Plain.{plain, plain_values}
+use Rattle.ipdl_base.specs.Signatures.{returns_of_row}
 use Rattle.nesting_core.specs.declared.frame.Answer.{Answer}
+use Rattle.nesting_core.specs.declared.frame.Answer.TheVariants as answer
 use Rattle.nesting_core.specs.Plain.{plain_answer}
 use Rattle.value_types.specs.HasType.{HasType, HaveTypes}
 use Rattle.channel_model.specs.Ends.{World}
@@ -54,3 +56,10 @@ pub record PlainFormsCommute : Type 0 where
   pub nulled_value : (schema : Schema) (living : List Actor) (shape : Shape) (v : Value) → actors.nulled_value schema living shape (plain v) ≡ plain (actors.nulled_value schema living shape v)
   pub nulled : (schema : Schema) (living : List Actor) (fields : List ParamRow) (vs : Values) → actors.nulled schema living fields (plain_values vs) ≡ plain_values (actors.nulled schema living fields vs)
   pub received : (schema : Schema) (living : List Actor) (row : MessageRow) (a : Answer) → actors.received schema living row (plain_answer a) ≡ plain_answer (actors.received schema living row a)
+
+-- Values that are taken, and those of an answer that is received, have their types where they had them before null took
+-- the place of actors.
+pub record NullsKeepTypes : Type 0 where
+  pub taken : (schema : Schema) (living : List Actor) (fields : List ParamRow) (vs : Values) → typed.have_types schema fields (actors.nulled schema living fields vs) ≡ typed.have_types schema fields vs
+  pub received : (schema : Schema) (living : List Actor) (row : MessageRow) (vs ws : Values) → actors.received schema living row (answer.Ok vs) ≡ answer.Ok ws
+      → typed.have_types schema (returns_of_row row) ws ≡ typed.have_types schema (returns_of_row row) vs

@@ -1,4 +1,4 @@
-ghost use Rattle.channel_model.specs.Laws.{DecidesTypes, HistoriesGrow, ImpossibleMovesChangeNothing, MovesGoOneAfterAnother, PlainFormsCommute};
+ghost use Rattle.channel_model.specs.Laws.{DecidesTypes, HistoriesGrow, ImpossibleMovesChangeNothing, MovesGoOneAfterAnother, NullsKeepTypes, PlainFormsCommute};
 
 /// The law of typed values: the test that steps make is true exactly where values have their types.
 pub fn decides_types()
@@ -23,4 +23,9 @@ pub fn histories_grow()
 /// The law of plain forms: what values say of types and actors does not hang on where their boxes lie.
 pub fn plain_forms_commute()
     ensures { PlainFormsCommute }
+{}
+
+/// The law of nulls: values keep their types where null takes the place of actors that do not live.
+pub fn nulls_keep_types()
+    ensures { NullsKeepTypes }
 {}

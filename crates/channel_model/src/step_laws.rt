@@ -1,4 +1,4 @@
-ghost use Rattle.channel_model.specs.StepLaws.{EffectsFollowEvents, EventsHaveTheirLines, FirstActorsAreKnown, FirstStates, KnownActorsStay, NextNumberIsFree, NumbersInEveryRun, NumbersStay, StatesStay, StepsAreChains};
+ghost use Rattle.channel_model.specs.StepLaws.{EffectsFollowEvents, EventsHaveTheirLines, FirstActorsAreKnown, FirstEndsFit, FirstStates, FittingEndsStay, KnownActorsStay, NextNumberIsFree, NumbersInEveryRun, NumbersStay, StatesStay, StepsAreChains};
 
 /// The law of parts: every step is made of parts; a delivery is one, and all else is one that it begins with and others
 /// that may follow.
@@ -50,4 +50,15 @@ pub fn next_number_is_free()
 /// The law of numbers in runs: at both ends of every run promises are numbered.
 pub fn numbers_in_every_run()
     ensures { NumbersInEveryRun }
+{}
+
+/// The law of first ends: one fits the schema as it begins.
+pub fn first_ends_fit()
+    ensures { FirstEndsFit }
+{}
+
+/// The law of fitting ends: what an end keeps and sends fits a sound schema, where nothing is delivered to it that does
+/// not fit or that it refuses.
+pub fn fitting_ends_stay()
+    ensures { FittingEndsStay }
 {}
