@@ -33,3 +33,4 @@ pub mod FittingRequests
 pub mod FittingEnds
 pub mod FittingSends
 pub mod FittingParts
+pub mod Counted

@@ -24,3 +24,4 @@ pub mod Requests
 pub mod Phases
 pub mod Parts
 pub mod Fitting
+pub mod Bounds

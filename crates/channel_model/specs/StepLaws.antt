@@ -15,6 +15,7 @@ use Rattle.channel_model.specs.Runs.{run, history_of}
 use Rattle.channel_model.specs.Sends.{next_seq}
 use Rattle.channel_model.specs.Steps.{step, first_packet}
 use Rattle.channel_model.specs.Actors.{IsAccepted, AreKnown, ids_of}
+use Rattle.channel_model.specs.Bounds.{IsBounded, HasCounted}
 use Rattle.channel_model.specs.Fitting.{IsFitting, FitsPacket, IsFittingDelivery}
 use Rattle.channel_model.specs.EventLines.{IsEventWithEffects, EffectsFollow}
 use Rattle.channel_model.specs.Requests.{AreNumbered, requests_of}
@@ -103,3 +104,13 @@ FittingEndsStay =
 -- An end fits as it begins.
 abbrev pub FirstEndsFit : Type 0
 FirstEndsFit = (schema : Schema) (protocol : ℕ) (side : Side) → IsFitting schema (opening_end protocol side)
+
+-- Every step adds at most one to the requests that were sent, and to those that were delivered.
+abbrev pub CountsGrow : Type 0
+CountsGrow = (schema : Schema) (e : End) (link : List Packet) (event : Event) (output : Output) → step schema e link event ≡ Some output → HasCounted e output.end
+
+-- Every step is bounded where the actors of the end are known.
+abbrev pub StepsAreBounded : Type 0
+StepsAreBounded =
+    (schema : Schema) (protocol : ℕ) (e : End) (link : List Packet) (event : Event) (output : Output)
+    → step schema e link event ≡ Some output → AreKnown protocol (ids_of schema e) → IsBounded e output
