@@ -22,6 +22,7 @@ use Rattle.nesting_core.specs.declared.frame.StackFrame.{StackFrame}
 use Rattle.nesting_core.specs.declared.frame.StackFrame.TheVariants.{Dispatch, Wait}
 use Rattle.nesting_core.specs.Answers.{with_answer}
 use Rattle.nesting_core.specs.Frames.{head_of, is_dispatch, is_unanswered}
+use Rattle.nesting_core.specs.Top.{top_of}
 use Rattle.pending_queue.specs.declared.item.Item.{Item}
 use Rattle.pending_queue.specs.declared.item.Item.TheVariants as item
 use Rattle.pending_queue.specs.Compression.{are_alike, latest, replaced, staying}
@@ -39,6 +40,7 @@ use Rattle.channel_model.specs.Names.{has_name, held_by_name, without_name, with
 use Rattle.channel_model.specs.Numbers.{is_sync_row, makes_promise}
 use Rattle.channel_model.specs.Outputs.{AnsweredRequest}
 use Rattle.channel_model.specs.Parts.{HoldsActor, behind_outbox, end_behind}
+use Rattle.channel_model.specs.Sends.{frames_of}
 use Rattle.channel_model.specs.Takes as take
 use Rattle.channel_model.proofs.FittingRequests.{promise-async}
 use Rattle.channel_model.proofs.FittingValues.{found-in}
@@ -59,6 +61,14 @@ all-at : {A : Type 0} (P : A → Type 0) (xs : List A) (i : ℕ) (x : A) → All
 all-at P [] i x h e = cc
 all-at P (y ∷ ys) zero x h e = subst P (same_Some y x e) h.0
 all-at P (y ∷ ys) (suc i) x h e = all-at P ys i x h.1 e
+
+-- what is taken next is the oldest item that is not deferred
+pub taken-first : (e : End) (x : Item) → take.taken_next e ≡ Some x → find (is_free (take.holding_of e)) e.arrived ≡ Some x
+taken-first e x next = first (take.takes_in_state e.state && take.takes_under (top_of (frames_of e))) next
+  where
+    first : (b : Bool) → cond b (take.first_free e) None ≡ Some x → take.first_free e ≡ Some x
+    first true is = is
+    first false is = cc
 
 module _ (schema : Schema) where
   -- Fields of an end
@@ -220,11 +230,7 @@ module _ (schema : Schema) where
 
   -- what is taken next is one of what has arrived
   pub taken-fits : (e : End) (x : Item) → IsFitting schema e → take.taken_next e ≡ Some x → FitsItem schema x
-  taken-fits e x h next = (found-in (FitsItem schema) (is_free (take.holding_of e)) e.arrived x h.arrived (first (take.takes_in_state e.state && take.takes_under _) next)).0
-    where
-      first : (b : Bool) → cond b (take.first_free e) None ≡ Some x → take.first_free e ≡ Some x
-      first true e = e
-      first false e = cc
+  taken-fits e x h next = (found-in (FitsItem schema) (is_free (take.holding_of e)) e.arrived x h.arrived (taken-first e x next)).0
 
   pub left-items : (e : End) → IsFitting schema e → AllByRecursion (FitsItem schema) (without_first (is_free (take.holding_of e)) e.arrived)
   left-items e h = all-sublist (FitsItem schema) (without_first (is_free (take.holding_of e)) e.arrived) e.arrived (without_first-sublist (is_free (take.holding_of e)) e.arrived) h.arrived

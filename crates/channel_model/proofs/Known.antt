@@ -31,7 +31,7 @@ more_ids : (side : Side) (n m : ℕ) (id : ℤ) → n ≤ m → IsIdOf side n id
 more_ids side n m id h (k, one, low, e) = (k, one, omega arith, e)
 
 -- the next id of this side is not taken, and neither is that of the other side
-own_is_free : (ids : Ids) → ¬ IsTaken ids (id_of ids.side (ids.sent + 1))
+pub own_is_free : (ids : Ids) → ¬ IsTaken ids (id_of ids.side (ids.sent + 1))
 own_is_free ids (inl e) = not_top ids.side (ids.sent + 1) e
 own_is_free ids (inr (inl (k, one, low, e))) = let f : ids.sent + 1 ≡ k = same_id ids.side (ids.sent + 1) k e in absurd (omega arith)
 own_is_free ids (inr (inr (k, one, low, e))) = ids_apart ids.side (ids.sent + 1) k e
@@ -55,11 +55,11 @@ pub all-append : {A : Type 0} (P : A → Type 0) (xs ys : List A) → AllByRecur
 all-append P [] ys h k = k
 all-append P (x ∷ xs) ys h k = (h.0, all-append P xs ys h.1 k)
 
-all-before : {A : Type 0} (P : A → Type 0) (xs ys : List A) → AllByRecursion P (xs ++ ys) → AllByRecursion P xs
+pub all-before : {A : Type 0} (P : A → Type 0) (xs ys : List A) → AllByRecursion P (xs ++ ys) → AllByRecursion P xs
 all-before P [] ys h = tt
 all-before P (x ∷ xs) ys h = (h.0, all-before P xs ys h.1)
 
-all-behind : {A : Type 0} (P : A → Type 0) (xs ys : List A) → AllByRecursion P (xs ++ ys) → AllByRecursion P ys
+pub all-behind : {A : Type 0} (P : A → Type 0) (xs ys : List A) → AllByRecursion P (xs ++ ys) → AllByRecursion P ys
 all-behind P [] ys h = h
 all-behind P (x ∷ xs) ys h = all-behind P xs ys h.1
 
@@ -107,7 +107,7 @@ Has-filter : (id : ℤ) (test : Actor → Bool) (actors : List Actor) → Has id
 Has-filter id test [] h = absurd h
 Has-filter id test (a ∷ actors) h = Has-if id (test a) a (filter test actors) actors (Has-filter id test actors) h
 
-dead-filter : (id : ℤ) (test : Actor → Bool) (actors : List Actor) → lives id actors ≡ false → lives id (filter test actors) ≡ false
+pub dead-filter : (id : ℤ) (test : Actor → Bool) (actors : List Actor) → lives id actors ≡ false → lives id (filter test actors) ≡ false
 dead-filter id test actors h = lives-false id (filter test actors) (λ k. has_not id actors h (Has-filter id test actors k))
 
 tree-falls : (id : ℤ) (actors given left : List Actor) → IsTree actors → Falls id actors given left → IsTree left
@@ -117,7 +117,7 @@ tree-falls id actors (a ∷ given) left t f =
     tree-falls id f.0 given left (subst IsTree (sym next.left) (IsTree-without actors id a (post_order id f.0) t next.next)) f.2
 
 -- those who do not fall are a tree
-tree-others : (id : ℤ) (actors : List Actor) → IsTree actors → IsTree (others (post_order id actors) actors)
+pub tree-others : (id : ℤ) (actors : List Actor) → IsTree actors → IsTree (others (post_order id actors) actors)
 tree-others id actors t =
     tree-falls id actors (post_order id actors) (others (post_order id actors) actors) t ((gives_subtree id actors (post_order id actors) (others (post_order id actors) actors) t).1 (refl, refl))
 

@@ -34,3 +34,4 @@ pub mod FittingEnds
 pub mod FittingSends
 pub mod FittingParts
 pub mod Counted
+pub mod BoundedParts
