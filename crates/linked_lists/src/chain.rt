@@ -9,7 +9,7 @@ use super::link::Link;
 use slab::Slab;
 
 /// A node of a slab. It has a link for each of the chains that it may stand on.
-pub trait Node {
+pub trait LinkedNode {
     /// Which chain.
     type Chain: Copy;
 
@@ -27,7 +27,7 @@ pub trait Node {
 }
 
 /// The link of the node at a key on a chain; none where there is no node.
-pub fn link_at<N: Node>(nodes: &Slab<N>, chain: N::Chain, key: usize) -> Link
+pub fn link_at<N: LinkedNode>(nodes: &Slab<N>, chain: N::Chain, key: usize) -> Link
     ensures { result ≡ link_of_some (N.link_of chain) (get nodes.now key) }
 {
     match nodes.get(key) {
@@ -36,7 +36,7 @@ pub fn link_at<N: Node>(nodes: &Slab<N>, chain: N::Chain, key: usize) -> Link
     }
 }
 
-fn set_previous<N: Node>(
+fn set_previous<N: LinkedNode>(
     nodes: &mut Slab<N>,
     chain: N::Chain,
     at: Option<usize>,
@@ -58,7 +58,7 @@ fn set_previous<N: Node>(
     }
 }
 
-fn set_next<N: Node>(nodes: &mut Slab<N>, chain: N::Chain, at: Option<usize>, key: Option<usize>)
+fn set_next<N: LinkedNode>(nodes: &mut Slab<N>, chain: N::Chain, at: Option<usize>, key: Option<usize>)
     ensures nodes { (k : ℕ) → get nodes.new k ≡ option_map (with_next (N.link_of chain) (N.with_link chain) at key k) (get nodes.old k) }
     ensures capacity { nodes.new.capacity ≡ nodes.old.capacity }
     ensures len { slab_len nodes.new ≡ slab_len nodes.old }
@@ -76,7 +76,7 @@ fn set_next<N: Node>(nodes: &mut Slab<N>, chain: N::Chain, at: Option<usize>, ke
 }
 
 /// Puts the node at `key` on a chain, behind the last one there.
-pub fn attach<N: Node>(nodes: &mut Slab<N>, chain: N::Chain, last: Option<usize>, key: usize)
+pub fn attach<N: LinkedNode>(nodes: &mut Slab<N>, chain: N::Chain, last: Option<usize>, key: usize)
     ensures nodes { (k : ℕ) → get nodes.new k ≡ option_map (attached (N.link_of chain) (N.with_link chain) last key k) (get nodes.old k) }
     ensures capacity { nodes.new.capacity ≡ nodes.old.capacity }
     ensures len { slab_len nodes.new ≡ slab_len nodes.old }
@@ -86,7 +86,7 @@ pub fn attach<N: Node>(nodes: &mut Slab<N>, chain: N::Chain, last: Option<usize>
 }
 
 /// Joins the nodes ahead of one and behind it, which leaves a chain and whose link was that.
-pub fn detach<N: Node>(nodes: &mut Slab<N>, chain: N::Chain, gone: Link)
+pub fn detach<N: LinkedNode>(nodes: &mut Slab<N>, chain: N::Chain, gone: Link)
     ensures nodes { (k : ℕ) → get nodes.new k ≡ option_map (detached (N.link_of chain) (N.with_link chain) gone k) (get nodes.old k) }
     ensures capacity { nodes.new.capacity ≡ nodes.old.capacity }
     ensures len { slab_len nodes.new ≡ slab_len nodes.old }

@@ -6,6 +6,6 @@ mod chain;
 mod keys;
 mod link;
 
-pub use chain::{Node, attach, detach, link_at};
+pub use chain::{LinkedNode, attach, detach, link_at};
 pub use keys::{KeyStep, Keys};
 pub use link::{Ends, Link};
