@@ -1,0 +1,15 @@
+-- The links of a node on the lists of the pending promises.
+use Rattle.linked_lists.specs.declared.link.Link.{Link}
+use Rattle.promise_table.specs.declared.node.Node.{Node}
+use Rattle.promise_table.specs.declared.node.Chain.{Chain}
+use Rattle.promise_table.specs.declared.node.Chain.TheVariants.{All, Own}
+
+-- the link of a node on one of its lists
+abbrev pub link_of : Chain → Node → Link
+link_of All n = n.all
+link_of Own n = n.own
+
+-- the node with that link on one of its lists
+abbrev pub with_link : Chain → Link → Node → Node
+with_link All link n = record n { all = link }
+with_link Own link n = record n { own = link }
