@@ -5,9 +5,9 @@ pub mod Kept
 pub mod Whole
 pub mod Order
 mod Walks
-pub mod Kids
-pub mod Stand
+pub mod Managed
+pub mod LinkLemmas
 pub mod Added
 pub mod Removed
 pub mod Paths
-pub mod Linking
+pub mod TreeLemmas

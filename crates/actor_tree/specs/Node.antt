@@ -19,15 +19,19 @@ abbrev pub first_link : Option Node → Option ℕ
 first_link None = None
 first_link (Some n) = n.first
 
+-- the node at k, once the one at `at`, if any, has that link to the oldest under it
 abbrev pub with_first : Option ℕ → Option ℕ → ℕ → Node → Node
 with_first at link k n = record n { first = if is_the key_eq at k then link else n.first }
 
+-- the node at k, once the one at `at`, if any, has that link to the youngest under it
 abbrev pub with_last : Option ℕ → Option ℕ → ℕ → Node → Node
 with_last at link k n = record n { last = if is_the key_eq at k then link else n.last }
 
+-- the node at k, once the one at `at`, if any, has that link to its next older sibling
 abbrev pub with_previous : Option ℕ → Option ℕ → ℕ → Node → Node
 with_previous at link k n = record n { previous = if is_the key_eq at k then link else n.previous }
 
+-- the node at k, once the one at `at`, if any, has that link to its next younger sibling
 abbrev pub with_next : Option ℕ → Option ℕ → ℕ → Node → Node
 with_next at link k n = record n { next = if is_the key_eq at k then link else n.next }
 

@@ -3,3 +3,4 @@ pub mod Links
 pub mod Chains
 pub mod Chosen
 pub mod KeySteps
+pub mod Laws

@@ -24,6 +24,8 @@ pub trait LinkedNode {
     /// Gives it another link on a chain.
     fn set_link(&mut self, chain: Self::Chain, link: Link)
         ensures { self.new ≡ with_link chain link self.old };
+
+    ghost reads_back: { (chain : Self.Chain) (link : Link) (node : Self) → link_of chain (with_link chain link node) ≡ link };
 }
 
 /// The link of the node at a key on a chain; none where there is no node.

@@ -4,8 +4,10 @@
 
 mod chain;
 mod keys;
+mod laws;
 mod link;
 
 pub use chain::{LinkedNode, attach, detach, link_at};
 pub use keys::{KeyStep, Keys};
+pub use laws::{joins_chain, keeps_others, leaves_chain};
 pub use link::{Ends, Link};

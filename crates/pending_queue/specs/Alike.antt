@@ -14,10 +14,12 @@ use Rattle.indexmap.specs.IndexMap as map
 abbrev pub last_at : {S : Type 0} → map.IndexMap Likeness ℕ S → Likeness → Option ℕ
 last_at m q = map.get likeness_eq m q
 
+-- what is at k, once the node at `key` stands behind the last of its likeness, if it has one
 abbrev pub joined : Option Likeness → (Likeness → Option ℕ) → ℕ → ℕ → Option Node → Option Node
 joined None last key k o = o
 joined (Some likeness) last key k o = option_map (attached (link_of Alike) (with_link Alike) (last likeness) key k) o
 
+-- what is at k, once a node with that link has left those of its likeness, if it has one
 abbrev pub left : Option Likeness → Link → ℕ → Option Node → Option Node
 left None gone k o = o
 left (Some likeness) gone k o = option_map (detached (link_of Alike) (with_link Alike) gone k) o

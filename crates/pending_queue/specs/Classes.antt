@@ -15,6 +15,7 @@ use Rattle.pending_queue.specs.declared.class.Likeness.{Likeness}
 use Rattle.pending_queue.specs.declared.class.Classes.{Classes}
 use Rattle.pending_queue.specs.Compression.{is_request}
 
+-- the class of a request of that level, which is sync or not
 abbrev pub class_of_request : Bool → Level → Class
 class_of_request sync InsideCpow = Highest
 class_of_request false Not = Asynchronous
@@ -22,16 +23,19 @@ class_of_request false InsideSync = Asynchronous
 class_of_request true Not = SyncNot
 class_of_request true InsideSync = SyncInside
 
+-- the class of a message with that body
 abbrev pub class_of_body : Bool → Level → Body → Class
 class_of_body sync level (Request values) = class_of_request sync level
 class_of_body sync level (Reply values) = if sync then Closing else Asynchronous
 class_of_body sync level (Fault reason) = if sync then Closing else Asynchronous
 class_of_body sync level Goodbye = Closing
 
+-- the class of an item
 abbrev pub class_of : Item → Class
 class_of Broken = Closing
 class_of (Message m sync level) = class_of_body sync level m.body
 
+-- a number for each class
 abbrev pub class_index : Class → ℕ
 class_index Asynchronous = 0
 class_index SyncNot = 1
@@ -39,13 +43,16 @@ class_index SyncInside = 2
 class_index Highest = 3
 class_index Closing = 4
 
+-- whether an item is of the class
 abbrev pub is_class : Class → Item → Bool
 is_class g x = class_index (class_of x) == class_index g
 
+-- the likeness of a request; no other item has one
 abbrev pub likeness_of : Item → Option Likeness
 likeness_of Broken = None
 likeness_of (Message m sync level) = if is_request m.body then Some (record { number = m.number; route = m.route }) else None
 
+-- whether two likenesses are one
 abbrev pub likeness_eq : Likeness → Likeness → Bool
 likeness_eq a b = a.number == b.number && int_eq a.route b.route
 
@@ -54,9 +61,11 @@ abbrev pub likeness_is : Option Likeness → Likeness → Bool
 likeness_is None q = false
 likeness_is (Some likeness) q = likeness_eq likeness q
 
+-- whether an item is of the likeness
 abbrev pub is_likeness : Likeness → Item → Bool
 is_likeness q x = likeness_is (likeness_of x) q
 
+-- the ends of the list of a class
 abbrev pub ends_at : Classes → Class → Ends
 ends_at gs Asynchronous = gs.asynchronous
 ends_at gs SyncNot = gs.sync_not
@@ -64,6 +73,7 @@ ends_at gs SyncInside = gs.sync_inside
 ends_at gs Highest = gs.highest
 ends_at gs Closing = gs.closing
 
+-- the ends of all classes, once those of one are these
 abbrev pub with_ends : Class → Ends → Classes → Classes
 with_ends Asynchronous ends gs = record gs { asynchronous = ends }
 with_ends SyncNot ends gs = record gs { sync_not = ends }

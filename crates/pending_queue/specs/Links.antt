@@ -15,9 +15,11 @@ use Rattle.pending_queue.specs.declared.class.Classes.{Classes}
 use Rattle.pending_queue.specs.Classes.{is_class, is_likeness, ends_at}
 use Rattle.pending_queue.specs.Nodes.{link_of}
 
+-- the item of the node at a key
 abbrev pub item_at : (ℕ → Option Node) → ℕ → Option Item
 item_at node k = option_map (λ n. n.item) (node k)
 
+-- the stamp of a node that may be there
 abbrev pub stamp_of : Option Node → ℕ
 stamp_of None = 0
 stamp_of (Some n) = n.stamp

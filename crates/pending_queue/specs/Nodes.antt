@@ -1,5 +1,5 @@
 -- The links of a node on the lists that it is on.
-use Rattle.std.specs.Prelude.{ℕ, ◌-◌}
+use Rattle.std.specs.Prelude.{◌≡◌, refl, ℕ, ◌-◌}
 use Rattle.slab.specs.Slab.{Slab, slab_len}
 use Rattle.linked_lists.specs.declared.link.Link.{Link}
 use Rattle.pending_queue.specs.declared.node.Node.{Node}
@@ -17,6 +17,12 @@ abbrev pub with_link : Chain → Link → Node → Node
 with_link Arrival link n = record n { arrival = link }
 with_link SameClass link n = record n { class = link }
 with_link Alike link n = record n { alike = link }
+
+-- the link that was set is read back
+pub reads_back : (chain : Chain) (link : Link) (n : Node) → link_of chain (with_link chain link n) ≡ link
+reads_back Arrival link n = refl
+reads_back SameClass link n = refl
+reads_back Alike link n = refl
 
 -- how many more nodes fit
 abbrev pub room : Slab Node → ℕ

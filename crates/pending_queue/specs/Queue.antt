@@ -14,9 +14,11 @@ use Rattle.pending_queue.specs.Links.{item_at, stamp_of, AreLinked}
 use Rattle.slab.specs.Slab as slab
 use Rattle.indexmap.specs.IndexMap as map
 
+-- the node at a key
 abbrev pub node_at : Queue → ℕ → Option Node
 node_at q k = slab.get q.nodes k
 
+-- the key of the last item of a likeness
 abbrev pub last_of_likeness : Queue → Likeness → Option ℕ
 last_of_likeness q likeness = last_at q.lasts likeness
 
@@ -24,6 +26,7 @@ last_of_likeness q likeness = last_at q.lasts likeness
 abbrev pub keys_of : Queue → List ℕ
 keys_of q = q.keys.keys
 
+-- the item of a key
 abbrev pub queue_item : Queue → ℕ → Option Item
 queue_item q = item_at (node_at q)
 

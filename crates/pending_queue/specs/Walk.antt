@@ -9,6 +9,7 @@ abbrev pub rank : ℕ → List ℕ → ℕ
 rank k [] = 0
 rank k (j ∷ js) = if j == k then suc (length js) else rank k js
 
+-- how many keys a list has from one on that may be there
 abbrev pub rank_of : Option ℕ → List ℕ → ℕ
 rank_of None ks = 0
 rank_of (Some k) ks = rank k ks

@@ -1,6 +1,6 @@
 //! A node for each arrived item.
 ghost use Rattle.std.specs.Prelude.{◌≡◌};
-ghost use Rattle.pending_queue.specs.Nodes.{link_of, with_link};
+ghost use Rattle.pending_queue.specs.Nodes.{link_of, with_link, reads_back};
 
 use crate::item::Item;
 use linked_lists::{Link, LinkedNode};
@@ -45,4 +45,6 @@ impl LinkedNode for Node {
             Chain::Alike => self.alike = link,
         }
     }
+
+    ghost reads_back = { reads_back };
 }

@@ -12,6 +12,7 @@ use Rattle.promise_table.specs.declared.node.Chain.TheVariants.{All, Own}
 use Rattle.promise_table.specs.Promises.{has_number, is_pending, is_pending_of}
 use Rattle.promise_table.specs.Nodes.{link_of}
 
+-- the promise of the node at a key
 abbrev pub item_at : (ℕ → Option Node) → ℕ → Option Promise
 item_at node k = option_map (λ n. n.promise) (node k)
 

@@ -24,36 +24,47 @@ ends_or (Some ends) = ends
 abbrev pub own_at : {S : Type 0} → map.IndexMap ℤ Ends S → ℤ → Ends
 own_at m a = ends_or (map.get int_eq m a)
 
+-- the node at a key
 abbrev pub node_at : Table → ℕ → Option Node
 node_at t k = slab.get t.nodes k
 
+-- the ends of the list of an actor
 abbrev pub own_of : Table → ℤ → Ends
 own_of t a = own_at t.actors a
 
+-- the key of a number
 abbrev pub id_of : Table → ℤ → Option ℕ
 id_of t n = map.get int_eq t.ids n
 
+-- the keys of the promises in order of making
 abbrev pub keys_of : Table → List ℕ
 keys_of t = t.keys.keys
 
+-- the promises in order of making
 abbrev pub promises_in : Table → List Promise
 promises_in t = items_of (item_at (node_at t)) (keys_of t)
 
+-- the nodes stand for the promises
 abbrev pub IsTable : Table → Type 0
 IsTable t = AreLinked (node_at t) (keys_of t) t.pending (own_of t) (id_of t)
 
+-- the promise of a key
 abbrev pub promise_at : Table → ℕ → Option Promise
 promise_at t = item_at (node_at t)
 
+-- the links of a promise and the actor that it is of
 abbrev pub links_of : Node → Link × Link × ℤ
 links_of n = (n.all, n.own, n.promise.actor)
 
+-- the node, once its promise has that outcome
 abbrev pub with_outcome : Outcome → Node → Node
 with_outcome outcome n = record n { promise = record n.promise { outcome = Some outcome } }
 
+-- the number of a promise
 abbrev pub seq_of : Promise → ℤ
 seq_of p = p.seq
 
+-- a promise with that outcome
 abbrev pub outcome_set : Outcome → Promise → Promise
 outcome_set outcome p = record p { outcome = Some outcome }
 

@@ -1,5 +1,5 @@
 //! A node for each promise.
-ghost use Rattle.promise_table.specs.Nodes.{link_of, with_link};
+ghost use Rattle.promise_table.specs.Nodes.{link_of, with_link, reads_back};
 
 use crate::promise::Promise;
 use linked_lists::{Link, LinkedNode};
@@ -39,4 +39,6 @@ impl LinkedNode for Node {
             Chain::Own => self.own = link,
         }
     }
+
+    ghost reads_back = { reads_back };
 }

@@ -9,22 +9,22 @@ use Rattle.actor_tree.specs.Tree.{actor_of, without, IsTree}
 use Rattle.actor_tree.specs.Fall.{post_order, first_of, IsNext}
 use Rattle.actor_tree.specs.Node.{attached, detached, first_link, last_link}
 use Rattle.linked_lists.specs.Places.{head, last, IsIn}
-use Rattle.actor_tree.specs.Links.{top_id, kids, link, node_of, Stands}
+use Rattle.actor_tree.specs.Links.{top_id, managed, link, node_of, AreLinked}
 use Rattle.actor_tree.specs.Path.{Path, here, down}
 use Rattle.actor_tree.specs.Linked.{place_of, node_at, living_of, IsLinked, StandFor, LeadsTo, IsLowest, Resumes, resume_of}
 use Rattle.actor_tree.proofs.Ids.{same, other, same_or_other}
 use Rattle.actor_tree.proofs.Kept.{post_order-none, falls}
 use Rattle.linked_lists.proofs.PlaceLemmas.{head-in}
-use Rattle.actor_tree.proofs.Kids.{of-id, of-has, of-none, under-is, kids-has, kid-of, tree-once}
-use Rattle.actor_tree.proofs.Stand.{along, node-at, key-of, lives-at}
+use Rattle.actor_tree.proofs.Managed.{of-id, of-has, of-none, under-is, managed-has, managed-of, tree-once}
+use Rattle.actor_tree.proofs.LinkLemmas.{along, node-at, key-of, lives-at}
 use Rattle.actor_tree.proofs.Added.{added}
 use Rattle.actor_tree.proofs.Removed.{removed}
-use Rattle.actor_tree.proofs.Paths.{tree-leaf, kid-manager, path-first, path-last, path-without, rank, tree-rank}
+use Rattle.actor_tree.proofs.Paths.{tree-leaf, managed-manager, path-first, path-last, path-without, rank, tree-rank}
 
 -- the links where each key and each node stays
 pub kept : (l l' : Links) → IsLinked l → ((i : ℤ) → place_of l' i ≡ place_of l i) → ((k : ℕ) → node_at l' k ≡ node_at l k) → living_of l' ≡ living_of l → StandFor l' (living_of l)
 kept l l' s p n e = record {
-  linked = subst (Stands (place_of l') (node_at l')) (sym e) (along (place_of l) (place_of l') (node_at l) (node_at l') (living_of l) p n s);
+  linked = subst (AreLinked (place_of l') (node_at l')) (sym e) (along (place_of l) (place_of l') (node_at l) (node_at l') (living_of l) p n s);
   living = e;
 }
 
@@ -39,17 +39,17 @@ pub put : (l l' : Links) (reserved filled : Slab Node) (a : Actor) (manager key 
     → ((q : ℤ) → place_of l' q ≡ cond (int_eq a.id q) (Some key) (place_of l q))
     → living_of l' ≡ living_of l ++ a ∷ []
     → StandFor l' (living_of l ++ a ∷ [])
-put l l' reserved filled a manager key previous s fresh managed res prev free up at ids e =
-    let m = lives-at (place_of l) (node_at l) (living_of l) s a.manager manager managed in
-    let prev' : previous ≡ link (place_of l) (last (kids a.manager (living_of l))) =
-    prev ∙ ap last_link (res manager ∙ m.2) ∙ ap (λ v. link (place_of l) (last (kids v (living_of l)))) (of-id a.manager (living_of l) m.0 m.1) in
-    let st : Stands (place_of l') (node_at l') (living_of l ++ a ∷ []) = added (place_of l) (place_of l') (node_at l) (node_at l') (living_of l) a manager key s fresh managed
+put l l' reserved filled a manager key previous s fresh manager_key res prev free up at ids e =
+    let m = lives-at (place_of l) (node_at l) (living_of l) s a.manager manager manager_key in
+    let prev' : previous ≡ link (place_of l) (last (managed a.manager (living_of l))) =
+    prev ∙ ap last_link (res manager ∙ m.2) ∙ ap (λ v. link (place_of l) (last (managed v (living_of l)))) (of-id a.manager (living_of l) m.0 m.1) in
+    let st : AreLinked (place_of l') (node_at l') (living_of l ++ a ∷ []) = added (place_of l) (place_of l') (node_at l) (node_at l') (living_of l) a manager key s fresh manager_key
     (sym (res key) ∙ free)
     (ids a.id ∙ ap (λ v. cond v (Some key) (place_of l a.id)) (same a.id a.id refl))
     (λ i n. ids i ∙ ap (λ v. cond v (Some key) (place_of l i)) (other a.id i (λ f. n (sym f))))
     (at key ∙ ap (option_map (attached manager previous key key)) up.changed ∙ ap (λ v. Some (attached manager v key key (record { actor = a; manager = Some manager; first = None; last = None; previous = v; next = None }))) prev')
     (λ k n. at k ∙ ap (option_map (attached manager previous key k)) (up.others k n ∙ res k) ∙ ap (λ v. option_map (attached manager v key k) (node_at l k)) prev') in
-    record { linked = subst (Stands (place_of l') (node_at l')) (sym e) st; living = e }
+    record { linked = subst (AreLinked (place_of l') (node_at l')) (sym e) st; living = e }
 
 -- ---- the way down
 
@@ -71,32 +71,32 @@ module _ (l : Links) (root : ℤ) (key : ℕ) (s : IsLinked l) (w : LeadsTo l ro
   at_key : (b : Actor) × (actor_of w.id (living_of l) ≡ Some b) × (node_at l key ≡ Some (node_of (place_of l) (living_of l) b))
   at_key = lives-at (place_of l) (node_at l) (living_of l) s w.id key w.keyed
 
-  first_is : first_link (node_at l key) ≡ link (place_of l) (head (kids w.id (living_of l)))
-  first_is = ap first_link at_key.2 ∙ ap (λ v. link (place_of l) (head (kids v (living_of l)))) (of-id w.id (living_of l) at_key.0 at_key.1)
+  first_is : first_link (node_at l key) ≡ link (place_of l) (head (managed w.id (living_of l)))
+  first_is = ap first_link at_key.2 ∙ ap (λ v. link (place_of l) (head (managed v (living_of l)))) (of-id w.id (living_of l) at_key.0 at_key.1)
 
   rank_is : rank_at (node_at l key) (living_of l) ≡ rank w.id (living_of l)
   rank_is = ap (λ v. rank_at v (living_of l)) at_key.2 ∙ ap (λ v. rank v (living_of l)) (of-id w.id (living_of l) at_key.0 at_key.1)
 
 -- one step down
 pub goes_down : (l : Links) (root : ℤ) (key first : ℕ) → IsLinked l → LeadsTo l root key → first_link (node_at l key) ≡ Some first → LeadsTo l root first × (rank_at (node_at l first) (living_of l) < rank_at (node_at l key) (living_of l))
-goes_down l root key first s w e = by (head (kids w.id (living_of l))) refl
+goes_down l root key first s w e = by (head (managed w.id (living_of l))) refl
   where
-    by : (o : Option ℤ) → head (kids w.id (living_of l)) ≡ o → LeadsTo l root first × (rank_at (node_at l first) (living_of l) < rank_at (node_at l key) (living_of l))
+    by : (o : Option ℤ) → head (managed w.id (living_of l)) ≡ o → LeadsTo l root first × (rank_at (node_at l first) (living_of l) < rank_at (node_at l key) (living_of l))
     by None h = (let g = sym e ∙ first_is l root key s w ∙ ap (link (place_of l)) h in cc)
     by (Some j) h =
         let keyed : place_of l j ≡ Some first = sym (ap (link (place_of l)) h) ∙ sym (first_is l root key s w) ∙ e in
         let w' : LeadsTo l root first = record { id = j; keyed = keyed; path = down w.path h } in
-        let lower = tree-rank (living_of l) w.id j s.tree (kid-manager (living_of l) w.id j s.tree h) (head-in (kids w.id (living_of l)) j h) in
+        let lower = tree-rank (living_of l) w.id j s.tree (managed-manager (living_of l) w.id j s.tree h) (head-in (managed w.id (living_of l)) j h) in
         (w', rw (rank_is l root first s w', rank_is l root key s w) lower)
 
 -- the end of the way
 pub ends : (l : Links) (root : ℤ) (key : ℕ) → IsLinked l → LeadsTo l root key → first_link (node_at l key) ≡ None → IsLowest l root key
-ends l root key s w e = record { id = w.id; keyed = w.keyed; path = w.path; leaf = by (kids w.id (living_of l)) refl }
+ends l root key s w e = record { id = w.id; keyed = w.keyed; path = w.path; leaf = by (managed w.id (living_of l)) refl }
   where
-    by : (ks : List ℤ) → kids w.id (living_of l) ≡ ks → kids w.id (living_of l) ≡ []
+    by : (ks : List ℤ) → managed w.id (living_of l) ≡ ks → managed w.id (living_of l) ≡ []
     by [] h = h
     by (k ∷ ks) h =
-        let has = kids-has w.id k (living_of l) (subst (IsIn k) (sym h) (inl refl)) in
+        let has = managed-has w.id k (living_of l) (subst (IsIn k) (sym h) (inl refl)) in
         let p = key-of (place_of l) (node_at l) (living_of l) s k has in
         (let g = sym e ∙ first_is l root key s w ∙ ap (λ v. link (place_of l) (head v)) h ∙ p.1 in cc)
 
@@ -137,8 +137,8 @@ module _ (l l' : Links) (cut : Slab Node) (root : ℤ) (key : ℕ) (n : Node)
   own_node : n ≡ node_of (place_of l) actors n.actor
   own_node = the_node ∙ ap (node_of (place_of l) actors) (sym the_actor)
 
-  leaf : kids n.actor.id actors ≡ []
-  leaf = ap (λ v. kids v actors) the_id ∙ w.leaf
+  leaf : managed n.actor.id actors ≡ []
+  leaf = ap (λ v. managed v actors) the_id ∙ w.leaf
 
   first : first_of (post_order root actors) ≡ Some n.actor
   first = path-first actors root w.id s.tree w.path
@@ -151,7 +151,7 @@ module _ (l l' : Links) (cut : Slab Node) (root : ℤ) (key : ℕ) (n : Node)
   others : (i : ℤ) → i ≢ n.actor.id → place_of l' i ≡ place_of l i
   others i m = ids i ∙ ap (λ v. cond v None (place_of l i)) (other n.actor.id i (λ f. m (sym f)))
 
-  stand : Stands (place_of l') (node_at l') (without n.actor.id actors)
+  stand : AreLinked (place_of l') (node_at l') (without n.actor.id actors)
   stand = removed (place_of l) (place_of l') (node_at l) (node_at l') actors n.actor key s alive (ap (place_of l) the_id ∙ w.keyed) leaf fell.0
       (ids n.actor.id ∙ ap (λ v. cond v None (place_of l n.actor.id)) (same n.actor.id n.actor.id refl))
       others
@@ -162,14 +162,14 @@ module _ (l l' : Links) (cut : Slab Node) (root : ℤ) (key : ℕ) (n : Node)
   goes_on m =
       let p = path-last actors root w.id w.path (λ e. m (the_id ∙ e)) in
       let j = p.0 in
-      let k = kid-of j w.id actors (tree-once actors s.tree) (head-in (kids j actors) w.id p.2) in
+      let k = managed-of j w.id actors (tree-once actors s.tree) (head-in (managed j actors) w.id p.2) in
       let u = under-is j k.0 k.2 in
       let kn : k.0 ≡ n.actor = (let g = sym k.1 ∙ found.1 in let h : k.0 ≡ found.0 = cc in h ∙ sym the_actor) in
       let mj : n.actor.manager ≡ j = ap (λ v. v.manager) (sym kn) ∙ u.1 in
       let not_top : n.actor.id ≢ top_id = λ e. u.0 (ap (λ v. v.id) kn ∙ e) in
-      let kj = key-of (place_of l) (node_at l) actors s j (kid-manager actors j w.id s.tree p.2) in
+      let kj = key-of (place_of l) (node_at l) actors s j (managed-manager actors j w.id s.tree p.2) in
       let link_j : n.manager ≡ Some kj.0 = ap (λ v. v.manager) own_node ∙ ap (λ v. cond v None (place_of l n.actor.manager)) (other n.actor.id top_id not_top) ∙ ap (place_of l) mj ∙ kj.1 in
-      let jx : j ≢ n.actor.id = λ e. (let g = sym p.2 ∙ ap (λ v. head (kids v actors)) e ∙ ap head leaf in cc) in
+      let jx : j ≢ n.actor.id = λ e. (let g = sym p.2 ∙ ap (λ v. head (managed v actors)) e ∙ ap head leaf in cc) in
       let to : LeadsTo l' root kj.0 = record {
         id = j;
         keyed = others j jx ∙ kj.1;
@@ -179,7 +179,7 @@ module _ (l l' : Links) (cut : Slab Node) (root : ℤ) (key : ℕ) (n : Node)
 
   pub taken : Taken l l' root n
   taken = record {
-    linked = subst (Stands (place_of l') (node_at l')) (sym made) stand;
+    linked = subst (AreLinked (place_of l') (node_at l')) (sym made) stand;
     next = record { next = fell.1 ∙ ap (λ v. n.actor ∷ post_order root v) (sym made); left = made };
     resumes = elim (same_or_other n.actor.id root) [
       | inl e ↦ subst (λ v. Resumes l' (cond v None (option_map (λ at. record { root = root; at = at }) n.manager))) (sym (same n.actor.id root e)) tt

@@ -8,27 +8,27 @@ use Rattle.linked_lists.specs.Places.{is_the}
 use Rattle.linked_lists.specs.Links.{key_eq}
 use Rattle.linked_lists.proofs.KeyTest.{key_test}
 use Rattle.linked_lists.proofs.PlaceLemmas.{same as same_key, other as other_key}
-use Rattle.actor_tree.specs.Links.{link, node_of, StandsAt, Stands}
+use Rattle.actor_tree.specs.Links.{link, node_of, IsLinkedAt, AreLinked}
 use Rattle.actor_tree.proofs.Ids.{same, other, same_or_other, Has}
-use Rattle.actor_tree.proofs.Kids.{of-id, of-some}
+use Rattle.actor_tree.proofs.Managed.{of-id, of-some}
 
 -- each id of the option lives
 abbrev pub Lives : List Actor → Option ℤ → Type 0
 Lives actors o = (j : ℤ) → o ≡ Some j → Has j actors
 
 -- the links where the functions agree
-pub along : (place place' : ℤ → Option ℕ) (node node' : ℕ → Option Node) (actors : List Actor) → ((i : ℤ) → place' i ≡ place i) → ((k : ℕ) → node' k ≡ node k) → Stands place node actors → Stands place' node' actors
+pub along : (place place' : ℤ → Option ℕ) (node node' : ℕ → Option Node) (actors : List Actor) → ((i : ℤ) → place' i ≡ place i) → ((k : ℕ) → node' k ≡ node k) → AreLinked place node actors → AreLinked place' node' actors
 along place place' node node' actors p n s =
     let p' : place ≡ place' = λ j i. sym (p i) j in
     let n' : node ≡ node' = λ j k. sym (n k) j in
-    subst (λ v. Stands place' v actors) n' (subst (λ v. Stands v node actors) p' s)
+    subst (λ v. AreLinked place' v actors) n' (subst (λ v. AreLinked v node actors) p' s)
 
-module _ (place : ℤ → Option ℕ) (node : ℕ → Option Node) (actors : List Actor) (s : Stands place node actors) where
+module _ (place : ℤ → Option ℕ) (node : ℕ → Option Node) (actors : List Actor) (s : AreLinked place node actors) where
   pub node-at : (i : ℤ) (b : Actor) → actor_of i actors ≡ Some b → (key : ℕ) × (place i ≡ Some key) × (node key ≡ Some (node_of place actors b))
-  node-at i b e = subst (StandsAt place node actors i) e (s.each i)
+  node-at i b e = subst (IsLinkedAt place node actors i) e (s.each i)
 
   pub no_key : (i : ℤ) → actor_of i actors ≡ None → place i ≡ None
-  no_key i e = subst (StandsAt place node actors i) e (s.each i)
+  no_key i e = subst (IsLinkedAt place node actors i) e (s.each i)
 
   pub key-of : (i : ℤ) → Has i actors → (key : ℕ) × (place i ≡ Some key)
   key-of i h = let b = of-some i actors h in let n = node-at i b.0 b.1 in (n.0, n.1)

@@ -5,7 +5,7 @@ use Rattle.actor_tree.specs.declared.actor.Actor.{Actor}
 use Rattle.actor_tree.specs.Tree.{actor_of, without, AreMadeAfter, IsTree}
 use Rattle.actor_tree.specs.Laws.{EachOnce}
 use Rattle.linked_lists.specs.Places.{omit, IsIn, AreDistinct}
-use Rattle.actor_tree.specs.Links.{top_id, is_under, kids}
+use Rattle.actor_tree.specs.Links.{top_id, is_under, managed}
 use Rattle.actor_tree.proofs.Ids.{id_test, same, other, same_or_other, Has, has, has_not, lives-false, Has-left, Has-last, without-same, without-other}
 use Rattle.actor_tree.proofs.Below.{apart}
 use Rattle.linked_lists.proofs.PlaceLemmas.{omit-same, omit-other}
@@ -91,78 +91,78 @@ under-is m a h = (
   elim (same_or_other a.manager m) [ inl e ↦ e | inr n ↦ absurd (true≢false (sym h ∙ under-other m a n)) ],
 )
 
-pub kids-under : (m : ℤ) (a : Actor) (actors : List Actor) → is_under m a ≡ true → kids m (a ∷ actors) ≡ a.id ∷ kids m actors
-kids-under m a actors e = ap (λ v. cond v (a.id ∷ kids m actors) (kids m actors)) e
+pub managed-under : (m : ℤ) (a : Actor) (actors : List Actor) → is_under m a ≡ true → managed m (a ∷ actors) ≡ a.id ∷ managed m actors
+managed-under m a actors e = ap (λ v. cond v (a.id ∷ managed m actors) (managed m actors)) e
 
-pub kids-not : (m : ℤ) (a : Actor) (actors : List Actor) → is_under m a ≡ false → kids m (a ∷ actors) ≡ kids m actors
-kids-not m a actors e = ap (λ v. cond v (a.id ∷ kids m actors) (kids m actors)) e
+pub managed-not : (m : ℤ) (a : Actor) (actors : List Actor) → is_under m a ≡ false → managed m (a ∷ actors) ≡ managed m actors
+managed-not m a actors e = ap (λ v. cond v (a.id ∷ managed m actors) (managed m actors)) e
 
-pub kids-append : (m : ℤ) (actors : List Actor) (a : Actor) → is_under m a ≡ true → kids m (actors ++ a ∷ []) ≡ kids m actors ++ a.id ∷ []
-kids-append m [] a u = kids-under m a [] u
-kids-append m (b ∷ actors) a u =
+pub managed-append : (m : ℤ) (actors : List Actor) (a : Actor) → is_under m a ≡ true → managed m (actors ++ a ∷ []) ≡ managed m actors ++ a.id ∷ []
+managed-append m [] a u = managed-under m a [] u
+managed-append m (b ∷ actors) a u =
     elim (cases_Bool (is_under m b)) [
-      | inl e ↦ kids-under m b (actors ++ a ∷ []) e ∙ ap (λ v. b.id ∷ v) (kids-append m actors a u) ∙ ap (λ v. v ++ a.id ∷ []) (sym (kids-under m b actors e))
-      | inr n ↦ kids-not m b (actors ++ a ∷ []) n ∙ kids-append m actors a u ∙ ap (λ v. v ++ a.id ∷ []) (sym (kids-not m b actors n))
+      | inl e ↦ managed-under m b (actors ++ a ∷ []) e ∙ ap (λ v. b.id ∷ v) (managed-append m actors a u) ∙ ap (λ v. v ++ a.id ∷ []) (sym (managed-under m b actors e))
+      | inr n ↦ managed-not m b (actors ++ a ∷ []) n ∙ managed-append m actors a u ∙ ap (λ v. v ++ a.id ∷ []) (sym (managed-not m b actors n))
     ]
 
-pub kids-append-not : (m : ℤ) (actors : List Actor) (a : Actor) → is_under m a ≡ false → kids m (actors ++ a ∷ []) ≡ kids m actors
-kids-append-not m [] a u = kids-not m a [] u
-kids-append-not m (b ∷ actors) a u =
-    ap (λ v. cond (is_under m b) (b.id ∷ v) v) (kids-append-not m actors a u)
+pub managed-append-not : (m : ℤ) (actors : List Actor) (a : Actor) → is_under m a ≡ false → managed m (actors ++ a ∷ []) ≡ managed m actors
+managed-append-not m [] a u = managed-not m a [] u
+managed-append-not m (b ∷ actors) a u =
+    ap (λ v. cond (is_under m b) (b.id ∷ v) v) (managed-append-not m actors a u)
 
-pub kids-without : (m i : ℤ) (actors : List Actor) → kids m (without i actors) ≡ omit int_eq i (kids m actors)
-kids-without m i [] = refl
-kids-without m i (b ∷ actors) =
+pub managed-without : (m i : ℤ) (actors : List Actor) → managed m (without i actors) ≡ omit int_eq i (managed m actors)
+managed-without m i [] = refl
+managed-without m i (b ∷ actors) =
     elim (cases_Bool (is_under m b)) [
       | inl e ↦ elim (same_or_other b.id i) [
-        | inl f ↦ ap (kids m) (without-same i b actors f) ∙ kids-without m i actors ∙ sym (omit-same id_test i b.id (kids m actors) f) ∙ ap (omit int_eq i) (sym (kids-under m b actors e))
-        | inr n ↦ ap (kids m) (without-other i b actors n) ∙ kids-under m b (without i actors) e ∙ ap (λ v. b.id ∷ v) (kids-without m i actors)
-            ∙ sym (omit-other id_test i b.id (kids m actors) n) ∙ ap (omit int_eq i) (sym (kids-under m b actors e))
+        | inl f ↦ ap (managed m) (without-same i b actors f) ∙ managed-without m i actors ∙ sym (omit-same id_test i b.id (managed m actors) f) ∙ ap (omit int_eq i) (sym (managed-under m b actors e))
+        | inr n ↦ ap (managed m) (without-other i b actors n) ∙ managed-under m b (without i actors) e ∙ ap (λ v. b.id ∷ v) (managed-without m i actors)
+            ∙ sym (omit-other id_test i b.id (managed m actors) n) ∙ ap (omit int_eq i) (sym (managed-under m b actors e))
       ]
       | inr u ↦ elim (same_or_other b.id i) [
-        | inl f ↦ ap (kids m) (without-same i b actors f) ∙ kids-without m i actors ∙ ap (omit int_eq i) (sym (kids-not m b actors u))
-        | inr n ↦ ap (kids m) (without-other i b actors n) ∙ kids-not m b (without i actors) u ∙ kids-without m i actors ∙ ap (omit int_eq i) (sym (kids-not m b actors u))
+        | inl f ↦ ap (managed m) (without-same i b actors f) ∙ managed-without m i actors ∙ ap (omit int_eq i) (sym (managed-not m b actors u))
+        | inr n ↦ ap (managed m) (without-other i b actors n) ∙ managed-not m b (without i actors) u ∙ managed-without m i actors ∙ ap (omit int_eq i) (sym (managed-not m b actors u))
       ]
     ]
 
-pub kids-has : (m i : ℤ) (actors : List Actor) → IsIn i (kids m actors) → Has i actors
-kids-has m i [] h = absurd h
-kids-has m i (b ∷ actors) h =
+pub managed-has : (m i : ℤ) (actors : List Actor) → IsIn i (managed m actors) → Has i actors
+managed-has m i [] h = absurd h
+managed-has m i (b ∷ actors) h =
     elim (cases_Bool (is_under m b)) [
-      | inl e ↦ elim (subst (IsIn i) (kids-under m b actors e) h) [ inl f ↦ inl f | inr k ↦ inr (kids-has m i actors k) ]
-      | inr n ↦ inr (kids-has m i actors (subst (IsIn i) (kids-not m b actors n) h))
+      | inl e ↦ elim (subst (IsIn i) (managed-under m b actors e) h) [ inl f ↦ inl f | inr k ↦ inr (managed-has m i actors k) ]
+      | inr n ↦ inr (managed-has m i actors (subst (IsIn i) (managed-not m b actors n) h))
     ]
 
-pub kids-once : (m : ℤ) (actors : List Actor) → EachOnce actors → AreDistinct (kids m actors)
-kids-once m [] o = tt
-kids-once m (b ∷ actors) o =
+pub managed-once : (m : ℤ) (actors : List Actor) → EachOnce actors → AreDistinct (managed m actors)
+managed-once m [] o = tt
+managed-once m (b ∷ actors) o =
     elim (cases_Bool (is_under m b)) [
-      | inl e ↦ subst AreDistinct (sym (kids-under m b actors e)) (λ h. has_not b.id actors o.0 (kids-has m b.id actors h), kids-once m actors o.1)
-      | inr n ↦ subst AreDistinct (sym (kids-not m b actors n)) (kids-once m actors o.1)
+      | inl e ↦ subst AreDistinct (sym (managed-under m b actors e)) (λ h. has_not b.id actors o.0 (managed-has m b.id actors h), managed-once m actors o.1)
+      | inr n ↦ subst AreDistinct (sym (managed-not m b actors n)) (managed-once m actors o.1)
     ]
 
 -- one that an actor manages lives, and is under it
-pub kid-of : (m i : ℤ) (actors : List Actor) → EachOnce actors → IsIn i (kids m actors) → (b : Actor) × (actor_of i actors ≡ Some b) × (is_under m b ≡ true)
-kid-of m i [] o h = absurd h
-kid-of m i (a ∷ actors) o h =
-    let later : IsIn i (kids m actors) → (b : Actor) × (actor_of i (a ∷ actors) ≡ Some b) × (is_under m b ≡ true) = λ k.
-    (let r = kid-of m i actors o.1 k in
-    (r.0, of-other i a actors (λ e. has_not a.id actors o.0 (subst (λ v. Has v actors) (sym e) (kids-has m i actors k))) ∙ r.1, r.2)) in
+pub managed-of : (m i : ℤ) (actors : List Actor) → EachOnce actors → IsIn i (managed m actors) → (b : Actor) × (actor_of i actors ≡ Some b) × (is_under m b ≡ true)
+managed-of m i [] o h = absurd h
+managed-of m i (a ∷ actors) o h =
+    let later : IsIn i (managed m actors) → (b : Actor) × (actor_of i (a ∷ actors) ≡ Some b) × (is_under m b ≡ true) = λ k.
+    (let r = managed-of m i actors o.1 k in
+    (r.0, of-other i a actors (λ e. has_not a.id actors o.0 (subst (λ v. Has v actors) (sym e) (managed-has m i actors k))) ∙ r.1, r.2)) in
     elim (cases_Bool (is_under m a)) [
-      | inl e ↦ elim (subst (IsIn i) (kids-under m a actors e) h) [ inl f ↦ (a, of-same i a actors f, e) | inr k ↦ later k ]
-      | inr n ↦ later (subst (IsIn i) (kids-not m a actors n) h)
+      | inl e ↦ elim (subst (IsIn i) (managed-under m a actors e) h) [ inl f ↦ (a, of-same i a actors f, e) | inr k ↦ later k ]
+      | inr n ↦ later (subst (IsIn i) (managed-not m a actors n) h)
     ]
 
-pub kids-in : (m i : ℤ) (actors : List Actor) (b : Actor) → actor_of i actors ≡ Some b → is_under m b ≡ true → IsIn i (kids m actors)
-kids-in m i [] b e u = cc
-kids-in m i (a ∷ actors) b e u =
+pub managed-in : (m i : ℤ) (actors : List Actor) (b : Actor) → actor_of i actors ≡ Some b → is_under m b ≡ true → IsIn i (managed m actors)
+managed-in m i [] b e u = cc
+managed-in m i (a ∷ actors) b e u =
     elim (same_or_other a.id i) [
       | inl f ↦ (let k : a ≡ b = (let g = sym (of-same i a actors f) ∙ e in cc) in
-          subst (IsIn i) (sym (kids-under m a actors (ap (is_under m) k ∙ u))) (inl f))
-      | inr n ↦ (let r = kids-in m i actors b (sym (of-other i a actors n) ∙ e) u in
+          subst (IsIn i) (sym (managed-under m a actors (ap (is_under m) k ∙ u))) (inl f))
+      | inr n ↦ (let r = managed-in m i actors b (sym (of-other i a actors n) ∙ e) u in
           elim (cases_Bool (is_under m a)) [
-            | inl v ↦ subst (IsIn i) (sym (kids-under m a actors v)) (inr r)
-            | inr v ↦ subst (IsIn i) (sym (kids-not m a actors v)) r
+            | inl v ↦ subst (IsIn i) (sym (managed-under m a actors v)) (inr r)
+            | inr v ↦ subst (IsIn i) (sym (managed-not m a actors v)) r
           ])
     ]
 
