@@ -4,7 +4,6 @@ pub mod Below
 pub mod Kept
 pub mod Whole
 pub mod Order
-mod Walks
 pub mod Managed
 pub mod LinkLemmas
 pub mod Added
