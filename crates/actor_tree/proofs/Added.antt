@@ -11,7 +11,7 @@ use Rattle.actor_tree.specs.Links.{top_id, managed, link, node_of, IsLinkedAt, A
 use Rattle.actor_tree.proofs.Ids.{id_test, same, other, same_or_other, Has, lives-true, lives-false}
 use Rattle.actor_tree.proofs.Kept.{IsTree-append}
 use Rattle.linked_lists.proofs.KeyTest.{key_test}
-use Rattle.linked_lists.proofs.PlaceLemmas.{other as other_key, before-of-in, last-of-in, is_the-other, head-in, last-in, after-in, before-in, head-push, last-push, after-push, after-push-new, before-push, before-push-new}
+use Rattle.linked_lists.proofs.PlaceLemmas.{other as other_key, before-of-in, last-of-in, is_the-other, head-in, after-in, head-push, last-push, after-push, after-push-new, before-push, before-push-new}
 use Rattle.actor_tree.proofs.Managed.{of-same, of-other, of-id, of-has, of-none, of-append-old, of-append-new, under-true, under-other, under-is, managed-append, managed-append-not, managed-has, managed-once, managed-of, tree-once, tree-manager, tree-top}
 use Rattle.actor_tree.proofs.LinkLemmas.{Lives, node-at, no_key, key-of, lives-at, at-the, some-link, instead-at, link-same}
 

@@ -1,5 +1,5 @@
 -- Where the links stand for the living actors.
-use Rattle.std.proofs.Common.{◌≡◌, ◌≢◌, inl, inr, ℕ, ◌==◌, ℤ, true, false, cond, List, Option, Some, None, is_some, refl, sym, ap, ◌∙◌, subst, int_eq}
+use Rattle.std.proofs.Common.{◌≡◌, inl, inr, ℕ, ℤ, false, cond, List, Option, Some, None, is_some, refl, sym, ap, ◌∙◌, subst, int_eq}
 use Rattle.actor_tree.specs.declared.actor.Actor.{Actor}
 use Rattle.actor_tree.specs.declared.node.Node.{Node}
 use Rattle.actor_tree.specs.Tree.{actor_of}

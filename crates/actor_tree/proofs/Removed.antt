@@ -1,5 +1,5 @@
 -- The links stand for the living actors without one that manages nobody.
-use Rattle.std.proofs.Common.{◌≡◌, ◌≢◌, ◌⊎◌, inl, inr, ℕ, ℤ, true, false, cond, List, [], ◌∷◌, Option, Some, None, is_some, refl, sym, ap, ◌∙◌, subst, int_eq}
+use Rattle.std.proofs.Common.{◌≡◌, ◌≢◌, ◌⊎◌, inl, inr, ℕ, ℤ, true, false, cond, List, [], Option, Some, None, is_some, refl, sym, ap, ◌∙◌, subst, int_eq}
 use Rattle.std.specs.Option.{option_map}
 use Rattle.actor_tree.specs.declared.actor.Actor.{Actor}
 use Rattle.actor_tree.specs.declared.node.Node.{Node}
@@ -9,7 +9,7 @@ use Rattle.linked_lists.specs.Links.{key_eq}
 use Rattle.linked_lists.specs.Places.{is_the, head, last, after, before, omit, IsIn, AreDistinct}
 use Rattle.actor_tree.specs.Links.{top_id, managed, link, node_of, IsLinkedAt, AreLinked}
 use Rattle.actor_tree.proofs.Ids.{id_test, same, other, same_or_other, Has}
-use Rattle.linked_lists.proofs.PlaceLemmas.{before-of-in, last-of-in, is_the-other, head-in, last-in, after-in, before-in, after-none, before-none, omit-same, omit-other, omit-none, head-omit, last-omit, after-omit, before-omit, omit-in}
+use Rattle.linked_lists.proofs.PlaceLemmas.{before-of-in, last-of-in, is_the-other, head-in, after-in, after-none, before-none, omit-none, head-omit, last-omit, after-omit, before-omit, omit-in}
 use Rattle.actor_tree.proofs.Managed.{of-id, of-without-same, of-without-other, under-true, under-is, managed-without, managed-has, managed-once, managed-of, managed-in, tree-once, tree-manager}
 use Rattle.actor_tree.proofs.LinkLemmas.{Lives, node-at, no_key, one_id, at-the, some-link, instead-at, link-same}
 use Rattle.actor_tree.proofs.Added.{link-cond, turned, neither}

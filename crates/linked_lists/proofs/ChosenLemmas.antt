@@ -1,5 +1,5 @@
 -- Which keys are chosen, and what the items of keys are.
-use Rattle.std.proofs.Common.{◌≡◌, inl, inr, ℕ, Bool, true, false, cond, List, [], ◌∷◌, ◌++◌, length, suc, Option, Some, None, refl, sym, ap, ◌∙◌, subst, find}
+use Rattle.std.proofs.Common.{◌≡◌, inl, inr, ℕ, Bool, true, false, cond, List, [], ◌∷◌, ◌++◌, Option, Some, None, refl, sym, ap, ◌∙◌, subst, find}
 use Rattle.std.proofs.lemmas.Bool.{cases_Bool}
 use Rattle.linked_lists.specs.Places.{IsIn, AreDistinct, head, omit}
 use Rattle.linked_lists.specs.Links.{key_eq}

@@ -1,5 +1,5 @@
 -- The links of nodes, as they stand for a list of keys.
-use Rattle.std.specs.Prelude.{ℕ, ◌==◌, Bool, List, Option, Some, None, is_some, if◌then◌else◌}
+use Rattle.std.specs.Prelude.{ℕ, ◌==◌, Bool, List, Some, None, is_some, if◌then◌else◌}
 use Rattle.linked_lists.specs.declared.link.Link.{Link}
 use Rattle.linked_lists.specs.declared.link.Ends.{Ends}
 use Rattle.linked_lists.specs.Places.{head, last, after, before}

@@ -53,14 +53,22 @@ fn set_previous<N: LinkedNode>(
     };
     if let Some(node) = nodes.get_mut(at) {
         let link = node.link(chain);
-        node.set_link(chain, Link {
-            previous: key,
-            next: link.next,
-        });
+        node.set_link(
+            chain,
+            Link {
+                previous: key,
+                next: link.next,
+            },
+        );
     }
 }
 
-fn set_next<N: LinkedNode>(nodes: &mut Slab<N>, chain: N::Chain, at: Option<usize>, key: Option<usize>)
+fn set_next<N: LinkedNode>(
+    nodes: &mut Slab<N>,
+    chain: N::Chain,
+    at: Option<usize>,
+    key: Option<usize>,
+)
     ensures nodes { (k : ℕ) → get nodes.new k ≡ option_map (with_next (N.link_of chain) (N.with_link chain) at key k) (get nodes.old k) }
     ensures capacity { nodes.new.capacity ≡ nodes.old.capacity }
     ensures len { slab_len nodes.new ≡ slab_len nodes.old }
@@ -70,10 +78,13 @@ fn set_next<N: LinkedNode>(nodes: &mut Slab<N>, chain: N::Chain, at: Option<usiz
     };
     if let Some(node) = nodes.get_mut(at) {
         let link = node.link(chain);
-        node.set_link(chain, Link {
-            previous: link.previous,
-            next: key,
-        });
+        node.set_link(
+            chain,
+            Link {
+                previous: link.previous,
+                next: key,
+            },
+        );
     }
 }
 

@@ -1,12 +1,10 @@
 -- Classes and likenesses that are one or two, and ends of lists.
-use Rattle.std.proofs.Common.{◌≡◌, ◌≢◌, ◌⊎◌, inl, inr, ℕ, ◌==◌, Bool, true, false, ◌&&◌, cond, List, [], ◌∷◌, ◌++◌, Option, Some, None, refl, sym, ap, ◌∙◌, int_eq, true≢false}
+use Rattle.std.proofs.Common.{◌≡◌, ◌≢◌, ◌⊎◌, inl, inr, ℕ, ◌==◌, Bool, true, false, ◌&&◌, cond, Option, Some, None, refl, sym, ap, ◌∙◌, int_eq, true≢false}
 use Rattle.std.proofs.lemmas.Bool.{cases_Bool}
 use Rattle.std.proofs.lemmas.Bool.Decides.{Decides-int_eq}
 use Rattle.linked_lists.specs.declared.link.Ends.{Ends}
-use Rattle.linked_lists.specs.Places.{IsIn, AreDistinct, after, before, omit}
-use Rattle.linked_lists.specs.Links.{ends_with, ends_without, ends_of}
 use Rattle.linked_lists.specs.Chosen.{passes}
-use Rattle.linked_lists.proofs.PlaceLemmas.{same, other, same_or_other, head-push, last-push, head-omit, last-omit}
+use Rattle.linked_lists.proofs.PlaceLemmas.{same, other, same_or_other}
 use Rattle.linked_lists.proofs.KeyTest.{key_test}
 use Rattle.pending_queue.specs.declared.class.Class.{Class}
 use Rattle.pending_queue.specs.declared.class.Class.TheVariants.{Asynchronous, SyncNot, SyncInside, Highest, Closing}

@@ -1,11 +1,11 @@
 -- Which keys are chosen, and what the items of keys are.
-use Rattle.std.proofs.Common.{◌≡◌, ◌≢◌, ◌⊎◌, inl, inr, ℕ, ◌<◌, Bool, true, false, not, ◌&&◌, ◌||◌, cond, List, [], ◌∷◌, ◌++◌, Option, Some, None, is_some, refl, sym, ap, ◌∙◌, subst, true≢false, find}
+use Rattle.std.proofs.Common.{◌≡◌, ◌≢◌, ◌⊎◌, inl, inr, ℕ, ◌<◌, Bool, true, false, not, ◌&&◌, ◌||◌, cond, List, [], ◌∷◌, Option, Some, None, is_some, refl, sym, ap, ◌∙◌, subst, true≢false}
 use Rattle.std.specs.List.{list_any}
 use Rattle.std.proofs.lemmas.Bool.{cases_Bool}
 use Rattle.linked_lists.specs.Places.{IsIn, AreDistinct, head, last_with, last, omit}
 use Rattle.linked_lists.specs.Chosen.{passes, chosen, cons_some, items_of, item_of, omit_some}
 use Rattle.linked_lists.proofs.ChosenLemmas.{chosen-yes, chosen-no, chosen-in, Full}
-use Rattle.linked_lists.proofs.PlaceLemmas.{last-some, same_or_other, head-in, omit-same, omit-other, omit-none, last-of-in}
+use Rattle.linked_lists.proofs.PlaceLemmas.{last-some, head-in, omit-same, omit-other, omit-none, last-of-in}
 use Rattle.linked_lists.specs.Links.{key_eq}
 use Rattle.linked_lists.proofs.KeyTest.{key_test}
 use Rattle.pending_queue.specs.declared.item.Item.{Item}

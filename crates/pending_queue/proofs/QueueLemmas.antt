@@ -6,12 +6,12 @@ use Rattle.std.specs.Map.{lookup}
 use Rattle.slab.specs.Slab.{Slab, get, slab_len, Updates}
 use Rattle.indexmap.specs.IndexMap.{IndexMap}
 use Rattle.linked_lists.specs.declared.link.Ends.{Ends}
-use Rattle.linked_lists.specs.Places.{IsIn, AreDistinct, head, last, omit}
+use Rattle.linked_lists.specs.Places.{IsIn, head, last, omit}
 use Rattle.linked_lists.specs.Chains.{attached, detached}
 use Rattle.linked_lists.specs.Links.{ends_with, ends_without, key_eq}
 use Rattle.linked_lists.specs.Chosen.{passes, chosen, cons_some, items_of, item_of, omit_some}
 use Rattle.linked_lists.proofs.ChosenLemmas.{Full, chosen-in, in-chosen, first-item}
-use Rattle.linked_lists.proofs.PlaceLemmas.{last-some, same_or_other, head-in, omit-same, omit-other, omit-none}
+use Rattle.linked_lists.proofs.PlaceLemmas.{last-some, head-in}
 use Rattle.pending_queue.specs.declared.item.Item.{Item}
 use Rattle.pending_queue.specs.declared.node.Node.{Node}
 use Rattle.pending_queue.specs.declared.node.Chain.TheVariants.{Arrival, SameClass}

@@ -2,7 +2,7 @@
 use Rattle.std.proofs.Common.{◌≡◌, ◌≢◌, inl, inr, ℕ, ◌-◌, ◌==◌, Bool, true, false, ◌&&◌, cond, List, [], ◌∷◌, ◌++◌, length, take, slice_get, Option, Some, None, is_some, refl, sym, ap, ◌∙◌, subst, int_eq, length-append, arith}
 use Rattle.std.proofs.lemmas.Bool.{cases_Bool}
 use Rattle.std.specs.Option.{option_and_then}
-use Rattle.ipdl_base.specs.declared.kinds.Compress.TheVariants.{Plain, Last, All}
+use Rattle.ipdl_base.specs.declared.kinds.Compress.TheVariants.{Last, All}
 use Rattle.linked_lists.specs.declared.link.Ends.{Ends}
 use Rattle.linked_lists.specs.Places.{IsIn, AreDistinct, last_with, last, omit}
 use Rattle.linked_lists.specs.Chosen.{passes, chosen, items_of, item_of, omit_some}
@@ -103,9 +103,6 @@ staying-last new x ys =
     by false = refl
 
 -- ---- what is replaced
-
-pub replaces_none : (q : Queue) (new : Item) → Replaces q Plain new None
-replaces_none q new = record { replaces = refl; stay = refl; among = λ k e. cc }
 
 pub replaces_latest : (q : Queue) (new : Item) (o : Option ℕ) → IsQueue q → o ≡ last_of_its_likeness q (likeness_of new) → Replaces q All new o
 replaces_latest q new o s e =

@@ -10,12 +10,11 @@ use Rattle.ipdl_base.specs.declared.message.Body.{Body}
 use Rattle.ipdl_base.specs.declared.message.Body.TheVariants.{Request, Reply, Fault, Goodbye}
 use Rattle.ipdl_base.specs.Deferral.{defers_request, defers_waiting, defers_arrival}
 use Rattle.linked_lists.specs.declared.link.Link.{Link}
-use Rattle.linked_lists.specs.declared.link.Ends.{Ends}
 use Rattle.linked_lists.specs.Places.{IsIn, AreDistinct, head, after}
 use Rattle.linked_lists.specs.Chains.{link_of_some}
 use Rattle.linked_lists.specs.Chosen.{passes, chosen}
 use Rattle.linked_lists.proofs.PlaceLemmas.{same, other, same_or_other, head-in, after-same, after-other}
-use Rattle.linked_lists.proofs.ChosenLemmas.{chosen-yes, chosen-no, chosen-in, in-chosen, chosen-distinct}
+use Rattle.linked_lists.proofs.ChosenLemmas.{chosen-no, chosen-in, in-chosen, chosen-distinct}
 use Rattle.linked_lists.specs.Links.{key_eq}
 use Rattle.linked_lists.proofs.KeyTest.{key_test}
 use Rattle.pending_queue.specs.declared.holding.Holding.{Holding}
@@ -27,7 +26,7 @@ use Rattle.pending_queue.specs.declared.class.Class.{Class}
 use Rattle.pending_queue.specs.declared.class.Class.TheVariants.{Asynchronous, SyncNot, SyncInside, Highest, Closing}
 use Rattle.pending_queue.specs.declared.queue.Queue.{Queue}
 use Rattle.pending_queue.specs.Holding.{arrival_of_body, arrival_of, is_free}
-use Rattle.pending_queue.specs.Classes.{class_of, class_of_request, class_of_body, class_index, is_class, ends_at, defers_class}
+use Rattle.pending_queue.specs.Classes.{class_of, class_of_request, class_of_body, class_index, is_class, defers_class}
 use Rattle.pending_queue.specs.Links.{stamp_of}
 use Rattle.pending_queue.specs.Queue.{node_at, keys_of, queue_item, IsQueue, earlier_of}
 use Rattle.pending_queue.specs.Walk.{rank, rank_of, IsAt}
@@ -59,22 +58,6 @@ rank-next xs k (y ∷ ys) o =
 
 -- ---- the walk
 
-pub found : (t : Item → Bool) (item : ℕ → Option Item) (ks : List ℕ) (k : ℕ) → IsAt t item ks (Some k) → passes t (item k) ≡ true → Some k ≡ head (chosen t item ks)
-found t item ks k w p = by w.behind w.here w.rest
-  where
-    by : (bs : List ℕ) → Some k ≡ head bs → head (chosen t item ks) ≡ head (chosen t item bs) → Some k ≡ head (chosen t item ks)
-    by [] e r = cc
-    by (b ∷ bs) e r =
-        let kb : k ≡ b = cc in
-        ap Some kb ∙ ap head (sym (chosen-yes t item b bs (ap (λ v. passes t (item v)) (sym kb) ∙ p))) ∙ sym r
-
-pub ended : (t : Item → Bool) (item : ℕ → Option Item) (ks : List ℕ) → IsAt t item ks None → None ≡ head (chosen t item ks)
-ended t item ks w = by w.behind w.here w.rest
-  where
-    by : (bs : List ℕ) → None ≡ head bs → head (chosen t item ks) ≡ head (chosen t item bs) → None ≡ head (chosen t item ks)
-    by [] e r = sym r
-    by (b ∷ bs) e r = cc
-
 step-at : (t : Item → Bool) (item : ℕ → Option Item) (ks : List ℕ) (k : ℕ) (ahead behind : List ℕ) → ks ≡ ahead ++ behind → Some k ≡ head behind → head (chosen t item ks) ≡ head (chosen t item behind) → AreDistinct ks → passes t (item k) ≡ false → IsAt t item ks (after key_eq k ks) × (rank_of (after key_eq k ks) ks < rank k ks) × IsIn k ks
 step-at t item ks k ahead [] w e r o p = absurd cc
 step-at t item ks k ahead (b ∷ bs) w e r o p =
@@ -98,9 +81,6 @@ step-at t item ks k ahead (b ∷ bs) w e r o p =
 module _ (q : Queue) (s : IsQueue q) (t : Item → Bool) (g : Class) where
   abbrev class_keys : List ℕ
   class_keys = chosen (is_class g) (queue_item q) (keys_of q)
-
-  pub starts : IsAt t (queue_item q) class_keys (ends_at q.classes g).first
-  starts = record { ahead = []; behind = class_keys; whole = refl; here = ap (λ (v : Ends). v.first) (s.linked.class_ends g); rest = refl }
 
   pub steps : (k : ℕ) → IsAt t (queue_item q) class_keys (Some k) → passes t (queue_item q k) ≡ false → IsAt t (queue_item q) class_keys (link_of_some (link_of SameClass) (node_at q k)).next × (rank_of (link_of_some (link_of SameClass) (node_at q k)).next class_keys < rank_of (Some k) class_keys)
   steps k w p =
@@ -160,9 +140,6 @@ module _ (node : ℕ → Option Node) (f : ℕ) where
   -- nothing, or nothing earlier
   abbrev pub Good : Option ℕ → Type 0
   Good o = (m : ℕ) → o ≡ Some m → (f ≡ m) ⊎ (stamp_of (node f) < stamp_of (node m))
-
-  hit_good : (o : Option ℕ) → o ≡ Some f → Good o
-  hit_good o e m h = inl (let g = sym e ∙ h in cc)
 
   pick : (i j : ℕ) (b : Bool) → nat_lt (stamp_of (node j)) (stamp_of (node i)) ≡ b → earlier_of node (Some i) (Some j) ≡ cond b (Some j) (Some i)
   pick i j b e = ap (λ v. cond v (Some j) (Some i)) e

@@ -1,8 +1,8 @@
 -- The lists on which the nodes of the arrived items stand.
-use Rattle.std.specs.Prelude.{◌≡◌, ℕ, ◌<◌, Bool, false, List, [], ◌∷◌, Option, Some, None, if◌then◌else◌}
+use Rattle.std.specs.Prelude.{◌≡◌, ℕ, ◌<◌, List, [], ◌∷◌, Option, Some, None}
 use Rattle.std.specs.Option.{option_map}
 use Rattle.linked_lists.specs.declared.link.Ends.{Ends}
-use Rattle.linked_lists.specs.Places.{IsIn, AreDistinct, head, last, omit}
+use Rattle.linked_lists.specs.Places.{IsIn, AreDistinct, last}
 use Rattle.linked_lists.specs.Chains.{IsChain}
 use Rattle.linked_lists.specs.Chosen.{chosen}
 use Rattle.linked_lists.specs.Links.{ends_of}

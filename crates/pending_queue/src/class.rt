@@ -58,7 +58,13 @@ pub(crate) fn class_of(item: &Item) -> Class
                 (true, Level::Not) => Class::SyncNot,
                 (true, Level::InsideSync) => Class::SyncInside,
             },
-            Body::Reply(_) | Body::Fault(_) => { if *sync { Class::Closing } else { Class::Asynchronous } }
+            Body::Reply(_) | Body::Fault(_) => {
+                if *sync {
+                    Class::Closing
+                } else {
+                    Class::Asynchronous
+                }
+            }
             Body::Goodbye => Class::Closing,
         },
     }

@@ -11,7 +11,7 @@ ghost use Rattle.pending_queue.specs.Holding.{is_free, without_first};
 ghost use Rattle.pending_queue.specs.Links.{stamp_of};
 
 use crate::alike::{join_alike, leave_alike};
-use crate::class::{Class, Classes, Likeness, class_of, likeness_of, defers_class};
+use crate::class::{Class, Classes, Likeness, class_of, defers_class, likeness_of};
 use crate::holding::{Holding, defers};
 use crate::item::{Item, PushFault, Pushed, are_alike};
 use crate::node::{Chain, Node};

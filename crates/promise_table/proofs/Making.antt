@@ -5,16 +5,15 @@ use Rattle.std.proofs.lemmas.Bool.Decides.{Decides-int_eq}
 use Rattle.std.specs.Option.{option_map}
 use Rattle.linked_lists.specs.declared.link.Link.{Link}
 use Rattle.linked_lists.specs.declared.link.Ends.{Ends}
-use Rattle.linked_lists.specs.Places.{IsIn, AreDistinct, head, last, before, after, omit}
-use Rattle.linked_lists.specs.Chains.{attached, detached, IsChain}
-use Rattle.linked_lists.specs.Links.{ends_with, ends_without, no_link, ends_of}
+use Rattle.linked_lists.specs.Places.{IsIn, AreDistinct, head, last}
+use Rattle.linked_lists.specs.Chains.{attached, IsChain}
+use Rattle.linked_lists.specs.Links.{ends_with, no_link, ends_of}
 use Rattle.linked_lists.specs.Chosen.{passes, chosen}
-use Rattle.linked_lists.proofs.PlaceLemmas.{head-push, last-push, head-omit, last-omit, distinct-push, in-append}
+use Rattle.linked_lists.proofs.PlaceLemmas.{distinct-push, in-append}
 use Rattle.linked_lists.proofs.ChainLemmas.{chain-kept, ends-push, attached-keeps, chain-along, chain-attached, chain-beside-attached}
 use Rattle.linked_lists.proofs.ChosenLemmas.{chosen-in, chosen-distinct, chosen-push, chosen-push-not, chosen-same}
 use Rattle.promise_table.specs.declared.promise.Promise.{Promise}
 use Rattle.promise_table.specs.declared.node.Node.{Node}
-use Rattle.promise_table.specs.declared.node.Chain.{Chain}
 use Rattle.promise_table.specs.declared.node.Chain.TheVariants.{All, Own}
 use Rattle.promise_table.specs.Promises.{made, has_number, is_pending, is_pending_of}
 use Rattle.promise_table.specs.Links.{item_at, AreLinked}

@@ -1,21 +1,17 @@
 -- Numbers of promises.
-use Rattle.std.proofs.Common.{◌≡◌, ◌≢◌, ℕ, zero, suc, ℤ, ◌<◌, ◌≤◌, Bool, true, false, List, [], ◌∷◌, length, map, get_or, set, Option, Some, None, sym, refl, ap, ◌∙◌, arith, cond, ◌&&◌, ◌↔◌, inl, inr, is_some, is_none}
-use Rattle.std.specs.Option.{option_map}
-use Rattle.std.specs.Ordering.{int_eq}
-use Rattle.std.specs.List.{find, position, position_or_len}
+use Rattle.std.proofs.Common.{◌≡◌, ℤ, ◌<◌, ◌≤◌, Bool, true, false, List, length, get_or, Option, Some, None, sym, refl, ap, ◌∙◌, arith, cond, ◌&&◌, ◌↔◌, inl, inr}
+use Rattle.std.specs.List.{position_or_len}
 use Rattle.std.proofs.lemmas.Bool.Decides.{Decides-int_eq}
-use Rattle.std.proofs.lemmas.Bool.{cases_lt, cases_eq, false≢true}
+use Rattle.std.proofs.lemmas.Bool.{cases_lt, false≢true}
 use Rattle.std.proofs.lemmas.List.Sums.{fails_before_first, passes_at_first}
 use Rattle.std.proofs.lemmas.List.Folds.{find_at}
-use Rattle.std.proofs.lemmas.List.{get_or-map, length-map, get_or_default}
-use Rattle.std.proofs.lemmas.List.Quantifiers.{position-Some}
+use Rattle.std.proofs.lemmas.List.{get_or-map, length-map}
 use Rattle.std.proofs.lemmas.Option.{slice_get-get_or, slice_get_past}
-use Rattle.ipdl_base.proofs.FindLemmas.{past_end, find_nowhere, find_there}
 use Rattle.promise_table.specs.declared.promise.Outcome.{Outcome}
 use Rattle.promise_table.specs.declared.promise.Promise.{Promise}
 use Rattle.promise_table.specs.declared.promise.Settling.{Settling}
 use Rattle.promise_table.specs.declared.promise.Settling.TheVariants.{Now, Already, Unknown}
-use Rattle.promise_table.specs.Promises.{made, has_number, is_pending, is_pending_of, oldest, settled, with_settled, settling_of, promise_of, HaveDistinctNumbers, IsUnmade}
+use Rattle.promise_table.specs.Promises.{made, has_number, is_pending, settled, with_settled, settling_of, promise_of, HaveDistinctNumbers, IsUnmade}
 
 -- a promise keeps its number
 pub seq-settled : (seq : ℤ) (outcome : Outcome) (p : Promise) → (settled seq outcome p).seq ≡ p.seq

@@ -3,7 +3,7 @@ use Rattle.std.proofs.Common.{◌≡◌, ◌≢◌, inl, inr, ℕ, ℤ, Bool, tr
 use Rattle.std.proofs.lemmas.Bool.{cases_Bool}
 use Rattle.std.specs.Option.{option_map}
 use Rattle.linked_lists.specs.declared.link.Ends.{Ends}
-use Rattle.linked_lists.specs.Places.{IsIn, AreDistinct, head, before, after, omit}
+use Rattle.linked_lists.specs.Places.{IsIn, AreDistinct, head, omit}
 use Rattle.linked_lists.specs.Chains.{detached, IsChain}
 use Rattle.linked_lists.specs.Links.{ends_without, ends_of, key_eq, link_in}
 use Rattle.linked_lists.specs.Chosen.{passes, chosen}

@@ -1,10 +1,10 @@
 -- The lists on which pending promises stand.
-use Rattle.std.specs.Prelude.{◌≡◌, ℕ, ℤ, Bool, false, List, [], ◌∷◌, Option, Some, None, if◌then◌else◌}
+use Rattle.std.specs.Prelude.{◌≡◌, ℕ, ℤ, List, Option, Some}
 use Rattle.std.specs.Option.{option_map}
 use Rattle.linked_lists.specs.declared.link.Ends.{Ends}
 use Rattle.linked_lists.specs.Chosen.{chosen}
 use Rattle.linked_lists.specs.Links.{ends_of}
-use Rattle.linked_lists.specs.Places.{IsIn, AreDistinct, head, last}
+use Rattle.linked_lists.specs.Places.{IsIn, AreDistinct, head}
 use Rattle.linked_lists.specs.Chains.{IsChain}
 use Rattle.promise_table.specs.declared.promise.Promise.{Promise}
 use Rattle.promise_table.specs.declared.node.Node.{Node}

@@ -92,19 +92,19 @@ fn run(alloc: Global, shape: Shape, count: i32) -> Result<(), Fail> {
 }
 
 #[test]
-fn each_under_half_its_number(rt: HostRuntime) -> Result<(), Fail> {
+fn size_links_in_halves(rt: HostRuntime) -> Result<(), Fail> {
     run(rt.alloc(), Shape::Halves, 300000)?;
     run(rt.alloc(), Shape::Halves, 600000)
 }
 
 #[test]
-fn each_under_the_one_before(rt: HostRuntime) -> Result<(), Fail> {
+fn size_links_in_a_line(rt: HostRuntime) -> Result<(), Fail> {
     run(rt.alloc(), Shape::Line, 300000)?;
     run(rt.alloc(), Shape::Line, 600000)
 }
 
 #[test]
-fn all_under_one(rt: HostRuntime) -> Result<(), Fail> {
+fn size_links_in_a_fan(rt: HostRuntime) -> Result<(), Fail> {
     run(rt.alloc(), Shape::Fan, 300000)?;
     run(rt.alloc(), Shape::Fan, 600000)
 }

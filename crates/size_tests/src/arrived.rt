@@ -62,7 +62,9 @@ fn take_in_order(pending: &mut Pending, holding: &Holding, count: i32) -> bool {
 
 fn by_class(alloc: Global, count: i32) -> Result<(), Fail> {
     let mut pending = Pending::new(alloc)?;
-    if !(push_level(&mut pending, Level::Not, count) && push_level(&mut pending, Level::InsideCpow, count)) {
+    if !(push_level(&mut pending, Level::Not, count)
+        && push_level(&mut pending, Level::InsideCpow, count))
+    {
         return Err("no memory".into());
     }
     if !take_in_order(&mut pending, &awaiting(Some(Level::InsideSync)), count) {
@@ -116,13 +118,13 @@ fn by_route(alloc: Global, count: i32) -> Result<(), Fail> {
 }
 
 #[test]
-fn of_two_classes(rt: HostRuntime) -> Result<(), Fail> {
+fn size_links_by_class(rt: HostRuntime) -> Result<(), Fail> {
     by_class(rt.alloc(), 150000)?;
     by_class(rt.alloc(), 300000)
 }
 
 #[test]
-fn on_many_routes(rt: HostRuntime) -> Result<(), Fail> {
+fn size_links_by_route(rt: HostRuntime) -> Result<(), Fail> {
     by_route(rt.alloc(), 300000)?;
     by_route(rt.alloc(), 600000)
 }

@@ -49,7 +49,7 @@ fn run(alloc: Global, count: i32) -> Result<(), Fail> {
 }
 
 #[test]
-fn actor_by_actor(rt: HostRuntime) -> Result<(), Fail> {
+fn size_links_by_actor(rt: HostRuntime) -> Result<(), Fail> {
     run(rt.alloc(), 300000)?;
     run(rt.alloc(), 600000)
 }

@@ -2,7 +2,6 @@ use Rattle.std.proofs.Common.{◌≡◌, ℤ, ◌++◌, ◌∷◌, [], Some, con
 use Rattle.std.specs.Map.{lookup}
 use Rattle.slab.specs.Slab.{get, Updates}
 use Rattle.linked_lists.specs.Links.{ends_with}
-use Rattle.linked_lists.proofs.KeyTest.{key_test}
 use Rattle.promise_table.specs.Promises.{made}
 use Rattle.promise_table.specs.Table.{ends_or, own_at, node_at, own_of, id_of, promises_in}
 use Rattle.promise_table.proofs.Making.{fresh_node}
