@@ -4,11 +4,11 @@ use Rattle.std.proofs.lemmas.Bool.{cases_Bool}
 use Rattle.actor_tree.specs.declared.actor.Actor.{Actor}
 use Rattle.actor_tree.specs.Tree.{actor_of, without, AreMadeAfter, IsTree}
 use Rattle.actor_tree.specs.Laws.{EachOnce}
-use Rattle.linked_lists.specs.Places.{omit, IsIn, AreDistinct}
-use Rattle.actor_tree.specs.Links.{top_id, is_under, managed}
+use Rattle.linked_lists.specs.Neighbours.{omit, IsIn, AreDistinct}
+use Rattle.actor_tree.specs.Links.{top_id, is_under, managed_ids}
 use Rattle.actor_tree.proofs.Ids.{id_test, same, other, same_or_other, Has, has, has_not, lives-false, Has-left, Has-last, without-same, without-other}
 use Rattle.actor_tree.proofs.Below.{apart}
-use Rattle.linked_lists.proofs.PlaceLemmas.{omit-same, omit-other}
+use Rattle.linked_lists.proofs.NeighbourLemmas.{omit-same, omit-other}
 
 -- ---- the actor of an id
 
@@ -91,13 +91,13 @@ under-is m a h = (
   elim (same_or_other a.manager m) [ inl e ↦ e | inr n ↦ absurd (true≢false (sym h ∙ under-other m a n)) ],
 )
 
-pub managed-under : (m : ℤ) (a : Actor) (actors : List Actor) → is_under m a ≡ true → managed m (a ∷ actors) ≡ a.id ∷ managed m actors
-managed-under m a actors e = ap (λ v. cond v (a.id ∷ managed m actors) (managed m actors)) e
+pub managed-under : (m : ℤ) (a : Actor) (actors : List Actor) → is_under m a ≡ true → managed_ids m (a ∷ actors) ≡ a.id ∷ managed_ids m actors
+managed-under m a actors e = ap (λ v. cond v (a.id ∷ managed_ids m actors) (managed_ids m actors)) e
 
-pub managed-not : (m : ℤ) (a : Actor) (actors : List Actor) → is_under m a ≡ false → managed m (a ∷ actors) ≡ managed m actors
-managed-not m a actors e = ap (λ v. cond v (a.id ∷ managed m actors) (managed m actors)) e
+pub managed-not : (m : ℤ) (a : Actor) (actors : List Actor) → is_under m a ≡ false → managed_ids m (a ∷ actors) ≡ managed_ids m actors
+managed-not m a actors e = ap (λ v. cond v (a.id ∷ managed_ids m actors) (managed_ids m actors)) e
 
-pub managed-append : (m : ℤ) (actors : List Actor) (a : Actor) → is_under m a ≡ true → managed m (actors ++ a ∷ []) ≡ managed m actors ++ a.id ∷ []
+pub managed-append : (m : ℤ) (actors : List Actor) (a : Actor) → is_under m a ≡ true → managed_ids m (actors ++ a ∷ []) ≡ managed_ids m actors ++ a.id ∷ []
 managed-append m [] a u = managed-under m a [] u
 managed-append m (b ∷ actors) a u =
     elim (cases_Bool (is_under m b)) [
@@ -105,27 +105,27 @@ managed-append m (b ∷ actors) a u =
       | inr n ↦ managed-not m b (actors ++ a ∷ []) n ∙ managed-append m actors a u ∙ ap (λ v. v ++ a.id ∷ []) (sym (managed-not m b actors n))
     ]
 
-pub managed-append-not : (m : ℤ) (actors : List Actor) (a : Actor) → is_under m a ≡ false → managed m (actors ++ a ∷ []) ≡ managed m actors
+pub managed-append-not : (m : ℤ) (actors : List Actor) (a : Actor) → is_under m a ≡ false → managed_ids m (actors ++ a ∷ []) ≡ managed_ids m actors
 managed-append-not m [] a u = managed-not m a [] u
 managed-append-not m (b ∷ actors) a u =
     ap (λ v. cond (is_under m b) (b.id ∷ v) v) (managed-append-not m actors a u)
 
-pub managed-without : (m i : ℤ) (actors : List Actor) → managed m (without i actors) ≡ omit int_eq i (managed m actors)
+pub managed-without : (m i : ℤ) (actors : List Actor) → managed_ids m (without i actors) ≡ omit int_eq i (managed_ids m actors)
 managed-without m i [] = refl
 managed-without m i (b ∷ actors) =
     elim (cases_Bool (is_under m b)) [
       | inl e ↦ elim (same_or_other b.id i) [
-        | inl f ↦ ap (managed m) (without-same i b actors f) ∙ managed-without m i actors ∙ sym (omit-same id_test i b.id (managed m actors) f) ∙ ap (omit int_eq i) (sym (managed-under m b actors e))
-        | inr n ↦ ap (managed m) (without-other i b actors n) ∙ managed-under m b (without i actors) e ∙ ap (λ v. b.id ∷ v) (managed-without m i actors)
-            ∙ sym (omit-other id_test i b.id (managed m actors) n) ∙ ap (omit int_eq i) (sym (managed-under m b actors e))
+        | inl f ↦ ap (managed_ids m) (without-same i b actors f) ∙ managed-without m i actors ∙ sym (omit-same id_test i b.id (managed_ids m actors) f) ∙ ap (omit int_eq i) (sym (managed-under m b actors e))
+        | inr n ↦ ap (managed_ids m) (without-other i b actors n) ∙ managed-under m b (without i actors) e ∙ ap (λ v. b.id ∷ v) (managed-without m i actors)
+            ∙ sym (omit-other id_test i b.id (managed_ids m actors) n) ∙ ap (omit int_eq i) (sym (managed-under m b actors e))
       ]
       | inr u ↦ elim (same_or_other b.id i) [
-        | inl f ↦ ap (managed m) (without-same i b actors f) ∙ managed-without m i actors ∙ ap (omit int_eq i) (sym (managed-not m b actors u))
-        | inr n ↦ ap (managed m) (without-other i b actors n) ∙ managed-not m b (without i actors) u ∙ managed-without m i actors ∙ ap (omit int_eq i) (sym (managed-not m b actors u))
+        | inl f ↦ ap (managed_ids m) (without-same i b actors f) ∙ managed-without m i actors ∙ ap (omit int_eq i) (sym (managed-not m b actors u))
+        | inr n ↦ ap (managed_ids m) (without-other i b actors n) ∙ managed-not m b (without i actors) u ∙ managed-without m i actors ∙ ap (omit int_eq i) (sym (managed-not m b actors u))
       ]
     ]
 
-pub managed-has : (m i : ℤ) (actors : List Actor) → IsIn i (managed m actors) → Has i actors
+pub managed-has : (m i : ℤ) (actors : List Actor) → IsIn i (managed_ids m actors) → Has i actors
 managed-has m i [] h = absurd h
 managed-has m i (b ∷ actors) h =
     elim (cases_Bool (is_under m b)) [
@@ -133,7 +133,7 @@ managed-has m i (b ∷ actors) h =
       | inr n ↦ inr (managed-has m i actors (subst (IsIn i) (managed-not m b actors n) h))
     ]
 
-pub managed-once : (m : ℤ) (actors : List Actor) → EachOnce actors → AreDistinct (managed m actors)
+pub managed-once : (m : ℤ) (actors : List Actor) → EachOnce actors → AreDistinct (managed_ids m actors)
 managed-once m [] o = tt
 managed-once m (b ∷ actors) o =
     elim (cases_Bool (is_under m b)) [
@@ -142,10 +142,10 @@ managed-once m (b ∷ actors) o =
     ]
 
 -- one that an actor manages lives, and is under it
-pub managed-of : (m i : ℤ) (actors : List Actor) → EachOnce actors → IsIn i (managed m actors) → (b : Actor) × (actor_of i actors ≡ Some b) × (is_under m b ≡ true)
+pub managed-of : (m i : ℤ) (actors : List Actor) → EachOnce actors → IsIn i (managed_ids m actors) → (b : Actor) × (actor_of i actors ≡ Some b) × (is_under m b ≡ true)
 managed-of m i [] o h = absurd h
 managed-of m i (a ∷ actors) o h =
-    let later : IsIn i (managed m actors) → (b : Actor) × (actor_of i (a ∷ actors) ≡ Some b) × (is_under m b ≡ true) = λ k.
+    let later : IsIn i (managed_ids m actors) → (b : Actor) × (actor_of i (a ∷ actors) ≡ Some b) × (is_under m b ≡ true) = λ k.
     (let r = managed-of m i actors o.1 k in
     (r.0, of-other i a actors (λ e. has_not a.id actors o.0 (subst (λ v. Has v actors) (sym e) (managed-has m i actors k))) ∙ r.1, r.2)) in
     elim (cases_Bool (is_under m a)) [
@@ -153,7 +153,7 @@ managed-of m i (a ∷ actors) o h =
       | inr n ↦ later (subst (IsIn i) (managed-not m a actors n) h)
     ]
 
-pub managed-in : (m i : ℤ) (actors : List Actor) (b : Actor) → actor_of i actors ≡ Some b → is_under m b ≡ true → IsIn i (managed m actors)
+pub managed-in : (m i : ℤ) (actors : List Actor) (b : Actor) → actor_of i actors ≡ Some b → is_under m b ≡ true → IsIn i (managed_ids m actors)
 managed-in m i [] b e u = cc
 managed-in m i (a ∷ actors) b e u =
     elim (same_or_other a.id i) [

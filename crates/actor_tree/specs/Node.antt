@@ -1,6 +1,6 @@
 -- What the setting of links makes of the node at a key.
 use Rattle.std.specs.Prelude.{ℕ, Option, Some, None, if◌then◌else◌}
-use Rattle.linked_lists.specs.Places.{is_the}
+use Rattle.linked_lists.specs.Neighbours.{is_the}
 use Rattle.linked_lists.specs.Links.{key_eq}
 use Rattle.actor_tree.specs.declared.node.Node.{Node}
 

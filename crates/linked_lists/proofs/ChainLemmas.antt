@@ -2,11 +2,11 @@
 use Rattle.std.proofs.Common.{◌≡◌, ◌≢◌, inl, inr, ℕ, ◌==◌, Bool, true, false, cond, List, [], ◌∷◌, ◌++◌, Option, Some, None, refl, sym, ap, ◌∙◌, subst}
 use Rattle.std.specs.Option.{option_map}
 use Rattle.linked_lists.specs.declared.link.Link.{Link}
-use Rattle.linked_lists.specs.Places.{IsIn, AreDistinct, is_the, last, after, before, omit}
+use Rattle.linked_lists.specs.Neighbours.{IsIn, AreDistinct, is_the, last, after, before, omit}
 use Rattle.linked_lists.specs.Links.{key_eq, link_in, ends_of, ends_with, ends_without}
 use Rattle.linked_lists.specs.Chains.{IsChain, with_previous, with_next, attached, detached}
 use Rattle.linked_lists.proofs.KeyTest.{key_test}
-use Rattle.linked_lists.proofs.PlaceLemmas.{same, other, is_the-other, in-append, last-of-in, before-of-in, after-in, after-push, after-push-new, before-push, before-push-new, omit-in, after-omit, before-omit, head-push, last-push, head-omit, last-omit}
+use Rattle.linked_lists.proofs.NeighbourLemmas.{same, other, is_the-other, in-append, last-of-in, before-of-in, after-in, after-push, after-push-new, before-push, before-push-new, omit-in, after-omit, before-omit, head-push, last-push, head-omit, last-omit}
 
 -- ---- one node
 

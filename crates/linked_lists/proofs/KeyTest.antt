@@ -1,6 +1,6 @@
 -- Keys are told apart by their test.
 use Rattle.std.proofs.lemmas.Bool.Decides.{Decides-eqb}
-use Rattle.linked_lists.specs.Places.{IsTest}
+use Rattle.linked_lists.specs.Neighbours.{IsTest}
 use Rattle.linked_lists.specs.Links.{key_eq}
 
 pub key_test : IsTest key_eq

@@ -1,4 +1,4 @@
-pub mod PlaceLemmas
+pub mod NeighbourLemmas
 pub mod KeyTest
 pub mod ChainLemmas
 pub mod ChosenLemmas

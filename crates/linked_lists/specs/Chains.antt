@@ -2,7 +2,7 @@
 -- node and to give it another.
 use Rattle.std.specs.Prelude.{◌≡◌, ℕ, List, Option, Some, None, if◌then◌else◌}
 use Rattle.linked_lists.specs.declared.link.Link.{Link}
-use Rattle.linked_lists.specs.Places.{IsIn, is_the}
+use Rattle.linked_lists.specs.Neighbours.{IsIn, is_the}
 use Rattle.linked_lists.specs.Links.{key_eq, no_link, link_in}
 
 module _ {N : Type 0} (link_of : N → Link) where

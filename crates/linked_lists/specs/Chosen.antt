@@ -1,6 +1,6 @@
 -- The keys whose items pass a test, and the items of keys.
 use Rattle.std.specs.Prelude.{ℕ, Bool, false, List, [], ◌∷◌, filter, Option, Some, None}
-use Rattle.linked_lists.specs.Places.{omit}
+use Rattle.linked_lists.specs.Neighbours.{omit}
 use Rattle.linked_lists.specs.Links.{key_eq}
 
 module _ {X : Type 0} where
@@ -10,8 +10,8 @@ module _ {X : Type 0} where
   passes test (Some x) = test x
 
   -- the keys whose items pass, in their order
-  abbrev pub chosen : (X → Bool) → (ℕ → Option X) → List ℕ → List ℕ
-  chosen test item keys = filter (λ k. passes test (item k)) keys
+  abbrev pub chosen_keys : (X → Bool) → (ℕ → Option X) → List ℕ → List ℕ
+  chosen_keys test item keys = filter (λ k. passes test (item k)) keys
 
   -- the items, ahead of which one may stand
   abbrev pub cons_some : Option X → List X → List X

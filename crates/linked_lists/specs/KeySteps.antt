@@ -2,7 +2,7 @@
 use Rattle.std.specs.Prelude.{ℕ, List, [], ◌∷◌, ◌++◌}
 use Rattle.linked_lists.specs.declared.keys.KeyStep.{KeyStep}
 use Rattle.linked_lists.specs.declared.keys.KeyStep.TheVariants.{Append, Remove}
-use Rattle.linked_lists.specs.Places.{omit}
+use Rattle.linked_lists.specs.Neighbours.{omit}
 use Rattle.linked_lists.specs.Links.{key_eq}
 
 -- the keys once one has gone last, or has left

@@ -1,7 +1,7 @@
 -- What attaching and detaching make of the lists of a chain, for nodes of any type.
 use Rattle.std.specs.Prelude.{◌≡◌, ◌≢◌, ℕ, List, [], ◌∷◌, ◌++◌, Option, Some, None, option_map}
 use Rattle.linked_lists.specs.declared.link.Link.{Link}
-use Rattle.linked_lists.specs.Places.{IsIn, AreDistinct, last, omit}
+use Rattle.linked_lists.specs.Neighbours.{IsIn, AreDistinct, last, omit}
 use Rattle.linked_lists.specs.Links.{key_eq, link_in}
 use Rattle.linked_lists.specs.Chains.{IsChain, attached, detached}
 

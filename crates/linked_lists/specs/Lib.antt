@@ -1,4 +1,4 @@
-pub mod Places
+pub mod Neighbours
 pub mod Links
 pub mod Chains
 pub mod Chosen

@@ -2,7 +2,7 @@
 use Rattle.std.specs.Prelude.{ℕ, ◌==◌, Bool, List, Some, None, is_some, if◌then◌else◌}
 use Rattle.linked_lists.specs.declared.link.Link.{Link}
 use Rattle.linked_lists.specs.declared.link.Ends.{Ends}
-use Rattle.linked_lists.specs.Places.{head, last, after, before}
+use Rattle.linked_lists.specs.Neighbours.{head, last, after, before}
 
 -- whether two keys are one
 abbrev pub key_eq : ℕ → ℕ → Bool

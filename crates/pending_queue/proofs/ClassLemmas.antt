@@ -4,7 +4,7 @@ use Rattle.std.proofs.lemmas.Bool.{cases_Bool}
 use Rattle.std.proofs.lemmas.Bool.Decides.{Decides-int_eq}
 use Rattle.linked_lists.specs.declared.link.Ends.{Ends}
 use Rattle.linked_lists.specs.Chosen.{passes}
-use Rattle.linked_lists.proofs.PlaceLemmas.{same, other, same_or_other}
+use Rattle.linked_lists.proofs.NeighbourLemmas.{same, other, same_or_other}
 use Rattle.linked_lists.proofs.KeyTest.{key_test}
 use Rattle.pending_queue.specs.declared.class.Class.{Class}
 use Rattle.pending_queue.specs.declared.class.Class.TheVariants.{Asynchronous, SyncNot, SyncInside, Highest, Closing}

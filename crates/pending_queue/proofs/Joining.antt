@@ -3,12 +3,12 @@ use Rattle.std.proofs.Common.{◌≡◌, ◌≢◌, inl, inr, ℕ, ◌+◌, ◌<
 use Rattle.std.specs.Option.{option_map}
 use Rattle.linked_lists.specs.declared.link.Link.{Link}
 use Rattle.linked_lists.specs.declared.link.Ends.{Ends}
-use Rattle.linked_lists.specs.Places.{IsIn, AreDistinct, last}
+use Rattle.linked_lists.specs.Neighbours.{IsIn, AreDistinct, last}
 use Rattle.linked_lists.specs.Chains.{attached, IsChain}
 use Rattle.linked_lists.specs.Links.{ends_with, ends_of, no_link}
-use Rattle.linked_lists.specs.Chosen.{passes, chosen, items_of}
+use Rattle.linked_lists.specs.Chosen.{passes, chosen_keys, items_of}
 use Rattle.linked_lists.proofs.ChainLemmas.{chain-kept, attached-keeps, chain-along, chain-attached, chain-beside-attached, ends-push}
-use Rattle.linked_lists.proofs.PlaceLemmas.{distinct-push, same, other, same_or_other, last-push, in-append}
+use Rattle.linked_lists.proofs.NeighbourLemmas.{distinct-push, same, other, same_or_other, last-push, in-append}
 use Rattle.linked_lists.proofs.ChosenLemmas.{chosen-in, chosen-distinct, chosen-push, chosen-push-not, chosen-same, items-same, items-push}
 use Rattle.linked_lists.proofs.KeyTest.{key_test}
 use Rattle.pending_queue.specs.declared.item.Item.{Item}
@@ -102,11 +102,11 @@ module _ (node node1 node2 node3 node4 : ℕ → Option Node) (keys : List ℕ) 
   stamp-new : stamp_of (node4 key) ≡ stamp
   stamp-new = stamp4 key ∙ ap stamp_of at1
 
-  of-old : (t : Item → Bool) → chosen t (item_at node4) keys ≡ chosen t (item_at node) keys
+  of-old : (t : Item → Bool) → chosen_keys t (item_at node4) keys ≡ chosen_keys t (item_at node) keys
   of-old t = chosen-same t (item_at node) (item_at node4) keys item-old
 
   abbrev those : (Item → Bool) → List ℕ
-  those t = chosen t (item_at node) keys
+  those t = chosen_keys t (item_at node) keys
 
   those-in : (t : Item → Bool) (k : ℕ) → IsIn k (those t) → IsIn k keys
   those-in t k h = (chosen-in t (item_at node) k keys h).0
@@ -118,10 +118,10 @@ module _ (node node1 node2 node3 node4 : ℕ → Option Node) (keys : List ℕ) 
   those-once t = chosen-distinct t (item_at node) keys s.distinct
 
   -- with the new one, or without it
-  with_new : (t : Item → Bool) → t x ≡ true → chosen t (item_at node4) (keys ++ key ∷ []) ≡ those t ++ key ∷ []
+  with_new : (t : Item → Bool) → t x ≡ true → chosen_keys t (item_at node4) (keys ++ key ∷ []) ≡ those t ++ key ∷ []
   with_new t e = chosen-push t (item_at node4) keys key (ap (passes t) item-new ∙ e) ∙ ap (λ v. v ++ key ∷ []) (of-old t)
 
-  without_new : (t : Item → Bool) → t x ≡ false → chosen t (item_at node4) (keys ++ key ∷ []) ≡ those t
+  without_new : (t : Item → Bool) → t x ≡ false → chosen_keys t (item_at node4) (keys ++ key ∷ []) ≡ those t
   without_new t e = chosen-push-not t (item_at node4) keys key (ap (passes t) item-new ∙ e) ∙ of-old t
 
   -- ---- arrival
@@ -159,18 +159,18 @@ module _ (node node1 node2 node3 node4 : ℕ → Option Node) (keys : List ℕ) 
   in_mine : is_class (class_of x) x ≡ true
   in_mine = same key_test (class_index (class_of x)) (class_index (class_of x)) refl
 
-  class_chains4 : (g : Class) → IsChain (link_of SameClass) node4 (chosen (is_class g) (item_at node4) (keys ++ key ∷ []))
+  class_chains4 : (g : Class) → IsChain (link_of SameClass) node4 (chosen_keys (is_class g) (item_at node4) (keys ++ key ∷ []))
   class_chains4 g = joined-along SameClass (likeness_of x) lasts key node3 node4 _ (λ l n. refl) at4 (elim (same_or_other key_test (class_index (class_of x)) (class_index g)) [
-    | inl e ↦ subst (λ v. IsChain (link_of SameClass) node3 (chosen (is_class v) (item_at node4) (keys ++ key ∷ []))) (one_class (class_of x) g e) (subst (IsChain (link_of SameClass) node3) (sym (with_new (is_class (class_of x)) in_mine)) class3)
+    | inl e ↦ subst (λ v. IsChain (link_of SameClass) node3 (chosen_keys (is_class v) (item_at node4) (keys ++ key ∷ []))) (one_class (class_of x) g e) (subst (IsChain (link_of SameClass) node3) (sym (with_new (is_class (class_of x)) in_mine)) class3)
     | inr n ↦ subst (IsChain (link_of SameClass) node3) (sym (without_new (is_class g) (other key_test _ _ n))) (class3-other g n)
   ])
 
   abbrev classes4 : Classes
   classes4 = with_ends (class_of x) (ends_with (ends_at classes (class_of x)) key) classes
 
-  class_ends4 : (g : Class) → ends_at classes4 g ≡ ends_of (chosen (is_class g) (item_at node4) (keys ++ key ∷ []))
+  class_ends4 : (g : Class) → ends_at classes4 g ≡ ends_of (chosen_keys (is_class g) (item_at node4) (keys ++ key ∷ []))
   class_ends4 g = elim (same_or_other key_test (class_index (class_of x)) (class_index g)) [
-    | inl e ↦ subst (λ v. ends_at classes4 v ≡ ends_of (chosen (is_class v) (item_at node4) (keys ++ key ∷ []))) (one_class (class_of x) g e)
+    | inl e ↦ subst (λ v. ends_at classes4 v ≡ ends_of (chosen_keys (is_class v) (item_at node4) (keys ++ key ∷ []))) (one_class (class_of x) g e)
         (ends-set (class_of x) _ classes ∙ ap (λ v. ends_with v key) (s.class_ends (class_of x)) ∙ ends-push (those (is_class (class_of x))) key ∙ ap ends_of (sym (with_new (is_class (class_of x)) in_mine)))
     | inr n ↦ ends-other (class_of x) g _ classes n ∙ s.class_ends g ∙ ap ends_of (sym (without_new (is_class g) (other key_test _ _ n)))
   ]
@@ -190,8 +190,8 @@ module _ (node node1 node2 node3 node4 : ℕ → Option Node) (keys : List ℕ) 
 
   abbrev Likenesses4 : Likeness → Type 0
   Likenesses4 q =
-      IsChain (link_of Alike) node4 (chosen (is_likeness q) (item_at node4) (keys ++ key ∷ []))
-      × (cond (likeness_is (likeness_of x) q) (Some key) (lasts q) ≡ last (chosen (is_likeness q) (item_at node4) (keys ++ key ∷ [])))
+      IsChain (link_of Alike) node4 (chosen_keys (is_likeness q) (item_at node4) (keys ++ key ∷ []))
+      × (cond (likeness_is (likeness_of x) q) (Some key) (lasts q) ≡ last (chosen_keys (is_likeness q) (item_at node4) (keys ++ key ∷ [])))
 
   likenesses-none : likeness_of x ≡ None → (q : Likeness) → Likenesses4 q
   likenesses-none e q =

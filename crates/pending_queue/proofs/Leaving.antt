@@ -3,12 +3,12 @@ use Rattle.std.proofs.Common.{◌≡◌, ◌≢◌, inl, inr, ℕ, Bool, true, f
 use Rattle.std.specs.Option.{option_map}
 use Rattle.linked_lists.specs.declared.link.Link.{Link}
 use Rattle.linked_lists.specs.declared.link.Ends.{Ends}
-use Rattle.linked_lists.specs.Places.{IsIn, AreDistinct, last, before, after, omit}
+use Rattle.linked_lists.specs.Neighbours.{IsIn, AreDistinct, last, before, after, omit}
 use Rattle.linked_lists.specs.Chains.{detached, IsChain}
 use Rattle.linked_lists.specs.Links.{ends_without, ends_of, key_eq, link_in}
-use Rattle.linked_lists.specs.Chosen.{passes, chosen, items_of}
+use Rattle.linked_lists.specs.Chosen.{passes, chosen_keys, items_of}
 use Rattle.linked_lists.proofs.ChainLemmas.{chain-kept, detached-keeps, chain-along, chain-detached, chain-beside-detached, ends-omit}
-use Rattle.linked_lists.proofs.PlaceLemmas.{distinct-omit, same, other, same_or_other, omit-same, omit-other, omit-none, last-omit, omit-in}
+use Rattle.linked_lists.proofs.NeighbourLemmas.{distinct-omit, same, other, same_or_other, omit-same, omit-other, omit-none, last-omit, omit-in}
 use Rattle.linked_lists.proofs.ChosenLemmas.{chosen-in, in-chosen, chosen-distinct, chosen-omit, chosen-same, items-same}
 use Rattle.linked_lists.proofs.KeyTest.{key_test}
 use Rattle.pending_queue.specs.declared.item.Item.{Item}
@@ -78,7 +78,7 @@ module _ (node node1 node2 node3 node4 : ℕ → Option Node) (keys : List ℕ) 
   stamp-kept k h = stamp4 k ∙ ap stamp_of (others k (omit-in key_test key k keys h).1)
 
   abbrev those : (Item → Bool) → List ℕ
-  those t = chosen t (item_at node) keys
+  those t = chosen_keys t (item_at node) keys
 
   those-once : (t : Item → Bool) → AreDistinct (those t)
   those-once t = chosen-distinct t (item_at node) keys s.distinct
@@ -92,10 +92,10 @@ module _ (node node1 node2 node3 node4 : ℕ → Option Node) (keys : List ℕ) 
   not-in : (t : Item → Bool) → t n.item ≡ false → IsIn key (those t) → ⊥
   not-in t e h = true≢false (sym (chosen-in t (item_at node) key keys h).1 ∙ ap (passes t) item-was ∙ e)
 
-  left_of : (t : Item → Bool) → chosen t (item_at node4) rest ≡ omit key_eq key (those t)
+  left_of : (t : Item → Bool) → chosen_keys t (item_at node4) rest ≡ omit key_eq key (those t)
   left_of t = chosen-same t (item_at node) (item_at node4) rest item-kept ∙ chosen-omit t (item_at node) key keys
 
-  all_of : (t : Item → Bool) → t n.item ≡ false → chosen t (item_at node4) rest ≡ those t
+  all_of : (t : Item → Bool) → t n.item ≡ false → chosen_keys t (item_at node4) rest ≡ those t
   all_of t e = left_of t ∙ omit-none key_test key (those t) (not-in t e)
 
   -- the nodes with the one that goes
@@ -145,9 +145,9 @@ module _ (node node1 node2 node3 node4 : ℕ → Option Node) (keys : List ℕ) 
   at3'' : (k : ℕ) → k ≢ key → node3 k ≡ option_map (detached (link_of SameClass) (with_link SameClass) (record { previous = before key_eq key (those (is_class (class_of n.item))); next = after key_eq key (those (is_class (class_of n.item))) }) k) (nodeX k)
   at3'' k m = at3' k m ∙ ap (λ v. option_map (detached (link_of SameClass) (with_link SameClass) v k) (nodeX k)) link-class
 
-  class_chains4 : (g : Class) → IsChain (link_of SameClass) node4 (chosen (is_class g) (item_at node4) rest)
+  class_chains4 : (g : Class) → IsChain (link_of SameClass) node4 (chosen_keys (is_class g) (item_at node4) rest)
   class_chains4 g = left-along SameClass (likeness_of n.item) n.alike node3 node4 _ (λ l m. refl) at4 (elim (same_or_other key_test (class_index (class_of n.item)) (class_index g)) [
-    | inl e ↦ subst (λ v. IsChain (link_of SameClass) node3 (chosen (is_class v) (item_at node4) rest)) (one_class (class_of n.item) g e)
+    | inl e ↦ subst (λ v. IsChain (link_of SameClass) node3 (chosen_keys (is_class v) (item_at node4) rest)) (one_class (class_of n.item) g e)
         (subst (IsChain (link_of SameClass) node3) (sym (left_of (is_class (class_of n.item)))) (chain-detached (link_of SameClass) (with_link SameClass) (λ l m. refl) nodeX node3 (those (is_class (class_of n.item))) key at3'' (those-once _) mine-in (classX (class_of n.item))))
     | inr m ↦ subst (IsChain (link_of SameClass) node3) (sym (all_of (is_class g) (other key_test _ _ m)))
         (chain-beside-detached (link_of SameClass) (with_link SameClass) (λ l m. refl) nodeX node3 (those (is_class (class_of n.item))) key at3'' (those-once _) mine-in (those (is_class g))
@@ -157,9 +157,9 @@ module _ (node node1 node2 node3 node4 : ℕ → Option Node) (keys : List ℕ) 
   abbrev classes4 : Classes
   classes4 = with_ends (class_of n.item) (ends_without (ends_at classes (class_of n.item)) n.class) classes
 
-  class_ends4 : (g : Class) → ends_at classes4 g ≡ ends_of (chosen (is_class g) (item_at node4) rest)
+  class_ends4 : (g : Class) → ends_at classes4 g ≡ ends_of (chosen_keys (is_class g) (item_at node4) rest)
   class_ends4 g = elim (same_or_other key_test (class_index (class_of n.item)) (class_index g)) [
-    | inl e ↦ subst (λ v. ends_at classes4 v ≡ ends_of (chosen (is_class v) (item_at node4) rest)) (one_class (class_of n.item) g e)
+    | inl e ↦ subst (λ v. ends_at classes4 v ≡ ends_of (chosen_keys (is_class v) (item_at node4) rest)) (one_class (class_of n.item) g e)
         (ends-set (class_of n.item) _ classes ∙ ap (λ v. ends_without v n.class) (s.class_ends (class_of n.item))
         ∙ ap (ends_without (ends_of (those (is_class (class_of n.item))))) link-class
         ∙ ends-omit (those (is_class (class_of n.item))) key (those-once _) mine-in ∙ ap ends_of (sym (left_of (is_class (class_of n.item)))))
@@ -174,8 +174,8 @@ module _ (node node1 node2 node3 node4 : ℕ → Option Node) (keys : List ℕ) 
 
   abbrev Likenesses4 : Likeness → Type 0
   Likenesses4 q =
-      IsChain (link_of Alike) node4 (chosen (is_likeness q) (item_at node4) rest)
-      × (cond (likeness_is (likeness_of n.item) q) (last_without n.alike (lasts q)) (lasts q) ≡ last (chosen (is_likeness q) (item_at node4) rest))
+      IsChain (link_of Alike) node4 (chosen_keys (is_likeness q) (item_at node4) rest)
+      × (cond (likeness_is (likeness_of n.item) q) (last_without n.alike (lasts q)) (lasts q) ≡ last (chosen_keys (is_likeness q) (item_at node4) rest))
 
   likenesses-none : likeness_of n.item ≡ None → (q : Likeness) → Likenesses4 q
   likenesses-none e q =

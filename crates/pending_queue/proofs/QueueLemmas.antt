@@ -6,12 +6,12 @@ use Rattle.std.specs.Map.{lookup}
 use Rattle.slab.specs.Slab.{Slab, get, slab_len, Updates}
 use Rattle.indexmap.specs.IndexMap.{IndexMap}
 use Rattle.linked_lists.specs.declared.link.Ends.{Ends}
-use Rattle.linked_lists.specs.Places.{IsIn, head, last, omit}
+use Rattle.linked_lists.specs.Neighbours.{IsIn, head, last, omit}
 use Rattle.linked_lists.specs.Chains.{attached, detached}
 use Rattle.linked_lists.specs.Links.{ends_with, ends_without, key_eq}
-use Rattle.linked_lists.specs.Chosen.{passes, chosen, cons_some, items_of, item_of, omit_some}
+use Rattle.linked_lists.specs.Chosen.{passes, chosen_keys, cons_some, items_of, item_of, omit_some}
 use Rattle.linked_lists.proofs.ChosenLemmas.{Full, chosen-in, in-chosen, first-item}
-use Rattle.linked_lists.proofs.PlaceLemmas.{last-some, head-in}
+use Rattle.linked_lists.proofs.NeighbourLemmas.{last-some, head-in}
 use Rattle.pending_queue.specs.declared.item.Item.{Item}
 use Rattle.pending_queue.specs.declared.node.Node.{Node}
 use Rattle.pending_queue.specs.declared.node.Chain.TheVariants.{Arrival, SameClass}
@@ -139,16 +139,16 @@ queue_length q s = s.len ∙ sym (length-items (queue_item q) (keys_of q) (has_i
 -- ---- the first that passes
 
 -- where no key is chosen, no item passes
-pub free_none : (q : Queue) (t : Item → Bool) → IsQueue q → None ≡ head (chosen t (queue_item q) (keys_of q)) → (None ≡ find t (items_in q)) × (items_in q ≡ without_first t (items_in q))
+pub free_none : (q : Queue) (t : Item → Bool) → IsQueue q → None ≡ head (chosen_keys t (queue_item q) (keys_of q)) → (None ≡ find t (items_in q)) × (items_in q ≡ without_first t (items_in q))
 free_none q t s e = (
   ap (item_of (queue_item q)) e ∙ sym (first-item t (queue_item q) (keys_of q) (has_item q s)),
   ap (λ v. items_of (queue_item q) (omit_some v (keys_of q))) e ∙ sym (first-without t (queue_item q) (keys_of q) (has_item q s) s.linked.distinct),
 )
 
 -- the first key that is chosen is that of the first item that passes
-pub free_some : (q : Queue) (t : Item → Bool) (k : ℕ) → IsQueue q → Some k ≡ head (chosen t (queue_item q) (keys_of q)) → IsIn k (keys_of q) × (queue_item q k ≡ find t (items_in q)) × (items_of (queue_item q) (omit key_eq k (keys_of q)) ≡ without_first t (items_in q))
+pub free_some : (q : Queue) (t : Item → Bool) (k : ℕ) → IsQueue q → Some k ≡ head (chosen_keys t (queue_item q) (keys_of q)) → IsIn k (keys_of q) × (queue_item q k ≡ find t (items_in q)) × (items_of (queue_item q) (omit key_eq k (keys_of q)) ≡ without_first t (items_in q))
 free_some q t k s e = (
-  (chosen-in t (queue_item q) k (keys_of q) (head-in (chosen t (queue_item q) (keys_of q)) k (sym e))).0,
+  (chosen-in t (queue_item q) k (keys_of q) (head-in (chosen_keys t (queue_item q) (keys_of q)) k (sym e))).0,
   ap (item_of (queue_item q)) e ∙ sym (first-item t (queue_item q) (keys_of q) (has_item q s)),
   ap (λ v. items_of (queue_item q) (omit_some v (keys_of q))) e ∙ sym (first-without t (queue_item q) (keys_of q) (has_item q s) s.linked.distinct),
 )

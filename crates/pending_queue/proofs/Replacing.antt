@@ -4,9 +4,9 @@ use Rattle.std.proofs.lemmas.Bool.{cases_Bool}
 use Rattle.std.specs.Option.{option_and_then}
 use Rattle.ipdl_base.specs.declared.kinds.Compress.TheVariants.{Last, All}
 use Rattle.linked_lists.specs.declared.link.Ends.{Ends}
-use Rattle.linked_lists.specs.Places.{IsIn, AreDistinct, last_with, last, omit}
-use Rattle.linked_lists.specs.Chosen.{passes, chosen, items_of, item_of, omit_some}
-use Rattle.linked_lists.proofs.PlaceLemmas.{omit-same, omit-other, last-of-in}
+use Rattle.linked_lists.specs.Neighbours.{IsIn, AreDistinct, last_with, last, omit}
+use Rattle.linked_lists.specs.Chosen.{passes, chosen_keys, items_of, item_of, omit_some}
+use Rattle.linked_lists.proofs.NeighbourLemmas.{omit-same, omit-other, last-of-in}
 use Rattle.linked_lists.proofs.ChosenLemmas.{chosen-in, items-push}
 use Rattle.linked_lists.specs.Links.{key_eq}
 use Rattle.linked_lists.proofs.KeyTest.{key_test}
@@ -51,16 +51,16 @@ alike_none (Message m sync level) e old =
     ]
 
 -- the last of its likeness is the latest that is alike
-latest_is : (q : Queue) → IsQueue q → (new : Item) → last_of_its_likeness q (likeness_of new) ≡ last (chosen (are_alike new) (queue_item q) (keys_of q))
+latest_is : (q : Queue) → IsQueue q → (new : Item) → last_of_its_likeness q (likeness_of new) ≡ last (chosen_keys (are_alike new) (queue_item q) (keys_of q))
 latest_is q s new = by (likeness_of new) refl
   where
-    by : (o : Option Likeness) → likeness_of new ≡ o → last_of_its_likeness q (likeness_of new) ≡ last (chosen (are_alike new) (queue_item q) (keys_of q))
+    by : (o : Option Likeness) → likeness_of new ≡ o → last_of_its_likeness q (likeness_of new) ≡ last (chosen_keys (are_alike new) (queue_item q) (keys_of q))
     by None e =
-        let none : chosen (are_alike new) (queue_item q) (keys_of q) ≡ [] = chosen-none (are_alike new) (queue_item q) (keys_of q) (λ k h. let w = has_item q s k h in ap (passes (are_alike new)) w.1 ∙ alike_none new e w.0) in
+        let none : chosen_keys (are_alike new) (queue_item q) (keys_of q) ≡ [] = chosen-none (are_alike new) (queue_item q) (keys_of q) (λ k h. let w = has_item q s k h in ap (passes (are_alike new)) w.1 ∙ alike_none new e w.0) in
         ap (last_of_its_likeness q) e ∙ ap last (sym none)
     by (Some p) e =
         let t : are_alike new ≡ is_likeness p = λ j old. alike_is new p e old j in
-        ap (last_of_its_likeness q) e ∙ s.linked.likeness_lasts p ∙ ap (λ v. last (chosen v (queue_item q) (keys_of q))) (sym t)
+        ap (last_of_its_likeness q) e ∙ s.linked.likeness_lasts p ∙ ap (λ v. last (chosen_keys v (queue_item q) (keys_of q))) (sym t)
 
 -- ---- the last item
 
@@ -106,7 +106,7 @@ staying-last new x ys =
 
 pub replaces_latest : (q : Queue) (new : Item) (o : Option ℕ) → IsQueue q → o ≡ last_of_its_likeness q (likeness_of new) → Replaces q All new o
 replaces_latest q new o s e =
-    let is : o ≡ last (chosen (are_alike new) (queue_item q) (keys_of q)) = e ∙ latest_is q s new in
+    let is : o ≡ last (chosen_keys (are_alike new) (queue_item q) (keys_of q)) = e ∙ latest_is q s new in
     record {
       replaces = latest-item (are_alike new) (queue_item q) (keys_of q) (has_item q s) ∙ ap (item_of (queue_item q)) (sym is);
       stay = latest-without (are_alike new) (queue_item q) (keys_of q) (has_item q s) s.linked.distinct ∙ ap (λ v. items_of (queue_item q) (omit_some v (keys_of q))) (sym is);

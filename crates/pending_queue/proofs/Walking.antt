@@ -10,10 +10,10 @@ use Rattle.ipdl_base.specs.declared.message.Body.{Body}
 use Rattle.ipdl_base.specs.declared.message.Body.TheVariants.{Request, Reply, Fault, Goodbye}
 use Rattle.ipdl_base.specs.Deferral.{defers_request, defers_waiting, defers_arrival}
 use Rattle.linked_lists.specs.declared.link.Link.{Link}
-use Rattle.linked_lists.specs.Places.{IsIn, AreDistinct, head, after}
+use Rattle.linked_lists.specs.Neighbours.{IsIn, AreDistinct, head, after}
 use Rattle.linked_lists.specs.Chains.{link_of_some}
-use Rattle.linked_lists.specs.Chosen.{passes, chosen}
-use Rattle.linked_lists.proofs.PlaceLemmas.{same, other, same_or_other, head-in, after-same, after-other}
+use Rattle.linked_lists.specs.Chosen.{passes, chosen_keys}
+use Rattle.linked_lists.proofs.NeighbourLemmas.{same, other, same_or_other, head-in, after-same, after-other}
 use Rattle.linked_lists.proofs.ChosenLemmas.{chosen-no, chosen-in, in-chosen, chosen-distinct}
 use Rattle.linked_lists.specs.Links.{key_eq}
 use Rattle.linked_lists.proofs.KeyTest.{key_test}
@@ -58,7 +58,7 @@ rank-next xs k (y ∷ ys) o =
 
 -- ---- the walk
 
-step-at : (t : Item → Bool) (item : ℕ → Option Item) (ks : List ℕ) (k : ℕ) (ahead behind : List ℕ) → ks ≡ ahead ++ behind → Some k ≡ head behind → head (chosen t item ks) ≡ head (chosen t item behind) → AreDistinct ks → passes t (item k) ≡ false → IsAt t item ks (after key_eq k ks) × (rank_of (after key_eq k ks) ks < rank k ks) × IsIn k ks
+step-at : (t : Item → Bool) (item : ℕ → Option Item) (ks : List ℕ) (k : ℕ) (ahead behind : List ℕ) → ks ≡ ahead ++ behind → Some k ≡ head behind → head (chosen_keys t item ks) ≡ head (chosen_keys t item behind) → AreDistinct ks → passes t (item k) ≡ false → IsAt t item ks (after key_eq k ks) × (rank_of (after key_eq k ks) ks < rank k ks) × IsIn k ks
 step-at t item ks k ahead [] w e r o p = absurd cc
 step-at t item ks k ahead (b ∷ bs) w e r o p =
     let kb : b ≡ k = cc in
@@ -80,7 +80,7 @@ step-at t item ks k ahead (b ∷ bs) w e r o p =
 
 module _ (q : Queue) (s : IsQueue q) (t : Item → Bool) (g : Class) where
   abbrev class_keys : List ℕ
-  class_keys = chosen (is_class g) (queue_item q) (keys_of q)
+  class_keys = chosen_keys (is_class g) (queue_item q) (keys_of q)
 
   pub steps : (k : ℕ) → IsAt t (queue_item q) class_keys (Some k) → passes t (queue_item q k) ≡ false → IsAt t (queue_item q) class_keys (link_of_some (link_of SameClass) (node_at q k)).next × (rank_of (link_of_some (link_of SameClass) (node_at q k)).next class_keys < rank_of (Some k) class_keys)
   steps k w p =
@@ -118,7 +118,7 @@ passed-item side (Some w) inner Broken h = absurd (true≢false (sym h))
 passed-item side (Some w) inner (Message m sync level) h =
     ap not (passed-body side w inner sync level m.transaction m.body h)
 
-pub chosen-none : (t : Item → Bool) (item : ℕ → Option Item) (ks : List ℕ) → ((k : ℕ) → IsIn k ks → passes t (item k) ≡ false) → chosen t item ks ≡ []
+pub chosen-none : (t : Item → Bool) (item : ℕ → Option Item) (ks : List ℕ) → ((k : ℕ) → IsIn k ks → passes t (item k) ≡ false) → chosen_keys t item ks ≡ []
 chosen-none t item [] h = refl
 chosen-none t item (k ∷ ks) h = chosen-no t item k ks (h k (inl refl)) ∙ chosen-none t item ks (λ j q. h j (inr q))
 
@@ -126,9 +126,9 @@ of_class : (g : Class) (x : Item) → is_class g x ≡ true → class_of x ≡ g
 of_class g x e =
     one_class (class_of x) g (elim (same_or_other key_test (class_index (class_of x)) (class_index g)) [ inl f ↦ f | inr n ↦ absurd (true≢false (sym e ∙ other key_test (class_index (class_of x)) (class_index g) n)) ])
 
-pub none_free : (h : Holding) (g : Class) (item : ℕ → Option Item) (ks : List ℕ) → defers_class h.level g ≡ true → None ≡ head (chosen (is_free h) item (chosen (is_class g) item ks))
+pub none_free : (h : Holding) (g : Class) (item : ℕ → Option Item) (ks : List ℕ) → defers_class h.level g ≡ true → None ≡ head (chosen_keys (is_free h) item (chosen_keys (is_class g) item ks))
 none_free h g item ks p =
-    ap head (sym (chosen-none (is_free h) item (chosen (is_class g) item ks) (λ k q. by (item k) (chosen-in (is_class g) item k ks q).1)))
+    ap head (sym (chosen-none (is_free h) item (chosen_keys (is_class g) item ks) (λ k q. by (item k) (chosen-in (is_class g) item k ks q).1)))
   where
     by : (o : Option Item) → passes (is_class g) o ≡ true → passes (is_free h) o ≡ false
     by None e = refl
@@ -186,10 +186,10 @@ none_of node (Some i) b e f = cc
 
 module _ (q : Queue) (s : IsQueue q) (t : Item → Bool) where
   abbrev of_all : Option ℕ
-  of_all = head (chosen t (queue_item q) (keys_of q))
+  of_all = head (chosen_keys t (queue_item q) (keys_of q))
 
   abbrev pub of_class_at : Class → Option ℕ
-  of_class_at g = head (chosen t (queue_item q) (chosen (is_class g) (queue_item q) (keys_of q)))
+  of_class_at g = head (chosen_keys t (queue_item q) (chosen_keys (is_class g) (queue_item q) (keys_of q)))
 
   abbrev pub earliest : Option ℕ
   earliest =
@@ -198,7 +198,7 @@ module _ (q : Queue) (s : IsQueue q) (t : Item → Bool) where
   -- one that a class has is free and there
   there : (g : Class) (m : ℕ) → of_class_at g ≡ Some m → IsIn m (keys_of q) × (passes t (queue_item q m) ≡ true)
   there g m e =
-      let c = chosen-in t (queue_item q) m (chosen (is_class g) (queue_item q) (keys_of q)) (head-in _ m e) in
+      let c = chosen-in t (queue_item q) m (chosen_keys (is_class g) (queue_item q) (keys_of q)) (head-in _ m e) in
       ((chosen-in (is_class g) (queue_item q) m (keys_of q) c.0).0, c.1)
 
   class_good : (f : ℕ) → of_all ≡ Some f → (g : Class) → Good (node_at q) f (of_class_at g)
@@ -234,7 +234,7 @@ module _ (q : Queue) (s : IsQueue q) (t : Item → Bool) where
       by (Some m) h =
           let r = there g m h in
           let c = in-chosen t (queue_item q) m (keys_of q) r.0 r.1 in
-          absurd (empty (chosen t (queue_item q) (keys_of q)) e c)
+          absurd (empty (chosen_keys t (queue_item q) (keys_of q)) e c)
         where
           empty : (ks : List ℕ) → head ks ≡ None → IsIn m ks → ⊥
           empty [] f c = c

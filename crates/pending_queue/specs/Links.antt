@@ -2,9 +2,9 @@
 use Rattle.std.specs.Prelude.{◌≡◌, ℕ, ◌<◌, List, [], ◌∷◌, Option, Some, None}
 use Rattle.std.specs.Option.{option_map}
 use Rattle.linked_lists.specs.declared.link.Ends.{Ends}
-use Rattle.linked_lists.specs.Places.{IsIn, AreDistinct, last}
+use Rattle.linked_lists.specs.Neighbours.{IsIn, AreDistinct, last}
 use Rattle.linked_lists.specs.Chains.{IsChain}
-use Rattle.linked_lists.specs.Chosen.{chosen}
+use Rattle.linked_lists.specs.Chosen.{chosen_keys}
 use Rattle.linked_lists.specs.Links.{ends_of}
 use Rattle.pending_queue.specs.declared.item.Item.{Item}
 use Rattle.pending_queue.specs.declared.node.Node.{Node}
@@ -34,9 +34,9 @@ pub record AreLinked (node : ℕ → Option Node) (keys : List ℕ) (arrival : E
   pub distinct : AreDistinct keys
   pub arrival_chain : IsChain (link_of Arrival) node keys
   pub arrival_ends : arrival ≡ ends_of keys
-  pub class_chains : (g : Class) → IsChain (link_of SameClass) node (chosen (is_class g) (item_at node) keys)
-  pub class_ends : (g : Class) → ends_at classes g ≡ ends_of (chosen (is_class g) (item_at node) keys)
-  pub likeness_chains : (q : Likeness) → IsChain (link_of Alike) node (chosen (is_likeness q) (item_at node) keys)
-  pub likeness_lasts : (q : Likeness) → lasts q ≡ last (chosen (is_likeness q) (item_at node) keys)
+  pub class_chains : (g : Class) → IsChain (link_of SameClass) node (chosen_keys (is_class g) (item_at node) keys)
+  pub class_ends : (g : Class) → ends_at classes g ≡ ends_of (chosen_keys (is_class g) (item_at node) keys)
+  pub likeness_chains : (q : Likeness) → IsChain (link_of Alike) node (chosen_keys (is_likeness q) (item_at node) keys)
+  pub likeness_lasts : (q : Likeness) → lasts q ≡ last (chosen_keys (is_likeness q) (item_at node) keys)
   pub rising : Rising (λ k. stamp_of (node k)) keys
   pub below : (k : ℕ) → IsIn k keys → stamp_of (node k) < stamp

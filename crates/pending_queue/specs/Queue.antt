@@ -1,7 +1,7 @@
 -- The nodes of the arrived items, and what they stand for.
 use Rattle.std.specs.Prelude.{◌≡◌, ℕ, ◌+◌, ◌<◌, ◌≤◌, ◌^◌, nat_lt, Bool, List, length, Option, Some, None, if◌then◌else◌}
 use Rattle.ipdl_base.specs.declared.kinds.Compress.{Compress}
-use Rattle.linked_lists.specs.Places.{IsIn}
+use Rattle.linked_lists.specs.Neighbours.{IsIn}
 use Rattle.linked_lists.specs.Chosen.{passes, item_of, items_of, omit_some}
 use Rattle.pending_queue.specs.declared.item.Item.{Item}
 use Rattle.pending_queue.specs.declared.node.Node.{Node}

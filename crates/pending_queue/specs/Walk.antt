@@ -1,7 +1,7 @@
 -- A walk along a list of keys.
 use Rattle.std.specs.Prelude.{◌≡◌, ℕ, suc, ◌==◌, List, [], ◌∷◌, ◌++◌, length, Bool, Option, Some, None, if◌then◌else◌}
-use Rattle.linked_lists.specs.Places.{head}
-use Rattle.linked_lists.specs.Chosen.{chosen}
+use Rattle.linked_lists.specs.Neighbours.{head}
+use Rattle.linked_lists.specs.Chosen.{chosen_keys}
 use Rattle.pending_queue.specs.declared.item.Item.{Item}
 
 -- how many keys a list has from one on
@@ -20,4 +20,4 @@ pub record IsAt (test : Item → Bool) (item : ℕ → Option Item) (ks : List �
   pub behind : List ℕ
   pub whole : ks ≡ ahead ++ behind
   pub here : at ≡ head behind
-  pub rest : head (chosen test item ks) ≡ head (chosen test item behind)
+  pub rest : head (chosen_keys test item ks) ≡ head (chosen_keys test item behind)

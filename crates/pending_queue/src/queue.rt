@@ -3,9 +3,9 @@ ghost use Rattle.std.specs.Prelude.{◌≡◌, ◌+◌, ◌<◌, ◌≤◌, [], 
 ghost use Rattle.pending_queue.specs.Compression.{are_alike, replaced, staying, pushed_of};
 ghost use Rattle.pending_queue.specs.Classes.{likeness_of};
 ghost use Rattle.slab.specs.Slab.{get};
-ghost use Rattle.linked_lists.specs.Places.{IsIn, head, omit};
+ghost use Rattle.linked_lists.specs.Neighbours.{IsIn, head, omit};
 ghost use Rattle.linked_lists.specs.Links.{key_eq};
-ghost use Rattle.linked_lists.specs.Chosen.{chosen, passes, items_of};
+ghost use Rattle.linked_lists.specs.Chosen.{chosen_keys, passes, items_of};
 ghost use Rattle.pending_queue.specs.Classes.{is_class};
 ghost use Rattle.pending_queue.specs.Holding.{is_free, without_first};
 ghost use Rattle.pending_queue.specs.Links.{stamp_of};
@@ -156,7 +156,7 @@ impl Queue {
     // The oldest item of a class that is not deferred.
     fn candidate(&self, holding: &Holding, class: Class) -> Option<usize>
         requires { IsQueue self.now }
-        ensures { result ≡ head (chosen (is_free holding.now) (queue_item self.now) (chosen (is_class class) (queue_item self.now) (keys_of self.now))) }
+        ensures { result ≡ head (chosen_keys (is_free holding.now) (queue_item self.now) (chosen_keys (is_class class) (queue_item self.now) (keys_of self.now))) }
     {
         if defers_class(holding, class) {
             return None;
@@ -200,7 +200,7 @@ impl Queue {
     /// The key of the oldest item that is not deferred.
     pub(crate) fn first_free(&self, holding: &Holding) -> Option<usize>
         requires { IsQueue self.now }
-        ensures { result ≡ head (chosen (is_free holding.now) (queue_item self.now) (keys_of self.now)) }
+        ensures { result ≡ head (chosen_keys (is_free holding.now) (queue_item self.now) (keys_of self.now)) }
     {
         let mark = self.candidate(holding, Class::Closing);
         let cpow = self.earlier(self.candidate(holding, Class::Highest), mark);

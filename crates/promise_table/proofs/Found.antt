@@ -6,9 +6,9 @@ use Rattle.std.specs.Result.{OnOk, OnErr}
 use Rattle.std.proofs.lemmas.Bool.Decides.{Decides-int_eq}
 use Rattle.std.specs.Option.{option_map}
 use Rattle.ipdl_base.specs.declared.kinds.Reason.{Reason}
-use Rattle.linked_lists.specs.Places.{IsIn, head}
-use Rattle.linked_lists.specs.Chosen.{passes, chosen, cons_some, items_of, item_of}
-use Rattle.linked_lists.proofs.PlaceLemmas.{same_or_other, head-in}
+use Rattle.linked_lists.specs.Neighbours.{IsIn, head}
+use Rattle.linked_lists.specs.Chosen.{passes, chosen_keys, cons_some, items_of, item_of}
+use Rattle.linked_lists.proofs.NeighbourLemmas.{same_or_other, head-in}
 use Rattle.linked_lists.proofs.ChosenLemmas.{chosen-in, in-chosen, first-item}
 use Rattle.linked_lists.proofs.KeyTest.{key_test}
 use Rattle.promise_table.specs.declared.promise.Promise.{Promise}
@@ -27,12 +27,12 @@ pub full_of : (t : Table) → IsTable t → (k : ℕ) → IsIn k (keys_of t) →
 full_of t s k h = let w = s.full k h in (w.0.promise, ap (option_map (λ (n : Node). n.promise)) w.1)
 
 -- the first that passes is that of the first key that is chosen
-pub found : (t : Table) → IsTable t → (test : Promise → Bool) → find test (promises_in t) ≡ item_of (promise_at t) (head (chosen test (promise_at t) (keys_of t)))
+pub found : (t : Table) → IsTable t → (test : Promise → Bool) → find test (promises_in t) ≡ item_of (promise_at t) (head (chosen_keys test (promise_at t) (keys_of t)))
 found t s test = first-item test (promise_at t) (keys_of t) (full_of t s)
 
 -- a key that is chosen
-pub chosen_key : (t : Table) (test : Promise → Bool) (k : ℕ) → Some k ≡ head (chosen test (promise_at t) (keys_of t)) → IsIn k (keys_of t) × (passes test (promise_at t k) ≡ true)
-chosen_key t test k e = chosen-in test (promise_at t) k (keys_of t) (head-in (chosen test (promise_at t) (keys_of t)) k (sym e))
+pub chosen_key : (t : Table) (test : Promise → Bool) (k : ℕ) → Some k ≡ head (chosen_keys test (promise_at t) (keys_of t)) → IsIn k (keys_of t) × (passes test (promise_at t k) ≡ true)
+chosen_key t test k e = chosen-in test (promise_at t) k (keys_of t) (head-in (chosen_keys test (promise_at t) (keys_of t)) k (sym e))
 
 -- ---- what changes
 
@@ -98,13 +98,13 @@ nobody : (key : ℕ) (ks : List ℕ) → None ≡ head ks → IsIn key ks → �
 nobody key [] e h = h
 nobody key (k ∷ ks) e h = cc
 
-pub unknown : (t : Table) (seq : ℤ) (o : Outcome) → IsTable t → None ≡ head (chosen (has_number seq) (promise_at t) (keys_of t)) → (Unknown ≡ settling_of (promise_of (promises_in t) seq)) × (promises_in t ≡ with_settled (promises_in t) seq o)
+pub unknown : (t : Table) (seq : ℤ) (o : Outcome) → IsTable t → None ≡ head (chosen_keys (has_number seq) (promise_at t) (keys_of t)) → (Unknown ≡ settling_of (promise_of (promises_in t) seq)) × (promises_in t ≡ with_settled (promises_in t) seq o)
 unknown t seq o s e = (
   ap settling_of (ap (item_of (promise_at t)) e ∙ sym (found t s (has_number seq))),
   settles_none t seq o s (λ k h y. absurd (nobody k _ e (in-chosen (has_number seq) (promise_at t) k (keys_of t) h y))),
 )
 
-pub already : (t : Table) (seq : ℤ) (o : Outcome) (key : ℕ) → IsTable t → Some key ≡ head (chosen (has_number seq) (promise_at t) (keys_of t)) → passes is_pending (promise_at t key) ≡ false → (Already ≡ settling_of (promise_of (promises_in t) seq)) × (promises_in t ≡ with_settled (promises_in t) seq o)
+pub already : (t : Table) (seq : ℤ) (o : Outcome) (key : ℕ) → IsTable t → Some key ≡ head (chosen_keys (has_number seq) (promise_at t) (keys_of t)) → passes is_pending (promise_at t key) ≡ false → (Already ≡ settling_of (promise_of (promises_in t) seq)) × (promises_in t ≡ with_settled (promises_in t) seq o)
 already t seq o key s e p =
     let c = chosen_key t (has_number seq) key e in
     let x = full_of t s key c.0 in (
@@ -112,17 +112,17 @@ already t seq o key s e p =
       settles_none t seq o s (λ k h y. ap (λ v. passes is_pending (promise_at t v)) (s.single seq k key (in-chosen (has_number seq) (promise_at t) k (keys_of t) h y) (in-chosen (has_number seq) (promise_at t) key (keys_of t) c.0 c.1)) ∙ p),
     )
 
-pub now : (t : Table) (seq : ℤ) (key : ℕ) → IsTable t → Some key ≡ head (chosen (has_number seq) (promise_at t) (keys_of t)) → passes is_pending (promise_at t key) ≡ true → Now ≡ settling_of (promise_of (promises_in t) seq)
+pub now : (t : Table) (seq : ℤ) (key : ℕ) → IsTable t → Some key ≡ head (chosen_keys (has_number seq) (promise_at t) (keys_of t)) → passes is_pending (promise_at t key) ≡ true → Now ≡ settling_of (promise_of (promises_in t) seq)
 now t seq key s e p =
     settling_at (promise_at t key) p ∙ ap settling_of (ap (item_of (promise_at t)) e ∙ sym (found t s (has_number seq)))
 
 -- ---- the oldest
 
-pub oldest_none : (t : Table) (test : Promise → Bool) → IsTable t → None ≡ head (chosen test (promise_at t) (keys_of t)) → None ≡ oldest test (promises_in t)
+pub oldest_none : (t : Table) (test : Promise → Bool) → IsTable t → None ≡ head (chosen_keys test (promise_at t) (keys_of t)) → None ≡ oldest test (promises_in t)
 oldest_none t test s e =
     ap (λ v. option_map (λ (p : Promise). p.seq) (item_of (promise_at t) v)) e ∙ ap (option_map (λ (p : Promise). p.seq)) (sym (found t s test))
 
-pub oldest_some : (t : Table) (test : Promise → Bool) (key : ℕ) → IsTable t → Some key ≡ head (chosen test (promise_at t) (keys_of t)) → option_map seq_of (promise_at t key) ≡ oldest test (promises_in t)
+pub oldest_some : (t : Table) (test : Promise → Bool) (key : ℕ) → IsTable t → Some key ≡ head (chosen_keys test (promise_at t) (keys_of t)) → option_map seq_of (promise_at t key) ≡ oldest test (promises_in t)
 oldest_some t test key s e =
     ap (λ v. option_map (λ (p : Promise). p.seq) (item_of (promise_at t) v)) e ∙ ap (option_map (λ (p : Promise). p.seq)) (sym (found t s test))
 
@@ -134,10 +134,10 @@ pends_of : (a : ℤ) (x : Option Promise) → passes (is_pending_of a) x ≡ tru
 pends_of a None e = e
 pends_of a (Some x) e = and_right (int_eq x.actor a) (is_pending x) e
 
-pub pending_own : (t : Table) (a : ℤ) (key : ℕ) → Some key ≡ head (chosen (is_pending_of a) (promise_at t) (keys_of t)) → IsPendingAt t key
+pub pending_own : (t : Table) (a : ℤ) (key : ℕ) → Some key ≡ head (chosen_keys (is_pending_of a) (promise_at t) (keys_of t)) → IsPendingAt t key
 pending_own t a key e = let c = chosen_key t (is_pending_of a) key e in record { among = c.0; pends = pends_of a (promise_at t key) c.1 }
 
-pub pending_first : (t : Table) (key : ℕ) → Some key ≡ head (chosen is_pending (promise_at t) (keys_of t)) → IsPendingAt t key
+pub pending_first : (t : Table) (key : ℕ) → Some key ≡ head (chosen_keys is_pending (promise_at t) (keys_of t)) → IsPendingAt t key
 pending_first t key e = let c = chosen_key t is_pending key e in record { among = c.0; pends = c.1 }
 
 -- the number of a promise
@@ -149,9 +149,9 @@ number_of seq (Some x) e = (Decides-int_eq x.seq seq).1 (let g : seq ≡ x.seq =
 
 -- a number that no promise has, has no key
 pub unmade_id : (t : Table) (seq : ℤ) → IsTable t → IsUnmade (promises_in t) seq → id_of t seq ≡ None
-unmade_id t seq s u = s.numbers seq ∙ by (head (chosen (has_number seq) (promise_at t) (keys_of t))) refl
+unmade_id t seq s u = s.numbers seq ∙ by (head (chosen_keys (has_number seq) (promise_at t) (keys_of t))) refl
   where
-    by : (o : Option ℕ) → head (chosen (has_number seq) (promise_at t) (keys_of t)) ≡ o → head (chosen (has_number seq) (promise_at t) (keys_of t)) ≡ None
+    by : (o : Option ℕ) → head (chosen_keys (has_number seq) (promise_at t) (keys_of t)) ≡ o → head (chosen_keys (has_number seq) (promise_at t) (keys_of t)) ≡ None
     by None e = e
     by (Some k) e =
         let x = full_of t s k (chosen_key t (has_number seq) k (sym e)).0 in

@@ -5,11 +5,11 @@ use Rattle.std.proofs.lemmas.Bool.Decides.{Decides-int_eq}
 use Rattle.std.specs.Option.{option_map}
 use Rattle.linked_lists.specs.declared.link.Link.{Link}
 use Rattle.linked_lists.specs.declared.link.Ends.{Ends}
-use Rattle.linked_lists.specs.Places.{IsIn, AreDistinct, head, last}
+use Rattle.linked_lists.specs.Neighbours.{IsIn, AreDistinct, head, last}
 use Rattle.linked_lists.specs.Chains.{attached, IsChain}
 use Rattle.linked_lists.specs.Links.{ends_with, no_link, ends_of}
-use Rattle.linked_lists.specs.Chosen.{passes, chosen}
-use Rattle.linked_lists.proofs.PlaceLemmas.{distinct-push, in-append}
+use Rattle.linked_lists.specs.Chosen.{passes, chosen_keys}
+use Rattle.linked_lists.proofs.NeighbourLemmas.{distinct-push, in-append}
 use Rattle.linked_lists.proofs.ChainLemmas.{chain-kept, ends-push, attached-keeps, chain-along, chain-attached, chain-beside-attached}
 use Rattle.linked_lists.proofs.ChosenLemmas.{chosen-in, chosen-distinct, chosen-push, chosen-push-not, chosen-same}
 use Rattle.promise_table.specs.declared.promise.Promise.{Promise}
@@ -71,7 +71,7 @@ module _ (node node1 node2 node3 : ℕ → Option Node) (keys : List ℕ) (pendi
   item-new = item3 key ∙ ap (option_map (λ (n : Node). n.promise)) at1
 
   abbrev those : (Promise → Bool) → List ℕ
-  those t = chosen t (item_at node) keys
+  those t = chosen_keys t (item_at node) keys
 
   those-in : (t : Promise → Bool) (k : ℕ) → IsIn k (those t) → IsIn k keys
   those-in t k h = (chosen-in t (item_at node) k keys h).0
@@ -82,10 +82,10 @@ module _ (node node1 node2 node3 : ℕ → Option Node) (keys : List ℕ) (pendi
   those-once : (t : Promise → Bool) → AreDistinct (those t)
   those-once t = chosen-distinct t (item_at node) keys s.distinct
 
-  with_new : (t : Promise → Bool) → t (made seq actor) ≡ true → chosen t (item_at node3) (keys ++ key ∷ []) ≡ those t ++ key ∷ []
+  with_new : (t : Promise → Bool) → t (made seq actor) ≡ true → chosen_keys t (item_at node3) (keys ++ key ∷ []) ≡ those t ++ key ∷ []
   with_new t e = chosen-push t (item_at node3) keys key (ap (passes t) item-new ∙ e) ∙ ap (λ v. v ++ key ∷ []) (chosen-same t (item_at node) (item_at node3) keys item-old)
 
-  without_new : (t : Promise → Bool) → t (made seq actor) ≡ false → chosen t (item_at node3) (keys ++ key ∷ []) ≡ those t
+  without_new : (t : Promise → Bool) → t (made seq actor) ≡ false → chosen_keys t (item_at node3) (keys ++ key ∷ []) ≡ those t
   without_new t e = chosen-push-not t (item_at node3) keys key (ap (passes t) item-new ∙ e) ∙ chosen-same t (item_at node) (item_at node3) keys item-old
 
   at2' : (k : ℕ) → node2 k ≡ option_map (attached (link_of All) (with_link All) (last (those is_pending)) key k) (node1 k)
@@ -94,7 +94,7 @@ module _ (node node1 node2 node3 : ℕ → Option Node) (keys : List ℕ) (pendi
   at3' : (k : ℕ) → node3 k ≡ option_map (attached (link_of Own) (with_link Own) (last (those (is_pending_of actor))) key k) (node2 k)
   at3' k = at3 k ∙ ap (λ (v : Ends). option_map (attached (link_of Own) (with_link Own) v.last key k) (node2 k)) (s.own_ends actor)
 
-  all3 : IsChain (link_of All) node3 (chosen is_pending (item_at node3) (keys ++ key ∷ []))
+  all3 : IsChain (link_of All) node3 (chosen_keys is_pending (item_at node3) (keys ++ key ∷ []))
   all3 = subst (IsChain (link_of All) node3) (sym (with_new is_pending refl))
       (chain-along (link_of All) node2 node3 _ (attached (link_of Own) (with_link Own) (actors actor).last key) (λ k n. attached-keeps (link_of Own) (with_link Own) (link_of All) (λ l m. refl) (actors actor).last key k n) (λ k h. at3 k)
       (chain-attached (link_of All) (with_link All) (λ l m. refl) node1 node2 (those is_pending) key at2' (those-once is_pending) (those-not is_pending) (chain-kept (link_of All) node node1 _ (λ k h. old k (those-in is_pending k h)) s.all_chain) (fresh_node seq actor) at1 refl))
@@ -109,9 +109,9 @@ module _ (node node1 node2 node3 : ℕ → Option Node) (keys : List ℕ) (pendi
   mine : is_pending_of actor (made seq actor) ≡ true
   mine = ap (λ v. v && true) (int_same actor actor refl)
 
-  own3 : (a : ℤ) → IsChain (link_of Own) node3 (chosen (is_pending_of a) (item_at node3) (keys ++ key ∷ []))
+  own3 : (a : ℤ) → IsChain (link_of Own) node3 (chosen_keys (is_pending_of a) (item_at node3) (keys ++ key ∷ []))
   own3 a = elim (int_cases actor a) [
-    | inl e ↦ subst (λ v. IsChain (link_of Own) node3 (chosen (is_pending_of v) (item_at node3) (keys ++ key ∷ []))) e (subst (IsChain (link_of Own) node3) (sym (with_new (is_pending_of actor) mine))
+    | inl e ↦ subst (λ v. IsChain (link_of Own) node3 (chosen_keys (is_pending_of v) (item_at node3) (keys ++ key ∷ []))) e (subst (IsChain (link_of Own) node3) (sym (with_new (is_pending_of actor) mine))
         (chain-attached (link_of Own) (with_link Own) (λ l m. refl) node2 node3 (those (is_pending_of actor)) key at3' (those-once _) (those-not _) (own2 actor) _ there2
         (ap (λ (l : Link). l.next) (attached-keeps (link_of All) (with_link All) (link_of Own) (λ l m. refl) pending.last key key (fresh_node seq actor)))))
     | inr n ↦ subst (IsChain (link_of Own) node3) (sym (without_new (is_pending_of a) (ap (λ v. v && true) n)))
@@ -121,11 +121,11 @@ module _ (node node1 node2 node3 : ℕ → Option Node) (keys : List ℕ) (pendi
         )) (own2 a))
   ]
 
-  own_ends3 : (a : ℤ) → cond (int_eq actor a) (ends_with (actors actor) key) (actors a) ≡ ends_of (chosen (is_pending_of a) (item_at node3) (keys ++ key ∷ []))
+  own_ends3 : (a : ℤ) → cond (int_eq actor a) (ends_with (actors actor) key) (actors a) ≡ ends_of (chosen_keys (is_pending_of a) (item_at node3) (keys ++ key ∷ []))
   own_ends3 a = elim (int_cases actor a) [
     | inl e ↦ ap (λ v. cond v (ends_with (actors actor) key) (actors a)) (int_same actor a e)
         ∙ ap (λ v. ends_with v key) (s.own_ends actor) ∙ ends-push (those (is_pending_of actor)) key
-        ∙ ap ends_of (sym (with_new (is_pending_of actor) mine)) ∙ ap (λ v. ends_of (chosen (is_pending_of v) (item_at node3) (keys ++ key ∷ []))) e
+        ∙ ap ends_of (sym (with_new (is_pending_of actor) mine)) ∙ ap (λ v. ends_of (chosen_keys (is_pending_of v) (item_at node3) (keys ++ key ∷ []))) e
     | inr n ↦ ap (λ v. cond v (ends_with (actors actor) key) (actors a)) n ∙ s.own_ends a ∙ ap ends_of (sym (without_new (is_pending_of a) (ap (λ v. v && true) n)))
   ]
 
@@ -133,19 +133,19 @@ module _ (node node1 node2 node3 : ℕ → Option Node) (keys : List ℕ) (pendi
   none-head [] e = refl
   none-head (k ∷ ks) e = cc
 
-  numbers3 : (n : ℤ) → cond (int_eq seq n) (Some key) (ids n) ≡ head (chosen (has_number n) (item_at node3) (keys ++ key ∷ []))
+  numbers3 : (n : ℤ) → cond (int_eq seq n) (Some key) (ids n) ≡ head (chosen_keys (has_number n) (item_at node3) (keys ++ key ∷ []))
   numbers3 n = elim (int_cases seq n) [
     | inl e ↦ (let none : those (has_number seq) ≡ [] = none-head _ (sym (s.numbers seq) ∙ unmade) in
         ap (λ v. cond v (Some key) (ids n)) (int_same seq n e)
         ∙ ap head (ap (λ v. v ++ key ∷ []) (sym none)) ∙ ap head (sym (with_new (has_number seq) (int_same seq seq refl)))
-        ∙ ap (λ v. head (chosen (has_number v) (item_at node3) (keys ++ key ∷ []))) e)
+        ∙ ap (λ v. head (chosen_keys (has_number v) (item_at node3) (keys ++ key ∷ []))) e)
     | inr m ↦ ap (λ v. cond v (Some key) (ids n)) m ∙ s.numbers n ∙ ap head (sym (without_new (has_number n) m))
   ]
 
-  single3 : (n : ℤ) (j k : ℕ) → IsIn j (chosen (has_number n) (item_at node3) (keys ++ key ∷ [])) → IsIn k (chosen (has_number n) (item_at node3) (keys ++ key ∷ [])) → j ≡ k
+  single3 : (n : ℤ) (j k : ℕ) → IsIn j (chosen_keys (has_number n) (item_at node3) (keys ++ key ∷ [])) → IsIn k (chosen_keys (has_number n) (item_at node3) (keys ++ key ∷ [])) → j ≡ k
   single3 n j k p q = elim (int_cases seq n) [
     | inl e ↦ (let none : those (has_number seq) ≡ [] = none-head _ (sym (s.numbers seq) ∙ unmade) in
-        let all : chosen (has_number n) (item_at node3) (keys ++ key ∷ []) ≡ key ∷ [] = ap (λ v. chosen (has_number v) (item_at node3) (keys ++ key ∷ [])) (sym e) ∙ with_new (has_number seq) (int_same seq seq refl) ∙ ap (λ v. v ++ key ∷ []) none in
+        let all : chosen_keys (has_number n) (item_at node3) (keys ++ key ∷ []) ≡ key ∷ [] = ap (λ v. chosen_keys (has_number v) (item_at node3) (keys ++ key ∷ [])) (sym e) ∙ with_new (has_number seq) (int_same seq seq refl) ∙ ap (λ v. v ++ key ∷ []) none in
         only j (subst (IsIn j) all p) ∙ sym (only k (subst (IsIn k) all q)))
     | inr m ↦ s.single n j k (subst (IsIn j) (without_new (has_number n) m) p) (subst (IsIn k) (without_new (has_number n) m) q)
   ]

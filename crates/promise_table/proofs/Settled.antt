@@ -3,11 +3,11 @@ use Rattle.std.proofs.Common.{◌≡◌, ◌≢◌, inl, inr, ℕ, ℤ, Bool, tr
 use Rattle.std.proofs.lemmas.Bool.{cases_Bool}
 use Rattle.std.specs.Option.{option_map}
 use Rattle.linked_lists.specs.declared.link.Ends.{Ends}
-use Rattle.linked_lists.specs.Places.{IsIn, AreDistinct, head, omit}
+use Rattle.linked_lists.specs.Neighbours.{IsIn, AreDistinct, head, omit}
 use Rattle.linked_lists.specs.Chains.{detached, IsChain}
 use Rattle.linked_lists.specs.Links.{ends_without, ends_of, key_eq, link_in}
-use Rattle.linked_lists.specs.Chosen.{passes, chosen}
-use Rattle.linked_lists.proofs.PlaceLemmas.{same_or_other, omit-same, omit-other, omit-none}
+use Rattle.linked_lists.specs.Chosen.{passes, chosen_keys}
+use Rattle.linked_lists.proofs.NeighbourLemmas.{same_or_other, omit-same, omit-other, omit-none}
 use Rattle.linked_lists.proofs.ChainLemmas.{ends-omit, detached-keeps, chain-along, chain-detached, chain-beside-detached}
 use Rattle.linked_lists.proofs.ChosenLemmas.{chosen-yes, chosen-no, chosen-in, in-chosen, chosen-distinct}
 use Rattle.linked_lists.proofs.KeyTest.{key_test}
@@ -21,26 +21,26 @@ use Rattle.promise_table.proofs.Making.{map-promise, int_same, int_cases, of_one
 use Rattle.promise_table.specs.Nodes.{link_of, with_link}
 
 -- the one that passes no more goes
-chosen-flip : (t : Promise → Bool) (item item' : ℕ → Option Promise) (key : ℕ) (ks : List ℕ) → passes t (item' key) ≡ false → ((k : ℕ) → k ≢ key → item' k ≡ item k) → chosen t item' ks ≡ omit key_eq key (chosen t item ks)
+chosen-flip : (t : Promise → Bool) (item item' : ℕ → Option Promise) (key : ℕ) (ks : List ℕ) → passes t (item' key) ≡ false → ((k : ℕ) → k ≢ key → item' k ≡ item k) → chosen_keys t item' ks ≡ omit key_eq key (chosen_keys t item ks)
 chosen-flip t item item' key [] n h = refl
 chosen-flip t item item' key (j ∷ ks) n h =
     let rest = chosen-flip t item item' key ks n h in
     elim (same_or_other key_test j key) [
       | inl e ↦ chosen-no t item' j ks (ap (λ v. passes t (item' v)) e ∙ n) ∙ rest ∙ elim (cases_Bool (passes t (item j))) [
-        | inl y ↦ sym (omit-same key_test key j (chosen t item ks) e) ∙ ap (omit key_eq key) (sym (chosen-yes t item j ks y))
+        | inl y ↦ sym (omit-same key_test key j (chosen_keys t item ks) e) ∙ ap (omit key_eq key) (sym (chosen-yes t item j ks y))
         | inr m ↦ ap (omit key_eq key) (sym (chosen-no t item j ks m))
       ]
       | inr d ↦ elim (cases_Bool (passes t (item j))) [
-        | inl y ↦ chosen-yes t item' j ks (ap (passes t) (h j d) ∙ y) ∙ ap (λ v. j ∷ v) rest ∙ sym (omit-other key_test key j (chosen t item ks) d) ∙ ap (omit key_eq key) (sym (chosen-yes t item j ks y))
+        | inl y ↦ chosen-yes t item' j ks (ap (passes t) (h j d) ∙ y) ∙ ap (λ v. j ∷ v) rest ∙ sym (omit-other key_test key j (chosen_keys t item ks) d) ∙ ap (omit key_eq key) (sym (chosen-yes t item j ks y))
         | inr m ↦ chosen-no t item' j ks (ap (passes t) (h j d) ∙ m) ∙ rest ∙ ap (omit key_eq key) (sym (chosen-no t item j ks m))
       ]
     ]
 
 -- where each passes as before
-chosen-tests : (t : Promise → Bool) (item item' : ℕ → Option Promise) (ks : List ℕ) → ((k : ℕ) → passes t (item' k) ≡ passes t (item k)) → chosen t item' ks ≡ chosen t item ks
+chosen-tests : (t : Promise → Bool) (item item' : ℕ → Option Promise) (ks : List ℕ) → ((k : ℕ) → passes t (item' k) ≡ passes t (item k)) → chosen_keys t item' ks ≡ chosen_keys t item ks
 chosen-tests t item item' [] h = refl
 chosen-tests t item item' (k ∷ ks) h =
-    ap (λ v. cond v (k ∷ chosen t item' ks) (chosen t item' ks)) (h k) ∙ ap (λ v. cond (passes t (item k)) (k ∷ v) v) (chosen-tests t item item' ks h)
+    ap (λ v. cond v (k ∷ chosen_keys t item' ks) (chosen_keys t item' ks)) (h k) ∙ ap (λ v. cond (passes t (item k)) (k ∷ v) v) (chosen-tests t item item' ks h)
 
 and_false : (b : Bool) → b && false ≡ false
 and_false true = refl
@@ -75,12 +75,12 @@ module _ (node node1 node2 node3 : ℕ → Option Node) (keys : List ℕ) (pendi
   item-was = ap (option_map (λ (m : Node). m.promise)) was
 
   abbrev those : (Promise → Bool) → List ℕ
-  those t = chosen t (item_at node) keys
+  those t = chosen_keys t (item_at node) keys
 
   those-once : (t : Promise → Bool) → AreDistinct (those t)
   those-once t = chosen-distinct t (item_at node) keys s.distinct
 
-  left_of : (t : Promise → Bool) → t settled_promise ≡ false → chosen t (item_at node3) keys ≡ omit key_eq key (those t)
+  left_of : (t : Promise → Bool) → t settled_promise ≡ false → chosen_keys t (item_at node3) keys ≡ omit key_eq key (those t)
   left_of t e = chosen-flip t (item_at node) (item_at node3) key keys (ap (passes t) item-settled ∙ e) item-other
 
   in_all : IsIn key (those is_pending)
@@ -117,7 +117,7 @@ module _ (node node1 node2 node3 : ℕ → Option Node) (keys : List ℕ) (pendi
   at3' : (k : ℕ) → k ≢ key → node3 k ≡ option_map (detached (link_of Own) (with_link Own) (link_in key (those (is_pending_of whose))) k) (nodeX k)
   at3' k m = at3 k ∙ ap (option_map (detached (link_of Own) (with_link Own) n.own k)) (at2' k m) ∙ ap (λ v. option_map (detached (link_of Own) (with_link Own) v k) (nodeX k)) link-own
 
-  all3 : IsChain (link_of All) node3 (chosen is_pending (item_at node3) keys)
+  all3 : IsChain (link_of All) node3 (chosen_keys is_pending (item_at node3) keys)
   all3 = subst (IsChain (link_of All) node3) (sym (left_of is_pending refl))
       (chain-along (link_of All) node2 node3 _ (detached (link_of Own) (with_link Own) n.own) (λ k m. detached-keeps (link_of Own) (with_link Own) (link_of All) (λ l m. refl) n.own k m) (λ k h. at3 k)
       (chain-detached (link_of All) (with_link All) (λ l m. refl) node node2 (those is_pending) key (λ k m. at2' k m ∙ ap (λ v. option_map (detached (link_of All) (with_link All) v k) (node k)) link-all) (those-once is_pending) in_all s.all_chain))
@@ -128,7 +128,7 @@ module _ (node node1 node2 node3 : ℕ → Option Node) (keys : List ℕ) (pendi
   done : (a : ℤ) → is_pending_of a settled_promise ≡ false
   done a = and_false (int_eq whose a)
 
-  own3 : (a : ℤ) → IsChain (link_of Own) node3 (chosen (is_pending_of a) (item_at node3) keys)
+  own3 : (a : ℤ) → IsChain (link_of Own) node3 (chosen_keys (is_pending_of a) (item_at node3) keys)
   own3 a = subst (IsChain (link_of Own) node3) (sym (left_of (is_pending_of a) (done a))) (elim (int_cases whose a) [
     | inl e ↦ subst (λ v. IsChain (link_of Own) node3 (omit key_eq key (those (is_pending_of v)))) e (chain-detached (link_of Own) (with_link Own) (λ l m. refl) nodeX node3 (those (is_pending_of whose)) key at3' (those-once _) in_own (ownX whose))
     | inr m ↦ subst (IsChain (link_of Own) node3) (sym (omit-none key_test key (those (is_pending_of a)) (not_own a m)))
@@ -136,7 +136,7 @@ module _ (node node1 node2 node3 : ℕ → Option Node) (keys : List ℕ) (pendi
         (λ k h q. true≢false (sym (int_same whose a (of_one whose a (item_at node k) (chosen-in _ (item_at node) k keys q).1 (chosen-in _ (item_at node) k keys h).1)) ∙ m)) (ownX a))
   ])
 
-  own_ends3 : (a : ℤ) → cond (int_eq whose a) (ends_without (actors whose) n.own) (actors a) ≡ ends_of (chosen (is_pending_of a) (item_at node3) keys)
+  own_ends3 : (a : ℤ) → cond (int_eq whose a) (ends_without (actors whose) n.own) (actors a) ≡ ends_of (chosen_keys (is_pending_of a) (item_at node3) keys)
   own_ends3 a = elim (int_cases whose a) [
     | inl e ↦ ap (λ v. cond v (ends_without (actors whose) n.own) (actors a)) (int_same whose a e)
         ∙ ap (λ v. ends_without v n.own) (s.own_ends whose) ∙ ap (ends_without (ends_of (those (is_pending_of whose)))) link-own

@@ -4,10 +4,10 @@ use Rattle.std.specs.Option.{option_map}
 use Rattle.slab.specs.Slab.{Slab, get, Updates}
 use Rattle.linked_lists.specs.declared.link.Link.{Link}
 use Rattle.linked_lists.specs.declared.link.Ends.{Ends}
-use Rattle.linked_lists.specs.Places.{IsIn, head}
+use Rattle.linked_lists.specs.Neighbours.{IsIn, head}
 use Rattle.linked_lists.specs.Chains.{attached, detached}
 use Rattle.linked_lists.specs.Links.{ends_with, ends_without, ends_of}
-use Rattle.linked_lists.specs.Chosen.{passes, chosen, items_of}
+use Rattle.linked_lists.specs.Chosen.{passes, chosen_keys, items_of}
 use Rattle.linked_lists.proofs.ChosenLemmas.{in-chosen, items-same, items-push}
 use Rattle.promise_table.specs.declared.promise.Promise.{Promise}
 use Rattle.promise_table.specs.declared.promise.Outcome.{Outcome}
@@ -79,7 +79,7 @@ module _ (t : Table) (key : ℕ) (all own : Link) (actor : ℤ) (s : IsTable t) 
   pends : is_pending node_was.0.promise ≡ true
   pends = sym (ap (λ v. passes is_pending (option_map (λ (m : Node). m.promise) v)) node_was.1) ∙ w.pends
 
-  in_own : IsIn key (chosen (is_pending_of node_was.0.promise.actor) (promise_at t) (keys_of t))
+  in_own : IsIn key (chosen_keys (is_pending_of node_was.0.promise.actor) (promise_at t) (keys_of t))
   in_own = in-chosen (is_pending_of node_was.0.promise.actor) (promise_at t) key (keys_of t) w.among
       (ap (λ v. passes (is_pending_of node_was.0.promise.actor) (option_map (λ (m : Node). m.promise) v)) node_was.1
       ∙ ap (λ v. v && is_pending node_was.0.promise) (int_same node_was.0.promise.actor node_was.0.promise.actor refl) ∙ pends)
@@ -96,8 +96,8 @@ module _ (t : Table) (key : ℕ) (all own : Link) (actor : ℤ) (s : IsTable t) 
       by (Some ends) e = ap is_some e
       by None e =
           let a : actor ≡ node_was.0.promise.actor = ap (λ (v : Link × Link × ℤ). v.2) told_is in
-          let none : ends_of (chosen (is_pending_of actor) (promise_at t) (keys_of t)) ≡ record { first = None; last = None } = sym (s.own_ends actor) ∙ ap ends_or e in
-          absurd (some (chosen (is_pending_of actor) (promise_at t) (keys_of t)) (subst (λ v. IsIn key (chosen (is_pending_of v) (promise_at t) (keys_of t))) (sym a) in_own) (ap (λ (v : Ends). v.first) none))
+          let none : ends_of (chosen_keys (is_pending_of actor) (promise_at t) (keys_of t)) ≡ record { first = None; last = None } = sym (s.own_ends actor) ∙ ap ends_or e in
+          absurd (some (chosen_keys (is_pending_of actor) (promise_at t) (keys_of t)) (subst (λ v. IsIn key (chosen_keys (is_pending_of v) (promise_at t) (keys_of t))) (sym a) in_own) (ap (λ (v : Ends). v.first) none))
 
   pub settle : (t' : Table) (n1 n2 : Slab Node) (outcome : Outcome)
       → get n1 key ≡ option_map (with_outcome outcome) (node_at t key)

@@ -3,7 +3,7 @@ use Rattle.std.specs.Prelude.{◌≡◌, ℕ, ℤ, true, List, Option, Some, Non
 use Rattle.std.specs.Ordering.{int_eq}
 use Rattle.linked_lists.specs.declared.link.Ends.{Ends}
 use Rattle.linked_lists.specs.Chosen.{items_of, passes}
-use Rattle.linked_lists.specs.Places.{IsIn}
+use Rattle.linked_lists.specs.Neighbours.{IsIn}
 use Rattle.linked_lists.specs.declared.link.Link.{Link}
 use Rattle.linked_lists.specs.Links.{no_ends}
 use Rattle.promise_table.specs.declared.promise.Promise.{Promise}

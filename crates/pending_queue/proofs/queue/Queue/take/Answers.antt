@@ -1,8 +1,8 @@
 use Rattle.std.proofs.Common.{ap, refl, length, arith, ◌∙◌}
 use Rattle.std.specs.Option.{option_map}
-use Rattle.linked_lists.specs.Places.{omit}
+use Rattle.linked_lists.specs.Neighbours.{omit}
 use Rattle.linked_lists.specs.Chosen.{items_of}
-use Rattle.linked_lists.proofs.PlaceLemmas.{length-omit}
+use Rattle.linked_lists.proofs.NeighbourLemmas.{length-omit}
 use Rattle.linked_lists.specs.Links.{key_eq}
 use Rattle.linked_lists.proofs.KeyTest.{key_test}
 use Rattle.pending_queue.specs.Classes.{with_ends}

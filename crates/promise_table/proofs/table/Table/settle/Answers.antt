@@ -1,13 +1,13 @@
 use Rattle.std.proofs.Common.{◌≡◌, sym, ap, ◌∙◌, to_z-of_z}
-use Rattle.linked_lists.specs.Places.{head}
-use Rattle.linked_lists.specs.Chosen.{chosen}
+use Rattle.linked_lists.specs.Neighbours.{head}
+use Rattle.linked_lists.specs.Chosen.{chosen_keys}
 use Rattle.promise_table.specs.Promises.{has_number}
 use Rattle.promise_table.specs.Table.{id_of, keys_of, promise_at}
 use Rattle.promise_table.proofs.Found.{unknown, already, now, chosen_key, settles_list}
 use Rattle.promise_table.proofs.table.Table.settle.Goals.{After-copied}
 use Rattle.promise_table.proofs.table.Table.settle.Goals as goal
 
-keyed : (c : After-copied) → c.copied.result ≡ head (chosen (has_number c.args.seq) (promise_at c.args.self.now) (keys_of c.args.self.now))
+keyed : (c : After-copied) → c.copied.result ≡ head (chosen_keys (has_number c.args.seq) (promise_at c.args.self.now) (keys_of c.args.self.now))
 keyed c =
     c.copied.ensures ∙ c.get.ensures.value ∙ ap (id_of c.args.self.now) (to_z-of_z c.ranges.seq) ∙ c.requires.numbers c.args.seq
 

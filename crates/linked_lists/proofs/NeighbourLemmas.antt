@@ -1,7 +1,7 @@
 -- Who stands where on a list in which none stands twice, once one more stands at its end and once one has left.
 use Rattle.std.proofs.Common.{◌≡◌, ◌≢◌, ◌⊎◌, inl, inr, Bool, true, false, not, cond, ◌+◌, List, [], ◌∷◌, ◌++◌, length, Option, Some, None, is_some, refl, sym, ap, ◌∙◌, subst, true≢false, arith}
 use Rattle.std.proofs.lemmas.Bool.{cases_Bool}
-use Rattle.linked_lists.specs.Places.{IsTest, IsIn, AreDistinct, is_the, head, last_with, last, after, before_with, before, omit}
+use Rattle.linked_lists.specs.Neighbours.{IsTest, IsIn, AreDistinct, is_the, head, last_with, last, after, before_with, before, omit}
 
 module _ {A : Type 0} where
   pub head-in : (xs : List A) (j : A) → head xs ≡ Some j → IsIn j xs
