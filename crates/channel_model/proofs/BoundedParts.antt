@@ -34,7 +34,7 @@ use Rattle.promise_table.specs.Promises.{has_number, is_pending}
 use Rattle.channel_model.specs.Acts.{goodbye}
 use Rattle.channel_model.specs.Actors.{Ids, IsNew, AreKnown, ids_of, new_ids_in, constructs_by}
 use Rattle.channel_model.specs.Answers as answering
-use Rattle.channel_model.specs.Bounds.{pending_in, unsettled, IsBounded, HasCounted}
+use Rattle.channel_model.specs.Bounds.{pending_in, unsettled, IsBounded}
 use Rattle.channel_model.specs.Deliveries as delivery
 use Rattle.channel_model.specs.Deliveries.{unanswered}
 use Rattle.channel_model.specs.Ends.{End, Packet, message, mark, StackEntry, PromiseEntry}
@@ -48,7 +48,7 @@ use Rattle.channel_model.specs.Parts.{FirstPart, LaterPart, LaterParts, OwnParts
 use Rattle.channel_model.specs.Phases.{Phase, manager_of, fresh_of}
 use Rattle.channel_model.specs.Returns as return
 use Rattle.channel_model.specs.Sends as send
-use Rattle.channel_model.specs.StepLaws.{IsMadeOf, IsDeliveryOfOnePart, IsStepOfParts, CountsGrow, StepsAreBounded}
+use Rattle.channel_model.specs.StepLaws.{IsMadeOf, IsDeliveryOfOnePart, IsStepOfParts, StepsAreBounded}
 use Rattle.channel_model.specs.Takes as take
 use Rattle.channel_model.proofs.Counted.{abandoned-count, falls-balance, waits, dropped-waits, released-waits, failed-waits, answered-waits}
 use Rattle.channel_model.proofs.FittingEnds.{taken-first}
@@ -367,84 +367,3 @@ steps_are_bounded schema protocol e link happened output is known = by happened 
     by (event.return vs) made = own-bounded schema protocol e output known made
     by event.resume made = own-bounded schema protocol e output known made
     by event.flush made = own-bounded schema protocol e output known made
-
--- Counts of requests
-
-later-counted : {p q : Phase} {e f : End} {ws : List What} {ps : List Packet} → LaterPart p e ws ps f q → (f.sent ≡ e.sent) × (f.delivered ≡ e.delivered)
-later-counted (Parts.unnames name may silent) = (refl, refl)
-later-counted (Parts.lets_go name x may is open_is) = (refl, refl)
-later-counted (Parts.names more actors) = (refl, refl)
-later-counted (Parts.releases seq closed) = (refl, refl)
-later-counted (Parts.keeps seq name x is closed) = (refl, refl)
-later-counted (Parts.builds id protocol rest is alive) = (refl, refl)
-later-counted (Parts.deletes id cause) = (refl, refl)
-later-counted (Parts.abandons why cause) = (refl, refl)
-later-counted (Parts.falls why cause) = (refl, refl)
-
-laters-counted : {p q : Phase} {e f : End} {ws : List What} {ps : List Packet} → LaterParts p e ws ps f q → (f.sent ≡ e.sent) × (f.delivered ≡ e.delivered)
-laters-counted Parts.done = (refl, refl)
-laters-counted (Parts.then part rest) = let a = later-counted part in let b = laters-counted rest in (b.0 ∙ a.0, b.1 ∙ a.1)
-
-same-counts : (e f : End) → f.sent ≡ e.sent → f.delivered ≡ e.delivered → HasCounted e f
-same-counts e f s d = record { sent = (omega (arith, s), omega (arith, s)); delivered = (omega (arith, d), omega (arith, d)) }
-
-behind-counts : (b : Bool) (e : End) → ((end_behind b e).sent ≡ e.sent) × ((end_behind b e).delivered ≡ e.delivered)
-behind-counts true e = (refl, refl)
-behind-counts false e = (refl, refl)
-
-used-counts : (by : Answering) (e : End) → ((answering.without_resolver by e).sent ≡ e.sent) × ((answering.without_resolver by e).delivered ≡ e.delivered)
-used-counts (handled seq) e = (refl, refl)
-used-counts (kept name number) e = (refl, refl)
-
-first-counted : {schema : Schema} {p : Phase} {e f : End} {ws : List What} {ps : List Packet} → FirstPart schema e ws ps f p → HasCounted e f
-first-counted (Parts.refuses w is) = same-counts _ _ refl refl
-first-counted (Parts.renames w is) = same-counts _ _ refl refl
-first-counted (Parts.flushes open_is) = same-counts _ _ refl refl
-first-counted (Parts.sends row route vs name sent) = record { sent = (omega arith, omega arith); delivered = (omega arith, omega arith) }
-first-counted {e} (Parts.answers by vs r row found may ok is) = let c = used-counts by e in same-counts _ _ c.0 c.1
-first-counted (Parts.closes open_is none) = same-counts _ _ refl refl
-first-counted (Parts.dies open_is) = same-counts _ _ refl refl
-first-counted (Parts.dies_silent open_is alive) = same-counts _ _ refl refl
-first-counted (Parts.takes m sync level row vs next body found stays) = same-counts _ _ refl refl
-first-counted {e} (Parts.drops m sync level row vs id replies next body found gone is) = let c = behind-counts replies (Parts.left_end e) in same-counts _ _ c.0 c.1
-first-counted (Parts.drops_unknown m sync level vs next body none) = same-counts _ _ refl refl
-first-counted (Parts.takes_reply m sync level a next body late) = same-counts _ _ refl refl
-first-counted (Parts.settles m sync level row a next body found is) = same-counts _ _ refl refl
-first-counted (Parts.shuts last next is) = same-counts _ _ refl refl
-first-counted {e} (Parts.returns entry row vs told lost returns t l) =
-    let off : End = record e { stack = drop 1 e.stack } in
-    let c = behind-counts lost (end_behind told off) in
-    let d = behind-counts told off in
-    same-counts _ _ (c.0 ∙ d.0) (c.1 ∙ d.1)
-first-counted (Parts.resumes wait row on_top found) = same-counts _ _ refl refl
-
-own-counted : {schema : Schema} {p : Phase} {e f : End} {ws : List What} {ps : List Packet} → OwnParts schema e ws ps f p → HasCounted e f
-own-counted (Parts.begun first rest) =
-    let a = first-counted first in
-    let b = laters-counted rest in
-    record { sent = (omega (arith, a.sent.0, b.0), omega (arith, a.sent.1, b.0)); delivered = (omega (arith, a.delivered.0, b.1), omega (arith, a.delivered.1, b.1)) }
-
-delivery-counted : {schema : Schema} {packet : Packet} {p : Phase} {e f : End} {ws : List What} {ps : List Packet} → DeliveryPart schema packet e ws ps f p → HasCounted e f
-delivery-counted {e} (Parts.gets_request m row vs body found none) = record { sent = (omega arith, omega arith); delivered = (omega arith, omega arith) }
-delivery-counted {e} (Parts.replaces m row vs old sync level true body found rep is) = record { sent = (omega arith, omega arith); delivered = (omega arith, omega arith) }
-delivery-counted {e} (Parts.replaces m row vs old sync level false body found rep is) = record { sent = (omega arith, omega arith); delivered = (omega arith, omega arith) }
-delivery-counted (Parts.gets_answer m row a body found sync) = same-counts _ _ refl refl
-delivery-counted (Parts.gets_reply m row a body found async) = same-counts _ _ refl refl
-delivery-counted (Parts.drains packet is) = same-counts _ _ refl refl
-delivery-counted (Parts.passes_by m ordinary none) = same-counts _ _ refl refl
-
-pub counts_grow : CountsGrow
-counts_grow schema e link happened output is = by happened (steps_are_chains schema e link happened output is)
-  where
-    by : (happened : Event) → IsStepOfParts schema e link happened output → HasCounted e output.end
-    by event.deliver (packet, first, open_is, made) = delivery-counted made.parts
-    by (event.send route number vs name) made = own-counted made.parts
-    by (event.answer way vs) made = own-counted made.parts
-    by (event.keep seq name) made = own-counted made.parts
-    by (event.name name id) made = own-counted made.parts
-    by event.close made = own-counted made.parts
-    by event.die made = own-counted made.parts
-    by event.take made = own-counted made.parts
-    by (event.return vs) made = own-counted made.parts
-    by event.resume made = own-counted made.parts
-    by event.flush made = own-counted made.parts

@@ -74,28 +74,28 @@ module _ (schema : Schema) where
   -- Fields of an end
 
   pub fits-outbox : (e : End) → IsFitting schema e → IsFitting schema (record e { outbox = [] })
-  fits-outbox e h = record { actors = h.actors; arrived = h.arrived; stack = h.stack; promises = h.promises; names = h.names; outbox = tt; few = omega arith; constructors = h.constructors }
+  fits-outbox e h = record { actors = h.actors; arrived = h.arrived; stack = h.stack; promises = h.promises; names = h.names; outbox = tt }
 
   pub fits-state : (e : End) (state : EndState) → IsFitting schema e → IsFitting schema (record e { state = state })
-  fits-state e state h = record { actors = h.actors; arrived = h.arrived; stack = h.stack; promises = h.promises; names = h.names; outbox = h.outbox; few = h.few; constructors = h.constructors }
+  fits-state e state h = record { actors = h.actors; arrived = h.arrived; stack = h.stack; promises = h.promises; names = h.names; outbox = h.outbox }
 
   pub fits-actors : (e : End) (actors : List Actor) → AllByRecursion HasLivingId actors → IsFitting schema e → IsFitting schema (record e { actors = actors })
-  fits-actors e actors k h = record { actors = k; arrived = h.arrived; stack = h.stack; promises = h.promises; names = h.names; outbox = h.outbox; few = h.few; constructors = h.constructors }
+  fits-actors e actors k h = record { actors = k; arrived = h.arrived; stack = h.stack; promises = h.promises; names = h.names; outbox = h.outbox }
 
   pub fits-arrived : (e : End) (items : List Item) → AllByRecursion (FitsItem schema) items → IsFitting schema e → IsFitting schema (record e { arrived = items })
-  fits-arrived e items k h = record { actors = h.actors; arrived = k; stack = h.stack; promises = h.promises; names = h.names; outbox = h.outbox; few = h.few; constructors = h.constructors }
+  fits-arrived e items k h = record { actors = h.actors; arrived = k; stack = h.stack; promises = h.promises; names = h.names; outbox = h.outbox }
 
   pub fits-stack : (e : End) (stack : List StackEntry) → AllByRecursion (FitsEntry schema) stack → IsFitting schema e → IsFitting schema (record e { stack = stack })
-  fits-stack e stack k h = record { actors = h.actors; arrived = h.arrived; stack = k; promises = h.promises; names = h.names; outbox = h.outbox; few = h.few; constructors = h.constructors }
+  fits-stack e stack k h = record { actors = h.actors; arrived = h.arrived; stack = k; promises = h.promises; names = h.names; outbox = h.outbox }
 
   pub fits-promises : (e : End) (promises : List PromiseEntry) → AllByRecursion (FitsPromise schema) promises → IsFitting schema e → IsFitting schema (record e { promises = promises })
-  fits-promises e promises k h = record { actors = h.actors; arrived = h.arrived; stack = h.stack; promises = k; names = h.names; outbox = h.outbox; few = h.few; constructors = h.constructors }
+  fits-promises e promises k h = record { actors = h.actors; arrived = h.arrived; stack = h.stack; promises = k; names = h.names; outbox = h.outbox }
 
   pub fits-names : (e : End) (names : List Naming) → AllByRecursion (FitsNaming schema) names → IsFitting schema e → IsFitting schema (record e { names = names })
-  fits-names e names k h = record { actors = h.actors; arrived = h.arrived; stack = h.stack; promises = h.promises; names = k; outbox = h.outbox; few = h.few; constructors = h.constructors }
+  fits-names e names k h = record { actors = h.actors; arrived = h.arrived; stack = h.stack; promises = h.promises; names = k; outbox = h.outbox }
 
   pub fits-delivered : (e : End) (delivered constructors : ℕ) → IsFitting schema e → IsFitting schema (record e { delivered = delivered; constructors_delivered = constructors })
-  fits-delivered e delivered constructors h = record { actors = h.actors; arrived = h.arrived; stack = h.stack; promises = h.promises; names = h.names; outbox = h.outbox; few = h.few; constructors = h.constructors }
+  fits-delivered e delivered constructors h = record { actors = h.actors; arrived = h.arrived; stack = h.stack; promises = h.promises; names = h.names; outbox = h.outbox }
 
   pub fits-behind : (b : Bool) (e : End) → IsFitting schema e → IsFitting schema (end_behind b e)
   fits-behind true e h = fits-outbox e h

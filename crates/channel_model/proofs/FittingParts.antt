@@ -36,6 +36,7 @@ use Rattle.value_types.specs.Fits.{IsLivingId, IsFaultOf, IsRequestOf, GivesRetu
 use Rattle.value_types.specs.HasType.{HaveTypes}
 use Rattle.channel_model.specs.Acts.{goodbye}
 use Rattle.channel_model.specs.Answers as answering
+use Rattle.channel_model.specs.Bounds.{IsCounted}
 use Rattle.channel_model.specs.Deliveries as delivery
 use Rattle.channel_model.specs.Ends.{End, Packet, message, mark, Resolver, NameContent, actor, resolver, StackEntry, opening_end}
 use Rattle.channel_model.specs.Events.{Event, Answering}
@@ -228,27 +229,27 @@ module _ (schema : Schema) (sound : IsSound schema) where
   leaving-fits : (e : End) → IsFitting schema e → IsFitting schema (left_end e)
   leaving-fits e h = fits-arrived schema e _ (left-items schema e h) h
 
-  first-fits : {p : Phase} {e f : End} {ws : List What} {ps : List Packet} → FirstPart schema e ws ps f p → e.sent < 268435456 → IsFitting schema e → PartFits schema ps f p
-  first-fits (Parts.refuses w is) few h = record { end = h; packets = tt; fresh = tt }
-  first-fits (Parts.renames w is) few h = record { end = h; packets = tt; fresh = tt }
-  first-fits {e} (Parts.flushes open_is) few h = record { end = fits-outbox schema e h; packets = outbox-packets schema e.outbox h.outbox; fresh = tt }
-  first-fits {e} (Parts.sends row route vs name sent) few h = record { end = sent-end schema e row route vs name sent few h; packets = sent-packets schema e row route vs name sent few h; fresh = sent-fresh schema e row route vs name sent few h }
-  first-fits {e} (Parts.answers by vs r row found may ok is) few h = record {
+  first-fits : {p : Phase} {e f : End} {ws : List What} {ps : List Packet} → FirstPart schema e ws ps f p → IsCounted e → e.sent < 268435456 → IsFitting schema e → PartFits schema ps f p
+  first-fits (Parts.refuses w is) counted few h = record { end = h; packets = tt; fresh = tt }
+  first-fits (Parts.renames w is) counted few h = record { end = h; packets = tt; fresh = tt }
+  first-fits {e} (Parts.flushes open_is) counted few h = record { end = fits-outbox schema e h; packets = outbox-packets schema e.outbox h.outbox; fresh = tt }
+  first-fits {e} (Parts.sends row route vs name sent) counted few h = record { end = sent-end schema e row route vs name sent counted few h; packets = sent-packets schema e row route vs name sent counted few h; fresh = sent-fresh schema e row route vs name sent counted few h }
+  first-fits {e} (Parts.answers by vs r row found may ok is) counted few h = record {
     end = fits-outbox schema (answering.without_resolver by e) (answered-end e by h);
     packets = behind-packets schema e (message (reply_to (resolver_answered r) (answering.answer_body vs))) (answer-fits e vs r row (used e by r row found is h) may (ap (answering.resolver_refusal schema e row vs) (sym is) ∙ (passed-first (is_open e.state) refusal.Closed (answering.resolver_refusal schema e row vs (answering.resolver_used e by)) ok).1) h) h;
     fresh = tt;
   }
-  first-fits {e} (Parts.closes open_is waits) few h = record { end = closing-fits (record e { outbox = [] }) (fits-outbox schema e h); packets = behind-packets schema e (message goodbye) (record { number = refl; route = refl; seq = refl; transaction = refl; made = refl }) h; fresh = tt }
-  first-fits {e} (Parts.dies open_is) few h = record { end = fits-outbox schema (record e { state = Dead; stack = []; arrived = [] }) (dying-fits e h); packets = behind-packets schema e mark tt h; fresh = tt }
-  first-fits {e} (Parts.dies_silent open_is alive) few h = record { end = dying-fits e h; packets = tt; fresh = tt }
-  first-fits {e} (Parts.takes m sync level row vs next body found stays) few h =
+  first-fits {e} (Parts.closes open_is waits) counted few h = record { end = closing-fits (record e { outbox = [] }) (fits-outbox schema e h); packets = behind-packets schema e (message goodbye) (record { number = refl; route = refl; seq = refl; transaction = refl; made = refl }) h; fresh = tt }
+  first-fits {e} (Parts.dies open_is) counted few h = record { end = fits-outbox schema (record e { state = Dead; stack = []; arrived = [] }) (dying-fits e h); packets = behind-packets schema e mark tt h; fresh = tt }
+  first-fits {e} (Parts.dies_silent open_is alive) counted few h = record { end = dying-fits e h; packets = tt; fresh = tt }
+  first-fits {e} (Parts.takes m sync level row vs next body found stays) counted few h =
       let r : IsRequestOf schema row m vs = request-of schema row m vs (taken-fits schema e (item.Message m sync level) h next).0 body found in
       record {
         end = fits-stack schema (left_end e) (take.dispatch_of row m ∷ e.stack) (record { row = row; request = request-kept schema row m vs r; sync = refl; level = refl; resolves = λ e. e; frame = tt }, h.stack) (leaving-fits e h);
         packets = tt;
         fresh = request-fresh row m r.made;
       }
-  first-fits {e} (Parts.drops m sync level row vs id replies next body found gone is) few h =
+  first-fits {e} (Parts.drops m sync level row vs id replies next body found gone is) counted few h =
       let r : IsRequestOf schema row m vs = request-of schema row m vs (taken-fits schema e (item.Message m sync level) h next).0 body found in
       record {
         end = fits-behind schema replies (left_end e) (leaving-fits e h);
@@ -256,11 +257,11 @@ module _ (schema : Schema) (sound : IsSound schema) where
             (λ b. fault-fits schema sound row (request_answered m) (request-kept schema row m vs r) reason.ActorDestroyed (owed-reply row (and-right (is_open e.state) (owes_reply row) (sym is ∙ b))) (destroyed-fault row.semantics));
         fresh = tt;
       }
-  first-fits {e} (Parts.drops_unknown m sync level vs next body none) few h = record { end = leaving-fits e h; packets = tt; fresh = tt }
-  first-fits {e} (Parts.takes_reply m sync level a next body late) few h = record { end = leaving-fits e h; packets = tt; fresh = tt }
-  first-fits {e} (Parts.settles m sync level row a next body found is) few h = record { end = fits-promises schema (left_end e) _ (settled-promises schema m.seq _ e.promises h.promises) (leaving-fits e h); packets = tt; fresh = tt }
-  first-fits {e} (Parts.shuts last next is) few h = record { end = closing-fits e h; packets = tt; fresh = tt }
-  first-fits {e} (Parts.returns entry row vs told lost returns t l) few h =
+  first-fits {e} (Parts.drops_unknown m sync level vs next body none) counted few h = record { end = leaving-fits e h; packets = tt; fresh = tt }
+  first-fits {e} (Parts.takes_reply m sync level a next body late) counted few h = record { end = leaving-fits e h; packets = tt; fresh = tt }
+  first-fits {e} (Parts.settles m sync level row a next body found is) counted few h = record { end = fits-promises schema (left_end e) _ (settled-promises schema m.seq _ e.promises h.promises) (leaving-fits e h); packets = tt; fresh = tt }
+  first-fits {e} (Parts.shuts last next is) counted few h = record { end = closing-fits e h; packets = tt; fresh = tt }
+  first-fits {e} (Parts.returns entry row vs told lost returns t l) counted few h =
       let k : FitsEntry schema entry = top-entry e.stack entry returns.on_top h.stack in
       let q : AnsweredRequest = return.dispatch_answered entry in
       let kept : IsRequestKept schema row q = subst (λ (r : MessageRow). IsRequestKept schema r q) (kept-row k.row row q k.request returns.found) k.request in
@@ -273,11 +274,11 @@ module _ (schema : Schema) (sound : IsSound schema) where
             (λ b. promised-fault schema sound (resolver_answered (answering.resolver_in entry)) (entry-resolver schema entry k (and-right (is_open e.state) entry.resolves (sym l ∙ b)))));
         fresh = tt;
       }
-  first-fits {e} (Parts.resumes wait row on_top found) few h = record { end = fits-stack schema e (drop 1 e.stack) (all-drop (FitsEntry schema) e.stack h.stack) h; packets = tt; fresh = tt }
+  first-fits {e} (Parts.resumes wait row on_top found) counted few h = record { end = fits-stack schema e (drop 1 e.stack) (all-drop (FitsEntry schema) e.stack h.stack) h; packets = tt; fresh = tt }
 
-  own-fits : {p : Phase} {e f : End} {ws : List What} {ps : List Packet} → OwnParts schema e ws ps f p → e.sent < 268435456 → IsFitting schema e → PartFits schema ps f p
-  own-fits (Parts.begun {ps} {qs} first rest) few h =
-      let a = first-fits first few h in
+  own-fits : {p : Phase} {e f : End} {ws : List What} {ps : List Packet} → OwnParts schema e ws ps f p → IsCounted e → e.sent < 268435456 → IsFitting schema e → PartFits schema ps f p
+  own-fits (Parts.begun {ps} {qs} first rest) counted few h =
+      let a = first-fits first counted few h in
       let b = laters-fit rest a.fresh a.end in
       record { end = b.end; packets = all-append (FitsPacket schema) ps qs a.packets b.packets; fresh = b.fresh }
 
@@ -374,8 +375,8 @@ module _ (schema : Schema) (sound : IsSound schema) where
 
 -- Steps
 
-own-output : (schema : Schema) → IsSound schema → (e : End) (output : Output) → e.sent < 268435456 → IsFitting schema e → IsMadeOf (OwnParts schema e) e.side output → FitsOutput schema output
-own-output schema sound e output few h made = let r = own-fits schema sound made.parts few h in record { end = r.end; packets = r.packets }
+own-output : (schema : Schema) → IsSound schema → (e : End) (output : Output) → IsCounted e → e.sent < 268435456 → IsFitting schema e → IsMadeOf (OwnParts schema e) e.side output → FitsOutput schema output
+own-output schema sound e output counted few h made = let r = own-fits schema sound made.parts counted few h in record { end = r.end; packets = r.packets }
 
 delivered-output : (schema : Schema) → IsSound schema → (e : End) (link : List Packet) (output : Output) → IsFittingDelivery schema e link event.deliver → IsFitting schema e → IsDeliveryOfOnePart schema e link output → FitsOutput schema output
 delivered-output schema sound e [] output fits h (packet, is, open_is, made) = cc
@@ -385,10 +386,10 @@ delivered-output schema sound e (first ∷ rest) output fits h (packet, is, open
     record { end = r.end; packets = r.packets }
 
 pub fitting_ends_stay : FittingEndsStay
-fitting_ends_stay schema e link happened output is sound few fits h = by happened (steps_are_chains schema e link happened output is) fits
+fitting_ends_stay schema e link happened output is sound counted few fits h = by happened (steps_are_chains schema e link happened output is) fits
   where
     own : IsMadeOf (OwnParts schema e) e.side output → FitsOutput schema output
-    own made = own-output schema sound e output few h made
+    own made = own-output schema sound e output counted few h made
 
     by : (happened : Event) → IsStepOfParts schema e link happened output → IsFittingDelivery schema e link happened → FitsOutput schema output
     by event.deliver made fits = delivered-output schema sound e link output fits h made
@@ -404,4 +405,4 @@ fitting_ends_stay schema e link happened output is sound few fits h = by happene
     by event.flush made fits = own made
 
 pub first_ends_fit : FirstEndsFit
-first_ends_fit schema protocol side = record { actors = (top-lives, tt); arrived = tt; stack = tt; promises = tt; names = tt; outbox = tt; few = omega arith; constructors = omega arith }
+first_ends_fit schema protocol side = (record { actors = (top-lives, tt); arrived = tt; stack = tt; promises = tt; names = tt; outbox = tt }, record { outbox = omega arith; constructors = omega arith })

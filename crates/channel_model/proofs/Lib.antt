@@ -35,3 +35,4 @@ pub mod FittingSends
 pub mod FittingParts
 pub mod Counted
 pub mod BoundedParts
+pub mod CountedParts

@@ -1,5 +1,5 @@
 -- What an end keeps and sends fits the schema.
-use Rattle.std.specs.Prelude.{◌≡◌, ◌≤◌, ℤ, pos, Bool, true, false, List, [], ◌∷◌, length, Option, Some, None}
+use Rattle.std.specs.Prelude.{◌≡◌, ℤ, pos, Bool, true, false, List, [], ◌∷◌, Option, Some, None}
 use Rattle.std.specs.List.{AllByRecursion}
 use Rattle.actor_tree.specs.declared.actor.Actor.{Actor}
 use Rattle.ipdl_base.specs.declared.kinds.Level.{Level}
@@ -83,8 +83,7 @@ FitsNaming schema naming = FitsContent schema naming.holds
 abbrev pub HasLivingId : Actor → Type 0
 HasLivingId a = IsLivingId a.id
 
--- All that an end keeps fits the schema; and no more requests wait in the outbox, and no more constructors were sent,
--- than it has sent requests.
+-- All that an end keeps fits the schema.
 pub record IsFitting (schema : Schema) (e : End) : Type 0 where
   pub actors : AllByRecursion HasLivingId e.actors
   pub arrived : AllByRecursion (FitsItem schema) e.arrived
@@ -92,8 +91,6 @@ pub record IsFitting (schema : Schema) (e : End) : Type 0 where
   pub promises : AllByRecursion (FitsPromise schema) e.promises
   pub names : AllByRecursion (FitsNaming schema) e.names
   pub outbox : AllByRecursion (Fits schema) e.outbox
-  pub few : length e.outbox ≤ e.sent
-  pub constructors : e.constructors_sent ≤ e.sent
 
 -- a packet is a message that fits, or a mark
 abbrev pub FitsPacket : Schema → Packet → Type 0

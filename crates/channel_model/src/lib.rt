@@ -13,8 +13,8 @@ pub use laws::{
     plain_forms_commute,
 };
 pub use step_laws::{
-    effects_follow_events, events_have_their_lines, first_actors_are_known, first_ends_fit,
+    counts_grow, effects_follow_events, events_have_their_lines, first_actors_are_known, first_ends_fit,
     first_states, fitting_ends_stay,
     known_actors_stay, next_number_is_free, numbers_in_every_run, numbers_stay, states_stay,
-    steps_are_chains,
+    steps_are_bounded, steps_are_chains,
 };
