@@ -6,6 +6,7 @@ mod WorkedMoves
 mod Worked
 mod WorkedRules
 mod WorkedDeliveries
+mod WorkedParts
 pub mod Provided
 pub mod Adds
 pub mod Effects
