@@ -65,7 +65,7 @@ use Rattle.channel_model.proofs.FittingValues.{top-lives, values-carried, values
 use Rattle.channel_model.proofs.Known.{all-append, all-filter}
 use Rattle.channel_model.proofs.SendParts.{passed-first, request-number}
 use Rattle.channel_model.proofs.SoundRows.{reply-row}
-use Rattle.channel_model.proofs.StepParts.{steps_are_chains}
+use Rattle.channel_model.proofs.StepParts.{steps_are_made_of_parts}
 use Rattle.channel_model.proofs.TypedValues.{and-left, and-right}
 
 -- What a part leaves fits: the end behind it, its packets, and the ids that may be built.
@@ -386,7 +386,7 @@ delivered-output schema sound e (first ∷ rest) output fits h (packet, is, open
     record { end = r.end; packets = r.packets }
 
 pub fitting_ends_stay : FittingEndsStay
-fitting_ends_stay schema e link happened output is sound counted few fits h = by happened (steps_are_chains schema e link happened output is) fits
+fitting_ends_stay schema e link happened output is sound counted few fits h = by happened (steps_are_made_of_parts schema e link happened output is) fits
   where
     own : IsMadeOf (OwnParts schema e) e.side output → FitsOutput schema output
     own made = own-output schema sound e output counted few h made

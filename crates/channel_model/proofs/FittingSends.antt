@@ -94,7 +94,6 @@ not-refused (Some cause) rest e = cc
 -- The request
 
 module _ (schema : Schema) (e : End) (row : MessageRow) (route : ℤ) (vs : Values) (name : Option (List ℕ)) (sent : IsSent schema e row route vs name) (counted : IsCounted e) (few : e.sent < 268435456) (h : IsFitting schema e) where
-
   is-one : IsOne (send.next_seq e)
   is-one = seq-fits e.side (e.sent + 1) (omega arith) (omega arith)
 

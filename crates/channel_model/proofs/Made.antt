@@ -85,8 +85,8 @@ abbrev pub made-later : (p q : Phase) (change : Change) (o : Output) (ws : List 
     → Makes (LaterParts p o.end) change o q
 made-later p q change o ws ps part lines packets side = made (LaterParts p o.end) change o q ws ps (later-one part) lines packets side
 
-pub made-chain : (p q r : Phase) (f g : Change) (o : Output) → Makes (LaterParts p o.end) f o q → Makes (LaterParts q (f o).end) g (f o) r → Makes (LaterParts p o.end) (f ▷ g) o r
-made-chain p q r f g o a b = record {
+pub made-joined : (p q r : Phase) (f g : Change) (o : Output) → Makes (LaterParts p o.end) f o q → Makes (LaterParts q (f o).end) g (f o) r → Makes (LaterParts p o.end) (f ▷ g) o r
+made-joined p q r f g o a b = record {
   whats = a.whats ++ b.whats;
   packets = a.packets ++ b.packets;
   parts = later-append a.parts b.parts;

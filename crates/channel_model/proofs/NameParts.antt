@@ -27,7 +27,7 @@ use Rattle.channel_model.specs.Parts
 use Rattle.channel_model.specs.Parts.{FirstPart, LaterParts, OwnParts, HoldsActor, IsRefusal, IsRenaming, IsSilent, behind_outbox, reply_packet, fall_lines, abandoned_lines, shut_end}
 use Rattle.channel_model.specs.Phases.{Phase, deletion, quiet, renaming, shutting}
 use Rattle.channel_model.specs.Sends as send
-use Rattle.channel_model.proofs.Made.{Makes, made, made-as, made-nothing, made-later_at, made-later, made-chain, made-begun, made-alone}
+use Rattle.channel_model.proofs.Made.{Makes, made, made-as, made-nothing, made-later_at, made-later, made-joined, made-begun, made-alone}
 
 -- packets go behind the outbox
 pub put-packets : (ps : List Packet) (e : End) (packet : Packet) → ps ++ map message e.outbox ++ packet ∷ [] ≡ ps ++ behind_outbox e packet
@@ -89,7 +89,7 @@ renamed-made p name holds o may h =
     let q : Phase = renamed_phase false p in
     let lost : Output = letting before name o in
     made-as (LaterParts p o.end) (renamed name holds) (letting before name ▷ gaining more) o q refl
-    (made-chain p q q (letting before name) (gaining more) o (letting-made p name before o may refl)
+    (made-joined p q q (letting before name) (gaining more) o (letting-made p name before o may refl)
     (made-later q q (gaining more) lost [] [] (Parts.names more (holding-actor name holds h)) (sym (append-nil lost.lines)) (sym (append-nil lost.packets)) refl))
 
 pub names_actor-made : (p : Phase) (id : ℤ) (name : Option (List ℕ)) (o : Output) → p.renames ≡ true → (b : Bool) × Makes (LaterParts p o.end) (send.names_actor id name) o (renamed_phase b p)
@@ -141,7 +141,7 @@ keep-named p e seq name found o may same is =
     let more : List Naming = holding name (answering.kept_by e found) in
     let q : Phase = renamed_phase false p in
     made-as (LaterParts p o.end) (on_end (λ e. record e { stack = answering.released seq e.stack }) ▷ renamed name (answering.kept_by e found)) (letting before name ▷ keeping seq more) o q (keep-later seq name more before o)
-    (made-chain p q q (letting before name) (keeping seq more) o (letting-made p name before o may refl)
+    (made-joined p q q (letting before name) (keeping seq more) o (letting-made p name before o may refl)
     (giving-made q seq name found b (letting before name o) (handled-later seq name before found o is) (ap is_closed (letting-state name before o ∙ ap (λ (x : End). x.state) same))))
 
 module _ (schema : Schema) where
@@ -200,7 +200,7 @@ module _ (schema : Schema) where
       let g : Output = fall.abandoned f in
       made-as (OwnParts schema o.end) (begins ▷ fall.closed why) ((begins ▷ on_end shut_end) ▷ fall.abandoned ▷ fall.fallen top_id (λ id. why)) o q refl
       (made-begun schema q q (begins ▷ on_end shut_end) (fall.abandoned ▷ fall.fallen top_id (λ id. why)) o h
-      (made-chain q q q fall.abandoned (fall.fallen top_id (λ id. why)) f
+      (made-joined q q q fall.abandoned (fall.fallen top_id (λ id. why)) f
       (made-later q q fall.abandoned f (abandoned_lines f.end) [] (Parts.abandons why refl) refl (sym (append-nil f.packets)) refl)
       (made-later q q (fall.fallen top_id (λ id. why)) g (fall_lines top_id (λ id. why) g.end) [] (Parts.falls why refl) refl (sym (append-nil g.packets)) refl)))
 

@@ -27,7 +27,7 @@ use Rattle.channel_model.specs.Phases.{Phase, manager_of, kind_cause, fresh_of, 
 use Rattle.channel_model.specs.Sends as send
 use Rattle.channel_model.specs.ValueActors.{lives_as}
 use Rattle.channel_model.proofs.Leaves.{Ignores, leaves-names_actor}
-use Rattle.channel_model.proofs.Made.{Makes, made-at, made-as, made-later, made-chain, made-begun, made-alone}
+use Rattle.channel_model.proofs.Made.{Makes, made-at, made-as, made-later, made-joined, made-begun, made-alone}
 use Rattle.channel_model.proofs.NameParts.{put-packets, refusal-made, renamed_phase, names_actor-made, deletes-made}
 
 -- Tests
@@ -127,7 +127,7 @@ module _ (schema : Schema) where
       let named : Output = send.names_actor m.made name o in (
         q,
         made-as (LaterParts p o.end) (send.names_actor m.made name ▷ send.constructs m.made m.route (Constructor protocol) ▷ fall.deletes m.route (Constructor protocol)) (send.names_actor m.made name ▷ send.built m.made protocol m.route) o q refl
-            (made-chain p r q (send.names_actor m.made name) (send.built m.made protocol m.route) o n.1
+            (made-joined p r q (send.names_actor m.made name) (send.built m.made protocol m.route) o n.1
             (builds-made r m.made protocol named (fresh-is row m protocol is) (ap (λ (living : List Actor). lives m.route living) (leaves-names_actor (λ (e : End). e.actors) m.made name actors-ignores o) ∙ alive))),
       )
   finish row m name Delete o is alive =
@@ -136,7 +136,7 @@ module _ (schema : Schema) where
       let r : Phase = renamed_phase n.0 p in (
         r,
         made-as (LaterParts p o.end) (send.names_actor m.made name ▷ send.constructs m.made m.route Delete ▷ fall.deletes m.route Delete) (send.names_actor m.made name ▷ fall.deleted m.route) o r refl
-            (made-chain p r r (send.names_actor m.made name) (fall.deleted m.route) o n.1
+            (made-joined p r r (send.names_actor m.made name) (fall.deleted m.route) o n.1
             (deletes-made schema r m.route (send.names_actor m.made name o) (ap (λ (k : Kind). kind_cause k m.route) is))),
       )
 

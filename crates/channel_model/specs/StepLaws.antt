@@ -51,8 +51,8 @@ IsStepOfParts schema e link event.deliver output = IsDeliveryOfOnePart schema e 
 IsStepOfParts schema e link _ output = IsMadeOf (OwnParts schema e) e.side output
 
 -- Every step is made of parts: a delivery is one, and all else is one that it begins with and others that may follow.
-abbrev pub StepsAreChains : Type 0
-StepsAreChains =
+abbrev pub StepsAreMadeOfParts : Type 0
+StepsAreMadeOfParts =
     (schema : Schema) (e : End) (link : List Packet) (event : Event) (output : Output) → step schema e link event ≡ Some output → IsStepOfParts schema e link event output
 
 -- Actors stay known: a step whose packet, if it delivers one, is not refused keeps them so.

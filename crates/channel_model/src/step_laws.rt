@@ -1,9 +1,9 @@
-ghost use Rattle.channel_model.specs.StepLaws.{CountsGrow, EffectsFollowEvents, EventsHaveTheirLines, FirstActorsAreKnown, FirstEndsFit, FirstStates, FittingEndsStay, KnownActorsStay, NextNumberIsFree, NumbersInEveryRun, NumbersStay, StatesStay, StepsAreBounded, StepsAreChains};
+ghost use Rattle.channel_model.specs.StepLaws.{CountsGrow, EffectsFollowEvents, EventsHaveTheirLines, FirstActorsAreKnown, FirstEndsFit, FirstStates, FittingEndsStay, KnownActorsStay, NextNumberIsFree, NumbersInEveryRun, NumbersStay, StatesStay, StepsAreBounded, StepsAreMadeOfParts};
 
 /// The law of parts: every step is made of parts; a delivery is one, and all else is one that it begins with and others
 /// that may follow.
-pub fn steps_are_chains()
-    ensures { StepsAreChains }
+pub fn steps_are_made_of_parts()
+    ensures { StepsAreMadeOfParts }
 {}
 
 /// The law of an event's lines: one line of the event and then those of its effects, all of the end's side.
