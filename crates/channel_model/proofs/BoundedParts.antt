@@ -54,7 +54,7 @@ use Rattle.channel_model.proofs.Counted.{abandoned-count, falls-balance, waits, 
 use Rattle.channel_model.proofs.FittingEnds.{taken-first}
 use Rattle.channel_model.proofs.FittingValues.{found-in}
 use Rattle.channel_model.proofs.Known.{all-before, all-behind, all-map, tree-others, dead-filter, own_is_free}
-use Rattle.channel_model.proofs.StepParts.{steps_are_made_of_parts}
+use Rattle.channel_model.proofs.StepParts.{by-parts}
 
 -- Counts
 
@@ -353,17 +353,4 @@ delivered-bounded schema e link output (packet, is, open_is, made) =
     record { lines = omega (arith, k, b.lines); packets = b.packets }
 
 pub steps_are_bounded : StepsAreBounded
-steps_are_bounded schema protocol e link happened output is known = by happened (steps_are_made_of_parts schema e link happened output is)
-  where
-    by : (happened : Event) → IsStepOfParts schema e link happened output → IsBounded e output
-    by event.deliver made = delivered-bounded schema e link output made
-    by (event.send route number vs name) made = own-bounded schema protocol e output known made
-    by (event.answer way vs) made = own-bounded schema protocol e output known made
-    by (event.keep seq name) made = own-bounded schema protocol e output known made
-    by (event.name name id) made = own-bounded schema protocol e output known made
-    by event.close made = own-bounded schema protocol e output known made
-    by event.die made = own-bounded schema protocol e output known made
-    by event.take made = own-bounded schema protocol e output known made
-    by (event.return vs) made = own-bounded schema protocol e output known made
-    by event.resume made = own-bounded schema protocol e output known made
-    by event.flush made = own-bounded schema protocol e output known made
+steps_are_bounded schema protocol e link happened output is known = by-parts schema e link happened output (IsBounded e output) is (own-bounded schema protocol e output known) (λ same made. delivered-bounded schema e link output made)

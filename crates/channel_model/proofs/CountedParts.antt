@@ -17,7 +17,7 @@ use Rattle.channel_model.specs.Parts.{FirstPart, LaterPart, LaterParts, OwnParts
 use Rattle.channel_model.specs.Phases.{Phase}
 use Rattle.channel_model.specs.Sends.{request_of}
 use Rattle.channel_model.specs.StepLaws.{IsStepOfParts, CountsGrow}
-use Rattle.channel_model.proofs.StepParts.{steps_are_made_of_parts}
+use Rattle.channel_model.proofs.StepParts.{by-parts}
 
 -- No request is counted, and no more wait in the outbox.
 record Keeps (e f : End) : Type 0 where
@@ -128,17 +128,6 @@ counted-stays : (e f : End) → HasCounted e f → IsCounted e → IsCounted f
 counted-stays e f h k = record { outbox = omega (arith, h.outbox, k.outbox); constructors = omega (arith, h.constructors, k.constructors) }
 
 pub counts_grow : CountsGrow
-counts_grow schema e link happened output is = let h : HasCounted e output.end = by happened (steps_are_made_of_parts schema e link happened output is) in (h, counted-stays e output.end h)
-  where
-    by : (happened : Event) → IsStepOfParts schema e link happened output → HasCounted e output.end
-    by event.deliver (packet, first, open_is, made) = delivery-counted made.parts
-    by (event.send route number vs name) made = own-counted made.parts
-    by (event.answer way vs) made = own-counted made.parts
-    by (event.keep seq name) made = own-counted made.parts
-    by (event.name name id) made = own-counted made.parts
-    by event.close made = own-counted made.parts
-    by event.die made = own-counted made.parts
-    by event.take made = own-counted made.parts
-    by (event.return vs) made = own-counted made.parts
-    by event.resume made = own-counted made.parts
-    by event.flush made = own-counted made.parts
+counts_grow schema e link happened output is =
+    let h : HasCounted e output.end = by-parts schema e link happened output (HasCounted e output.end) is (λ made. own-counted made.parts) (λ same made. delivery-counted made.3.parts) in
+    (h, counted-stays e output.end h)

@@ -65,7 +65,7 @@ use Rattle.channel_model.proofs.FittingValues.{top-lives, values-carried, values
 use Rattle.channel_model.proofs.Known.{all-append, all-filter}
 use Rattle.channel_model.proofs.SendParts.{passed-first, request-number}
 use Rattle.channel_model.proofs.SoundRows.{reply-row}
-use Rattle.channel_model.proofs.StepParts.{steps_are_made_of_parts}
+use Rattle.channel_model.proofs.StepParts.{by-parts}
 use Rattle.channel_model.proofs.TypedValues.{and-left, and-right}
 
 -- What a part leaves fits: the end behind it, its packets, and the ids that may be built.
@@ -386,23 +386,8 @@ delivered-output schema sound e (first ∷ rest) output fits h (packet, is, open
     record { end = r.end; packets = r.packets }
 
 pub fitting_ends_stay : FittingEndsStay
-fitting_ends_stay schema e link happened output is sound counted few fits h = by happened (steps_are_made_of_parts schema e link happened output is) fits
-  where
-    own : IsMadeOf (OwnParts schema e) e.side output → FitsOutput schema output
-    own made = own-output schema sound e output counted few h made
-
-    by : (happened : Event) → IsStepOfParts schema e link happened output → IsFittingDelivery schema e link happened → FitsOutput schema output
-    by event.deliver made fits = delivered-output schema sound e link output fits h made
-    by (event.send route number vs name) made fits = own made
-    by (event.answer answering vs) made fits = own made
-    by (event.keep seq name) made fits = own made
-    by (event.name name id) made fits = own made
-    by event.close made fits = own made
-    by event.die made fits = own made
-    by event.take made fits = own made
-    by (event.return vs) made fits = own made
-    by event.resume made fits = own made
-    by event.flush made fits = own made
+fitting_ends_stay schema e link happened output is sound counted few fits h =
+    by-parts schema e link happened output (FitsOutput schema output) is (own-output schema sound e output counted few h) (λ same made. delivered-output schema sound e link output (subst (IsFittingDelivery schema e link) same fits) h made)
 
 pub first_ends_fit : FirstEndsFit
 first_ends_fit schema protocol side = (record { actors = (top-lives, tt); arrived = tt; stack = tt; promises = tt; names = tt; outbox = tt }, record { outbox = omega arith; constructors = omega arith })

@@ -8,9 +8,6 @@ mod WorkedRules
 mod WorkedDeliveries
 mod WorkedParts
 pub mod Provided
-pub mod Adds
-pub mod Effects
-pub mod Begins
 pub mod Events
 pub mod Follow
 pub mod Leaves

@@ -1,24 +1,24 @@
 -- Every step is made of parts.
-use Rattle.std.proofs.Common.{◌≡◌, pos, Bool, true, false, not, ◌&&◌, if◌then◌else◌, [], ◌∷◌, length, map, Some, None, is_some, option_and_then, refl, ap, ◌∙◌}
+use Rattle.std.proofs.Common.{◌≡◌, pos, Bool, true, false, not, ◌&&◌, if◌then◌else◌, [], ◌∷◌, length, map, List, Some, None, is_some, option_and_then, refl, ap, ◌∙◌}
 use Rattle.ipdl_base.specs.declared.line.What.{What}
 use Rattle.ipdl_base.specs.declared.line.What.TheVariants as what
 use Rattle.ipdl_base.specs.declared.schema.Schema.{Schema}
 use Rattle.channel_model.specs.Acts as act
 use Rattle.channel_model.specs.Answers as answering
 use Rattle.channel_model.specs.Deliveries as delivery
-use Rattle.channel_model.specs.Ends.{End, message, actor}
+use Rattle.channel_model.specs.Ends.{End, Packet, message, actor}
 use Rattle.channel_model.specs.Events.{Event}
 use Rattle.channel_model.specs.Events as event
 use Rattle.channel_model.specs.Names.{renamed}
 use Rattle.channel_model.specs.Numbers.{request_row}
 use Rattle.channel_model.specs.Outputs.{Output, Change, beginning, line, is_open, is_dead_end}
 use Rattle.channel_model.specs.Parts
-use Rattle.channel_model.specs.Parts.{FirstPart, OwnParts, DeliveryPart}
+use Rattle.channel_model.specs.Parts.{FirstPart, LaterPart, LaterParts, OwnParts, DeliveryPart}
 use Rattle.channel_model.specs.Phases.{Phase, quiet, renaming, returning}
 use Rattle.channel_model.specs.Returns as return
 use Rattle.channel_model.specs.Sends as send
-use Rattle.channel_model.specs.StepLaws.{IsMadeOf, IsDeliveryOfOnePart, StepsAreMadeOfParts}
-use Rattle.channel_model.specs.Steps.{provided, first_packet}
+use Rattle.channel_model.specs.StepLaws.{IsMadeOf, IsDeliveryOfOnePart, IsStepOfParts, StepsAreMadeOfParts}
+use Rattle.channel_model.specs.Steps.{step, provided, first_packet}
 use Rattle.channel_model.specs.Takes as take
 use Rattle.channel_model.specs.ValueActors.{received}
 use Rattle.channel_model.proofs.DeliveryParts.{deliver-made}
@@ -102,3 +102,42 @@ steps_are_made_of_parts schema e link event.flush output is =
     provided-gives (Own schema e) (return.may_flush e) return.flush e output
     (λ may. alone-step schema e return.flush quiet
     (made (FirstPart schema e) return.flush (beginning e) quiet (what.Flush (length e.outbox) ∷ []) (map message e.outbox) (Parts.flushes (and-left (is_open e.state) (not (return.is_empty e.outbox)) may)) refl refl refl)) is
+
+-- What parts give
+
+-- what a step is made of gives what is wanted of it
+pub by-parts : (schema : Schema) (e : End) (link : List Packet) (happened : Event) (output : Output) (P : Type 0) → step schema e link happened ≡ Some output
+    → (IsMadeOf (OwnParts schema e) e.side output → P) → (happened ≡ event.deliver → IsDeliveryOfOnePart schema e link output → P) → P
+by-parts schema e link happened output P is own delivered = by happened refl (steps_are_made_of_parts schema e link happened output is)
+  where
+    by : (now : Event) → happened ≡ now → IsStepOfParts schema e link now output → P
+    by event.deliver same made = delivered same made
+    by (event.send route number vs name) same made = own made
+    by (event.answer way vs) same made = own made
+    by (event.keep seq name) same made = own made
+    by (event.name name id) same made = own made
+    by event.close same made = own made
+    by event.die same made = own made
+    by event.take same made = own made
+    by (event.return vs) same made = own made
+    by event.resume same made = own made
+    by event.flush same made = own made
+
+-- What each part keeps.
+pub record EachPartKeeps (schema : Schema) (P : End → Type 0) : Type 0 where
+  pub first : {p : Phase} {e f : End} {ws : List What} {ps : List Packet} → FirstPart schema e ws ps f p → P e → P f
+  pub later : {p q : Phase} {e f : End} {ws : List What} {ps : List Packet} → LaterPart p e ws ps f q → P e → P f
+  pub delivery : {packet : Packet} {p : Phase} {e f : End} {ws : List What} {ps : List Packet} → DeliveryPart schema packet e ws ps f p → P e → P f
+
+module _ (schema : Schema) (P : End → Type 0) (each : EachPartKeeps schema P) where
+  laters-keep : {p q : Phase} {e f : End} {ws : List What} {ps : List Packet} → LaterParts p e ws ps f q → P e → P f
+  laters-keep Parts.done h = h
+  laters-keep (Parts.then part rest) h = laters-keep rest (each.later part h)
+
+  own-keeps : {p : Phase} {e f : End} {ws : List What} {ps : List Packet} → OwnParts schema e ws ps f p → P e → P f
+  own-keeps (Parts.begun first rest) h = laters-keep rest (each.first first h)
+
+  -- every step keeps it
+  pub parts-keep : (e : End) (link : List Packet) (happened : Event) (output : Output) → step schema e link happened ≡ Some output → P e → P output.end
+  parts-keep e link happened output is h =
+      by-parts schema e link happened output (P output.end) is (λ made. own-keeps made.parts h) (λ same delivered. each.delivery delivered.3.parts h)

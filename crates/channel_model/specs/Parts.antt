@@ -1,5 +1,5 @@
--- The parts that steps of an end are made of: each with its lines, its packets and the end behind it. A part is the
--- largest piece of a step in which nothing that an end keeps is broken halfway.
+-- The parts that steps of an end are made of: each with its lines, its packets and the end behind it. A part is a
+-- piece of a step whose lines, packets and changes belong together.
 use Rattle.std.specs.Prelude.{◌≡◌, ℕ, ◌+◌, ℤ, Bool, true, false, ◌&&◌, ◌||◌, cond, List, [], ◌∷◌, ◌++◌, drop, flat_map, length, map, Option, Some, None, is_some}
 use Rattle.std.specs.List.{AllByRecursion}
 use Rattle.actor_tree.specs.declared.actor.Actor.{Actor}
