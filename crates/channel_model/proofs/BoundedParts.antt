@@ -51,9 +51,7 @@ use Rattle.channel_model.specs.Sends as send
 use Rattle.channel_model.specs.StepLaws.{IsMadeOf, IsDeliveryOfOnePart, IsStepOfParts, StepsAreBounded}
 use Rattle.channel_model.specs.Takes as take
 use Rattle.channel_model.proofs.Counted.{abandoned-count, falls-balance, waits, dropped-waits, released-waits, failed-waits, answered-waits}
-use Rattle.channel_model.proofs.FittingEnds.{taken-first}
-use Rattle.channel_model.proofs.FittingValues.{found-in}
-use Rattle.channel_model.proofs.Known.{all-before, all-behind, all-map, tree-others, dead-filter, own_is_free}
+use Rattle.channel_model.proofs.KnownSteps.{KnownIn, later-known, first-known}
 use Rattle.channel_model.proofs.StepParts.{by-parts}
 
 -- Counts
@@ -74,62 +72,45 @@ unsettled-is e = ap (λ (n : ℕ). length e.actors + (length (pending_in e.promi
 behind-length : (e : End) (packet : Packet) → length (behind_outbox e packet) ≡ length e.outbox + 1
 behind-length e packet = length-append (map message e.outbox) (packet ∷ []) ∙ ap (λ (n : ℕ). n + 1) (length-map e.outbox message)
 
--- What parts leave, within some lines and packets: the actors are a tree, and the ids that may be built are free.
-record IsReady (p : Phase) (e : End) : Type 0 where
-  tree : IsTree e.actors
-  free : AllByRecursion (λ id. lives id e.actors ≡ false) p.fresh
-  one : length p.fresh ≤ 1
-
+-- What a part prints and sends, with what its phase allows still, is within some lines and packets.
 record Within (n k : ℕ) (ws : List What) (ps : List Packet) (f : End) (q : Phase) : Type 0 where
   lines : length ws + (unsettled f + more_lines q) ≤ n
   packets : length ps + (length f.outbox + more_packets q) ≤ k
-  ready : IsReady q f
 
 -- Later parts
 
-only-one : (rest : List ℤ) (P : ℤ → Type 0) (id : ℤ) → length (id ∷ rest) ≤ 1 → AllByRecursion P rest
-only-one [] P id few = tt
-only-one (x ∷ rest) P id few = absurd (omega arith)
-
-fallen-within : (p : Phase) (id : ℤ) (why : ℤ → Destroy) (e : End) → IsReady p e → Within (unsettled e + more_lines p) (length e.outbox + more_packets p) (Parts.fall_lines id why e) [] (fallen_end id e) p
-fallen-within p id why e r = record {
-  lines = omega (arith, falls-balance id why e.actors e.promises r.tree, unsettled-is e, unsettled-is (fallen_end id e));
+fallen-within : (p : Phase) (id : ℤ) (why : ℤ → Destroy) (e : End) → IsTree e.actors → Within (unsettled e + more_lines p) (length e.outbox + more_packets p) (Parts.fall_lines id why e) [] (fallen_end id e) p
+fallen-within p id why e tree = record {
+  lines = omega (arith, falls-balance id why e.actors e.promises tree, unsettled-is e, unsettled-is (fallen_end id e));
   packets = omega arith;
-  ready = record { tree = tree-others id e.actors r.tree; free = all-map (λ x. lives x e.actors ≡ false) (λ x. lives x (others (falling id e) e.actors) ≡ false) p.fresh (λ x. dead-filter x (λ (a : Actor). not (lives a.id (falling id e))) e.actors) r.free; one = r.one };
 }
 
-later-within : {p q : Phase} {e f : End} {ws : List What} {ps : List Packet} → LaterPart p e ws ps f q → IsReady p e → Within (unsettled e + more_lines p) (length e.outbox + more_packets p) ws ps f q
-later-within {p} {e} (Parts.unnames name may silent) r = record { lines = omega arith; packets = omega arith; ready = record { tree = r.tree; free = r.free; one = r.one } }
-later-within {p} {e} (Parts.lets_go name x may is open_is) r =
+later-within : {p q : Phase} {e f : End} {ws : List What} {ps : List Packet} → LaterPart p e ws ps f q → IsTree e.actors → Within (unsettled e + more_lines p) (length e.outbox + more_packets p) ws ps f q
+later-within {p} {e} (Parts.unnames name may silent) tree = record { lines = omega arith; packets = omega arith }
+later-within {p} {e} (Parts.lets_go name x may is open_is) tree =
     let b : bit p.renames ≡ 1 = ap bit may in
-    record { lines = omega (arith, b); packets = omega (arith, b, behind-length e (reply_packet (resolver_answered x) (answer.Fault reason.ResolverDestroyed))); ready = record { tree = r.tree; free = r.free; one = r.one } }
-later-within {p} {e} (Parts.names more actors) r = record { lines = omega arith; packets = omega arith; ready = record { tree = r.tree; free = r.free; one = r.one } }
-later-within {p} {e} (Parts.releases seq closed) r =
+    record { lines = omega (arith, b); packets = omega (arith, b, behind-length e (reply_packet (resolver_answered x) (answer.Fault reason.ResolverDestroyed))) }
+later-within {p} {e} (Parts.names more actors) tree = record { lines = omega arith; packets = omega arith }
+later-within {p} {e} (Parts.releases seq closed) tree =
     let f : End = record e { stack = answering.released seq e.stack } in
-    record { lines = omega (arith, unsettled-is e, unsettled-is f, released-waits seq e.stack); packets = omega arith; ready = record { tree = r.tree; free = r.free; one = r.one } }
-later-within {p} {e} (Parts.keeps seq name x is closed) r =
+    record { lines = omega (arith, unsettled-is e, unsettled-is f, released-waits seq e.stack); packets = omega arith }
+later-within {p} {e} (Parts.keeps seq name x is closed) tree =
     let f : End = record e { stack = answering.released seq e.stack } in
-    record { lines = omega (arith, unsettled-is e, unsettled-is f, released-waits seq e.stack); packets = omega arith; ready = record { tree = r.tree; free = r.free; one = r.one } }
-later-within {p} {e} (Parts.builds id protocol rest is alive) r =
+    record { lines = omega (arith, unsettled-is e, unsettled-is f, released-waits seq e.stack); packets = omega arith }
+later-within {p} {e} (Parts.builds id protocol rest is alive) tree =
     let fresh : length p.fresh ≡ length (id ∷ rest) = ap length is in
-    let free : AllByRecursion (λ id. lives id e.actors ≡ false) (id ∷ rest) = subst (AllByRecursion (λ id. lives id e.actors ≡ false)) is r.free in
-    let few : length (id ∷ rest) ≤ 1 = omega (arith, fresh, r.one) in
     let a : Actor = record { id = id; protocol = protocol; manager = manager_of p.start } in
-    record {
-      lines = omega (arith, fresh, length-append e.actors (a ∷ []));
-      packets = omega arith;
-      ready = record { tree = IsTree-append e.actors a r.tree free.0 alive; free = only-one rest _ id few; one = omega (arith, few) };
-    }
-later-within {p} {e} (Parts.deletes id cause) r = fallen-within p id (fall.why_deleted id) e r
-later-within {p} {e} (Parts.abandons why cause) r = record { lines = omega (arith, abandoned-count e.promises); packets = omega arith; ready = record { tree = r.tree; free = r.free; one = r.one } }
-later-within {p} {e} (Parts.falls why cause) r = fallen-within p top_id (λ id. why) e r
+    record { lines = omega (arith, fresh, length-append e.actors (a ∷ [])); packets = omega arith }
+later-within {p} {e} (Parts.deletes id cause) tree = fallen-within p id (fall.why_deleted id) e tree
+later-within {p} {e} (Parts.abandons why cause) tree = record { lines = omega (arith, abandoned-count e.promises); packets = omega arith }
+later-within {p} {e} (Parts.falls why cause) tree = fallen-within p top_id (λ id. why) e tree
 
-laters-within : {p q : Phase} {e f : End} {ws : List What} {ps : List Packet} → LaterParts p e ws ps f q → IsReady p e → Within (unsettled e + more_lines p) (length e.outbox + more_packets p) ws ps f q
-laters-within Parts.done r = record { lines = omega arith; packets = omega arith; ready = r }
-laters-within (Parts.then {ws} {vs} {ps} {qs} part rest) r =
-    let a = later-within part r in
-    let b = laters-within rest a.ready in
-    record { lines = omega (arith, a.lines, b.lines, length-append ws vs); packets = omega (arith, a.packets, b.packets, length-append ps qs); ready = b.ready }
+laters-within : {schema : Schema} {protocol : ℕ} {p q : Phase} {e f : End} {ws : List What} {ps : List Packet} → LaterParts p e ws ps f q → KnownIn schema protocol p e → Within (unsettled e + more_lines p) (length e.outbox + more_packets p) ws ps f q
+laters-within Parts.done h = record { lines = omega arith; packets = omega arith }
+laters-within {schema} {protocol} (Parts.then {ws} {vs} {ps} {qs} part rest) h =
+    let a = later-within part h.known.tree in
+    let b = laters-within rest (later-known schema protocol part h) in
+    record { lines = omega (arith, a.lines, b.lines, length-append ws vs); packets = omega (arith, a.packets, b.packets, length-append ps qs) }
 
 -- Requests that are sent
 
@@ -186,19 +167,11 @@ behind-unsettled : (b : Bool) (e : End) → unsettled (end_behind b e) ≡ unset
 behind-unsettled true e = refl
 behind-unsettled false e = refl
 
-behind-actors : (b : Bool) (e : End) → (end_behind b e).actors ≡ e.actors
-behind-actors true e = refl
-behind-actors false e = refl
-
 used-count : (by : Answering) (e : End) → unsettled (answering.without_resolver by e) ≡ unsettled e
 used-count (handled seq) e =
     let f : End = record e { stack = answering.released seq e.stack } in
     unsettled-is f ∙ (ap (λ (n : ℕ). length e.actors + (length (pending_in e.promises) + n)) (released-waits seq e.stack) ∙ sym (unsettled-is e))
 used-count (kept name number) e = refl
-
-used-actors : (by : Answering) (e : End) → (answering.without_resolver by e).actors ≡ e.actors
-used-actors (handled seq) e = refl
-used-actors (kept name number) e = refl
 
 settled-count : (seq : ℤ) (outcome : Outcome) (xs : List PromiseEntry) → length (pending_in (map (take.settled_entry seq outcome) xs)) ≤ length (pending_in xs)
 settled-count seq outcome [] = omega arith
@@ -219,80 +192,34 @@ settled-count seq outcome (x ∷ xs) = by (has_number seq x.promise) (is_pending
     by true false is h = one x false false is (λ e. e) h
     by false pending is h = one x pending pending is (λ e. e) h
 
--- Ids that are free
+-- First parts
 
-free-if : (kind : Kind) (id : ℤ) (actors : List Actor) → (is_constructor kind ≡ true → lives id actors ≡ false) → AllByRecursion (λ id. lives id actors ≡ false) (if is_constructor kind then id ∷ [] else [])
-free-if Normal id actors h = tt
-free-if (Constructor p) id actors h = (h refl, tt)
-free-if Delete id actors h = tt
-
-module _ (schema : Schema) (protocol : ℕ) (e : End) (known : AreKnown protocol (ids_of schema e)) where
-  next-free : lives (id_of e.side (e.constructors_sent + 1)) e.actors ≡ false
-  next-free =
-      let id : ℤ = id_of e.side (e.constructors_sent + 1) in
-      lives-false id e.actors (λ k. own_is_free (ids_of schema e) (known.taken id (lives-true id e.actors k)))
-
-  made-free : (kind : Kind) → is_constructor kind ≡ true → lives (send.next_made e kind) e.actors ≡ false
-  made-free Normal is = cc
-  made-free (Constructor p) is = next-free
-  made-free Delete is = cc
-
-  -- what a list of ids is made of has what all of them have
-  all-found : (P : ℤ → Type 0) (f : Item → List ℤ) (test : Item → Bool) (items : List Item) (x : Item) → AllByRecursion P (flat_map f items) → find test items ≡ Some x → AllByRecursion P (f x)
-  all-found P f test items x h is = (found-in (λ (y : Item). AllByRecursion P (f y)) test items x (parts items h) is).0
-    where
-      parts : (items : List Item) → AllByRecursion P (flat_map f items) → AllByRecursion (λ (y : Item). AllByRecursion P (f y)) items
-      parts [] h = tt
-      parts (y ∷ ys) h = (all-before P (f y) (flat_map f ys) h, parts ys (all-behind P (f y) (flat_map f ys) h))
-
-  taken-free : (m : Message) (sync : Bool) (level : Level) (row : MessageRow) (vs : _) → take.taken_next e ≡ Some (item.Message m sync level) → m.body ≡ Request vs → message_of schema m.number ≡ Some row → is_constructor row.kind ≡ true → lives m.made e.actors ≡ false
-  taken-free m sync level row vs next body found constructor =
-      let new : AllByRecursion (IsNew (ids_of schema e)) (new_ids_in schema (item.Message m sync level)) = all-found (IsNew (ids_of schema e)) (new_ids_in schema) (is_free (take.holding_of e)) e.arrived (item.Message m sync level) known.waiting (taken-first e (item.Message m sync level) next) in
-      let request : is_request m.body ≡ true = ap is_request body in
-      let constructs : constructs_by schema m.number ≡ true = ap (λ (r : Option MessageRow). option_map_or (λ (row : MessageRow). is_constructor row.kind) r false) found ∙ constructor in
-      first (is_request m.body) (constructs_by schema m.number) request constructs new
-    where
-      first : (b c : Bool) → b ≡ true → c ≡ true → AllByRecursion (IsNew (ids_of schema e)) (if b && c then m.made ∷ [] else []) → lives m.made e.actors ≡ false
-      first true true i j h = h.0.1
-      first true false i j h = cc
-      first false c i j h = cc
-
-  -- First parts
-
-  -- a phase in which nothing is built
-  no-fresh : (p : Phase) (f : End) → p.fresh ≡ [] → f.actors ≡ e.actors → IsReady p f
-  no-fresh p f none same = record { tree = subst IsTree (sym same) known.tree; free = subst (AllByRecursion (λ id. lives id f.actors ≡ false)) (sym none) tt; one = let k : length p.fresh ≡ 0 = ap length none in omega arith }
-
+module _ (schema : Schema) (protocol : ℕ) (e : End) where
   first-within : {p : Phase} {f : End} {ws : List What} {ps : List Packet} → FirstPart schema e ws ps f p → Within (unsettled e + 5) (length e.outbox + 2) ws ps f p
-  first-within (Parts.refuses w is) = record { lines = omega arith; packets = omega arith; ready = no-fresh _ _ refl refl }
-  first-within (Parts.renames w is) = record { lines = omega arith; packets = omega arith; ready = no-fresh _ _ refl refl }
-  first-within (Parts.flushes open_is) = record { lines = omega arith; packets = omega (arith, length-map e.outbox message); ready = no-fresh _ _ refl refl }
+  first-within (Parts.refuses w is) = record { lines = omega arith; packets = omega arith }
+  first-within (Parts.renames w is) = record { lines = omega arith; packets = omega arith }
+  first-within (Parts.flushes open_is) = record { lines = omega arith; packets = omega (arith, length-map e.outbox message) }
   first-within (Parts.sends row route vs name sent) =
       let m : Message = send.request_of e row route vs in
       let f : End = Parts.sent_end row m e in
       record {
         lines = omega (arith, unsettled-is e, unsettled-is f, promised-count (makes_promise row) e.promises (promise_for m), waiting-count (is_sync_row row) row m e.stack, sync-or-promise row, fresh-one row m);
         packets = omega (arith, request-count row.lazy e m);
-        ready = record { tree = known.tree; free = free-if row.kind m.made e.actors (made-free row.kind); one = fresh-one row m };
       }
-  first-within (Parts.answers by vs r row found may ok is) = record { lines = omega (arith, used-count by e); packets = omega (arith, behind-length e (message (reply_to (resolver_answered r) (answering.answer_body vs)))); ready = no-fresh _ _ refl (used-actors by e) }
-  first-within (Parts.closes open_is none) = record { lines = omega arith; packets = omega (arith, behind-length e (message goodbye)); ready = no-fresh _ _ refl refl }
-  first-within (Parts.dies open_is) = record { lines = omega arith; packets = omega (arith, behind-length e mark); ready = no-fresh _ _ refl refl }
-  first-within (Parts.dies_silent open_is alive) = record { lines = omega arith; packets = omega arith; ready = no-fresh _ _ refl refl }
-  first-within (Parts.takes m sync level row vs next body found stays) = record {
-    lines = omega (arith, fresh-one row m);
-    packets = omega arith;
-    ready = record { tree = known.tree; free = free-if row.kind m.made e.actors (taken-free m sync level row vs next body found); one = fresh-one row m };
-  }
+  first-within (Parts.answers by vs r row found may ok is) = record { lines = omega (arith, used-count by e); packets = omega (arith, behind-length e (message (reply_to (resolver_answered r) (answering.answer_body vs)))) }
+  first-within (Parts.closes open_is none) = record { lines = omega arith; packets = omega (arith, behind-length e (message goodbye)) }
+  first-within (Parts.dies open_is) = record { lines = omega arith; packets = omega (arith, behind-length e mark) }
+  first-within (Parts.dies_silent open_is alive) = record { lines = omega arith; packets = omega arith }
+  first-within (Parts.takes m sync level row vs next body found stays) = record { lines = omega (arith, fresh-one row m); packets = omega arith }
   first-within (Parts.drops m sync level row vs id replies next body found gone is) =
       let left : End = Parts.left_end e in
       let q : AnsweredRequest = request_answered m in
       let a : Answer = answer.Fault reason.ActorDestroyed in
-      record { lines = omega (arith, behind-unsettled replies left, lines-count replies q a); packets = omega (arith, packets-count replies e q a left refl); ready = no-fresh _ _ refl (behind-actors replies left) }
-  first-within (Parts.drops_unknown m sync level vs next body none) = record { lines = omega arith; packets = omega arith; ready = no-fresh _ _ refl refl }
-  first-within (Parts.takes_reply m sync level a next body late) = record { lines = omega arith; packets = omega arith; ready = no-fresh _ _ refl refl }
-  first-within (Parts.settles m sync level row a next body found is) = record { lines = omega (arith, settled-count m.seq (Parts.reply_outcome schema e row a) e.promises); packets = omega arith; ready = no-fresh _ _ refl refl }
-  first-within (Parts.shuts last next is) = record { lines = omega arith; packets = omega arith; ready = no-fresh _ _ refl refl }
+      record { lines = omega (arith, behind-unsettled replies left, lines-count replies q a); packets = omega (arith, packets-count replies e q a left refl) }
+  first-within (Parts.drops_unknown m sync level vs next body none) = record { lines = omega arith; packets = omega arith }
+  first-within (Parts.takes_reply m sync level a next body late) = record { lines = omega arith; packets = omega arith }
+  first-within (Parts.settles m sync level row a next body found is) = record { lines = omega (arith, settled-count m.seq (Parts.reply_outcome schema e row a) e.promises); packets = omega arith }
+  first-within (Parts.shuts last next is) = record { lines = omega arith; packets = omega arith }
   first-within (Parts.returns entry row vs told lost returns t l) =
       let off : End = record e { stack = drop 1 e.stack } in
       let q : AnsweredRequest = return.dispatch_answered entry in
@@ -303,19 +230,18 @@ module _ (schema : Schema) (protocol : ℕ) (e : End) (known : AreKnown protocol
       record {
         lines = omega (arith, length-append (reply_lines told q a) (reply_lines lost r c), lines-count told q a, lines-count lost r c, behind-unsettled lost told_end, behind-unsettled told off, unsettled-is e, unsettled-is off, dropped-waits e.stack);
         packets = omega (arith, length-append (reply_packets told e q a) (reply_packets lost (end_behind told e) r c), packets-count told e q a e refl, packets-count lost (end_behind told e) r c told_end (told-outbox told));
-        ready = no-fresh _ _ refl (behind-actors lost told_end ∙ behind-actors told off);
       }
     where
       told-outbox : (b : Bool) → (end_behind b (record e { stack = drop 1 e.stack })).outbox ≡ (end_behind b e).outbox
       told-outbox true = refl
       told-outbox false = refl
-  first-within (Parts.resumes wait row on_top found) = record { lines = omega (arith, unsettled-is e, unsettled-is (record e { stack = drop 1 e.stack }), dropped-waits e.stack); packets = omega arith; ready = no-fresh _ _ refl refl }
+  first-within (Parts.resumes wait row on_top found) = record { lines = omega (arith, unsettled-is e, unsettled-is (record e { stack = drop 1 e.stack }), dropped-waits e.stack); packets = omega arith }
 
-  own-within : {p : Phase} {f : End} {ws : List What} {ps : List Packet} → OwnParts schema e ws ps f p → Within (unsettled e + 5) (length e.outbox + 2) ws ps f p
-  own-within (Parts.begun {ws} {vs} {ps} {qs} first rest) =
+  own-within : {p : Phase} {f : End} {ws : List What} {ps : List Packet} → OwnParts schema e ws ps f p → AreKnown protocol (ids_of schema e) → Within (unsettled e + 5) (length e.outbox + 2) ws ps f p
+  own-within (Parts.begun {ws} {vs} {ps} {qs} first rest) known =
       let a = first-within first in
-      let b = laters-within rest a.ready in
-      record { lines = omega (arith, a.lines, b.lines, length-append ws vs); packets = omega (arith, a.packets, b.packets, length-append ps qs); ready = b.ready }
+      let b = laters-within rest (first-known schema protocol first known) in
+      record { lines = omega (arith, a.lines, b.lines, length-append ws vs); packets = omega (arith, a.packets, b.packets, length-append ps qs) }
 
 -- Deliveries
 
@@ -342,7 +268,7 @@ delivery-within (Parts.passes_by m ordinary none) = record { lines = omega arith
 
 own-bounded : (schema : Schema) (protocol : ℕ) (e : End) (output : Output) → AreKnown protocol (ids_of schema e) → IsMadeOf (OwnParts schema e) e.side output → IsBounded e output
 own-bounded schema protocol e output known made =
-    let b = own-within schema protocol e known made.parts in
+    let b = own-within schema protocol e made.parts known in
     let k : length output.lines ≡ length made.whats = ap length made.lines ∙ length-map made.whats (line_at e.side) in
     record { lines = omega (arith, k, b.lines); packets = omega (arith, b.packets) }
 
