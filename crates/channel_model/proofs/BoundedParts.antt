@@ -1,63 +1,43 @@
 -- Every step is bounded: part by part.
-use Rattle.std.proofs.Common.{◌≡◌, ℕ, ◌+◌, ◌*◌, ◌≤◌, ℤ, Bool, true, false, not, ◌&&◌, cond, if◌then◌else◌, List, [], ◌∷◌, ◌++◌, drop, filter, find, flat_map, length, map, Option, Some, None, is_some, refl, sym, ap, subst, ◌∙◌, arith}
-use Rattle.std.specs.List.{AllByRecursion}
-use Rattle.std.specs.Option.{option_map_or}
+use Rattle.std.proofs.Common.{◌≡◌, ℕ, ◌+◌, ◌*◌, ◌≤◌, ℤ, Bool, true, false, not, ◌&&◌, cond, if◌then◌else◌, List, [], ◌∷◌, ◌++◌, drop, filter, length, map, Some, is_some, refl, sym, ap, subst, ◌∙◌, arith}
 use Rattle.std.proofs.lemmas.List.{length-append, length-map}
 use Rattle.actor_tree.specs.declared.actor.Actor.{Actor}
-use Rattle.actor_tree.specs.Fall.{others}
-use Rattle.actor_tree.specs.Tree.{lives, IsTree}
-use Rattle.actor_tree.proofs.Ids.{lives-true, lives-false}
-use Rattle.actor_tree.proofs.Kept.{IsTree-append}
+use Rattle.actor_tree.specs.Tree.{IsTree}
 use Rattle.ipdl_base.specs.declared.kinds.Destroy.{Destroy}
 use Rattle.ipdl_base.specs.declared.line.What.{What}
 use Rattle.ipdl_base.specs.declared.line.What.TheVariants as what
 use Rattle.ipdl_base.specs.declared.kinds.Reason.TheVariants as reason
-use Rattle.ipdl_base.specs.declared.message.Body.{Body}
-use Rattle.ipdl_base.specs.declared.message.Body.TheVariants.{Request}
 use Rattle.ipdl_base.specs.declared.message.Message.{Message}
-use Rattle.ipdl_base.specs.declared.kinds.Level.{Level}
-use Rattle.ipdl_base.specs.declared.schema.Kind.{Kind}
-use Rattle.ipdl_base.specs.declared.schema.Kind.TheVariants.{Normal, Constructor, Delete}
 use Rattle.ipdl_base.specs.declared.schema.MessageRow.{MessageRow}
 use Rattle.ipdl_base.specs.declared.schema.Schema.{Schema}
-use Rattle.ipdl_base.specs.Sound.{message_of}
 use Rattle.nesting_core.specs.declared.frame.Answer.{Answer}
 use Rattle.nesting_core.specs.declared.frame.Answer.TheVariants as answer
-use Rattle.nesting_core.specs.declared.frame.StackFrame.{StackFrame}
 use Rattle.nesting_core.specs.Frames.{head_of, is_unanswered}
-use Rattle.pending_queue.specs.declared.item.Item.{Item}
-use Rattle.pending_queue.specs.declared.item.Item.TheVariants as item
-use Rattle.pending_queue.specs.Compression.{is_request}
-use Rattle.pending_queue.specs.Holding.{is_free}
 use Rattle.promise_table.specs.declared.promise.Outcome.{Outcome}
 use Rattle.promise_table.specs.Promises.{has_number, is_pending}
 use Rattle.channel_model.specs.Acts.{goodbye}
-use Rattle.channel_model.specs.Actors.{Ids, IsNew, AreKnown, ids_of, new_ids_in, constructs_by}
+use Rattle.channel_model.specs.Actors.{AreKnown, ids_of}
 use Rattle.channel_model.specs.Answers as answering
 use Rattle.channel_model.specs.Bounds.{pending_in, unsettled, IsBounded}
 use Rattle.channel_model.specs.Deliveries as delivery
 use Rattle.channel_model.specs.Deliveries.{unanswered}
 use Rattle.channel_model.specs.Ends.{End, Packet, message, mark, StackEntry, PromiseEntry}
-use Rattle.channel_model.specs.Events.{Event, Answering, handled, kept}
-use Rattle.channel_model.specs.Events as event
+use Rattle.channel_model.specs.Events.{Answering, handled, kept}
 use Rattle.channel_model.specs.Falls as fall
-use Rattle.channel_model.specs.Numbers.{is_sync_row, makes_promise, is_constructor, id_of, top_id}
+use Rattle.channel_model.specs.Numbers.{is_sync_row, makes_promise, is_constructor, top_id}
 use Rattle.channel_model.specs.Outputs.{Output, AnsweredRequest, request_answered, resolver_answered, reply_to, line_at}
 use Rattle.channel_model.specs.Parts
 use Rattle.channel_model.specs.Parts.{FirstPart, LaterPart, LaterParts, OwnParts, DeliveryPart, behind_outbox, reply_packet, reply_lines, reply_packets, end_behind, falling, fallen_end, outbox_after, request_packets, promise_for}
 use Rattle.channel_model.specs.Phases.{Phase, manager_of, fresh_of}
 use Rattle.channel_model.specs.Returns as return
 use Rattle.channel_model.specs.Sends as send
-use Rattle.channel_model.specs.StepLaws.{IsMadeOf, IsDeliveryOfOnePart, IsStepOfParts, StepsAreBounded}
+use Rattle.channel_model.specs.StepLaws.{IsMadeOf, IsDeliveryOfOnePart, StepsAreBounded}
 use Rattle.channel_model.specs.Takes as take
-use Rattle.channel_model.proofs.Counted.{abandoned-count, falls-balance, waits, dropped-waits, released-waits, failed-waits, answered-waits}
+use Rattle.channel_model.proofs.Counted.{bit, abandoned-count, falls-balance, waits, dropped-waits, released-waits, failed-waits, answered-waits}
 use Rattle.channel_model.proofs.KnownSteps.{KnownIn, later-known, first-known}
 use Rattle.channel_model.proofs.StepParts.{by-parts}
 
 -- Counts
-
-abbrev bit : Bool → ℕ
-bit b = if b then 1 else 0
 
 -- the lines, and the packets, that a phase still allows
 abbrev more_lines : Phase → ℕ

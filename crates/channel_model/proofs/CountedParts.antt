@@ -1,5 +1,5 @@
 -- Every step counts its requests: part by part.
-use Rattle.std.proofs.Common.{◌≡◌, ℕ, ◌+◌, ◌≤◌, Bool, true, false, List, [], ◌∷◌, ◌++◌, drop, length, refl, ap, ◌∙◌, arith}
+use Rattle.std.proofs.Common.{◌≡◌, ℕ, ◌+◌, ◌≤◌, Bool, true, false, List, [], ◌∷◌, drop, length, refl, ap, ◌∙◌, arith}
 use Rattle.std.proofs.lemmas.List.{length-append}
 use Rattle.ipdl_base.specs.declared.line.What.{What}
 use Rattle.ipdl_base.specs.declared.message.Message.{Message}
@@ -9,14 +9,13 @@ use Rattle.ipdl_base.specs.declared.schema.Schema.{Schema}
 use Rattle.channel_model.specs.Answers.{without_resolver}
 use Rattle.channel_model.specs.Bounds.{HasCounted, IsCounted}
 use Rattle.channel_model.specs.Ends.{End, Packet}
-use Rattle.channel_model.specs.Events.{Event, Answering, handled, kept}
-use Rattle.channel_model.specs.Events as event
+use Rattle.channel_model.specs.Events.{Answering, handled, kept}
 use Rattle.channel_model.specs.Numbers.{counting}
 use Rattle.channel_model.specs.Parts
 use Rattle.channel_model.specs.Parts.{FirstPart, LaterPart, LaterParts, OwnParts, DeliveryPart, end_behind, outbox_after}
 use Rattle.channel_model.specs.Phases.{Phase}
 use Rattle.channel_model.specs.Sends.{request_of}
-use Rattle.channel_model.specs.StepLaws.{IsStepOfParts, CountsGrow}
+use Rattle.channel_model.specs.StepLaws.{CountsGrow}
 use Rattle.channel_model.proofs.StepParts.{by-parts}
 
 -- No request is counted, and no more wait in the outbox.

@@ -1,6 +1,6 @@
 -- What an end keeps and sends fits: part by part, and so in every step.
-use Rattle.std.proofs.Common.{◌≡◌, ℕ, ◌+◌, ◌<◌, ◌≤◌, ◌==◌, ℤ, pos, Bool, true, false, not, ◌&&◌, ◌||◌, cond, if◌then◌else◌, List, [], ◌∷◌, ◌++◌, drop, find, map, is_some, is_none, unwrap_or, option_and_then, Option, Some, None, refl, sym, ap, subst, ◌∙◌, int_eq, arith}
-use Rattle.std.specs.List.{All, AllByRecursion}
+use Rattle.std.proofs.Common.{◌≡◌, ℕ, ◌+◌, ◌<◌, ◌==◌, ℤ, Bool, true, false, not, ◌&&◌, ◌||◌, cond, if◌then◌else◌, List, [], ◌∷◌, ◌++◌, drop, map, is_some, is_none, unwrap_or, option_and_then, Option, Some, None, refl, sym, ap, subst, ◌∙◌, int_eq, arith}
+use Rattle.std.specs.List.{AllByRecursion}
 use Rattle.std.specs.Option.{option_map_or}
 use Rattle.std.proofs.lemmas.Bool.{eqb-true}
 use Rattle.std.proofs.lemmas.List.Elements.{All-nil}
@@ -11,7 +11,6 @@ use Rattle.actor_tree.specs.Tree.{lives}
 use Rattle.ipdl_base.specs.declared.kinds.EndState.TheVariants.{Draining, Closed, Dead}
 use Rattle.ipdl_base.specs.declared.kinds.Level.{Level}
 use Rattle.ipdl_base.specs.declared.kinds.Reason.TheVariants as reason
-use Rattle.ipdl_base.specs.declared.kinds.SendRefusal.{SendRefusal}
 use Rattle.ipdl_base.specs.declared.kinds.SendRefusal.TheVariants as refusal
 use Rattle.ipdl_base.specs.declared.line.What.{What}
 use Rattle.ipdl_base.specs.declared.message.Body.{Body}
@@ -28,21 +27,21 @@ use Rattle.nesting_core.specs.declared.frame.Answer.{Answer}
 use Rattle.nesting_core.specs.declared.frame.Answer.TheVariants as answer
 use Rattle.nesting_core.specs.declared.frame.StackFrame.{StackFrame}
 use Rattle.nesting_core.specs.declared.frame.StackFrame.TheVariants.{Dispatch, Wait}
-use Rattle.nesting_core.specs.Frames.{head_of, is_unanswered}
+use Rattle.nesting_core.specs.Frames.{head_of}
 use Rattle.pending_queue.specs.declared.item.Item.{Item}
 use Rattle.pending_queue.specs.declared.item.Item.TheVariants as item
 use Rattle.pending_queue.specs.Compression.{is_request, is_request_of, are_alike, staying}
-use Rattle.value_types.specs.Fits.{IsLivingId, IsFaultOf, IsRequestOf, GivesReturns, Fits}
+use Rattle.value_types.specs.Fits.{IsLivingId, IsRequestOf, GivesReturns, Fits}
 use Rattle.value_types.specs.HasType.{HaveTypes}
 use Rattle.channel_model.specs.Acts.{goodbye}
 use Rattle.channel_model.specs.Answers as answering
 use Rattle.channel_model.specs.Bounds.{IsCounted}
 use Rattle.channel_model.specs.Deliveries as delivery
-use Rattle.channel_model.specs.Ends.{End, Packet, message, mark, Resolver, NameContent, actor, resolver, StackEntry, opening_end}
+use Rattle.channel_model.specs.Ends.{End, Packet, message, mark, Resolver, NameContent, actor, resolver, StackEntry}
 use Rattle.channel_model.specs.Events.{Event, Answering}
 use Rattle.channel_model.specs.Events as event
 use Rattle.channel_model.specs.Falls as fall
-use Rattle.channel_model.specs.Fitting.{IsRequestKept, HasRowOf, FitsItem, FitsAnswer, FitsEntry, FitsPromised, FitsResolver, HasLivingId, IsFitting, FitsPacket, IsFittingDelivery}
+use Rattle.channel_model.specs.Fitting.{IsRequestKept, FitsItem, FitsAnswer, FitsEntry, FitsResolver, HasLivingId, IsFitting, FitsPacket, IsFittingDelivery}
 use Rattle.channel_model.specs.Names.{held_by_name, without_name}
 use Rattle.channel_model.specs.Numbers.{is_sync_row, makes_promise, request_row, counting}
 use Rattle.channel_model.specs.Outputs.{Output, AnsweredRequest, request_answered, resolver_answered, reply_to, body_of, is_open}
@@ -53,8 +52,7 @@ use Rattle.channel_model.specs.Refusals.{packet_refusal, is_replied_to, is_waite
 use Rattle.channel_model.specs.Returns as return
 use Rattle.channel_model.specs.Sends as send
 use Rattle.channel_model.specs.States.{is_farewell}
-use Rattle.channel_model.specs.StepLaws.{IsMadeOf, IsDeliveryOfOnePart, IsStepOfParts, FitsOutput, FittingEndsStay, FirstEndsFit}
-use Rattle.channel_model.specs.Steps.{step, first_packet}
+use Rattle.channel_model.specs.StepLaws.{IsMadeOf, IsDeliveryOfOnePart, FitsOutput, FittingEndsStay, FirstEndsFit}
 use Rattle.channel_model.specs.Takes as take
 use Rattle.channel_model.specs.Typed.{have_types}
 use Rattle.channel_model.specs.ValueActors.{has_dead}
@@ -66,7 +64,7 @@ use Rattle.channel_model.proofs.Known.{all-append, all-filter}
 use Rattle.channel_model.proofs.SendParts.{passed-first, request-number}
 use Rattle.channel_model.proofs.SoundRows.{reply-row}
 use Rattle.channel_model.proofs.StepParts.{by-parts}
-use Rattle.channel_model.proofs.TypedValues.{and-left, and-right}
+use Rattle.channel_model.proofs.Tests.{and-left, and-right}
 
 -- What a part leaves fits: the end behind it, its packets, and the ids that may be built.
 record PartFits (schema : Schema) (ps : List Packet) (e : End) (p : Phase) : Type 0 where
@@ -153,10 +151,6 @@ module _ (schema : Schema) (sound : IsSound schema) where
       by : (f : StackFrame) → elim f as (λ f. Option StackEntry) [ Dispatch head ↦ Some (record x { frame = f }) | Wait head a ↦ None ] ≡ Some entry → FitsEntry schema (record x { frame = f }) → FitsEntry schema entry
       by (Dispatch head) e k = subst (FitsEntry schema) (same_Some (record x { frame = Dispatch head }) entry e) k
       by (Wait head a) e k = cc
-
-  or-right : (a b : Bool) → a ≡ false → a || b ≡ true → b ≡ true
-  or-right true b e f = cc
-  or-right false b e f = f
 
   given-fits : (e : End) (row : MessageRow) (entry : StackEntry) (q : AnsweredRequest) (vs : Option Values) → IsRequestKept schema row q → has_reply row ≡ true → return.may_return schema row vs ≡ true → IsFitting schema e → Fits schema (reply_to q (body_of (return.given_answer schema e row entry vs)))
   given-fits e row entry q None kept replies may h = fault-fits schema sound row q kept reason.HandlerRejected replies (rejected-fault row.semantics)

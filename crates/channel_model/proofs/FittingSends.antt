@@ -1,14 +1,13 @@
 -- A request that is sent fits, and so does what it leaves behind.
-use Rattle.std.proofs.Common.{◌≡◌, ◌≢◌, ℕ, ◌+◌, ◌<◌, ◌≤◌, ℤ, pos, Bool, true, false, not, ◌&&◌, ◌||◌, ◌==◌, cond, if◌then◌else◌, List, [], ◌∷◌, ◌++◌, find, length, map, Option, Some, None, is_some, is_none, option_map, unwrap_or, refl, sym, ap, subst, ◌∙◌, arith}
-use Rattle.std.specs.List.{All, AllByRecursion}
-use Rattle.std.proofs.lemmas.List.{length-append}
+use Rattle.std.proofs.Common.{◌≡◌, ◌≢◌, ℕ, ◌+◌, ◌<◌, ◌≤◌, ℤ, pos, Bool, true, false, not, ◌&&◌, ◌||◌, ◌==◌, cond, if◌then◌else◌, List, [], ◌∷◌, ◌++◌, find, map, Option, Some, None, is_some, is_none, option_map, unwrap_or, refl, sym, ◌∙◌, arith}
+use Rattle.std.specs.List.{AllByRecursion}
 use Rattle.ipdl_base.specs.Deferral.{rank}
 use Rattle.ipdl_base.specs.declared.kinds.Level.TheVariants.{InsideSync}
 use Rattle.ipdl_base.specs.declared.kinds.SendRefusal.{SendRefusal}
 use Rattle.ipdl_base.specs.declared.kinds.SendRefusal.TheVariants as refusal
 use Rattle.ipdl_base.specs.declared.kinds.Semantics.{Semantics}
 use Rattle.ipdl_base.specs.declared.kinds.Semantics.TheVariants.{Async, Sync}
-use Rattle.ipdl_base.specs.declared.message.Body.TheVariants.{Request, Goodbye}
+use Rattle.ipdl_base.specs.declared.message.Body.TheVariants.{Goodbye}
 use Rattle.ipdl_base.specs.declared.message.Message.{Message}
 use Rattle.ipdl_base.specs.declared.schema.Kind.{Kind}
 use Rattle.ipdl_base.specs.declared.schema.Kind.TheVariants.{Normal, Constructor, Delete}
@@ -19,12 +18,12 @@ use Rattle.ipdl_base.specs.Sound.{is_sync}
 use Rattle.nesting_core.specs.declared.frame.StackFrame.{StackFrame}
 use Rattle.nesting_core.specs.Deferral.{transaction_of}
 use Rattle.nesting_core.specs.Frames.{head_of, is_inside_sync}
-use Rattle.value_types.specs.Fits.{IsFieldNumber, IsLivingId, IsTransactionOf, IsMadeBy, HasFields, IsRequestOf, Fits}
+use Rattle.value_types.specs.Fits.{IsFieldNumber, IsLivingId, IsTransactionOf, IsMadeBy, IsRequestOf, Fits}
 use Rattle.channel_model.specs.Bounds.{IsCounted}
-use Rattle.channel_model.specs.Ends.{End, Packet, message, StackEntry, PromiseEntry}
-use Rattle.channel_model.specs.Fitting.{IsRequestKept, FitsEntry, FitsPromise, IsFitting, FitsPacket}
-use Rattle.channel_model.specs.Numbers.{sends, protocol_of, is_sync_row, is_constructor, counting, makes_promise}
-use Rattle.channel_model.specs.Outputs.{is_open, request_answered}
+use Rattle.channel_model.specs.Ends.{End, message, StackEntry}
+use Rattle.channel_model.specs.Fitting.{FitsEntry, FitsPromise, IsFitting, FitsPacket}
+use Rattle.channel_model.specs.Numbers.{sends, protocol_of, is_sync_row, is_constructor, makes_promise}
+use Rattle.channel_model.specs.Outputs.{is_open}
 use Rattle.channel_model.specs.Parts.{IsSent, outbox_after, request_packets, promise_for, sent_end}
 use Rattle.channel_model.specs.Phases.{fresh_of}
 use Rattle.channel_model.specs.Sends as send
@@ -35,7 +34,7 @@ use Rattle.channel_model.proofs.FittingRequests.{request-kept}
 use Rattle.channel_model.proofs.FittingValues.{seq-fits, id-lives, lives-fits, values-carried, values-typed}
 use Rattle.channel_model.proofs.Known.{all-append}
 use Rattle.channel_model.proofs.SendParts.{passed-first, lives-as, request-number}
-use Rattle.channel_model.proofs.TypedValues.{and-left, and-right}
+use Rattle.channel_model.proofs.Tests.{and-left, and-right}
 
 -- Transactions
 

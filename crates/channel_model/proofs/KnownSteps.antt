@@ -1,5 +1,5 @@
 -- Every step whose delivery is not refused keeps actors known: part by part.
-use Rattle.std.proofs.Common.{◌≡◌, ◌≢◌, ◌⊎◌, inl, inr, ℕ, ◌+◌, ◌≤◌, ℤ, Bool, true, false, not, ◌&&◌, cond, if◌then◌else◌, List, [], ◌∷◌, ◌++◌, drop, find, filter, flat_map, length, Option, Some, None, refl, sym, ap, subst, ◌∙◌, int_eq, arith}
+use Rattle.std.proofs.Common.{◌≡◌, inl, inr, ℕ, ◌+◌, ◌≤◌, ℤ, Bool, true, false, not, ◌&&◌, cond, if◌then◌else◌, List, [], ◌∷◌, ◌++◌, drop, find, length, Option, Some, None, refl, sym, ap, subst, ◌∙◌, int_eq, arith}
 use Rattle.std.specs.List.{AllByRecursion}
 use Rattle.std.specs.Option.{option_map_or}
 use Rattle.std.proofs.lemmas.Bool.Decides.{Decides-int_eq}
@@ -27,21 +27,21 @@ use Rattle.pending_queue.specs.declared.item.Item.{Item}
 use Rattle.pending_queue.specs.declared.item.Item.TheVariants as item
 use Rattle.pending_queue.specs.Compression.{is_request, staying}
 use Rattle.pending_queue.specs.Holding.{is_free, without_first}
-use Rattle.channel_model.specs.Actors.{Ids, AreKnown, IsAccepted, ids_of, new_ids_in, new_ids, constructs_by}
+use Rattle.channel_model.specs.Actors.{AreKnown, IsAccepted, ids_of, new_ids_in, new_ids, constructs_by}
 use Rattle.channel_model.specs.Answers.{without_resolver}
 use Rattle.channel_model.specs.Deliveries as delivery
 use Rattle.channel_model.specs.Ends.{End, Packet, message, mark}
 use Rattle.channel_model.specs.Events.{Answering, handled, kept}
 use Rattle.channel_model.specs.Events as event
-use Rattle.channel_model.specs.Numbers.{other, id_of, top_id, is_sync_row, is_constructor, counting, sends as sends_way}
+use Rattle.channel_model.specs.Numbers.{other, top_id, is_sync_row, is_constructor, counting, sends as sends_way}
 use Rattle.channel_model.specs.Outputs.{Output, body_of}
 use Rattle.channel_model.specs.Parts
 use Rattle.channel_model.specs.Parts.{FirstPart, LaterPart, LaterParts, OwnParts, DeliveryPart, end_behind, left_end, falling, fallen_end, farewell_item}
-use Rattle.channel_model.specs.Phases.{Phase, fresh_of, taking}
+use Rattle.channel_model.specs.Phases.{Phase}
 use Rattle.channel_model.specs.Refusals.{packet_refusal, body_refusal, actor_refusal, expected_seq, expected_id, wrong_direction, wrong_number, wrong_new_id}
 use Rattle.channel_model.specs.Sends as send
 use Rattle.channel_model.specs.States.{is_goodbye, is_farewell}
-use Rattle.channel_model.specs.StepLaws.{IsMadeOf, IsDeliveryOfOnePart, KnownActorsStay, FirstActorsAreKnown}
+use Rattle.channel_model.specs.StepLaws.{IsDeliveryOfOnePart, KnownActorsStay, FirstActorsAreKnown}
 use Rattle.channel_model.specs.Takes as take
 use Rattle.channel_model.proofs.FittingEnds.{taken-first}
 use Rattle.channel_model.proofs.Known.{all-map, dead-filter, IsFresh, known-counted, known-built, fresh-own, fresh-arrived, known-fewer, known-arrives, known-fallen}

@@ -9,7 +9,7 @@ use Rattle.pending_queue.specs.declared.item.Item.{Item}
 use Rattle.pending_queue.specs.declared.item.Item.TheVariants as item
 use Rattle.ipdl_base.specs.declared.line.What.TheVariants as what
 use Rattle.channel_model.specs.Deliveries as delivery
-use Rattle.channel_model.specs.Ends.{End, Packet, message, Naming, NameContent, actor, resolver, Resolver}
+use Rattle.channel_model.specs.Ends.{End, message, Naming, NameContent, actor, resolver, Resolver}
 use Rattle.channel_model.specs.Names.{held_by_name, without_name, let_go, holding, renamed}
 use Rattle.channel_model.specs.Numbers.{makes_promise}
 use Rattle.channel_model.specs.Outputs.{Output, Change, ◌▷◌, when, when_open, on_end, line, put, is_open, AnsweredRequest, answered, destroyed, resolver_answered, request_answered, answer_line, reply_to, body_of}
@@ -33,9 +33,6 @@ leaves-when f false change h o = refl
 
 pub leaves-when_open : {A : Type 0} (f : End → A) (change : Change) → Leaves f change → Leaves f (when_open change)
 leaves-when_open f change h o = leaves-when f (is_open o.end.state) change h o
-
-pub leaves-put : {A : Type 0} (f : End → A) (packet : Packet) → Ignores f → Leaves f (put packet)
-leaves-put f packet h o = h.outbox o.end []
 
 pub leaves-answered : {A : Type 0} (f : End → A) (q : AnsweredRequest) (a : Answer) → Ignores f → Leaves f (answered q a)
 leaves-answered f q a h = leaves-when_open f (line (answer_line q.seq a) ▷ put (message (reply_to q (body_of a)))) (λ o. h.outbox o.end [])

@@ -8,6 +8,7 @@ mod WorkedRules
 mod WorkedDeliveries
 mod WorkedParts
 pub mod Provided
+pub mod Tests
 pub mod Events
 pub mod Follow
 pub mod Leaves

@@ -1,5 +1,5 @@
 -- Every step is made of parts.
-use Rattle.std.proofs.Common.{◌≡◌, pos, Bool, true, false, not, ◌&&◌, if◌then◌else◌, [], ◌∷◌, length, map, List, Some, None, is_some, option_and_then, refl, ap, ◌∙◌}
+use Rattle.std.proofs.Common.{◌≡◌, pos, Bool, true, false, not, if◌then◌else◌, [], ◌∷◌, length, map, List, Some, None, is_some, option_and_then, refl, ap, ◌∙◌}
 use Rattle.ipdl_base.specs.declared.line.What.{What}
 use Rattle.ipdl_base.specs.declared.line.What.TheVariants as what
 use Rattle.ipdl_base.specs.declared.schema.Schema.{Schema}
@@ -26,15 +26,8 @@ use Rattle.channel_model.proofs.Made.{Makes, made, made-begun, made-alone, made-
 use Rattle.channel_model.proofs.NameParts.{NoResolver, renamed-made, renaming-made, keep-made, answer-made, close-made, die-made}
 use Rattle.channel_model.proofs.Provided.{provided-gives, found-gives}
 use Rattle.channel_model.proofs.SendParts.{request-number, send-made}
+use Rattle.channel_model.proofs.Tests.{and-left, and-right}
 use Rattle.channel_model.proofs.TakeParts.{take-made, return-made}
-
-and-left : (a b : Bool) → a && b ≡ true → a ≡ true
-and-left true b e = refl
-and-left false b e = cc
-
-and-right : (a b : Bool) → a && b ≡ true → b ≡ true
-and-right true b e = e
-and-right false b e = cc
 
 not-true : (b : Bool) → not b ≡ true → b ≡ false
 not-true true x = cc
