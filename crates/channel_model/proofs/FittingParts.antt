@@ -97,7 +97,7 @@ module _ (schema : Schema) (sound : IsSound schema) where
   not-dead row e vs r ok = accepted-values (answering.is_reply_too_large schema r vs) (has_dead schema e.actors (returns_of_row row) vs) ok
 
   -- the resolver that is used, with the row that its answer goes by
-  abbrev Used : MessageRow → Resolver → Type 0
+  abbrev pub Used : MessageRow → Resolver → Type 0
   Used row r = (FitsResolver schema r) × (request_row schema r.number ≡ Some row)
 
   used-handled : (e : End) (seq : ℤ) (r : Resolver) (row : MessageRow) (found : Option Resolver) → answering.handled_resolver e seq ≡ found → found ≡ Some r → option_and_then (λ (r : Resolver). request_row schema r.number) found ≡ Some row → IsFitting schema e → Used row r
@@ -126,12 +126,12 @@ module _ (schema : Schema) (sound : IsSound schema) where
           (subst (FitsResolver schema) same (held-fits schema name e.names (resolver x) h.names is), ap (λ (y : Resolver). request_row schema y.number) (sym same) ∙ ap (request_row schema) number_is ∙ found)
       by false numbers k = cc
 
-  used : (e : End) (by : Answering) (r : Resolver) (row : MessageRow) → answering.answered_row schema e by ≡ Some row → answering.resolver_used e by ≡ Some r → IsFitting schema e → Used row r
+  pub used : (e : End) (by : Answering) (r : Resolver) (row : MessageRow) → answering.answered_row schema e by ≡ Some row → answering.resolver_used e by ≡ Some r → IsFitting schema e → Used row r
   used e (event.handled seq) r row answered is h = used-handled e seq r row (answering.handled_resolver e seq) refl is answered h
   used e (event.kept name number) r row answered is h = used-kept e name number r row (held_by_name name e.names) refl is (used-row number row (request_row schema number) refl answered) h
 
   -- what an answer sends
-  answer-fits : (e : End) (vs : Option Values) (r : Resolver) (row : MessageRow) → Used row r → answering.may_answer schema e row vs ≡ true → answering.resolver_refusal schema e row vs (Some r) ≡ None → IsFitting schema e → Fits schema (reply_to (resolver_answered r) (answering.answer_body vs))
+  pub answer-fits : (e : End) (vs : Option Values) (r : Resolver) (row : MessageRow) → Used row r → answering.may_answer schema e row vs ≡ true → answering.resolver_refusal schema e row vs (Some r) ≡ None → IsFitting schema e → Fits schema (reply_to (resolver_answered r) (answering.answer_body vs))
   answer-fits e None r row (f, found) may ok h = fault-fits schema sound f.0 (resolver_answered r) f.1 reason.HandlerRejected (promise-reply f.0 f.2) (rejected-fault f.0.semantics)
   answer-fits e (Some vs) r row (f, found) may ok h =
       let typed : have_types schema (returns_of_row row) vs ≡ true = and-right (send.may_act e) (have_types schema (returns_of_row row) vs) may in
@@ -164,7 +164,7 @@ module _ (schema : Schema) (sound : IsSound schema) where
       by false true is = fault-fits schema sound row q kept reason.HandlerRejected replies (rejected-fault row.semantics)
       by false false is = values-fit schema sound row q kept vs replies (gives-returns schema row vs (values-typed schema (returns_of_row row) vs typed) (values-carried e.actors h.actors schema (returns_of_row row) vs typed is))
 
-  return-fits : (e : End) (row : MessageRow) (entry : StackEntry) (q : AnsweredRequest) (vs : Option Values) → IsRequestKept schema row q → has_reply row ≡ true → return.may_return schema row vs ≡ true → IsFitting schema e → Fits schema (reply_to q (body_of (return.return_answer schema e row entry vs)))
+  pub return-fits : (e : End) (row : MessageRow) (entry : StackEntry) (q : AnsweredRequest) (vs : Option Values) → IsRequestKept schema row q → has_reply row ≡ true → return.may_return schema row vs ≡ true → IsFitting schema e → Fits schema (reply_to q (body_of (return.return_answer schema e row entry vs)))
   return-fits e row entry q vs kept replies may h = by row.returns refl
     where
       given : Fits schema (reply_to q (body_of (return.given_answer schema e row entry vs)))
@@ -312,7 +312,7 @@ module _ (schema : Schema) (sound : IsSound schema) where
       request-body (Fault r) e = cc
       request-body Goodbye e = cc
 
-  replaced-fits : (e : End) (m old : Message) (sync : Bool) (level : Level) (row : MessageRow) → FitsItem schema (item.Message old sync level) × (are_alike (delivery.item_of row m) (item.Message old sync level) ≡ true) → message_of schema m.number ≡ Some row → makes_promise row ≡ true → Fits schema (reply_to (request_answered old) (Fault reason.ResolverDestroyed))
+  pub replaced-fits : (e : End) (m old : Message) (sync : Bool) (level : Level) (row : MessageRow) → FitsItem schema (item.Message old sync level) × (are_alike (delivery.item_of row m) (item.Message old sync level) ≡ true) → message_of schema m.number ≡ Some row → makes_promise row ≡ true → Fits schema (reply_to (request_answered old) (Fault reason.ResolverDestroyed))
   replaced-fits e m old sync level row h found promise =
       let a : Alike m old = alike m old (is_sync_row row) sync row.level level h.1 in
       let r : IsRequestOf schema row old a.values = request-of schema row old a.values h.0.0 a.body (ap (message_of schema) a.number ∙ found) in

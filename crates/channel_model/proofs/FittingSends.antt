@@ -137,7 +137,7 @@ module _ (schema : Schema) (e : End) (row : MessageRow) (route : ℤ) (vs : Valu
     ids = values-carried e.actors h.actors schema row.params vs passed.typed passed.values;
   }
 
-  sent-fits : Fits schema (send.request_of e row route vs)
+  pub sent-fits : Fits schema (send.request_of e row route vs)
   sent-fits = (row, is-request)
 
   pub sent-fresh : AllByRecursion IsLivingId (fresh_of row (send.request_of e row route vs))

@@ -59,27 +59,32 @@ pub record FitsEntry (schema : Schema) (entry : StackEntry) : Type 0 where
   pub resolves : entry.resolves ≡ true → makes_promise row ≡ true
   pub frame : FitsFrame schema row entry.frame
 
--- what a promise, and a resolver, keep of their request
+-- what a promise keeps of its request
 abbrev pub promise_answered : PromiseEntry → AnsweredRequest
 promise_answered entry = record { seq = entry.promise.seq; route = entry.promise.actor; number = entry.number; transaction = pos 0 }
 
--- a request with a promise is kept
+-- a request that makes a promise is kept
 abbrev pub FitsPromised : Schema → AnsweredRequest → Type 0
 FitsPromised schema q = (row : MessageRow) × IsRequestKept schema row q × (makes_promise row ≡ true)
 
+-- a promise is of such a request
 abbrev pub FitsPromise : Schema → PromiseEntry → Type 0
 FitsPromise schema entry = FitsPromised schema (promise_answered entry)
 
+-- a resolver is of such a request
 abbrev pub FitsResolver : Schema → Resolver → Type 0
 FitsResolver schema r = FitsPromised schema (resolver_answered r)
 
+-- what a name holds is an actor, or a resolver that fits
 abbrev pub FitsContent : Schema → NameContent → Type 0
 FitsContent schema (actor id) = Unit {0}
 FitsContent schema (resolver r) = FitsResolver schema r
 
+-- a name holds what fits
 abbrev pub FitsNaming : Schema → Naming → Type 0
 FitsNaming schema naming = FitsContent schema naming.holds
 
+-- an actor has an id that one who lives may have
 abbrev pub HasLivingId : Actor → Type 0
 HasLivingId a = IsLivingId a.id
 
