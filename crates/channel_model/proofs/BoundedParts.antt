@@ -34,6 +34,7 @@ use Rattle.channel_model.specs.Sends as send
 use Rattle.channel_model.specs.StepLaws.{IsMadeOf, IsDeliveryOfOnePart, StepsAreBounded}
 use Rattle.channel_model.specs.Takes as take
 use Rattle.channel_model.proofs.Counted.{bit, abandoned-count, falls-balance, waits, dropped-waits, released-waits, failed-waits, answered-waits}
+use Rattle.channel_model.proofs.NameParts.{done_phase}
 use Rattle.channel_model.proofs.KnownSteps.{KnownIn, later-known, first-known}
 use Rattle.channel_model.proofs.StepParts.{by-parts}
 
@@ -59,7 +60,7 @@ record Within (n k : ℕ) (ws : List What) (ps : List Packet) (f : End) (q : Pha
 
 -- Later parts
 
-fallen-within : (p : Phase) (id : ℤ) (why : ℤ → Destroy) (e : End) → IsTree e.actors → Within (unsettled e + more_lines p) (length e.outbox + more_packets p) (Parts.fall_lines id why e) [] (fallen_end id e) p
+fallen-within : (p : Phase) (id : ℤ) (why : ℤ → Destroy) (e : End) → IsTree e.actors → Within (unsettled e + more_lines p) (length e.outbox + more_packets p) (Parts.fall_lines id why e) [] (fallen_end id e) (done_phase p)
 fallen-within p id why e tree = record {
   lines = omega (arith, falls-balance id why e.actors e.promises tree, unsettled-is e, unsettled-is (fallen_end id e));
   packets = omega arith;
@@ -82,8 +83,9 @@ later-within {p} {e} (Parts.builds id protocol rest is alive) tree =
     let a : Actor = record { id = id; protocol = protocol; manager = manager_of p.start } in
     record { lines = omega (arith, fresh, length-append e.actors (a ∷ [])); packets = omega arith }
 later-within {p} {e} (Parts.deletes id cause) tree = fallen-within p id (fall.why_deleted id) e tree
-later-within {p} {e} (Parts.abandons why cause) tree = record { lines = omega (arith, abandoned-count e.promises); packets = omega arith }
-later-within {p} {e} (Parts.falls why cause) tree = fallen-within p top_id (λ id. why) e tree
+later-within {p} {e} (Parts.falls why cause) tree =
+    let w = fallen-within p top_id (λ id. why) (Parts.abandoned_end e) tree in
+    record { lines = omega (arith, w.lines, abandoned-count e.promises, length-append (Parts.abandoned_lines e) (Parts.fall_lines top_id (λ id. why) (Parts.abandoned_end e))); packets = omega (arith, w.packets) }
 
 laters-within : {schema : Schema} {protocol : ℕ} {p q : Phase} {e f : End} {ws : List What} {ps : List Packet} → LaterParts p e ws ps f q → KnownIn schema protocol p e → Within (unsettled e + more_lines p) (length e.outbox + more_packets p) ws ps f q
 laters-within Parts.done h = record { lines = omega arith; packets = omega arith }
@@ -218,7 +220,7 @@ module _ (schema : Schema) (protocol : ℕ) (e : End) where
   first-within (Parts.resumes wait row on_top found) = record { lines = omega (arith, unsettled-is e, unsettled-is (record e { stack = drop 1 e.stack }), dropped-waits e.stack); packets = omega arith }
 
   own-within : {p : Phase} {f : End} {ws : List What} {ps : List Packet} → OwnParts schema e ws ps f p → AreKnown protocol (ids_of schema e) → Within (unsettled e + 5) (length e.outbox + 2) ws ps f p
-  own-within (Parts.begun {ws} {vs} {ps} {qs} first rest) known =
+  own-within (Parts.begun {ws} {vs} {ps} {qs} first rest over) known =
       let a = first-within first in
       let b = laters-within rest (first-known schema protocol first known) in
       record { lines = omega (arith, a.lines, b.lines, length-append ws vs); packets = omega (arith, a.packets, b.packets, length-append ps qs) }

@@ -60,7 +60,6 @@ later-keeps (Parts.releases seq closed) = keeps-all _ _ refl refl refl refl
 later-keeps (Parts.keeps seq name x is closed) = keeps-all _ _ refl refl refl refl
 later-keeps (Parts.builds id protocol rest is alive) = keeps-all _ _ refl refl refl refl
 later-keeps (Parts.deletes id cause) = keeps-all _ _ refl refl refl refl
-later-keeps (Parts.abandons why cause) = keeps-all _ _ refl refl refl refl
 later-keeps (Parts.falls why cause) = keeps-all _ _ refl refl refl refl
 
 laters-keep : {p q : Phase} {e f : End} {ws : List What} {ps : List Packet} → LaterParts p e ws ps f q → Keeps e f
@@ -102,7 +101,7 @@ first-counted {e} (Parts.returns entry row vs told lost returns t l) =
 first-counted (Parts.resumes wait row on_top found) = counted-kept _ _ (keeps-all _ _ refl refl refl refl)
 
 own-counted : {schema : Schema} {p : Phase} {e f : End} {ws : List What} {ps : List Packet} → OwnParts schema e ws ps f p → HasCounted e f
-own-counted (Parts.begun first rest) =
+own-counted (Parts.begun first rest over) =
     let a = first-counted first in
     let b = laters-keep rest in
     record {

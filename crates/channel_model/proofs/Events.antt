@@ -170,8 +170,7 @@ later-prints (Parts.releases seq closed) = record { lines = tt; side = refl }
 later-prints (Parts.keeps seq name r held closed) = record { lines = tt; side = refl }
 later-prints (Parts.builds id protocol rest fresh alive) = record { lines = (refl, tt); side = refl }
 later-prints {e} (Parts.deletes id cause) = record { lines = falls-effects id (fall.why_deleted id) e; side = refl }
-later-prints {e} (Parts.abandons why cause) = record { lines = rejections-effects (λ p. true) reason.ChannelClosed e.promises; side = refl }
-later-prints {e} (Parts.falls why cause) = record { lines = falls-effects top_id (λ id. why) e; side = refl }
+later-prints {e} (Parts.falls why cause) = record { lines = all-append IsEffect (Parts.abandoned_lines e) (Parts.fall_lines top_id (λ id. why) (Parts.abandoned_end e)) (rejections-effects (λ p. true) reason.ChannelClosed e.promises) (falls-effects top_id (λ id. why) (Parts.abandoned_end e)); side = refl }
 
 laters-print : {p q : Phase} {e f : End} {ws : List What} {ps : List Packet} → LaterParts p e ws ps f q → Prints AllEffects e f ws
 laters-print Parts.done = record { lines = tt; side = refl }
@@ -181,7 +180,7 @@ laters-print (Parts.then {ws} {vs} part rest) =
     record { lines = all-append IsEffect ws vs a.lines b.lines; side = b.side ∙ a.side }
 
 own-prints : {schema : Schema} {p : Phase} {e f : End} {ws : List What} {ps : List Packet} → OwnParts schema e ws ps f p → Prints BeginsEvent e f ws
-own-prints (Parts.begun {ws} {vs} first rest) =
+own-prints (Parts.begun {ws} {vs} first rest over) =
     let a = first-prints first in
     let b = laters-print rest in
     record { lines = begins-append ws vs a.lines b.lines; side = b.side ∙ a.side }

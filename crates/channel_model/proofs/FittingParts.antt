@@ -202,8 +202,7 @@ module _ (schema : Schema) (sound : IsSound schema) where
       let ids : AllByRecursion IsLivingId (id ∷ rest) = subst (AllByRecursion IsLivingId) is fresh in
       record { end = fits-actors schema e _ (all-append HasLivingId e.actors (_ ∷ []) h.actors (ids.0, tt)) h; packets = tt; fresh = ids.1 }
   later-fits {e} (Parts.deletes id cause) fresh h = record { end = fallen-fits id e h; packets = tt; fresh = fresh }
-  later-fits {e} (Parts.abandons why cause) fresh h = record { end = fits-promises schema e _ (rejected-promises schema (λ p. true) reason.ChannelClosed e.promises h.promises) h; packets = tt; fresh = fresh }
-  later-fits {e} (Parts.falls why cause) fresh h = record { end = fallen-fits _ e h; packets = tt; fresh = fresh }
+  later-fits {e} (Parts.falls why cause) fresh h = record { end = fallen-fits _ (Parts.abandoned_end e) (fits-promises schema e _ (rejected-promises schema (λ p. true) reason.ChannelClosed e.promises h.promises) h); packets = tt; fresh = fresh }
 
   laters-fit : {p q : Phase} {e f : End} {ws : List What} {ps : List Packet} → LaterParts p e ws ps f q → AllByRecursion IsLivingId p.fresh → IsFitting schema e → PartFits schema ps f q
   laters-fit Parts.done fresh h = record { end = h; packets = tt; fresh = fresh }
@@ -271,7 +270,7 @@ module _ (schema : Schema) (sound : IsSound schema) where
   first-fits {e} (Parts.resumes wait row on_top found) counted few h = record { end = fits-stack schema e (drop 1 e.stack) (all-drop (FitsEntry schema) e.stack h.stack) h; packets = tt; fresh = tt }
 
   own-fits : {p : Phase} {e f : End} {ws : List What} {ps : List Packet} → OwnParts schema e ws ps f p → IsCounted e → e.sent < 268435456 → IsFitting schema e → PartFits schema ps f p
-  own-fits (Parts.begun {ps} {qs} first rest) counted few h =
+  own-fits (Parts.begun {ps} {qs} first rest over) counted few h =
       let a = first-fits first counted few h in
       let b = laters-fit rest a.fresh a.end in
       record { end = b.end; packets = all-append (FitsPacket schema) ps qs a.packets b.packets; fresh = b.fresh }

@@ -76,11 +76,11 @@ module _ (schema : Schema) (protocol : ℕ) where
   only-one [] P id few = tt
   only-one (x ∷ rest) P id few = absurd (omega arith)
 
-  fallen-known : (p : Phase) (id : ℤ) (e : End) → KnownIn schema protocol p e → KnownIn schema protocol p (fallen_end id e)
-  fallen-known p id e h = record {
+  fallen-known : (p q : Phase) (id : ℤ) (e : End) → q.fresh ≡ p.fresh → KnownIn schema protocol p e → KnownIn schema protocol q (fallen_end id e)
+  fallen-known p q id e same h = record {
     known = known-fallen protocol (ids_of schema e) id h.known;
-    fresh = all-map (IsFresh (ids_of schema e)) (IsFresh (ids_of schema (fallen_end id e))) p.fresh (λ x k. (k.0, dead-filter x (λ (a : Actor). not (lives a.id (falling id e))) e.actors k.1, k.2)) h.fresh;
-    few = h.few;
+    fresh = subst (AllByRecursion (IsFresh (ids_of schema (fallen_end id e)))) (sym same) (all-map (IsFresh (ids_of schema e)) (IsFresh (ids_of schema (fallen_end id e))) p.fresh (λ x k. (k.0, dead-filter x (λ (a : Actor). not (lives a.id (falling id e))) e.actors k.1, k.2)) h.fresh);
+    few = subst (λ (ids : List ℤ). length ids ≤ 1) (sym same) h.few;
   }
 
   pub later-known : {p q : Phase} {e f : End} {ws : List What} {ps : List Packet} → LaterPart p e ws ps f q → KnownIn schema protocol p e → KnownIn schema protocol q f
@@ -96,9 +96,8 @@ module _ (schema : Schema) (protocol : ℕ) where
         fresh = only-one rest _ id few;
         few = omega (arith, few);
       }
-  later-known {p} {e} (Parts.deletes id cause) h = fallen-known p id e h
-  later-known (Parts.abandons why cause) h = record { known = h.known; fresh = h.fresh; few = h.few }
-  later-known {p} {e} (Parts.falls why cause) h = fallen-known p top_id e h
+  later-known {p} {q} {e} (Parts.deletes id cause) h = fallen-known p q id e refl h
+  later-known {p} {q} {e} (Parts.falls why cause) h = fallen-known p q top_id (Parts.abandoned_end e) refl (record { known = h.known; fresh = h.fresh; few = h.few })
 
   laters-known : {p q : Phase} {e f : End} {ws : List What} {ps : List Packet} → LaterParts p e ws ps f q → KnownIn schema protocol p e → KnownIn schema protocol q f
   laters-known Parts.done h = h
@@ -179,7 +178,7 @@ module _ (schema : Schema) (protocol : ℕ) where
   first-known (Parts.resumes wait row on_top found) h = record { known = h; fresh = tt; few = omega arith }
 
   own-known : {p : Phase} {e f : End} {ws : List What} {ps : List Packet} → OwnParts schema e ws ps f p → Known e → Known f
-  own-known (Parts.begun first rest) h = (laters-known rest (first-known first h)).known
+  own-known (Parts.begun first rest over) h = (laters-known rest (first-known first h)).known
 
   -- Deliveries
 

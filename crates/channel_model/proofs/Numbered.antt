@@ -135,8 +135,7 @@ later-numbered (Parts.releases seq closed) h = h
 later-numbered (Parts.keeps seq name r held closed) h = h
 later-numbered (Parts.builds id protocol rest fresh alive) h = h
 later-numbered {e} (Parts.deletes id cause) h = fallen-numbered id e h
-later-numbered {e} (Parts.abandons why cause) h = same-promised e _ (rejected-seqs (λ p. true) reason.ChannelClosed e.promises) h
-later-numbered {e} (Parts.falls why cause) h = fallen-numbered _ e h
+later-numbered {e} (Parts.falls why cause) h = fallen-numbered _ (Parts.abandoned_end e) (same-promised e _ (rejected-seqs (λ p. true) reason.ChannelClosed e.promises) h)
 
 delivery-numbered : {schema : Schema} {packet : Packet} {p : Phase} {e f : End} {ws : List What} {ps : List Packet} → DeliveryPart schema packet e ws ps f p → AreNumbered (requests_of e) → AreNumbered (requests_of f)
 delivery-numbered (Parts.gets_request m row vs body found none) h = h

@@ -14,7 +14,7 @@ use Rattle.channel_model.specs.Numbers.{request_row}
 use Rattle.channel_model.specs.Outputs.{Output, Change, beginning, line, is_open, is_dead_end}
 use Rattle.channel_model.specs.Parts
 use Rattle.channel_model.specs.Parts.{FirstPart, LaterPart, LaterParts, OwnParts, DeliveryPart}
-use Rattle.channel_model.specs.Phases.{Phase, quiet, renaming, returning}
+use Rattle.channel_model.specs.Phases.{Phase, quiet, renaming, IsOver}
 use Rattle.channel_model.specs.Returns as return
 use Rattle.channel_model.specs.Sends as send
 use Rattle.channel_model.specs.StepLaws.{IsMadeOf, IsDeliveryOfOnePart, IsStepOfParts, StepsAreMadeOfParts}
@@ -39,8 +39,8 @@ Own schema e output = IsMadeOf (OwnParts schema e) e.side output
 own-step : (schema : Schema) (e : End) (change : Change) (q : Phase) → Makes (OwnParts schema e) change (beginning e) q → Own schema e (change (beginning e))
 own-step schema e change q a = made-step (OwnParts schema e) e change q a
 
-alone-step : (schema : Schema) (e : End) (change : Change) (q : Phase) → Makes (FirstPart schema e) change (beginning e) q → Own schema e (change (beginning e))
-alone-step schema e change q a = own-step schema e change q (made-alone schema q change (beginning e) a)
+alone-step : (schema : Schema) (e : End) (change : Change) (q : Phase) → Makes (FirstPart schema e) change (beginning e) q → IsOver q → Own schema e (change (beginning e))
+alone-step schema e change q a over = own-step schema e change q (made-alone schema q change (beginning e) a over)
 
 -- an actor or none
 no_resolver : (b : Bool) (id : _) → NoResolver (if b then Some (actor id) else None)
@@ -57,7 +57,7 @@ steps_are_made_of_parts schema e link (event.send route number vs name) output i
 steps_are_made_of_parts schema e link (event.answer by vs) output is =
     found-gives (Own schema e) (answering.answered_row schema e by) (λ row. provided (answering.may_answer schema e row vs) (answering.answer schema e row by vs) e) output
     (λ row found. provided-gives (Own schema e) (answering.may_answer schema e row vs) (answering.answer schema e row by vs) e output
-    (λ may. alone-step schema e (answering.answer schema e row by vs) quiet (answer-made schema e row by vs (answering.answer_refusal schema e row by vs) (answering.resolver_used e by) (beginning e) refl found may refl refl))) is
+    (λ may. alone-step schema e (answering.answer schema e row by vs) quiet (answer-made schema e row by vs (answering.answer_refusal schema e row by vs) (answering.resolver_used e by) (beginning e) refl found may refl refl) (refl, refl))) is
 steps_are_made_of_parts schema e link (event.keep seq name) output is =
     provided-gives (Own schema e) (answering.may_keep e seq) (answering.keep e seq name) e output
     (λ may. own-step schema e (answering.keep e seq name) quiet (keep-made schema e seq name (answering.handled_resolver e seq) (beginning e) refl refl (and-right (send.may_act e) (is_some (answering.handled_resolver e seq)) may))) is
@@ -67,11 +67,11 @@ steps_are_made_of_parts schema e link (event.name name id) output is =
     provided-gives (Own schema e) (send.may_act e) (act.name_actor name id) e output
     (λ may. own-step schema e (act.name_actor name id) quiet
     (made-begun schema renaming quiet (line w) (renamed name (if b then Some (actor id) else None)) (beginning e) (renaming-made schema w (beginning e) tt)
-    (renamed-made renaming name (if b then Some (actor id) else None) (line w (beginning e)) refl (no_resolver b id)))) is
+    (renamed-made renaming name (if b then Some (actor id) else None) (line w (beginning e)) refl (no_resolver b id)) (refl, refl))) is
 steps_are_made_of_parts schema e link event.close output is =
     provided-gives (Own schema e) (send.may_act e) (act.close e) e output (λ may. let r = close-made schema (act.close_refusal e) (beginning e) refl in own-step schema e (act.close e) r.0 r.1) is
 steps_are_made_of_parts schema e link event.die output is =
-    provided-gives (Own schema e) (act.may_die e) act.die e output (λ may. alone-step schema e act.die quiet (die-made schema (beginning e) (not-true (is_dead_end e.state) may))) is
+    provided-gives (Own schema e) (act.may_die e) act.die e output (λ may. alone-step schema e act.die quiet (die-made schema (beginning e) (not-true (is_dead_end e.state) may)) (refl, refl)) is
 steps_are_made_of_parts schema e link event.deliver output is =
     found-gives (IsDeliveryOfOnePart schema e link) (first_packet link) (λ packet. provided (is_open e.state) (delivery.deliver schema packet) e) output
     (λ packet found. provided-gives (IsDeliveryOfOnePart schema e link) (is_open e.state) (delivery.deliver schema packet) e output
@@ -84,17 +84,17 @@ steps_are_made_of_parts schema e link (event.return vs) output is =
     found-gives (Own schema e) (return.dispatch_on_top e.stack) (λ entry. option_and_then (λ row. provided (return.may_return schema row vs) (return.return schema e row entry vs) e) (request_row schema entry.number)) output
     (λ entry on_top. found-gives (Own schema e) (request_row schema entry.number) (λ row. provided (return.may_return schema row vs) (return.return schema e row entry vs) e) output
     (λ row found. provided-gives (Own schema e) (return.may_return schema row vs) (return.return schema e row entry vs) e output
-    (λ may. own-step schema e (return.return schema e row entry vs) (returning row entry.route) (return-made schema e row entry vs (beginning e) refl (record { on_top = on_top; found = found; may = may }))))) is
+    (λ may. let r = return-made schema e row entry vs (beginning e) refl (record { on_top = on_top; found = found; may = may }) in own-step schema e (return.return schema e row entry vs) r.0 r.1))) is
 steps_are_made_of_parts schema e link event.resume output is =
     found-gives (Own schema e) (return.answered_wait_on_top e.stack) (λ wait. option_and_then (λ row. provided true (return.resume schema e wait row) e) (request_row schema wait.number)) output
     (λ wait on_top. found-gives (Own schema e) (request_row schema wait.number) (λ row. provided true (return.resume schema e wait row) e) output
     (λ row found. provided-gives (Own schema e) true (return.resume schema e wait row) e output
     (λ may. alone-step schema e (return.resume schema e wait row) quiet
-    (made (FirstPart schema e) (return.resume schema e wait row) (beginning e) quiet (return.resume_line wait.seq (received schema e.actors row wait.given) ∷ []) [] (Parts.resumes wait row on_top found) refl refl refl)))) is
+    (made (FirstPart schema e) (return.resume schema e wait row) (beginning e) quiet (return.resume_line wait.seq (received schema e.actors row wait.given) ∷ []) [] (Parts.resumes wait row on_top found) refl refl refl) (refl, refl)))) is
 steps_are_made_of_parts schema e link event.flush output is =
     provided-gives (Own schema e) (return.may_flush e) return.flush e output
     (λ may. alone-step schema e return.flush quiet
-    (made (FirstPart schema e) return.flush (beginning e) quiet (what.Flush (length e.outbox) ∷ []) (map message e.outbox) (Parts.flushes (and-left (is_open e.state) (not (return.is_empty e.outbox)) may)) refl refl refl)) is
+    (made (FirstPart schema e) return.flush (beginning e) quiet (what.Flush (length e.outbox) ∷ []) (map message e.outbox) (Parts.flushes (and-left (is_open e.state) (not (return.is_empty e.outbox)) may)) refl refl refl) (refl, refl)) is
 
 -- What parts give
 
@@ -128,7 +128,7 @@ module _ (schema : Schema) (P : End → Type 0) (each : EachPartKeeps schema P) 
   laters-keep (Parts.then part rest) h = laters-keep rest (each.later part h)
 
   own-keeps : {p : Phase} {e f : End} {ws : List What} {ps : List Packet} → OwnParts schema e ws ps f p → P e → P f
-  own-keeps (Parts.begun first rest) h = laters-keep rest (each.first first h)
+  own-keeps (Parts.begun first rest over) h = laters-keep rest (each.first first h)
 
   -- every step keeps it
   pub parts-keep : (e : End) (link : List Packet) (happened : Event) (output : Output) → step schema e link happened ≡ Some output → P e → P output.end

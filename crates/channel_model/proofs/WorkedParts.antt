@@ -49,9 +49,8 @@ silent-one (Parts.names more actors) is = (refl, refl, is)
 silent-one (Parts.releases seq closed) is = (refl, refl, is)
 silent-one (Parts.keeps seq name r held closed) is = (refl, refl, is)
 silent-one (Parts.builds id protocol rest fresh alive) is = let k : id ∷ rest ≡ [] = sym fresh ∙ ap (λ (p : Phase). p.fresh) is in cc
-silent-one (Parts.deletes id cause) is = let k : deletion id ≡ nobody = sym cause ∙ ap (λ (p : Phase). p.cause) is in cc
-silent-one (Parts.abandons why cause) is = let k : closing why ≡ nobody = sym cause ∙ ap (λ (p : Phase). p.cause) is in cc
-silent-one (Parts.falls why cause) is = let k : closing why ≡ nobody = sym cause ∙ ap (λ (p : Phase). p.cause) is in cc
+silent-one (Parts.deletes id due) is = let k : deletion id ≡ nobody = sym due ∙ ap (λ (p : Phase). p.due) is in cc
+silent-one (Parts.falls why due) is = let k : closing why ≡ nobody = sym due ∙ ap (λ (p : Phase). p.due) is in cc
 
 quiet_is_silent : {p q : Phase} {e f : End} {ws : List What} {ps : List Packet} → LaterParts p e ws ps f q → p ≡ quiet → (ws ≡ []) × (ps ≡ [])
 quiet_is_silent Parts.done is = (refl, refl)

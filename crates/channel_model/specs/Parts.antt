@@ -38,7 +38,7 @@ use Rattle.channel_model.specs.Falls as fall
 use Rattle.channel_model.specs.Names.{held_by_name, without_name, without_resolvers}
 use Rattle.channel_model.specs.Numbers.{counting, is_sync_row, makes_promise, request_row, top_id}
 use Rattle.channel_model.specs.Outputs.{is_open, is_closed, is_dead_end, AnsweredRequest, request_answered, resolver_answered, reply_to, body_of, answer_line}
-use Rattle.channel_model.specs.Phases.{Phase, deletion, closing, manager_of, quiet, renaming, ending, shutting, sending, taking, returning}
+use Rattle.channel_model.specs.Phases.{Phase, nobody, deletion, closing, manager_of, quiet, renaming, ending, shutting, sending, taking, returning, IsOver}
 use Rattle.channel_model.specs.Returns as return
 use Rattle.channel_model.specs.Sends as send
 use Rattle.channel_model.specs.States.{is_farewell}
@@ -283,20 +283,19 @@ pub data LaterPart : Phase → End → List What → List Packet → End → Pha
   builds : {p : Phase} {e : End} (id : ℤ) (protocol : ℕ) (rest : List ℤ) → p.fresh ≡ id ∷ rest → lives (manager_of p.start) e.actors ≡ true
       → LaterPart p e (what.Built id protocol ∷ []) [] (record e { actors = e.actors ++ record { id = id; protocol = protocol; manager = manager_of p.start } ∷ [] }) (record p { fresh = rest })
   -- the actor of a destructor falls with all below it
-  deletes : {p : Phase} {e : End} (id : ℤ) → p.cause ≡ deletion id → LaterPart p e (fall_lines id (fall.why_deleted id) e) [] (fallen_end id e) p
-  -- an end that closes rejects its promises
-  abandons : {p : Phase} {e : End} (why : Destroy) → p.cause ≡ closing why → LaterPart p e (abandoned_lines e) [] (abandoned_end e) p
-  -- all actors of an end that closes fall
-  falls : {p : Phase} {e : End} (why : Destroy) → p.cause ≡ closing why → LaterPart p e (fall_lines top_id (λ id. why) e) [] (fallen_end top_id e) p
+  deletes : {p : Phase} {e : End} (id : ℤ) → p.due ≡ deletion id → LaterPart p e (fall_lines id (fall.why_deleted id) e) [] (fallen_end id e) (record p { due = nobody })
+  -- an end that closes rejects its promises, and all its actors fall
+  falls : {p : Phase} {e : End} (why : Destroy) → p.due ≡ closing why
+      → LaterPart p e (abandoned_lines e ++ fall_lines top_id (λ id. why) (abandoned_end e)) [] (fallen_end top_id (abandoned_end e)) (record p { due = nobody })
 
 -- later parts, one after another
 pub data LaterParts : Phase → End → List What → List Packet → End → Phase → Type 0 where
   done : {p : Phase} {e : End} → LaterParts p e [] [] e p
   then : {p q r : Phase} {e f g : End} {ws vs : List What} {ps qs : List Packet} → LaterPart p e ws ps f q → LaterParts q f vs qs g r → LaterParts p e (ws ++ vs) (ps ++ qs) g r
 
--- The parts of an end's own step: the one that it begins with, and those that follow.
+-- The parts of an end's own step: the one that it begins with, and those that follow until nothing is left to be done.
 pub data OwnParts (schema : Schema) : End → List What → List Packet → End → Phase → Type 0 where
-  begun : {p q : Phase} {e f g : End} {ws vs : List What} {ps qs : List Packet} → FirstPart schema e ws ps f p → LaterParts p f vs qs g q → OwnParts schema e (ws ++ vs) (ps ++ qs) g q
+  begun : {p q : Phase} {e f g : End} {ws vs : List What} {ps qs : List Packet} → FirstPart schema e ws ps f p → LaterParts p f vs qs g q → IsOver q → OwnParts schema e (ws ++ vs) (ps ++ qs) g q
 
 -- The one part that the delivery of a packet is.
 pub data DeliveryPart (schema : Schema) : Packet → End → List What → List Packet → End → Phase → Type 0 where
