@@ -15,7 +15,6 @@ pub mod Leaves
 pub mod Sublists
 pub mod Known
 pub mod KnownSteps
-pub mod InState
 pub mod StateSteps
 pub mod Numbered
 pub mod RunsKeep
