@@ -11,7 +11,6 @@ pub mod Provided
 pub mod Tests
 pub mod Events
 pub mod Follow
-pub mod Leaves
 pub mod Sublists
 pub mod Known
 pub mod KnownSteps

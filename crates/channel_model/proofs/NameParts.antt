@@ -101,6 +101,17 @@ pub names_actor-made : (p : Phase) (id : ℤ) (name : Option (List ℕ)) (o : Ou
 names_actor-made p id None o may = (p.renames, made-nothing p unchanged o refl)
 names_actor-made p id (Some name) o may = (false, renamed-made p name (Some (actor id)) o may tt)
 
+-- a new name leaves the actors
+
+letting-actors : (name : List ℕ) (before : Option NameContent) (o : Output) → (letting before name o).end.actors ≡ o.end.actors
+letting-actors name None o = refl
+letting-actors name (Some (actor id)) o = refl
+letting-actors name (Some (resolver r)) o = elim (is_open o.end.state) as (λ b. (when b (fault r) (losing name o)).end.actors ≡ o.end.actors) [ true ↦ refl | false ↦ refl ]
+
+pub names_actor-actors : (id : ℤ) (name : Option (List ℕ)) (o : Output) → (send.names_actor id name o).end.actors ≡ o.end.actors
+names_actor-actors id None o = refl
+names_actor-actors id (Some name) o = letting-actors name (held_by_name name o.end.names) o
+
 -- Keeps
 
 abbrev keeping : ℤ → List Naming → Change

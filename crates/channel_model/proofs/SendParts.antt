@@ -26,9 +26,8 @@ use Rattle.channel_model.specs.Parts.{FirstPart, LaterParts, OwnParts, IsSent, s
 use Rattle.channel_model.specs.Phases.{Phase, manager_of, kind_cause, fresh_of, quiet, sending, IsOver}
 use Rattle.channel_model.specs.Sends as send
 use Rattle.channel_model.specs.ValueActors.{lives_as}
-use Rattle.channel_model.proofs.Leaves.{Ignores, leaves-names_actor}
 use Rattle.channel_model.proofs.Made.{Makes, made-at, made-as, made-later, made-joined, made-begun, made-alone}
-use Rattle.channel_model.proofs.NameParts.{put-packets, refusal-made, done_phase, renamed_phase, names_actor-made, deletes-made}
+use Rattle.channel_model.proofs.NameParts.{put-packets, refusal-made, done_phase, renamed_phase, names_actor-made, names_actor-actors, deletes-made}
 
 -- Tests
 
@@ -55,9 +54,6 @@ request-number schema n row found = by (message_of schema n) found
     by : (m : Option MessageRow) → option_and_then (λ (r : MessageRow). cond (r.number == n) (Some r) None) m ≡ Some row → (row.number ≡ n) × (m ≡ Some row)
     by None e = cc
     by (Some r) e = kept r (r.number == n) refl e
-
-actors-ignores : Ignores (λ (e : End). e.actors)
-actors-ignores = record { outbox = λ e ms. refl; names = λ e ns. refl }
 
 -- A request that is sent, up to its wait and its promise
 
@@ -133,7 +129,7 @@ module _ (schema : Schema) where
         q,
         made-as (LaterParts p o.end) (send.names_actor m.made name ▷ send.constructs m.made m.route (Constructor protocol) ▷ fall.deletes m.route (Constructor protocol)) (send.names_actor m.made name ▷ send.built m.made protocol m.route) o q refl
             (made-joined p r q (send.names_actor m.made name) (send.built m.made protocol m.route) o n.1
-            (builds-made r m.made protocol named (fresh-is row m protocol is) (ap (λ (living : List Actor). lives m.route living) (leaves-names_actor (λ (e : End). e.actors) m.made name actors-ignores o) ∙ alive))),
+            (builds-made r m.made protocol named (fresh-is row m protocol is) (ap (λ (living : List Actor). lives m.route living) (names_actor-actors m.made name o) ∙ alive))),
         (refl, ap (λ (k : Kind). kind_cause k m.route) is),
       )
   finish row m name Delete o is alive =

@@ -14,8 +14,6 @@ use Rattle.ipdl_base.specs.declared.kinds.Reason.{Reason}
 use Rattle.ipdl_base.specs.declared.kinds.Reason.TheVariants as reason
 use Rattle.ipdl_base.specs.declared.kinds.SendRefusal.TheVariants as refusal
 use Rattle.ipdl_base.specs.declared.line.What.{What}
-use Rattle.ipdl_base.specs.declared.message.Body.{Body}
-use Rattle.ipdl_base.specs.declared.message.Body.TheVariants.{Request, Reply, Fault, Goodbye}
 use Rattle.ipdl_base.specs.declared.message.Message.{Message}
 use Rattle.ipdl_base.specs.declared.schema.MessageRow.{MessageRow}
 use Rattle.ipdl_base.specs.declared.schema.Schema.{Schema}
@@ -37,18 +35,18 @@ use Rattle.channel_model.specs.Answers as answers
 use Rattle.channel_model.specs.Answers.{has_resolver, released}
 use Rattle.channel_model.specs.Deliveries as delivery
 use Rattle.channel_model.specs.Deliveries.{with_failed_wait, failed}
-use Rattle.channel_model.specs.Ends.{End, Packet, message, mark, StackEntry, PromiseEntry, Naming}
+use Rattle.channel_model.specs.Ends.{End, Packet, StackEntry, PromiseEntry, Naming}
 use Rattle.channel_model.specs.Events.{Answering, handled, kept}
 use Rattle.channel_model.specs.Falls.{passes, rejected_entry, rejected}
 use Rattle.channel_model.specs.Numbers.{top_id, protocol_of}
-use Rattle.channel_model.specs.Outputs.{Output, is_open, is_closed, is_dead_end, body_of}
+use Rattle.channel_model.specs.Outputs.{is_open, is_closed, is_dead_end, body_of}
 use Rattle.channel_model.specs.Parts
 use Rattle.channel_model.specs.Parts.{FirstPart, LaterPart, LaterParts, OwnParts, DeliveryPart, end_behind, left_end, falling, fallen_end, abandoned_end, shut_reason, farewell_item}
-use Rattle.channel_model.specs.Phases.{Phase, FallCause, nobody, deletion, closing, manager_of}
+use Rattle.channel_model.specs.Phases.{Phase, nobody, deletion, closing, manager_of}
 use Rattle.channel_model.specs.Sends as sends
 use Rattle.channel_model.specs.Sends.{frames_of}
 use Rattle.channel_model.specs.States.{is_goodbye, is_farewell, IsOrdinary, HasArrived, IsAnswered, IsSettled, IsInState}
-use Rattle.channel_model.specs.StepLaws.{IsMadeOf, IsDeliveryOfOnePart, StatesStay, FirstStates}
+use Rattle.channel_model.specs.StepLaws.{StatesStay, FirstStates}
 use Rattle.channel_model.specs.Takes as takes
 use Rattle.channel_model.specs.ValueActors.{lives_as}
 use Rattle.channel_model.proofs.FittingValues.{found-in}

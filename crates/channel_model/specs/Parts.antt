@@ -265,7 +265,7 @@ pub data FirstPart (schema : Schema) : End → List What → List Packet → End
   resumes : {e : End} (wait : return.AnsweredWait) (row : MessageRow) → return.answered_wait_on_top e.stack ≡ Some wait → request_row schema wait.number ≡ Some row
       → FirstPart schema e (return.resume_line wait.seq (received schema e.actors row wait.given) ∷ []) [] (record e { stack = drop 1 e.stack }) quiet
 
--- The parts that may follow in the same step.
+-- The parts that follow in the same step.
 pub data LaterPart : Phase → End → List What → List Packet → End → Phase → Type 0 where
   -- a name loses what it held, and nobody is told
   unnames : {p : Phase} {e : End} (name : List ℕ) → p.renames ≡ true → IsSilent e (held_by_name name e.names) → LaterPart p e [] [] (record e { names = without_name name e.names }) (record p { renames = false })

@@ -50,7 +50,7 @@ abbrev pub IsStepOfParts : Schema → End → List Packet → Event → Output �
 IsStepOfParts schema e link event.deliver output = IsDeliveryOfOnePart schema e link output
 IsStepOfParts schema e link _ output = IsMadeOf (OwnParts schema e) e.side output
 
--- Every step is made of parts: a delivery is one, and all else is one that it begins with and others that may follow.
+-- Every step is made of parts: a delivery is one, and all else is one that it begins with and others that follow.
 abbrev pub StepsAreMadeOfParts : Type 0
 StepsAreMadeOfParts =
     (schema : Schema) (e : End) (link : List Packet) (event : Event) (output : Output) → step schema e link event ≡ Some output → IsStepOfParts schema e link event output

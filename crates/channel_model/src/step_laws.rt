@@ -1,7 +1,7 @@
 ghost use Rattle.channel_model.specs.StepLaws.{CountsGrow, EffectsFollowEvents, EventsHaveTheirLines, FirstActorsAreKnown, FirstEndsFit, FirstStates, FittingEndsStay, KnownActorsStay, NextNumberIsFree, NumbersInEveryRun, NumbersStay, StatesStay, StepsAreBounded, StepsAreMadeOfParts};
 
 /// The law of parts: every step is made of parts; a delivery is one, and all else is one that it begins with and others
-/// that may follow.
+/// that follow.
 pub fn steps_are_made_of_parts()
     ensures { StepsAreMadeOfParts }
 {}
