@@ -272,7 +272,7 @@ pub data LaterPart : Phase → End → List What → List Packet → End → Pha
   -- a name loses its resolver, which is answered
   lets_go : {p : Phase} {e : End} (name : List ℕ) (r : Resolver) → p.renames ≡ true → held_by_name name e.names ≡ Some (resolver r) → is_open e.state ≡ true
       → LaterPart p e (what.AnswerFault r.seq ResolverDestroyed ∷ []) (behind_outbox e (reply_packet (resolver_answered r) (answer.Fault ResolverDestroyed))) (record e { outbox = []; names = without_name name e.names }) (record p { renames = false })
-  -- names of actors are new
+  -- names hold actors anew
   names : {p : Phase} {e : End} (more : List Naming) → AllByRecursion HoldsActor more → LaterPart p e [] [] (record e { names = e.names ++ more }) p
   -- the resolver of a handler is kept at a closed end, which keeps nothing
   releases : {p : Phase} {e : End} (seq : ℤ) → is_closed e.state ≡ true → LaterPart p e [] [] (record e { stack = answering.released seq e.stack }) p
