@@ -22,7 +22,7 @@ use Rattle.channel_model.specs.Names.{has_name, held_by_name}
 use Rattle.channel_model.specs.Outputs.{Output, beginning, when, when_open, on_end, line, put, is_open, is_closed, resolver_answered, reply_to}
 use Rattle.channel_model.specs.Sends.{frames_of}
 use Rattle.channel_model.proofs.Known.{all-filter}
-use Rattle.channel_model.proofs.StateSteps.{no_waits, second_test}
+use Rattle.channel_model.proofs.StateSteps.{no_waits}
 use Rattle.channel_laws.proofs.LastPackets.{empty-goes_on, ends-behind}
 use Rattle.channel_laws.proofs.SyncSteps.{SyncStep, no_step, ends, track_of, at-beginning, at-open, keeps-sync_step}
 use Rattle.channel_laws.proofs.Takes.{found-passes}
@@ -186,6 +186,11 @@ named schema e stack link name id h =
     keeps-sync_step schema e stack link (acts.name_actor name id (beginning e)) h (keeps-renamed schema name holds (named-holds schema (acts.is_positive id) id) (track_of e) told (at-beginning schema e stack h))
 
 -- The end of an end
+
+second_test : {A : Type 0} (a b : Bool) (x y : A) → cond (not a) (Some x) (cond b (Some y) None) ≡ None → b ≡ false
+second_test true false x y e = refl
+second_test true true x y e = cc
+second_test false b x y e = cc
 
 close-unless : (schema : Schema) (e : End) (stack : List SyncFrame) (link : List Packet) (cause : Option SendRefusal) → acts.close_refusal e ≡ cause → IsOpenEnd schema e stack → SyncStep schema e stack link link (acts.close_unless cause (beginning e))
 close-unless schema e stack link (Some cause) is h = keeps-sync_step schema e stack link (line (what.RefusedClose cause) (beginning e)) h (at-beginning schema e stack h)

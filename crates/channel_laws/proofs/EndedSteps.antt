@@ -41,7 +41,7 @@ use Rattle.channel_model.specs.Steps.{step, provided, first_packet}
 use Rattle.channel_model.specs.Takes as takes
 use Rattle.channel_model.specs.ValueActors.{nulled, received}
 use Rattle.channel_model.proofs.Provided.{provided-gives, found-gives}
-use Rattle.channel_model.proofs.InState.{released-frames, popped-answered}
+use Rattle.channel_model.proofs.StateSteps.{released-frames, popped-answered}
 
 -- an end of a state, with nothing sent, that waits for nothing
 record IsSilent (state : EndState) (o : Output) : Type 0 where

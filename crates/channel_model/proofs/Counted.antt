@@ -1,12 +1,12 @@
 -- Counts of actors that fall, of promises that are rejected, and of waits.
-use Rattle.std.proofs.Common.{◌≡◌, ◌≢◌, ◌⊎◌, inl, inr, ℕ, zero, suc, ◌+◌, ◌≤◌, ℤ, Bool, true, false, not, ◌&&◌, cond, if◌then◌else◌, List, [], ◌∷◌, ◌++◌, drop, filter, find, flat_map, length, map, Option, Some, None, is_some, refl, sym, ap, subst, ◌∙◌, int_eq, arith}
+use Rattle.std.proofs.Common.{◌≡◌, ◌≢◌, ◌⊎◌, inl, inr, ℕ, ◌+◌, ◌≤◌, ℤ, Bool, true, false, not, ◌&&◌, cond, if◌then◌else◌, List, [], ◌∷◌, ◌++◌, drop, filter, flat_map, length, map, Some, None, refl, sym, ap, subst, ◌∙◌, int_eq, arith}
 use Rattle.std.proofs.lemmas.List.{length-append, length-map}
 use Rattle.actor_tree.specs.declared.actor.Actor.{Actor}
 use Rattle.actor_tree.specs.Fall.{post_order, others, IsNext, Falls}
 use Rattle.actor_tree.specs.Laws.{EachOnce}
 use Rattle.actor_tree.specs.Tree.{lives, without, IsTree}
 use Rattle.actor_tree.proofs.Below.{post_order-has}
-use Rattle.actor_tree.proofs.Ids.{Has, same, other, same_or_other, lives-same, lives-other, without-same, without-other, without-none}
+use Rattle.actor_tree.proofs.Ids.{Has, same, other, same_or_other, lives-same, lives-other, without-same, without-other}
 use Rattle.actor_tree.proofs.Order.{falls_once}
 use Rattle.actor_tree.proofs.Whole.{gives_subtree}
 use Rattle.ipdl_base.specs.declared.kinds.Destroy.{Destroy}
@@ -59,7 +59,8 @@ fallen-count id actors t = falls-count id actors (post_order id actors) (others 
 
 -- Promises
 
-abbrev bit : Bool → ℕ
+-- one where it holds
+abbrev pub bit : Bool → ℕ
 bit b = if b then 1 else 0
 
 length-if : {A : Type 0} (b : Bool) (x : A) (xs : List A) → length (cond b (x ∷ xs) xs) ≡ bit b + length xs
@@ -208,7 +209,8 @@ failed-waits (entry ∷ stack) =
     let l : waits (map with_failed_wait (entry ∷ stack)) ≡ bit (is_unanswered (failed entry.frame)) + waits (map with_failed_wait stack) = waits-cons (with_failed_wait entry) (map with_failed_wait stack) in
     omega (arith, k, l, failed-waits stack)
 
-kept-frames : (stack : List StackEntry) → with_frames (frames stack) stack ≡ stack
+-- the frames of a stack are put back as they were
+pub kept-frames : (stack : List StackEntry) → with_frames (frames stack) stack ≡ stack
 kept-frames [] = refl
 kept-frames (entry ∷ stack) = ap (λ (entries : List StackEntry). entry ∷ entries) (kept-frames stack)
 

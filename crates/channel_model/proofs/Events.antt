@@ -1,240 +1,211 @@
--- Each event has its lines.
-use Rattle.std.proofs.Common.{◌≡◌, ℕ, ◌+◌, ℤ, pos, Bool, true, false, List, [], ◌∷◌, drop, length, Option, Some, None, refl, option_and_then, if◌then◌else◌, ◌||◌}
-use Rattle.std.specs.Option.{option_map_or}
+-- Each event prints its line, and then a line for each of its effects: part by part.
+use Rattle.std.proofs.Common.{◌≡◌, ℤ, Bool, true, false, if◌then◌else◌, List, [], ◌∷◌, ◌++◌, drop, filter, flat_map, map, Option, Some, None, refl, sym, subst, ◌∙◌}
+use Rattle.std.specs.List.{AllByRecursion}
+use Rattle.ipdl_base.specs.declared.kinds.Destroy.{Destroy}
+use Rattle.ipdl_base.specs.declared.kinds.Reason.{Reason}
+use Rattle.ipdl_base.specs.declared.kinds.Reason.TheVariants as reason
+use Rattle.ipdl_base.specs.declared.kinds.Side.{Side}
 use Rattle.ipdl_base.specs.declared.line.What.{What}
 use Rattle.ipdl_base.specs.declared.line.What.TheVariants as what
-use Rattle.ipdl_base.specs.Lines.{is_effect}
-use Rattle.ipdl_base.specs.declared.kinds.Destroy.TheVariants as destroy
-use Rattle.ipdl_base.specs.declared.kinds.Level.TheVariants.{Not}
-use Rattle.ipdl_base.specs.declared.kinds.Reason.TheVariants as reason
-use Rattle.ipdl_base.specs.declared.kinds.SendRefusal.{SendRefusal}
-use Rattle.ipdl_base.specs.declared.kinds.SendRefusal.TheVariants as refusal
 use Rattle.ipdl_base.specs.declared.message.Body.{Body}
 use Rattle.ipdl_base.specs.declared.message.Body.TheVariants.{Request, Reply, Fault, Goodbye}
 use Rattle.ipdl_base.specs.declared.message.Message.{Message}
-use Rattle.ipdl_base.specs.declared.schema.MessageRow.{MessageRow}
 use Rattle.ipdl_base.specs.declared.schema.Schema.{Schema}
 use Rattle.ipdl_base.specs.declared.value.Values.{Values}
-use Rattle.ipdl_base.specs.Sound.{message_of}
+use Rattle.ipdl_base.specs.Lines.{is_effect}
 use Rattle.nesting_core.specs.declared.frame.Answer.{Answer}
 use Rattle.nesting_core.specs.declared.frame.Answer.TheVariants as answer
-use Rattle.nesting_core.specs.Frames.{head_of}
 use Rattle.pending_queue.specs.declared.item.Item.{Item}
 use Rattle.pending_queue.specs.declared.item.Item.TheVariants as item
-use Rattle.pending_queue.specs.Holding.{is_free, without_first}
-use Rattle.ipdl_base.specs.declared.kinds.EndState.TheVariants.{Dead}
-use Rattle.channel_model.specs.Acts as acts
-use Rattle.channel_model.specs.Answers as answers
+use Rattle.promise_table.specs.declared.promise.Outcome.{Outcome}
+use Rattle.promise_table.specs.declared.promise.Outcome.TheVariants.{Resolved, Rejected}
+use Rattle.promise_table.specs.declared.promise.Promise.{Promise}
+use Rattle.promise_table.specs.Promises.{is_pending_of}
+use Rattle.channel_model.specs.Answers as answering
 use Rattle.channel_model.specs.Deliveries as delivery
-use Rattle.channel_model.specs.Ends.{End, Packet, message, mark, StackEntry, Resolver, actor}
-use Rattle.channel_model.specs.Events.{Answering, handled, kept, Event}
-use Rattle.channel_model.specs.Events as event
-use Rattle.channel_model.specs.Falls.{closed, deletes}
-use Rattle.channel_model.specs.Names.{renamed}
-use Rattle.channel_model.specs.Numbers.{counting, is_sync_row, makes_promise, request_row}
-use Rattle.channel_model.specs.Outputs.{Change, unchanged, ◌▷◌, when, when_open, on_end, line, put, answered, destroyed, request_answered, resolver_answered, reply_to, is_open}
-use Rattle.channel_model.specs.Returns as returns
-use Rattle.channel_model.specs.Sends as sends
-use Rattle.channel_model.specs.Steps.{provided, first_packet}
-use Rattle.channel_model.specs.Takes as takes
-use Rattle.channel_model.specs.ValueActors.{nulled, received}
-use Rattle.channel_model.specs.StepLaws.{EventsHaveTheirLines}
-use Rattle.channel_model.proofs.Adds.{adds-unchanged, adds-chain, adds-when, adds-when_open, adds-on_end, adds-put}
-use Rattle.channel_model.proofs.Begins.{BeginsEvent, begins-line, begins-line_then, begins-behind, begins-as, provided-has, found-has}
-use Rattle.channel_model.proofs.Effects.{adds-answered, adds-destroyed, adds-renamed, adds-deletes, adds-closed, adds-posted, adds-awaits_reply, adds-constructs, adds-names_actor, adds-request_arrives, adds-reply_arrives, adds-ended, adds-by_row, adds-reply_taken}
+use Rattle.channel_model.specs.Ends.{End, Packet, message, mark, PromiseEntry}
+use Rattle.channel_model.specs.EventLines.{IsEffectOf, IsEventWithEffects}
+use Rattle.channel_model.specs.Events.{Answering, handled, kept}
+use Rattle.channel_model.specs.Falls as fall
+use Rattle.channel_model.specs.Numbers.{is_sync_row, top_id}
+use Rattle.channel_model.specs.Outputs.{Output, AnsweredRequest, request_answered, resolver_answered, line_at}
+use Rattle.channel_model.specs.Parts
+use Rattle.channel_model.specs.Parts.{FirstPart, LaterPart, LaterParts, OwnParts, DeliveryPart, IsRefusal, IsRenaming, reply_lines, end_behind, falling, shut_line, farewell_line, unknown_line}
+use Rattle.channel_model.specs.Phases.{Phase}
+use Rattle.channel_model.specs.Returns as return
+use Rattle.channel_model.specs.Sends as send
+use Rattle.channel_model.specs.StepLaws.{HasItsLines, EventsHaveTheirLines}
+use Rattle.channel_model.specs.Takes as take
+use Rattle.channel_model.specs.ValueActors.{received}
+use Rattle.channel_model.proofs.Known.{all-append}
+use Rattle.channel_model.proofs.StepParts.{by-parts}
 
--- Sends
+-- Lines
 
-send_line-event : (sync : Bool) (m : Message) (vs : Values) → is_effect (if sync then what.Call m.seq m.transaction m.route m.number vs else what.Send m.seq m.route m.number vs) ≡ false
-send_line-event true m vs = refl
-send_line-event false m vs = refl
+abbrev IsEffect : What → Type 0
+IsEffect w = is_effect w ≡ true
 
-begins-sent : (row : MessageRow) (m : Message) (vs : Values) (name : Option (List ℕ)) → BeginsEvent (sends.sent row m vs name)
-begins-sent row m vs name =
-    let f : End → End = λ e. record e { sent = e.sent + 1; constructors_sent = counting row.kind e.constructors_sent } in
-    let last : Change = sends.constructs m.made m.route row.kind ▷ deletes m.route row.kind in
-    let named : Change = sends.names_actor m.made name ▷ last in
-    let awaited : Change = sends.awaits_reply row m ▷ named in
-    let posted : Change = sends.posted row m ▷ awaited in
-    begins-line_then (sends.send_line row m vs) (on_end f ▷ posted) (send_line-event (is_sync_row row) m vs)
-    (adds-chain (on_end f) posted (adds-on_end f (λ e. refl))
-    (adds-chain (sends.posted row m) awaited (adds-posted row m)
-    (adds-chain (sends.awaits_reply row m) named (adds-awaits_reply row m)
-    (adds-chain (sends.names_actor m.made name) last (adds-names_actor m.made name)
-    (adds-chain (sends.constructs m.made m.route row.kind) (deletes m.route row.kind) (adds-constructs m.made m.route row.kind) (adds-deletes m.route row.kind))))))
+abbrev AllEffects : List What → Type 0
+AllEffects = AllByRecursion IsEffect
 
-begins-sent_unless : (cause : Option SendRefusal) (row : MessageRow) (m : Message) (vs : Values) (name : Option (List ℕ)) → BeginsEvent (sends.sent_unless cause row m vs name)
-begins-sent_unless None row m vs name = begins-sent row m vs name
-begins-sent_unless (Some cause) row m vs name = begins-line (what.RefusedSend cause row.number) refl
+-- a line of an event, and then lines of effects
+abbrev BeginsEvent : List What → Type 0
+BeginsEvent [] = ⊥
+BeginsEvent (w ∷ ws) = (is_effect w ≡ false) × AllEffects ws
 
--- Answers
+begins-append : (ws vs : List What) → BeginsEvent ws → AllEffects vs → BeginsEvent (ws ++ vs)
+begins-append [] vs h k = absurd h
+begins-append (w ∷ ws) vs h k = (h.0, all-append IsEffect ws vs h.1 k)
 
-answering_line-event : (seq : ℤ) (vs : Option Values) → is_effect (answers.answering_line seq vs) ≡ false
-answering_line-event seq None = refl
-answering_line-event seq (Some vs) = refl
+effects-map : {A : Type 0} (f : A → What) (xs : List A) → ((x : A) → IsEffect (f x)) → AllEffects (map f xs)
+effects-map f [] h = tt
+effects-map f (x ∷ xs) h = (h x, effects-map f xs h)
 
-refused_line-event : (cause : SendRefusal) (vs : Option Values) → is_effect (answers.refused_line cause vs) ≡ false
-refused_line-event cause None = refl
-refused_line-event cause (Some vs) = refl
+effects-flat_map : {A : Type 0} (f : A → List What) (xs : List A) → ((x : A) → AllEffects (f x)) → AllEffects (flat_map f xs)
+effects-flat_map f [] h = tt
+effects-flat_map f (x ∷ xs) h = all-append IsEffect (f x) (flat_map f xs) (h x) (effects-flat_map f xs h)
 
-without_resolver-side : (by : Answering) (e : End) → (answers.without_resolver by e).side ≡ e.side
-without_resolver-side (handled seq) e = refl
-without_resolver-side (kept name number) e = refl
+rejections-effects : (test : Promise → Bool) (why : Reason) (promises : List PromiseEntry) → AllEffects (fall.rejections test why promises)
+rejections-effects test why promises = effects-map (λ (entry : PromiseEntry). what.Rejected entry.promise.seq why) (filter (fall.passes test) promises) (λ entry. refl)
 
-begins-resolved : (by : Answering) (vs : Option Values) (r : Resolver) → BeginsEvent (answers.resolved by vs r)
-begins-resolved by vs r =
-    let reply : Change = put (message (reply_to (resolver_answered r) (answers.answer_body vs))) in
-    begins-line_then (answers.answering_line r.seq vs) (on_end (answers.without_resolver by) ▷ reply) (answering_line-event r.seq vs)
-    (adds-chain (on_end (answers.without_resolver by)) reply (adds-on_end (answers.without_resolver by) (without_resolver-side by)) (adds-put (message (reply_to (resolver_answered r) (answers.answer_body vs)))))
+falls-effects : (id : ℤ) (why : ℤ → Destroy) (e : End) → AllEffects (Parts.fall_lines id why e)
+falls-effects id why e =
+    effects-flat_map (fall.fall_lines why e.promises) (falling id e)
+    (λ a. all-append IsEffect (fall.rejections (is_pending_of a.id) reason.ActorDestroyed e.promises) (what.Fall a.id (why a.id) ∷ []) (rejections-effects (is_pending_of a.id) reason.ActorDestroyed e.promises) (refl, tt))
 
-begins-answered_unless : (cause : Option SendRefusal) (by : Answering) (vs : Option Values) (r : Option Resolver) → BeginsEvent (answers.answered_unless cause by vs r)
-begins-answered_unless (Some cause) by vs r = begins-line (answers.refused_line cause vs) (refused_line-event cause vs)
-begins-answered_unless None by vs None = begins-line (answers.refused_line refusal.DeadActor vs) (refused_line-event refusal.DeadActor vs)
-begins-answered_unless None by vs (Some r) = begins-resolved by vs r
+reply-effects : (b : Bool) (q : AnsweredRequest) (a : Answer) → AllEffects (reply_lines b q a)
+reply-effects true q (answer.Ok vs) = (refl, tt)
+reply-effects true q (answer.Fault why) = (refl, tt)
+reply-effects false q a = tt
 
-begins-keep : (e : End) (seq : ℤ) (name : List ℕ) → BeginsEvent (answers.keep e seq name)
-begins-keep e seq name =
-    let f : End → End = λ e. record e { stack = answers.released seq e.stack } in
-    let renaming : Change = renamed name (option_and_then (answers.kept_by e) (answers.handled_resolver e seq)) in
-    begins-line_then (what.Keep seq name) (on_end f ▷ renaming) refl
-    (adds-chain (on_end f) renaming (adds-on_end f (λ e. refl)) (adds-renamed name (option_and_then (answers.kept_by e) (answers.handled_resolver e seq))))
+settle-effect : (seq : ℤ) (outcome : Outcome) → IsEffect (take.settle_line seq outcome)
+settle-effect seq (Resolved vs) = refl
+settle-effect seq (Rejected why) = refl
 
--- Other acts
+refusal-event : (schema : Schema) (w : What) → IsRefusal schema w → is_effect w ≡ false
+refusal-event schema (what.RefusedSend cause number) h = refl
+refusal-event schema (what.RefusedClose cause) h = refl
+refusal-event schema (what.RefusedResolve cause) h = refl
+refusal-event schema (what.RefusedReject cause) h = refl
+refusal-event schema _ h = absurd h
 
-begins-name_actor : (name : List ℕ) (id : ℤ) → BeginsEvent (acts.name_actor name id)
-begins-name_actor name id =
-    begins-line_then (what.Let name (if acts.is_positive id then id else pos 0)) (renamed name (if acts.is_positive id then Some (actor id) else None)) refl
-    (adds-renamed name (if acts.is_positive id then Some (actor id) else None))
+renaming-event : (w : What) → IsRenaming w → is_effect w ≡ false
+renaming-event (what.Keep seq name) h = refl
+renaming-event (what.Let name id) h = refl
+renaming-event _ h = absurd h
 
-begins-close_unless : (cause : Option SendRefusal) → BeginsEvent (acts.close_unless cause)
-begins-close_unless None =
-    begins-line_then what.Close (put (message acts.goodbye) ▷ closed destroy.NormalShutdown) refl
-    (adds-chain (put (message acts.goodbye)) (closed destroy.NormalShutdown) (adds-put (message acts.goodbye)) (adds-closed destroy.NormalShutdown))
-begins-close_unless (Some cause) = begins-line (what.RefusedClose cause) refl
+send-event : (sync : Bool) (m : Message) (vs : Values) → is_effect (if sync then what.Call m.seq m.transaction m.route m.number vs else what.Send m.seq m.route m.number vs) ≡ false
+send-event true m vs = refl
+send-event false m vs = refl
 
-begins-die : BeginsEvent acts.die
-begins-die =
-    let f : End → End = λ e. record e { state = Dead; stack = []; arrived = [] } in
-    begins-line_then what.Die (when_open (put mark) ▷ on_end f) refl (adds-chain (when_open (put mark)) (on_end f) (adds-when_open (put mark) (adds-put mark)) (adds-on_end f (λ e. refl)))
+answering-event : (seq : ℤ) (vs : Option Values) → is_effect (answering.answering_line seq vs) ≡ false
+answering-event seq None = refl
+answering-event seq (Some vs) = refl
 
--- Deliveries
+resume-event : (seq : ℤ) (a : Answer) → is_effect (return.resume_line seq a) ≡ false
+resume-event seq (answer.Ok vs) = refl
+resume-event seq (answer.Fault why) = refl
 
-begins-reply_delivered : (schema : Schema) (m : Message) (a : Answer) → BeginsEvent (line (what.DeliverReply m.seq) ▷ delivery.by_row schema m (delivery.reply_arrives m a) unchanged)
-begins-reply_delivered schema m a =
-    begins-line_then (what.DeliverReply m.seq) (delivery.by_row schema m (delivery.reply_arrives m a) unchanged) refl
-    (adds-by_row (message_of schema m.number) (delivery.reply_arrives m a) unchanged (adds-reply_arrives m a) adds-unchanged)
+shut-event : (last : Item) → is_effect (shut_line last) ≡ false
+shut-event (item.Message m sync level) = refl
+shut-event item.Broken = refl
 
-begins-body_delivered : (schema : Schema) (m : Message) (body : Body) → BeginsEvent (delivery.body_delivered schema m body)
-begins-body_delivered schema m (Request vs) =
-    begins-line_then (what.DeliverRequest m.seq) (delivery.by_row schema m (delivery.request_arrives m) unchanged) refl
-    (adds-by_row (message_of schema m.number) (delivery.request_arrives m) unchanged (adds-request_arrives m) adds-unchanged)
-begins-body_delivered schema m (Reply vs) = begins-reply_delivered schema m (answer.Ok vs)
-begins-body_delivered schema m (Fault reason) = begins-reply_delivered schema m (answer.Fault reason)
-begins-body_delivered schema m Goodbye = begins-line_then what.DeliverGoodbye (delivery.ended (item.Message m false Not)) refl (adds-ended (item.Message m false Not))
+farewell-event : (packet : Packet) → is_effect (farewell_line packet) ≡ false
+farewell-event (message m) = refl
+farewell-event mark = refl
 
-begins-deliver : (schema : Schema) (packet : Packet) → BeginsEvent (delivery.deliver schema packet)
-begins-deliver schema (message m) = begins-body_delivered schema m m.body
-begins-deliver schema mark = begins-line_then what.DeliverBroken (delivery.ended item.Broken) refl (adds-ended item.Broken)
+unknown-event : (seq : ℤ) (body : Body) → is_effect (unknown_line seq body) ≡ false
+unknown-event seq (Request vs) = refl
+unknown-event seq (Reply vs) = refl
+unknown-event seq (Fault why) = refl
+unknown-event seq Goodbye = refl
 
--- Takes
+-- Parts
 
-begins-reply_taken : (schema : Schema) (m : Message) (a : Answer) → BeginsEvent (line (what.TakeReply m.seq) ▷ delivery.by_row schema m (takes.reply_taken schema m a) unchanged)
-begins-reply_taken schema m a =
-    begins-line_then (what.TakeReply m.seq) (delivery.by_row schema m (takes.reply_taken schema m a) unchanged) refl
-    (adds-by_row (message_of schema m.number) (takes.reply_taken schema m a) unchanged (adds-reply_taken schema m a) adds-unchanged)
+-- What a part prints, and that the end keeps its side.
+record Prints (P : List What → Type 0) (e f : End) (ws : List What) : Type 0 where
+  lines : P ws
+  side : f.side ≡ e.side
 
-begins-dropped : (row : MessageRow) (m : Message) (id : ℤ) → BeginsEvent (takes.dropped row m id)
-begins-dropped row m id =
-    let told : Change = answered (request_answered m) (answer.Fault reason.ActorDestroyed) in
-    begins-line_then (what.Drop m.seq m.route m.number id) (when (is_sync_row row || makes_promise row) told) refl
-    (adds-when (is_sync_row row || makes_promise row) told (adds-answered (request_answered m) (answer.Fault reason.ActorDestroyed)))
+behind-side : (b : Bool) (e : End) → (end_behind b e).side ≡ e.side
+behind-side true e = refl
+behind-side false e = refl
 
-begins-handled : (row : MessageRow) (m : Message) (vs : Values) → BeginsEvent (takes.handled row m vs)
-begins-handled row m vs =
-    let f : End → End = λ e. record e { stack = takes.dispatch_of row m ∷ e.stack } in
-    begins-line_then (what.Take m.seq m.route m.number vs) (on_end f ▷ sends.constructs m.made m.route row.kind) refl
-    (adds-chain (on_end f) (sends.constructs m.made m.route row.kind) (adds-on_end f (λ e. refl)) (adds-constructs m.made m.route row.kind))
+used-side : (by : Answering) (e : End) → (answering.without_resolver by e).side ≡ e.side
+used-side (handled seq) e = refl
+used-side (kept name number) e = refl
 
-begins-dropped_or_handled : (id : Option ℤ) (row : MessageRow) (m : Message) (vs : Values) → BeginsEvent (takes.dropped_or_handled id row m vs)
-begins-dropped_or_handled None row m vs = begins-handled row m vs
-begins-dropped_or_handled (Some id) row m vs = begins-dropped row m id
+first-prints : {schema : Schema} {p : Phase} {e f : End} {ws : List What} {ps : List Packet} → FirstPart schema e ws ps f p → Prints BeginsEvent e f ws
+first-prints {schema} (Parts.refuses w is) = record { lines = (refusal-event schema w is, tt); side = refl }
+first-prints (Parts.renames w is) = record { lines = (renaming-event w is, tt); side = refl }
+first-prints (Parts.flushes open_is) = record { lines = (refl, tt); side = refl }
+first-prints {e} (Parts.sends row route vs name sent) = record { lines = (send-event (is_sync_row row) (send.request_of e row route vs) vs, tt); side = refl }
+first-prints {e} (Parts.answers by vs r row found may ok is) = record { lines = (answering-event r.seq vs, tt); side = used-side by e }
+first-prints (Parts.closes open_is none) = record { lines = (refl, tt); side = refl }
+first-prints (Parts.dies open_is) = record { lines = (refl, tt); side = refl }
+first-prints (Parts.dies_silent open_is alive) = record { lines = (refl, tt); side = refl }
+first-prints (Parts.takes m sync level row vs next body found stays) = record { lines = (refl, tt); side = refl }
+first-prints {e} (Parts.drops m sync level row vs id replies next body found gone is) = record { lines = (refl, reply-effects replies (request_answered m) (answer.Fault reason.ActorDestroyed)); side = behind-side replies (Parts.left_end e) }
+first-prints (Parts.drops_unknown m sync level vs next body none) = record { lines = (refl, tt); side = refl }
+first-prints (Parts.takes_reply m sync level a next body late) = record { lines = (refl, tt); side = refl }
+first-prints {schema} {e} (Parts.settles m sync level row a next body found is) = record { lines = (refl, (settle-effect m.seq (Parts.reply_outcome schema e row a), tt)); side = refl }
+first-prints (Parts.shuts last next is) = record { lines = (shut-event last, tt); side = refl }
+first-prints {schema} {e} (Parts.returns entry row vs told lost returns t l) =
+    let off : End = record e { stack = drop 1 e.stack } in
+    record {
+      lines = (
+        refl,
+        all-append IsEffect (reply_lines told (return.dispatch_answered entry) (return.return_answer schema e row entry vs)) (reply_lines lost (resolver_answered (answering.resolver_in entry)) (answer.Fault reason.ResolverDestroyed))
+            (reply-effects told (return.dispatch_answered entry) (return.return_answer schema e row entry vs)) (reply-effects lost (resolver_answered (answering.resolver_in entry)) (answer.Fault reason.ResolverDestroyed)),
+      );
+      side = behind-side lost (end_behind told off) ∙ behind-side told off;
+    }
+first-prints {schema} {e} (Parts.resumes wait row on_top found) = record { lines = (resume-event wait.seq (received schema e.actors row wait.given), tt); side = refl }
 
-begins-request_taken : (schema : Schema) (m : Message) (vs : Values) (row : MessageRow) → BeginsEvent (takes.request_taken schema m vs row)
-begins-request_taken schema m vs row o =
-    let id : Option ℤ = takes.dropped_for schema o.end row m vs in
-    let given : Values = nulled schema o.end.actors row.params vs in
-    begins-as (takes.request_taken schema m vs row) (takes.dropped_or_handled id row m given) o refl (begins-dropped_or_handled id row m given o)
+later-prints : {p q : Phase} {e f : End} {ws : List What} {ps : List Packet} → LaterPart p e ws ps f q → Prints AllEffects e f ws
+later-prints (Parts.unnames name may silent) = record { lines = tt; side = refl }
+later-prints (Parts.lets_go name r may held open_is) = record { lines = (refl, tt); side = refl }
+later-prints (Parts.names more actors) = record { lines = tt; side = refl }
+later-prints (Parts.releases seq closed) = record { lines = tt; side = refl }
+later-prints (Parts.keeps seq name r held closed) = record { lines = tt; side = refl }
+later-prints (Parts.builds id protocol rest fresh alive) = record { lines = (refl, tt); side = refl }
+later-prints {e} (Parts.deletes id cause) = record { lines = falls-effects id (fall.why_deleted id) e; side = refl }
+later-prints {e} (Parts.falls why cause) = record { lines = all-append IsEffect (Parts.abandoned_lines e) (Parts.fall_lines top_id (λ id. why) (Parts.abandoned_end e)) (rejections-effects (λ p. true) reason.ChannelClosed e.promises) (falls-effects top_id (λ id. why) (Parts.abandoned_end e)); side = refl }
 
-begins-by_row : (row : Option MessageRow) (change : MessageRow → Change) (otherwise : Change) → ((r : MessageRow) → BeginsEvent (change r)) → BeginsEvent otherwise → BeginsEvent (option_map_or change row otherwise)
-begins-by_row None change otherwise h k = k
-begins-by_row (Some row) change otherwise h k = h row
+laters-print : {p q : Phase} {e f : End} {ws : List What} {ps : List Packet} → LaterParts p e ws ps f q → Prints AllEffects e f ws
+laters-print Parts.done = record { lines = tt; side = refl }
+laters-print (Parts.then {ws} {vs} part rest) =
+    let a = later-prints part in
+    let b = laters-print rest in
+    record { lines = all-append IsEffect ws vs a.lines b.lines; side = b.side ∙ a.side }
 
-begins-body_taken : (schema : Schema) (m : Message) (body : Body) → BeginsEvent (takes.body_taken schema m body)
-begins-body_taken schema m (Request vs) =
-    begins-by_row (message_of schema m.number) (takes.request_taken schema m vs) (line (what.Drop m.seq m.route m.number m.route)) (begins-request_taken schema m vs)
-    (begins-line (what.Drop m.seq m.route m.number m.route) refl)
-begins-body_taken schema m (Reply vs) = begins-reply_taken schema m (answer.Ok vs)
-begins-body_taken schema m (Fault reason) = begins-reply_taken schema m (answer.Fault reason)
-begins-body_taken schema m Goodbye = begins-line_then what.ShutNormal (closed destroy.NormalShutdown) refl (adds-closed destroy.NormalShutdown)
+own-prints : {schema : Schema} {p : Phase} {e f : End} {ws : List What} {ps : List Packet} → OwnParts schema e ws ps f p → Prints BeginsEvent e f ws
+own-prints (Parts.begun {ws} {vs} first rest over) =
+    let a = first-prints first in
+    let b = laters-print rest in
+    record { lines = begins-append ws vs a.lines b.lines; side = b.side ∙ a.side }
 
-begins-item_taken : (schema : Schema) (taken : Item) → BeginsEvent (takes.item_taken schema taken)
-begins-item_taken schema (item.Message m sync level) = begins-body_taken schema m m.body
-begins-item_taken schema item.Broken = begins-line_then what.ShutAbnormal (closed destroy.AbnormalShutdown) refl (adds-closed destroy.AbnormalShutdown)
+delivery-prints : {schema : Schema} {packet : Packet} {p : Phase} {e f : End} {ws : List What} {ps : List Packet} → DeliveryPart schema packet e ws ps f p → Prints BeginsEvent e f ws
+delivery-prints (Parts.gets_request m row vs body found none) = record { lines = (refl, tt); side = refl }
+delivery-prints {e} (Parts.replaces m row vs old sync level replies body found rep is) = record { lines = (refl, (refl, reply-effects replies (request_answered old) (answer.Fault reason.ResolverDestroyed))); side = behind-side replies (delivery.counted row (delivery.item_of row m) e) }
+delivery-prints (Parts.gets_answer m row a body found sync) = record { lines = (refl, tt); side = refl }
+delivery-prints (Parts.gets_reply m row a body found async) = record { lines = (refl, tt); side = refl }
+delivery-prints {e} (Parts.drains packet is) = record { lines = (farewell-event packet, effects-map what.Fails (delivery.unanswered e) (λ n. refl)); side = refl }
+delivery-prints (Parts.passes_by m ordinary none) = record { lines = (unknown-event m.seq m.body, tt); side = refl }
 
-begins-take : (schema : Schema) (taken : Item) → BeginsEvent (takes.take schema taken)
-begins-take schema taken =
-    begins-behind (λ e. record e { arrived = without_first (is_free (takes.holding_of e)) e.arrived }) (takes.item_taken schema taken) (λ e. refl) (begins-item_taken schema taken)
+-- Steps
 
--- Returns and resumes
+effect-lines : (side : Side) (ws : List What) → AllEffects ws → AllByRecursion (IsEffectOf side) (map (line_at side) ws)
+effect-lines side [] h = tt
+effect-lines side (w ∷ ws) h = ((refl, h.0), effect-lines side ws h.1)
 
-begins-return : (schema : Schema) (e : End) (row : MessageRow) (entry : StackEntry) (vs : Option Values) → BeginsEvent (returns.return schema e row entry vs)
-begins-return schema e row entry vs =
-    let told : Change = answered (returns.dispatch_answered entry) (returns.return_answer schema e row entry vs) in
-    let lost : Change = destroyed (answers.resolver_in entry) in
-    let last : Change = when entry.resolves lost ▷ deletes entry.route row.kind in
-    begins-behind (λ e. record e { stack = drop 1 e.stack }) (line (what.Return (head_of entry.frame).seq) ▷ when (is_sync_row row) told ▷ last) (λ e. refl)
-    (begins-line_then (what.Return (head_of entry.frame).seq) (when (is_sync_row row) told ▷ last) refl
-    (adds-chain (when (is_sync_row row) told) last (adds-when (is_sync_row row) told (adds-answered (returns.dispatch_answered entry) (returns.return_answer schema e row entry vs)))
-    (adds-chain (when entry.resolves lost) (deletes entry.route row.kind) (adds-when entry.resolves lost (adds-destroyed (answers.resolver_in entry))) (adds-deletes entry.route row.kind))))
+event-lines : (side : Side) (ws : List What) → BeginsEvent ws → IsEventWithEffects side (map (line_at side) ws)
+event-lines side [] h = absurd h
+event-lines side (w ∷ ws) h = ((refl, h.0), effect-lines side ws h.1)
 
-resume_line-event : (seq : ℤ) (a : Answer) → is_effect (returns.resume_line seq a) ≡ false
-resume_line-event seq (answer.Ok vs) = refl
-resume_line-event seq (answer.Fault reason) = refl
-
-begins-resume : (schema : Schema) (e : End) (wait : returns.AnsweredWait) (row : MessageRow) → BeginsEvent (returns.resume schema e wait row)
-begins-resume schema e wait row =
-    let w : What = returns.resume_line wait.seq (received schema e.actors row wait.given) in
-    begins-behind (λ e. record e { stack = drop 1 e.stack }) (line w) (λ e. refl) (begins-line w (resume_line-event wait.seq (received schema e.actors row wait.given)))
-
-begins-flush : BeginsEvent returns.flush
-begins-flush o = record { event = what.Flush (length o.end.outbox); more = []; is_event = refl; effects = tt; lines = refl; side = refl }
-
--- Every event
+made-lines : (e : End) (output : Output) (ws : List What) → output.lines ≡ map (line_at e.side) ws → Prints BeginsEvent e output.end ws → HasItsLines e output
+made-lines e output ws is h = record { lines = subst (IsEventWithEffects e.side) (sym is) (event-lines e.side ws h.lines); side = h.side }
 
 pub events_have_their_lines : EventsHaveTheirLines
-events_have_their_lines schema e link (event.send route number vs name) output is =
-    found-has (request_row schema number) (λ row. provided (sends.may_send schema e row vs name) (sends.send schema e row route vs name) e) e output
-    (λ row. provided-has (sends.may_send schema e row vs name) (sends.send schema e row route vs name) e output
-    (begins-sent_unless (sends.send_refusal schema e row route vs) row (sends.request_of e row route vs) vs name)) is
-events_have_their_lines schema e link (event.answer by vs) output is =
-    found-has (answers.answered_row schema e by) (λ row. provided (answers.may_answer schema e row vs) (answers.answer schema e row by vs) e) e output
-    (λ row. provided-has (answers.may_answer schema e row vs) (answers.answer schema e row by vs) e output
-    (begins-answered_unless (answers.answer_refusal schema e row by vs) by vs (answers.resolver_used e by))) is
-events_have_their_lines schema e link (event.keep seq name) output is = provided-has (answers.may_keep e seq) (answers.keep e seq name) e output (begins-keep e seq name) is
-events_have_their_lines schema e link (event.name name id) output is = provided-has (sends.may_act e) (acts.name_actor name id) e output (begins-name_actor name id) is
-events_have_their_lines schema e link event.close output is = provided-has (sends.may_act e) (acts.close e) e output (begins-close_unless (acts.close_refusal e)) is
-events_have_their_lines schema e link event.die output is = provided-has (acts.may_die e) acts.die e output begins-die is
-events_have_their_lines schema e link event.deliver output is =
-    found-has (first_packet link) (λ packet. provided (is_open e.state) (delivery.deliver schema packet) e) e output
-    (λ packet. provided-has (is_open e.state) (delivery.deliver schema packet) e output (begins-deliver schema packet)) is
-events_have_their_lines schema e link event.take output is =
-    found-has (takes.taken_next e) (λ taken. provided true (takes.take schema taken) e) e output (λ taken. provided-has true (takes.take schema taken) e output (begins-take schema taken)) is
-events_have_their_lines schema e link (event.return vs) output is =
-    found-has (returns.dispatch_on_top e.stack) (λ entry. option_and_then (λ row. provided (returns.may_return schema row vs) (returns.return schema e row entry vs) e) (request_row schema entry.number)) e output
-    (λ entry. found-has (request_row schema entry.number) (λ row. provided (returns.may_return schema row vs) (returns.return schema e row entry vs) e) e output
-    (λ row. provided-has (returns.may_return schema row vs) (returns.return schema e row entry vs) e output (begins-return schema e row entry vs))) is
-events_have_their_lines schema e link event.resume output is =
-    found-has (returns.answered_wait_on_top e.stack) (λ wait. option_and_then (λ row. provided true (returns.resume schema e wait row) e) (request_row schema wait.number)) e output
-    (λ wait. found-has (request_row schema wait.number) (λ row. provided true (returns.resume schema e wait row) e) e output
-    (λ row. provided-has true (returns.resume schema e wait row) e output (begins-resume schema e wait row))) is
-events_have_their_lines schema e link event.flush output is = provided-has (returns.may_flush e) returns.flush e output begins-flush is
+events_have_their_lines schema e link happened output is =
+    by-parts schema e link happened output (HasItsLines e output) is (λ made. made-lines e output made.whats made.lines (own-prints made.parts)) (λ same made. made-lines e output made.3.whats made.3.lines (delivery-prints made.3.parts))

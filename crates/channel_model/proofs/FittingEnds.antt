@@ -1,30 +1,24 @@
 -- What keeps an end fitting, field by field.
-use Rattle.std.proofs.Common.{◌≡◌, ℕ, zero, suc, ◌+◌, ◌≤◌, ◌-◌, ◌==◌, ℤ, pos, Bool, true, false, not, ◌&&◌, ◌||◌, cond, List, [], ◌∷◌, ◌++◌, drop, find, filter, length, map, slice_get, Option, Some, None, is_some, option_map, option_and_then, refl, sym, ap, subst, ◌∙◌, int_eq, arith}
+use Rattle.std.proofs.Common.{◌≡◌, ℕ, zero, suc, ◌-◌, ℤ, pos, Bool, true, false, not, ◌&&◌, cond, List, [], ◌∷◌, ◌++◌, drop, find, length, map, slice_get, Option, Some, None, option_map, option_and_then, refl, sym, ap, subst, ◌∙◌, int_eq}
 use Rattle.std.specs.List.{AllByRecursion, list_any}
 use Rattle.std.specs.Option.{option_map_or}
-use Rattle.std.proofs.lemmas.Bool.{eqb-true}
 use Rattle.std.proofs.lemmas.Option.{same_Some}
 use Rattle.actor_tree.specs.declared.actor.Actor.{Actor}
 use Rattle.ipdl_base.specs.declared.kinds.Compress.{Compress}
 use Rattle.ipdl_base.specs.declared.kinds.Compress.TheVariants as compress
 use Rattle.ipdl_base.specs.declared.kinds.EndState.{EndState}
-use Rattle.ipdl_base.specs.declared.kinds.Level.{Level}
 use Rattle.ipdl_base.specs.declared.kinds.Reason.{Reason}
-use Rattle.ipdl_base.specs.declared.kinds.Reason.TheVariants as reason
 use Rattle.ipdl_base.specs.declared.kinds.Semantics.{Semantics}
-use Rattle.ipdl_base.specs.declared.kinds.Semantics.TheVariants.{Async, Sync}
 use Rattle.ipdl_base.specs.declared.message.Message.{Message}
 use Rattle.ipdl_base.specs.declared.schema.MessageRow.{MessageRow}
 use Rattle.ipdl_base.specs.declared.schema.Schema.{Schema}
 use Rattle.nesting_core.specs.declared.frame.Answer.{Answer}
-use Rattle.nesting_core.specs.declared.frame.Answer.TheVariants as answer
 use Rattle.nesting_core.specs.declared.frame.StackFrame.{StackFrame}
 use Rattle.nesting_core.specs.declared.frame.StackFrame.TheVariants.{Dispatch, Wait}
 use Rattle.nesting_core.specs.Answers.{with_answer}
 use Rattle.nesting_core.specs.Frames.{head_of, is_dispatch, is_unanswered}
 use Rattle.nesting_core.specs.Top.{top_of}
 use Rattle.pending_queue.specs.declared.item.Item.{Item}
-use Rattle.pending_queue.specs.declared.item.Item.TheVariants as item
 use Rattle.pending_queue.specs.Compression.{are_alike, latest, replaced, staying}
 use Rattle.pending_queue.specs.Holding.{is_free, without_first}
 use Rattle.promise_table.specs.declared.promise.Outcome.{Outcome}
@@ -35,13 +29,13 @@ use Rattle.channel_model.specs.Answers as answering
 use Rattle.channel_model.specs.Deliveries as delivery
 use Rattle.channel_model.specs.Ends.{End, Packet, message, Resolver, NameContent, actor, resolver, Naming, StackEntry, PromiseEntry}
 use Rattle.channel_model.specs.Falls as fall
-use Rattle.channel_model.specs.Fitting.{IsRequestKept, FitsItem, FitsAnswer, FitsFrame, FitsEntry, FitsPromised, FitsPromise, FitsResolver, FitsContent, FitsNaming, HasLivingId, IsFitting, FitsPacket, promise_answered}
+use Rattle.channel_model.specs.Fitting.{IsRequestKept, FitsItem, FitsAnswer, FitsEntry, FitsPromised, FitsPromise, FitsResolver, FitsContent, FitsNaming, HasLivingId, IsFitting, FitsPacket}
 use Rattle.channel_model.specs.Names.{has_name, held_by_name, without_name, without_resolvers, is_actor}
 use Rattle.channel_model.specs.Numbers.{is_sync_row, makes_promise}
-use Rattle.channel_model.specs.Outputs.{AnsweredRequest}
 use Rattle.channel_model.specs.Parts.{HoldsActor, behind_outbox, end_behind}
 use Rattle.channel_model.specs.Sends.{frames_of}
 use Rattle.channel_model.specs.Takes as take
+use Rattle.channel_model.proofs.Counted.{kept-frames}
 use Rattle.channel_model.proofs.FittingRequests.{promise-async}
 use Rattle.channel_model.proofs.FittingValues.{found-in}
 use Rattle.channel_model.proofs.Known.{all-map, all-append, all-filter}
@@ -74,28 +68,28 @@ module _ (schema : Schema) where
   -- Fields of an end
 
   pub fits-outbox : (e : End) → IsFitting schema e → IsFitting schema (record e { outbox = [] })
-  fits-outbox e h = record { actors = h.actors; arrived = h.arrived; stack = h.stack; promises = h.promises; names = h.names; outbox = tt; few = omega arith; constructors = h.constructors }
+  fits-outbox e h = record { actors = h.actors; arrived = h.arrived; stack = h.stack; promises = h.promises; names = h.names; outbox = tt }
 
   pub fits-state : (e : End) (state : EndState) → IsFitting schema e → IsFitting schema (record e { state = state })
-  fits-state e state h = record { actors = h.actors; arrived = h.arrived; stack = h.stack; promises = h.promises; names = h.names; outbox = h.outbox; few = h.few; constructors = h.constructors }
+  fits-state e state h = record { actors = h.actors; arrived = h.arrived; stack = h.stack; promises = h.promises; names = h.names; outbox = h.outbox }
 
   pub fits-actors : (e : End) (actors : List Actor) → AllByRecursion HasLivingId actors → IsFitting schema e → IsFitting schema (record e { actors = actors })
-  fits-actors e actors k h = record { actors = k; arrived = h.arrived; stack = h.stack; promises = h.promises; names = h.names; outbox = h.outbox; few = h.few; constructors = h.constructors }
+  fits-actors e actors k h = record { actors = k; arrived = h.arrived; stack = h.stack; promises = h.promises; names = h.names; outbox = h.outbox }
 
   pub fits-arrived : (e : End) (items : List Item) → AllByRecursion (FitsItem schema) items → IsFitting schema e → IsFitting schema (record e { arrived = items })
-  fits-arrived e items k h = record { actors = h.actors; arrived = k; stack = h.stack; promises = h.promises; names = h.names; outbox = h.outbox; few = h.few; constructors = h.constructors }
+  fits-arrived e items k h = record { actors = h.actors; arrived = k; stack = h.stack; promises = h.promises; names = h.names; outbox = h.outbox }
 
   pub fits-stack : (e : End) (stack : List StackEntry) → AllByRecursion (FitsEntry schema) stack → IsFitting schema e → IsFitting schema (record e { stack = stack })
-  fits-stack e stack k h = record { actors = h.actors; arrived = h.arrived; stack = k; promises = h.promises; names = h.names; outbox = h.outbox; few = h.few; constructors = h.constructors }
+  fits-stack e stack k h = record { actors = h.actors; arrived = h.arrived; stack = k; promises = h.promises; names = h.names; outbox = h.outbox }
 
   pub fits-promises : (e : End) (promises : List PromiseEntry) → AllByRecursion (FitsPromise schema) promises → IsFitting schema e → IsFitting schema (record e { promises = promises })
-  fits-promises e promises k h = record { actors = h.actors; arrived = h.arrived; stack = h.stack; promises = k; names = h.names; outbox = h.outbox; few = h.few; constructors = h.constructors }
+  fits-promises e promises k h = record { actors = h.actors; arrived = h.arrived; stack = h.stack; promises = k; names = h.names; outbox = h.outbox }
 
   pub fits-names : (e : End) (names : List Naming) → AllByRecursion (FitsNaming schema) names → IsFitting schema e → IsFitting schema (record e { names = names })
-  fits-names e names k h = record { actors = h.actors; arrived = h.arrived; stack = h.stack; promises = h.promises; names = k; outbox = h.outbox; few = h.few; constructors = h.constructors }
+  fits-names e names k h = record { actors = h.actors; arrived = h.arrived; stack = h.stack; promises = h.promises; names = k; outbox = h.outbox }
 
   pub fits-delivered : (e : End) (delivered constructors : ℕ) → IsFitting schema e → IsFitting schema (record e { delivered = delivered; constructors_delivered = constructors })
-  fits-delivered e delivered constructors h = record { actors = h.actors; arrived = h.arrived; stack = h.stack; promises = h.promises; names = h.names; outbox = h.outbox; few = h.few; constructors = h.constructors }
+  fits-delivered e delivered constructors h = record { actors = h.actors; arrived = h.arrived; stack = h.stack; promises = h.promises; names = h.names; outbox = h.outbox }
 
   pub fits-behind : (b : Bool) (e : End) → IsFitting schema e → IsFitting schema (end_behind b e)
   fits-behind true e h = fits-outbox e h
@@ -129,11 +123,6 @@ module _ (schema : Schema) where
   pub failed-stack : (stack : List StackEntry) → AllByRecursion (FitsEntry schema) stack → AllByRecursion (FitsEntry schema) (map delivery.with_failed_wait stack)
   failed-stack stack h = all-mapped (FitsEntry schema) (FitsEntry schema) delivery.with_failed_wait stack failed-entry h
 
-  -- the frames of a stack are put back as they were
-  same-frames : (stack : List StackEntry) → delivery.with_frames (map (λ (entry : StackEntry). entry.frame) stack) stack ≡ stack
-  same-frames [] = refl
-  same-frames (entry ∷ stack) = ap (λ (entries : List StackEntry). entry ∷ entries) (same-frames stack)
-
   -- what the answer to the innermost wait without one has to be
   abbrev pub AnswerFits : Answer → (StackEntry → Bool) → Type 0
   AnswerFits a test = (entry : StackEntry) (h : FitsEntry schema entry) → is_sync_row h.row ≡ true → test entry ≡ true → FitsAnswer schema h.row a
@@ -151,7 +140,7 @@ module _ (schema : Schema) where
       by (Wait head (Some b)) k e rest = (k, rest e)
       by (Wait head None) k e rest = (
         record { row = k.row; request = k.request; sync = k.sync; level = k.level; resolves = k.resolves; frame = (k.frame, fits (record entry { frame = Wait head None }) k k.frame e) },
-        subst (AllByRecursion (FitsEntry schema)) (sym (same-frames stack)) h.1,
+        subst (AllByRecursion (FitsEntry schema)) (sym (kept-frames stack)) h.1,
       )
 
   -- a kept request of an async message has no transaction

@@ -1,6 +1,6 @@
 -- What an end keeps and sends fits: part by part, and so in every step.
-use Rattle.std.proofs.Common.{◌≡◌, ℕ, ◌+◌, ◌<◌, ◌≤◌, ◌==◌, ℤ, pos, Bool, true, false, not, ◌&&◌, ◌||◌, cond, if◌then◌else◌, List, [], ◌∷◌, ◌++◌, drop, find, map, is_some, is_none, unwrap_or, option_and_then, Option, Some, None, refl, sym, ap, subst, ◌∙◌, int_eq, arith}
-use Rattle.std.specs.List.{All, AllByRecursion}
+use Rattle.std.proofs.Common.{◌≡◌, ℕ, ◌+◌, ◌<◌, ◌==◌, ℤ, Bool, true, false, not, ◌&&◌, ◌||◌, cond, if◌then◌else◌, List, [], ◌∷◌, ◌++◌, drop, map, is_some, is_none, unwrap_or, option_and_then, Option, Some, None, refl, sym, ap, subst, ◌∙◌, int_eq, arith}
+use Rattle.std.specs.List.{AllByRecursion}
 use Rattle.std.specs.Option.{option_map_or}
 use Rattle.std.proofs.lemmas.Bool.{eqb-true}
 use Rattle.std.proofs.lemmas.List.Elements.{All-nil}
@@ -11,7 +11,6 @@ use Rattle.actor_tree.specs.Tree.{lives}
 use Rattle.ipdl_base.specs.declared.kinds.EndState.TheVariants.{Draining, Closed, Dead}
 use Rattle.ipdl_base.specs.declared.kinds.Level.{Level}
 use Rattle.ipdl_base.specs.declared.kinds.Reason.TheVariants as reason
-use Rattle.ipdl_base.specs.declared.kinds.SendRefusal.{SendRefusal}
 use Rattle.ipdl_base.specs.declared.kinds.SendRefusal.TheVariants as refusal
 use Rattle.ipdl_base.specs.declared.line.What.{What}
 use Rattle.ipdl_base.specs.declared.message.Body.{Body}
@@ -28,20 +27,21 @@ use Rattle.nesting_core.specs.declared.frame.Answer.{Answer}
 use Rattle.nesting_core.specs.declared.frame.Answer.TheVariants as answer
 use Rattle.nesting_core.specs.declared.frame.StackFrame.{StackFrame}
 use Rattle.nesting_core.specs.declared.frame.StackFrame.TheVariants.{Dispatch, Wait}
-use Rattle.nesting_core.specs.Frames.{head_of, is_unanswered}
+use Rattle.nesting_core.specs.Frames.{head_of}
 use Rattle.pending_queue.specs.declared.item.Item.{Item}
 use Rattle.pending_queue.specs.declared.item.Item.TheVariants as item
 use Rattle.pending_queue.specs.Compression.{is_request, is_request_of, are_alike, staying}
-use Rattle.value_types.specs.Fits.{IsLivingId, IsFaultOf, IsRequestOf, GivesReturns, Fits}
+use Rattle.value_types.specs.Fits.{IsLivingId, IsRequestOf, GivesReturns, Fits}
 use Rattle.value_types.specs.HasType.{HaveTypes}
 use Rattle.channel_model.specs.Acts.{goodbye}
 use Rattle.channel_model.specs.Answers as answering
+use Rattle.channel_model.specs.Bounds.{IsCounted}
 use Rattle.channel_model.specs.Deliveries as delivery
-use Rattle.channel_model.specs.Ends.{End, Packet, message, mark, Resolver, NameContent, actor, resolver, StackEntry, opening_end}
+use Rattle.channel_model.specs.Ends.{End, Packet, message, mark, Resolver, NameContent, actor, resolver, StackEntry}
 use Rattle.channel_model.specs.Events.{Event, Answering}
 use Rattle.channel_model.specs.Events as event
 use Rattle.channel_model.specs.Falls as fall
-use Rattle.channel_model.specs.Fitting.{IsRequestKept, HasRowOf, FitsItem, FitsAnswer, FitsEntry, FitsPromised, FitsResolver, HasLivingId, IsFitting, FitsPacket, IsFittingDelivery}
+use Rattle.channel_model.specs.Fitting.{IsRequestKept, FitsItem, FitsAnswer, FitsEntry, FitsResolver, HasLivingId, IsFitting, FitsPacket, IsFittingDelivery}
 use Rattle.channel_model.specs.Names.{held_by_name, without_name}
 use Rattle.channel_model.specs.Numbers.{is_sync_row, makes_promise, request_row, counting}
 use Rattle.channel_model.specs.Outputs.{Output, AnsweredRequest, request_answered, resolver_answered, reply_to, body_of, is_open}
@@ -52,8 +52,7 @@ use Rattle.channel_model.specs.Refusals.{packet_refusal, is_replied_to, is_waite
 use Rattle.channel_model.specs.Returns as return
 use Rattle.channel_model.specs.Sends as send
 use Rattle.channel_model.specs.States.{is_farewell}
-use Rattle.channel_model.specs.StepLaws.{IsMadeOf, IsDeliveryOfOnePart, IsStepOfParts, FitsOutput, FittingEndsStay, FirstEndsFit}
-use Rattle.channel_model.specs.Steps.{step, first_packet}
+use Rattle.channel_model.specs.StepLaws.{IsMadeOf, IsDeliveryOfOnePart, FitsOutput, FittingEndsStay, FirstEndsFit}
 use Rattle.channel_model.specs.Takes as take
 use Rattle.channel_model.specs.Typed.{have_types}
 use Rattle.channel_model.specs.ValueActors.{has_dead}
@@ -64,8 +63,8 @@ use Rattle.channel_model.proofs.FittingValues.{top-lives, values-carried, values
 use Rattle.channel_model.proofs.Known.{all-append, all-filter}
 use Rattle.channel_model.proofs.SendParts.{passed-first, request-number}
 use Rattle.channel_model.proofs.SoundRows.{reply-row}
-use Rattle.channel_model.proofs.StepParts.{steps_are_chains}
-use Rattle.channel_model.proofs.TypedValues.{and-left, and-right}
+use Rattle.channel_model.proofs.StepParts.{by-parts}
+use Rattle.channel_model.proofs.Tests.{and-left, and-right}
 
 -- What a part leaves fits: the end behind it, its packets, and the ids that may be built.
 record PartFits (schema : Schema) (ps : List Packet) (e : End) (p : Phase) : Type 0 where
@@ -98,7 +97,7 @@ module _ (schema : Schema) (sound : IsSound schema) where
   not-dead row e vs r ok = accepted-values (answering.is_reply_too_large schema r vs) (has_dead schema e.actors (returns_of_row row) vs) ok
 
   -- the resolver that is used, with the row that its answer goes by
-  abbrev Used : MessageRow → Resolver → Type 0
+  abbrev pub Used : MessageRow → Resolver → Type 0
   Used row r = (FitsResolver schema r) × (request_row schema r.number ≡ Some row)
 
   used-handled : (e : End) (seq : ℤ) (r : Resolver) (row : MessageRow) (found : Option Resolver) → answering.handled_resolver e seq ≡ found → found ≡ Some r → option_and_then (λ (r : Resolver). request_row schema r.number) found ≡ Some row → IsFitting schema e → Used row r
@@ -127,12 +126,12 @@ module _ (schema : Schema) (sound : IsSound schema) where
           (subst (FitsResolver schema) same (held-fits schema name e.names (resolver x) h.names is), ap (λ (y : Resolver). request_row schema y.number) (sym same) ∙ ap (request_row schema) number_is ∙ found)
       by false numbers k = cc
 
-  used : (e : End) (by : Answering) (r : Resolver) (row : MessageRow) → answering.answered_row schema e by ≡ Some row → answering.resolver_used e by ≡ Some r → IsFitting schema e → Used row r
+  pub used : (e : End) (by : Answering) (r : Resolver) (row : MessageRow) → answering.answered_row schema e by ≡ Some row → answering.resolver_used e by ≡ Some r → IsFitting schema e → Used row r
   used e (event.handled seq) r row answered is h = used-handled e seq r row (answering.handled_resolver e seq) refl is answered h
   used e (event.kept name number) r row answered is h = used-kept e name number r row (held_by_name name e.names) refl is (used-row number row (request_row schema number) refl answered) h
 
   -- what an answer sends
-  answer-fits : (e : End) (vs : Option Values) (r : Resolver) (row : MessageRow) → Used row r → answering.may_answer schema e row vs ≡ true → answering.resolver_refusal schema e row vs (Some r) ≡ None → IsFitting schema e → Fits schema (reply_to (resolver_answered r) (answering.answer_body vs))
+  pub answer-fits : (e : End) (vs : Option Values) (r : Resolver) (row : MessageRow) → Used row r → answering.may_answer schema e row vs ≡ true → answering.resolver_refusal schema e row vs (Some r) ≡ None → IsFitting schema e → Fits schema (reply_to (resolver_answered r) (answering.answer_body vs))
   answer-fits e None r row (f, found) may ok h = fault-fits schema sound f.0 (resolver_answered r) f.1 reason.HandlerRejected (promise-reply f.0 f.2) (rejected-fault f.0.semantics)
   answer-fits e (Some vs) r row (f, found) may ok h =
       let typed : have_types schema (returns_of_row row) vs ≡ true = and-right (send.may_act e) (have_types schema (returns_of_row row) vs) may in
@@ -153,10 +152,6 @@ module _ (schema : Schema) (sound : IsSound schema) where
       by (Dispatch head) e k = subst (FitsEntry schema) (same_Some (record x { frame = Dispatch head }) entry e) k
       by (Wait head a) e k = cc
 
-  or-right : (a b : Bool) → a ≡ false → a || b ≡ true → b ≡ true
-  or-right true b e f = cc
-  or-right false b e f = f
-
   given-fits : (e : End) (row : MessageRow) (entry : StackEntry) (q : AnsweredRequest) (vs : Option Values) → IsRequestKept schema row q → has_reply row ≡ true → return.may_return schema row vs ≡ true → IsFitting schema e → Fits schema (reply_to q (body_of (return.given_answer schema e row entry vs)))
   given-fits e row entry q None kept replies may h = fault-fits schema sound row q kept reason.HandlerRejected replies (rejected-fault row.semantics)
   given-fits e row entry q (Some vs) kept replies may h = by (send.is_too_large schema (reply_to (return.dispatch_answered entry) (Reply vs))) (has_dead schema e.actors (returns_of_row row) vs) refl
@@ -169,7 +164,7 @@ module _ (schema : Schema) (sound : IsSound schema) where
       by false true is = fault-fits schema sound row q kept reason.HandlerRejected replies (rejected-fault row.semantics)
       by false false is = values-fit schema sound row q kept vs replies (gives-returns schema row vs (values-typed schema (returns_of_row row) vs typed) (values-carried e.actors h.actors schema (returns_of_row row) vs typed is))
 
-  return-fits : (e : End) (row : MessageRow) (entry : StackEntry) (q : AnsweredRequest) (vs : Option Values) → IsRequestKept schema row q → has_reply row ≡ true → return.may_return schema row vs ≡ true → IsFitting schema e → Fits schema (reply_to q (body_of (return.return_answer schema e row entry vs)))
+  pub return-fits : (e : End) (row : MessageRow) (entry : StackEntry) (q : AnsweredRequest) (vs : Option Values) → IsRequestKept schema row q → has_reply row ≡ true → return.may_return schema row vs ≡ true → IsFitting schema e → Fits schema (reply_to q (body_of (return.return_answer schema e row entry vs)))
   return-fits e row entry q vs kept replies may h = by row.returns refl
     where
       given : Fits schema (reply_to q (body_of (return.given_answer schema e row entry vs)))
@@ -207,8 +202,7 @@ module _ (schema : Schema) (sound : IsSound schema) where
       let ids : AllByRecursion IsLivingId (id ∷ rest) = subst (AllByRecursion IsLivingId) is fresh in
       record { end = fits-actors schema e _ (all-append HasLivingId e.actors (_ ∷ []) h.actors (ids.0, tt)) h; packets = tt; fresh = ids.1 }
   later-fits {e} (Parts.deletes id cause) fresh h = record { end = fallen-fits id e h; packets = tt; fresh = fresh }
-  later-fits {e} (Parts.abandons why cause) fresh h = record { end = fits-promises schema e _ (rejected-promises schema (λ p. true) reason.ChannelClosed e.promises h.promises) h; packets = tt; fresh = fresh }
-  later-fits {e} (Parts.falls why cause) fresh h = record { end = fallen-fits _ e h; packets = tt; fresh = fresh }
+  later-fits {e} (Parts.falls why cause) fresh h = record { end = fallen-fits _ (Parts.abandoned_end e) (fits-promises schema e _ (rejected-promises schema (λ p. true) reason.ChannelClosed e.promises h.promises) h); packets = tt; fresh = fresh }
 
   laters-fit : {p q : Phase} {e f : End} {ws : List What} {ps : List Packet} → LaterParts p e ws ps f q → AllByRecursion IsLivingId p.fresh → IsFitting schema e → PartFits schema ps f q
   laters-fit Parts.done fresh h = record { end = h; packets = tt; fresh = fresh }
@@ -228,27 +222,27 @@ module _ (schema : Schema) (sound : IsSound schema) where
   leaving-fits : (e : End) → IsFitting schema e → IsFitting schema (left_end e)
   leaving-fits e h = fits-arrived schema e _ (left-items schema e h) h
 
-  first-fits : {p : Phase} {e f : End} {ws : List What} {ps : List Packet} → FirstPart schema e ws ps f p → e.sent < 268435456 → IsFitting schema e → PartFits schema ps f p
-  first-fits (Parts.refuses w is) few h = record { end = h; packets = tt; fresh = tt }
-  first-fits (Parts.renames w is) few h = record { end = h; packets = tt; fresh = tt }
-  first-fits {e} (Parts.flushes open_is) few h = record { end = fits-outbox schema e h; packets = outbox-packets schema e.outbox h.outbox; fresh = tt }
-  first-fits {e} (Parts.sends row route vs name sent) few h = record { end = sent-end schema e row route vs name sent few h; packets = sent-packets schema e row route vs name sent few h; fresh = sent-fresh schema e row route vs name sent few h }
-  first-fits {e} (Parts.answers by vs r row found may ok is) few h = record {
+  first-fits : {p : Phase} {e f : End} {ws : List What} {ps : List Packet} → FirstPart schema e ws ps f p → IsCounted e → e.sent < 268435456 → IsFitting schema e → PartFits schema ps f p
+  first-fits (Parts.refuses w is) counted few h = record { end = h; packets = tt; fresh = tt }
+  first-fits (Parts.renames w is) counted few h = record { end = h; packets = tt; fresh = tt }
+  first-fits {e} (Parts.flushes open_is) counted few h = record { end = fits-outbox schema e h; packets = outbox-packets schema e.outbox h.outbox; fresh = tt }
+  first-fits {e} (Parts.sends row route vs name sent) counted few h = record { end = sent-end schema e row route vs name sent counted few h; packets = sent-packets schema e row route vs name sent counted few h; fresh = sent-fresh schema e row route vs name sent counted few h }
+  first-fits {e} (Parts.answers by vs r row found may ok is) counted few h = record {
     end = fits-outbox schema (answering.without_resolver by e) (answered-end e by h);
     packets = behind-packets schema e (message (reply_to (resolver_answered r) (answering.answer_body vs))) (answer-fits e vs r row (used e by r row found is h) may (ap (answering.resolver_refusal schema e row vs) (sym is) ∙ (passed-first (is_open e.state) refusal.Closed (answering.resolver_refusal schema e row vs (answering.resolver_used e by)) ok).1) h) h;
     fresh = tt;
   }
-  first-fits {e} (Parts.closes open_is waits) few h = record { end = closing-fits (record e { outbox = [] }) (fits-outbox schema e h); packets = behind-packets schema e (message goodbye) (record { number = refl; route = refl; seq = refl; transaction = refl; made = refl }) h; fresh = tt }
-  first-fits {e} (Parts.dies open_is) few h = record { end = fits-outbox schema (record e { state = Dead; stack = []; arrived = [] }) (dying-fits e h); packets = behind-packets schema e mark tt h; fresh = tt }
-  first-fits {e} (Parts.dies_silent open_is alive) few h = record { end = dying-fits e h; packets = tt; fresh = tt }
-  first-fits {e} (Parts.takes m sync level row vs next body found stays) few h =
+  first-fits {e} (Parts.closes open_is waits) counted few h = record { end = closing-fits (record e { outbox = [] }) (fits-outbox schema e h); packets = behind-packets schema e (message goodbye) (record { number = refl; route = refl; seq = refl; transaction = refl; made = refl }) h; fresh = tt }
+  first-fits {e} (Parts.dies open_is) counted few h = record { end = fits-outbox schema (record e { state = Dead; stack = []; arrived = [] }) (dying-fits e h); packets = behind-packets schema e mark tt h; fresh = tt }
+  first-fits {e} (Parts.dies_silent open_is alive) counted few h = record { end = dying-fits e h; packets = tt; fresh = tt }
+  first-fits {e} (Parts.takes m sync level row vs next body found stays) counted few h =
       let r : IsRequestOf schema row m vs = request-of schema row m vs (taken-fits schema e (item.Message m sync level) h next).0 body found in
       record {
         end = fits-stack schema (left_end e) (take.dispatch_of row m ∷ e.stack) (record { row = row; request = request-kept schema row m vs r; sync = refl; level = refl; resolves = λ e. e; frame = tt }, h.stack) (leaving-fits e h);
         packets = tt;
         fresh = request-fresh row m r.made;
       }
-  first-fits {e} (Parts.drops m sync level row vs id replies next body found gone is) few h =
+  first-fits {e} (Parts.drops m sync level row vs id replies next body found gone is) counted few h =
       let r : IsRequestOf schema row m vs = request-of schema row m vs (taken-fits schema e (item.Message m sync level) h next).0 body found in
       record {
         end = fits-behind schema replies (left_end e) (leaving-fits e h);
@@ -256,11 +250,11 @@ module _ (schema : Schema) (sound : IsSound schema) where
             (λ b. fault-fits schema sound row (request_answered m) (request-kept schema row m vs r) reason.ActorDestroyed (owed-reply row (and-right (is_open e.state) (owes_reply row) (sym is ∙ b))) (destroyed-fault row.semantics));
         fresh = tt;
       }
-  first-fits {e} (Parts.drops_unknown m sync level vs next body none) few h = record { end = leaving-fits e h; packets = tt; fresh = tt }
-  first-fits {e} (Parts.takes_reply m sync level a next body late) few h = record { end = leaving-fits e h; packets = tt; fresh = tt }
-  first-fits {e} (Parts.settles m sync level row a next body found is) few h = record { end = fits-promises schema (left_end e) _ (settled-promises schema m.seq _ e.promises h.promises) (leaving-fits e h); packets = tt; fresh = tt }
-  first-fits {e} (Parts.shuts last next is) few h = record { end = closing-fits e h; packets = tt; fresh = tt }
-  first-fits {e} (Parts.returns entry row vs told lost returns t l) few h =
+  first-fits {e} (Parts.drops_unknown m sync level vs next body none) counted few h = record { end = leaving-fits e h; packets = tt; fresh = tt }
+  first-fits {e} (Parts.takes_reply m sync level a next body late) counted few h = record { end = leaving-fits e h; packets = tt; fresh = tt }
+  first-fits {e} (Parts.settles m sync level row a next body found is) counted few h = record { end = fits-promises schema (left_end e) _ (settled-promises schema m.seq _ e.promises h.promises) (leaving-fits e h); packets = tt; fresh = tt }
+  first-fits {e} (Parts.shuts last next is) counted few h = record { end = closing-fits e h; packets = tt; fresh = tt }
+  first-fits {e} (Parts.returns entry row vs told lost returns t l) counted few h =
       let k : FitsEntry schema entry = top-entry e.stack entry returns.on_top h.stack in
       let q : AnsweredRequest = return.dispatch_answered entry in
       let kept : IsRequestKept schema row q = subst (λ (r : MessageRow). IsRequestKept schema r q) (kept-row k.row row q k.request returns.found) k.request in
@@ -273,11 +267,11 @@ module _ (schema : Schema) (sound : IsSound schema) where
             (λ b. promised-fault schema sound (resolver_answered (answering.resolver_in entry)) (entry-resolver schema entry k (and-right (is_open e.state) entry.resolves (sym l ∙ b)))));
         fresh = tt;
       }
-  first-fits {e} (Parts.resumes wait row on_top found) few h = record { end = fits-stack schema e (drop 1 e.stack) (all-drop (FitsEntry schema) e.stack h.stack) h; packets = tt; fresh = tt }
+  first-fits {e} (Parts.resumes wait row on_top found) counted few h = record { end = fits-stack schema e (drop 1 e.stack) (all-drop (FitsEntry schema) e.stack h.stack) h; packets = tt; fresh = tt }
 
-  own-fits : {p : Phase} {e f : End} {ws : List What} {ps : List Packet} → OwnParts schema e ws ps f p → e.sent < 268435456 → IsFitting schema e → PartFits schema ps f p
-  own-fits (Parts.begun {ps} {qs} first rest) few h =
-      let a = first-fits first few h in
+  own-fits : {p : Phase} {e f : End} {ws : List What} {ps : List Packet} → OwnParts schema e ws ps f p → IsCounted e → e.sent < 268435456 → IsFitting schema e → PartFits schema ps f p
+  own-fits (Parts.begun {ps} {qs} first rest over) counted few h =
+      let a = first-fits first counted few h in
       let b = laters-fit rest a.fresh a.end in
       record { end = b.end; packets = all-append (FitsPacket schema) ps qs a.packets b.packets; fresh = b.fresh }
 
@@ -317,7 +311,7 @@ module _ (schema : Schema) (sound : IsSound schema) where
       request-body (Fault r) e = cc
       request-body Goodbye e = cc
 
-  replaced-fits : (e : End) (m old : Message) (sync : Bool) (level : Level) (row : MessageRow) → FitsItem schema (item.Message old sync level) × (are_alike (delivery.item_of row m) (item.Message old sync level) ≡ true) → message_of schema m.number ≡ Some row → makes_promise row ≡ true → Fits schema (reply_to (request_answered old) (Fault reason.ResolverDestroyed))
+  pub replaced-fits : (e : End) (m old : Message) (sync : Bool) (level : Level) (row : MessageRow) → FitsItem schema (item.Message old sync level) × (are_alike (delivery.item_of row m) (item.Message old sync level) ≡ true) → message_of schema m.number ≡ Some row → makes_promise row ≡ true → Fits schema (reply_to (request_answered old) (Fault reason.ResolverDestroyed))
   replaced-fits e m old sync level row h found promise =
       let a : Alike m old = alike m old (is_sync_row row) sync row.level level h.1 in
       let r : IsRequestOf schema row old a.values = request-of schema row old a.values h.0.0 a.body (ap (message_of schema) a.number ∙ found) in
@@ -374,8 +368,8 @@ module _ (schema : Schema) (sound : IsSound schema) where
 
 -- Steps
 
-own-output : (schema : Schema) → IsSound schema → (e : End) (output : Output) → e.sent < 268435456 → IsFitting schema e → IsMadeOf (OwnParts schema e) e.side output → FitsOutput schema output
-own-output schema sound e output few h made = let r = own-fits schema sound made.parts few h in record { end = r.end; packets = r.packets }
+own-output : (schema : Schema) → IsSound schema → (e : End) (output : Output) → IsCounted e → e.sent < 268435456 → IsFitting schema e → IsMadeOf (OwnParts schema e) e.side output → FitsOutput schema output
+own-output schema sound e output counted few h made = let r = own-fits schema sound made.parts counted few h in record { end = r.end; packets = r.packets }
 
 delivered-output : (schema : Schema) → IsSound schema → (e : End) (link : List Packet) (output : Output) → IsFittingDelivery schema e link event.deliver → IsFitting schema e → IsDeliveryOfOnePart schema e link output → FitsOutput schema output
 delivered-output schema sound e [] output fits h (packet, is, open_is, made) = cc
@@ -385,23 +379,8 @@ delivered-output schema sound e (first ∷ rest) output fits h (packet, is, open
     record { end = r.end; packets = r.packets }
 
 pub fitting_ends_stay : FittingEndsStay
-fitting_ends_stay schema e link happened output is sound few fits h = by happened (steps_are_chains schema e link happened output is) fits
-  where
-    own : IsMadeOf (OwnParts schema e) e.side output → FitsOutput schema output
-    own made = own-output schema sound e output few h made
-
-    by : (happened : Event) → IsStepOfParts schema e link happened output → IsFittingDelivery schema e link happened → FitsOutput schema output
-    by event.deliver made fits = delivered-output schema sound e link output fits h made
-    by (event.send route number vs name) made fits = own made
-    by (event.answer answering vs) made fits = own made
-    by (event.keep seq name) made fits = own made
-    by (event.name name id) made fits = own made
-    by event.close made fits = own made
-    by event.die made fits = own made
-    by event.take made fits = own made
-    by (event.return vs) made fits = own made
-    by event.resume made fits = own made
-    by event.flush made fits = own made
+fitting_ends_stay schema e link happened output is sound counted few fits h =
+    by-parts schema e link happened output (FitsOutput schema output) is (own-output schema sound e output counted few h) (λ same made. delivered-output schema sound e link output (subst (IsFittingDelivery schema e link) same fits) h made)
 
 pub first_ends_fit : FirstEndsFit
-first_ends_fit schema protocol side = record { actors = (top-lives, tt); arrived = tt; stack = tt; promises = tt; names = tt; outbox = tt; few = omega arith; constructors = omega arith }
+first_ends_fit schema protocol side = (record { actors = (top-lives, tt); arrived = tt; stack = tt; promises = tt; names = tt; outbox = tt }, record { outbox = omega arith; constructors = omega arith })

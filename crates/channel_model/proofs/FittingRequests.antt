@@ -1,6 +1,6 @@
 -- Requests that fit, and the replies to them.
-use Rattle.std.proofs.Common.{◌≡◌, ◌≢◌, ℕ, ◌+◌, ◌==◌, ℤ, pos, Bool, true, false, not, ◌&&◌, ◌||◌, cond, List, [], ◌∷◌, ◌++◌, map, find, is_some, unwrap_or, option_map, option_and_then, Option, Some, None, refl, sym, ap, subst, ◌∙◌}
-use Rattle.std.specs.List.{All, AllByRecursion}
+use Rattle.std.proofs.Common.{◌≡◌, ℕ, ◌+◌, ◌==◌, Bool, true, not, ◌&&◌, ◌||◌, cond, List, [], is_some, unwrap_or, option_and_then, Option, Some, None, refl, sym, ap, subst, ◌∙◌}
+use Rattle.std.specs.List.{All}
 use Rattle.std.specs.Option.{option_map_or}
 use Rattle.std.proofs.lemmas.Bool.{eq-eqb}
 use Rattle.std.proofs.lemmas.Option.{same_Some}
@@ -9,7 +9,7 @@ use Rattle.ipdl_base.specs.declared.kinds.Reason.TheVariants.{HandlerRejected, A
 use Rattle.ipdl_base.specs.declared.kinds.Semantics.{Semantics}
 use Rattle.ipdl_base.specs.declared.kinds.Semantics.TheVariants.{Async, Sync}
 use Rattle.ipdl_base.specs.declared.message.Body.{Body}
-use Rattle.ipdl_base.specs.declared.message.Body.TheVariants.{Request, Reply, Fault, Goodbye}
+use Rattle.ipdl_base.specs.declared.message.Body.TheVariants.{Request, Reply, Fault}
 use Rattle.ipdl_base.specs.declared.message.Message.{Message}
 use Rattle.ipdl_base.specs.declared.schema.MessageRow.{MessageRow}
 use Rattle.ipdl_base.specs.declared.schema.ParamRow.{ParamRow}
@@ -19,7 +19,7 @@ use Rattle.ipdl_base.specs.Signatures.{returns_of_row}
 use Rattle.ipdl_base.specs.Sound.{IsSound, is_sync, has_reply, message_of}
 use Rattle.nesting_core.specs.declared.frame.Answer.{Answer}
 use Rattle.nesting_core.specs.declared.frame.Answer.TheVariants as answer
-use Rattle.value_types.specs.Fits.{IsFaultOf, IsCarriedId, HasFields, IsRequestOf, IsReplyTo, GivesReturns, FitsBody, Fits, all_actor_ids}
+use Rattle.value_types.specs.Fits.{IsFaultOf, IsCarriedId, IsRequestOf, IsReplyTo, GivesReturns, FitsBody, Fits, all_actor_ids}
 use Rattle.value_types.specs.HasType.{HaveTypes}
 use Rattle.channel_model.specs.Fitting.{IsRequestKept, FitsAnswer, FitsPromised}
 use Rattle.channel_model.specs.Numbers.{is_sync_row, makes_promise, request_row}

@@ -1,14 +1,13 @@
 -- A request that is sent fits, and so does what it leaves behind.
-use Rattle.std.proofs.Common.{◌≡◌, ◌≢◌, ℕ, ◌+◌, ◌<◌, ◌≤◌, ℤ, pos, Bool, true, false, not, ◌&&◌, ◌||◌, ◌==◌, cond, if◌then◌else◌, List, [], ◌∷◌, ◌++◌, find, length, map, Option, Some, None, is_some, is_none, option_map, unwrap_or, refl, sym, ap, subst, ◌∙◌, arith}
-use Rattle.std.specs.List.{All, AllByRecursion}
-use Rattle.std.proofs.lemmas.List.{length-append}
+use Rattle.std.proofs.Common.{◌≡◌, ◌≢◌, ℕ, ◌+◌, ◌<◌, ◌≤◌, ℤ, pos, Bool, true, false, not, ◌&&◌, ◌||◌, ◌==◌, cond, if◌then◌else◌, List, [], ◌∷◌, ◌++◌, find, map, Option, Some, None, is_some, is_none, option_map, unwrap_or, refl, sym, ◌∙◌, arith}
+use Rattle.std.specs.List.{AllByRecursion}
 use Rattle.ipdl_base.specs.Deferral.{rank}
 use Rattle.ipdl_base.specs.declared.kinds.Level.TheVariants.{InsideSync}
 use Rattle.ipdl_base.specs.declared.kinds.SendRefusal.{SendRefusal}
 use Rattle.ipdl_base.specs.declared.kinds.SendRefusal.TheVariants as refusal
 use Rattle.ipdl_base.specs.declared.kinds.Semantics.{Semantics}
 use Rattle.ipdl_base.specs.declared.kinds.Semantics.TheVariants.{Async, Sync}
-use Rattle.ipdl_base.specs.declared.message.Body.TheVariants.{Request, Goodbye}
+use Rattle.ipdl_base.specs.declared.message.Body.TheVariants.{Goodbye}
 use Rattle.ipdl_base.specs.declared.message.Message.{Message}
 use Rattle.ipdl_base.specs.declared.schema.Kind.{Kind}
 use Rattle.ipdl_base.specs.declared.schema.Kind.TheVariants.{Normal, Constructor, Delete}
@@ -19,11 +18,12 @@ use Rattle.ipdl_base.specs.Sound.{is_sync}
 use Rattle.nesting_core.specs.declared.frame.StackFrame.{StackFrame}
 use Rattle.nesting_core.specs.Deferral.{transaction_of}
 use Rattle.nesting_core.specs.Frames.{head_of, is_inside_sync}
-use Rattle.value_types.specs.Fits.{IsFieldNumber, IsLivingId, IsTransactionOf, IsMadeBy, HasFields, IsRequestOf, Fits}
-use Rattle.channel_model.specs.Ends.{End, Packet, message, StackEntry, PromiseEntry}
-use Rattle.channel_model.specs.Fitting.{IsRequestKept, FitsEntry, FitsPromise, IsFitting, FitsPacket}
-use Rattle.channel_model.specs.Numbers.{sends, protocol_of, is_sync_row, is_constructor, counting, makes_promise}
-use Rattle.channel_model.specs.Outputs.{is_open, request_answered}
+use Rattle.value_types.specs.Fits.{IsFieldNumber, IsLivingId, IsTransactionOf, IsMadeBy, IsRequestOf, Fits}
+use Rattle.channel_model.specs.Bounds.{IsCounted}
+use Rattle.channel_model.specs.Ends.{End, message, StackEntry}
+use Rattle.channel_model.specs.Fitting.{FitsEntry, FitsPromise, IsFitting, FitsPacket}
+use Rattle.channel_model.specs.Numbers.{sends, protocol_of, is_sync_row, is_constructor, makes_promise}
+use Rattle.channel_model.specs.Outputs.{is_open}
 use Rattle.channel_model.specs.Parts.{IsSent, outbox_after, request_packets, promise_for, sent_end}
 use Rattle.channel_model.specs.Phases.{fresh_of}
 use Rattle.channel_model.specs.Sends as send
@@ -34,7 +34,7 @@ use Rattle.channel_model.proofs.FittingRequests.{request-kept}
 use Rattle.channel_model.proofs.FittingValues.{seq-fits, id-lives, lives-fits, values-carried, values-typed}
 use Rattle.channel_model.proofs.Known.{all-append}
 use Rattle.channel_model.proofs.SendParts.{passed-first, lives-as, request-number}
-use Rattle.channel_model.proofs.TypedValues.{and-left, and-right}
+use Rattle.channel_model.proofs.Tests.{and-left, and-right}
 
 -- Transactions
 
@@ -92,8 +92,7 @@ not-refused (Some cause) rest e = cc
 
 -- The request
 
-module _ (schema : Schema) (e : End) (row : MessageRow) (route : ℤ) (vs : Values) (name : Option (List ℕ)) (sent : IsSent schema e row route vs name) (few : e.sent < 268435456) (h : IsFitting schema e) where
-
+module _ (schema : Schema) (e : End) (row : MessageRow) (route : ℤ) (vs : Values) (name : Option (List ℕ)) (sent : IsSent schema e row route vs name) (counted : IsCounted e) (few : e.sent < 268435456) (h : IsFitting schema e) where
   is-one : IsOne (send.next_seq e)
   is-one = seq-fits e.side (e.sent + 1) (omega arith) (omega arith)
 
@@ -121,7 +120,7 @@ module _ (schema : Schema) (e : End) (row : MessageRow) (route : ℤ) (vs : Valu
       }
 
   made : IsMadeBy row.kind (send.next_made e row.kind)
-  made = made-fits e row.kind h.constructors few
+  made = made-fits e row.kind counted.constructors few
 
   is-request : IsRequestOf schema row (send.request_of e row route vs) vs
   is-request = record {
@@ -138,7 +137,7 @@ module _ (schema : Schema) (e : End) (row : MessageRow) (route : ℤ) (vs : Valu
     ids = values-carried e.actors h.actors schema row.params vs passed.typed passed.values;
   }
 
-  sent-fits : Fits schema (send.request_of e row route vs)
+  pub sent-fits : Fits schema (send.request_of e row route vs)
   sent-fits = (row, is-request)
 
   pub sent-fresh : AllByRecursion IsLivingId (fresh_of row (send.request_of e row route vs))
@@ -157,10 +156,6 @@ module _ (schema : Schema) (e : End) (row : MessageRow) (route : ℤ) (vs : Valu
   outbox-fits true = all-append (Fits schema) e.outbox (send.request_of e row route vs ∷ []) h.outbox (sent-fits, tt)
   outbox-fits false = tt
 
-  outbox-few : (lazy : Bool) → length (outbox_after lazy (send.request_of e row route vs) e.outbox) ≤ e.sent + 1
-  outbox-few true = let k : length (e.outbox ++ send.request_of e row route vs ∷ []) ≡ length e.outbox + 1 = length-append e.outbox (send.request_of e row route vs ∷ []) in omega (arith, k, h.few)
-  outbox-few false = omega arith
-
   wait-fits : is_sync_row row ≡ true → FitsEntry schema (send.wait_for row (send.request_of e row route vs))
   wait-fits sync = record { row = row; request = request-kept schema row (send.request_of e row route vs) vs is-request; sync = sym sync; level = refl; resolves = λ e. cc; frame = sync }
 
@@ -174,11 +169,6 @@ module _ (schema : Schema) (e : End) (row : MessageRow) (route : ℤ) (vs : Valu
       all-append (FitsPromise schema) e.promises (promise_for r ∷ []) h.promises (kept-async schema row r.seq r.route r.transaction r.number is (request-kept schema row r vs is-request), tt)
   promises-fit false is = h.promises
 
-  counting-few : (kind : Kind) → counting kind e.constructors_sent ≤ e.sent + 1
-  counting-few Normal = omega (arith, h.constructors)
-  counting-few (Constructor p) = omega (arith, h.constructors)
-  counting-few Delete = omega (arith, h.constructors)
-
   pub sent-end : IsFitting schema (sent_end row (send.request_of e row route vs) e)
   sent-end = record {
     actors = h.actors;
@@ -187,6 +177,4 @@ module _ (schema : Schema) (e : End) (row : MessageRow) (route : ℤ) (vs : Valu
     promises = promises-fit (makes_promise row) refl;
     names = h.names;
     outbox = outbox-fits row.lazy;
-    few = outbox-few row.lazy;
-    constructors = counting-few row.kind;
   }

@@ -31,7 +31,7 @@ more_ids : (side : Side) (n m : ℕ) (id : ℤ) → n ≤ m → IsIdOf side n id
 more_ids side n m id h (k, one, low, e) = (k, one, omega arith, e)
 
 -- the next id of this side is not taken, and neither is that of the other side
-pub own_is_free : (ids : Ids) → ¬ IsTaken ids (id_of ids.side (ids.sent + 1))
+own_is_free : (ids : Ids) → ¬ IsTaken ids (id_of ids.side (ids.sent + 1))
 own_is_free ids (inl e) = not_top ids.side (ids.sent + 1) e
 own_is_free ids (inr (inl (k, one, low, e))) = let f : ids.sent + 1 ≡ k = same_id ids.side (ids.sent + 1) k e in absurd (omega arith)
 own_is_free ids (inr (inr (k, one, low, e))) = ids_apart ids.side (ids.sent + 1) k e
@@ -55,11 +55,11 @@ pub all-append : {A : Type 0} (P : A → Type 0) (xs ys : List A) → AllByRecur
 all-append P [] ys h k = k
 all-append P (x ∷ xs) ys h k = (h.0, all-append P xs ys h.1 k)
 
-pub all-before : {A : Type 0} (P : A → Type 0) (xs ys : List A) → AllByRecursion P (xs ++ ys) → AllByRecursion P xs
+all-before : {A : Type 0} (P : A → Type 0) (xs ys : List A) → AllByRecursion P (xs ++ ys) → AllByRecursion P xs
 all-before P [] ys h = tt
 all-before P (x ∷ xs) ys h = (h.0, all-before P xs ys h.1)
 
-pub all-behind : {A : Type 0} (P : A → Type 0) (xs ys : List A) → AllByRecursion P (xs ++ ys) → AllByRecursion P ys
+all-behind : {A : Type 0} (P : A → Type 0) (xs ys : List A) → AllByRecursion P (xs ++ ys) → AllByRecursion P ys
 all-behind P [] ys h = h
 all-behind P (x ∷ xs) ys h = all-behind P xs ys h.1
 
@@ -117,7 +117,7 @@ tree-falls id actors (a ∷ given) left t f =
     tree-falls id f.0 given left (subst IsTree (sym next.left) (IsTree-without actors id a (post_order id f.0) t next.next)) f.2
 
 -- those who do not fall are a tree
-pub tree-others : (id : ℤ) (actors : List Actor) → IsTree actors → IsTree (others (post_order id actors) actors)
+tree-others : (id : ℤ) (actors : List Actor) → IsTree actors → IsTree (others (post_order id actors) actors)
 tree-others id actors t =
     tree-falls id actors (post_order id actors) (others (post_order id actors) actors) t ((gives_subtree id actors (post_order id actors) (others (post_order id actors) actors) t).1 (refl, refl))
 
@@ -135,42 +135,41 @@ known-counted protocol ids h = record {
   distinct = h.distinct;
 }
 
--- this side builds its next actor
-pub known-own : (protocol : ℕ) (ids : Ids) (a : Actor) → AreKnown protocol ids → a.id ≡ id_of ids.side (ids.sent + 1) → lives a.manager ids.actors ≡ true
-    → AreKnown protocol (record ids { sent = ids.sent + 1; actors = ids.actors ++ a ∷ [] })
-known-own protocol ids a h is manager =
-    let free : lives a.id ids.actors ≡ false = lives-false a.id ids.actors (λ k. own_is_free ids (subst (IsTaken ids) is (h.taken a.id (lives-true a.id ids.actors k)))) in
-    record {
-      tree = IsTree-append ids.actors a h.tree free manager;
-      top = all-append (IsTopOf protocol) ids.actors (a ∷ []) h.top ((λ e. absurd (not_top ids.side (ids.sent + 1) (sym is ∙ e))), tt);
-      taken = λ id k. elim (living-append id ids.actors a k) [
-        | inl before ↦ (known-counted protocol ids h).taken id before
-        | inr e ↦ inr (inl (ids.sent + 1, omega arith, omega arith, sym e ∙ is))
-      ];
-      waiting = all-map (IsNew ids) (IsNew (record ids { sent = ids.sent + 1; actors = ids.actors ++ a ∷ [] })) ids.waiting
-          (λ id new. (new.0, dead-append id ids.actors a new.1 (λ e. ids_apart ids.side (ids.sent + 1) new.0.0 (sym is ∙ sym e ∙ new.0.3)))) h.waiting;
-      distinct = h.distinct;
-    }
+-- An id that may be built: it is taken, and of nobody who lives or has arrived.
+abbrev pub IsFresh : Ids → ℤ → Type 0
+IsFresh ids id = (IsIdOf ids.side ids.sent id ⊎ IsIdOf (other ids.side) ids.delivered id) × (lives id ids.actors ≡ false) × AllByRecursion (λ x. x ≢ id) ids.waiting
 
--- an actor that has arrived is built
-pub known-arrived : (protocol : ℕ) (ids : Ids) (a : Actor) (before behind : List ℤ) → AreKnown protocol ids → ids.waiting ≡ before ++ a.id ∷ behind → lives a.manager ids.actors ≡ true
-    → AreKnown protocol (record ids { actors = ids.actors ++ a ∷ []; waiting = before ++ behind })
-known-arrived protocol ids a before behind h is manager =
-    let waiting : AllByRecursion (IsNew ids) (before ++ a.id ∷ behind) = subst (AllByRecursion (IsNew ids)) is h.waiting in
-    let distinct : AreDistinct (before ++ a.id ∷ behind) = subst AreDistinct is h.distinct in
-    let own : IsNew ids a.id = (all-behind (IsNew ids) before (a.id ∷ behind) waiting).0 in
-    let rest : AllByRecursion (IsNew ids) (before ++ behind) = all-append (IsNew ids) before behind (all-before (IsNew ids) before (a.id ∷ behind) waiting) (all-behind (IsNew ids) before (a.id ∷ behind) waiting).1 in
-    record {
-      tree = IsTree-append ids.actors a h.tree own.1 manager;
-      top = all-append (IsTopOf protocol) ids.actors (a ∷ []) h.top ((λ e. absurd (not_top (other ids.side) own.0.0 (sym own.0.3 ∙ e))), tt);
-      taken = λ id k. elim (living-append id ids.actors a k) [
-        | inl lived ↦ h.taken id lived
-        | inr e ↦ inr (inr (subst (IsIdOf (other ids.side) ids.delivered) e own.0))
-      ];
-      waiting = all-both (IsNew ids) (λ x. x ≢ a.id) (IsNew (record ids { actors = ids.actors ++ a ∷ []; waiting = before ++ behind })) (before ++ behind)
-          (λ id new differs. (new.0, dead-append id ids.actors a new.1 differs)) rest (distinct-from before a.id behind distinct);
-      distinct = distinct-without before a.id behind distinct;
-    }
+not_top_of : (ids : Ids) (id : ℤ) → IsIdOf ids.side ids.sent id ⊎ IsIdOf (other ids.side) ids.delivered id → id ≢ top_id
+not_top_of ids id (inl (k, one, low, is)) e = not_top ids.side k (sym is ∙ e)
+not_top_of ids id (inr (k, one, low, is)) e = not_top (other ids.side) k (sym is ∙ e)
+
+-- an actor is built
+pub known-built : (protocol : ℕ) (ids : Ids) (a : Actor) → AreKnown protocol ids → IsFresh ids a.id → lives a.manager ids.actors ≡ true → AreKnown protocol (record ids { actors = ids.actors ++ a ∷ [] })
+known-built protocol ids a h fresh manager = record {
+  tree = IsTree-append ids.actors a h.tree fresh.1 manager;
+  top = all-append (IsTopOf protocol) ids.actors (a ∷ []) h.top ((λ e. absurd (not_top_of ids a.id fresh.0 e)), tt);
+  taken = λ id k. elim (living-append id ids.actors a k) [
+    | inl before ↦ h.taken id before
+    | inr e ↦ inr (subst (λ (x : ℤ). IsIdOf ids.side ids.sent x ⊎ IsIdOf (other ids.side) ids.delivered x) e fresh.0)
+  ];
+  waiting = all-both (IsNew ids) (λ x. x ≢ a.id) (IsNew (record ids { actors = ids.actors ++ a ∷ [] })) ids.waiting (λ id new differs. (new.0, dead-append id ids.actors a new.1 differs)) h.waiting fresh.2;
+  distinct = h.distinct;
+}
+
+-- the next id of this side, when it is counted
+pub fresh-own : (protocol : ℕ) (ids : Ids) → AreKnown protocol ids → IsFresh (record ids { sent = ids.sent + 1 }) (id_of ids.side (ids.sent + 1))
+fresh-own protocol ids h =
+    let id : ℤ = id_of ids.side (ids.sent + 1) in (
+      inl (ids.sent + 1, omega arith, omega arith, refl),
+      lives-false id ids.actors (λ k. own_is_free ids (h.taken id (lives-true id ids.actors k))),
+      all-map (IsNew ids) (λ x. x ≢ id) ids.waiting (λ x new e. ids_apart ids.side (ids.sent + 1) new.0.0 (sym e ∙ new.0.3)) h.waiting,
+    )
+
+-- an id that has arrived, when it has left
+pub fresh-arrived : (protocol : ℕ) (ids : Ids) (id : ℤ) (before behind : List ℤ) → AreKnown protocol ids → ids.waiting ≡ before ++ id ∷ behind → IsFresh (record ids { waiting = before ++ behind }) id
+fresh-arrived protocol ids id before behind h is =
+    let new : IsNew ids id = (all-behind (IsNew ids) before (id ∷ behind) (subst (AllByRecursion (IsNew ids)) is h.waiting)).0 in
+    (inr new.0, new.1, distinct-from before id behind (subst AreDistinct is h.distinct))
 
 -- some that have arrived are dropped
 pub known-fewer : (protocol : ℕ) (ids : Ids) (some : List ℤ) → AreKnown protocol ids → Sublist some ids.waiting → AreKnown protocol (record ids { waiting = some })

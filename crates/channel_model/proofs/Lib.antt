@@ -6,17 +6,14 @@ mod WorkedMoves
 mod Worked
 mod WorkedRules
 mod WorkedDeliveries
+mod WorkedParts
 pub mod Provided
-pub mod Adds
-pub mod Effects
-pub mod Begins
+pub mod Tests
 pub mod Events
 pub mod Follow
-pub mod Leaves
 pub mod Sublists
 pub mod Known
 pub mod KnownSteps
-pub mod InState
 pub mod StateSteps
 pub mod Numbered
 pub mod RunsKeep
@@ -35,3 +32,4 @@ pub mod FittingSends
 pub mod FittingParts
 pub mod Counted
 pub mod BoundedParts
+pub mod CountedParts

@@ -6,7 +6,7 @@ use Rattle.ipdl_base.specs.declared.schema.Schema.{Schema}
 use Rattle.channel_model.specs.Ends.{End, Packet}
 use Rattle.channel_model.specs.Outputs.{Output, Change, ◌▷◌, beginning, unchanged, line_at}
 use Rattle.channel_model.specs.Parts.{FirstPart, LaterPart, LaterParts, done, then, OwnParts, begun}
-use Rattle.channel_model.specs.Phases.{Phase}
+use Rattle.channel_model.specs.Phases.{Phase, IsOver}
 use Rattle.channel_model.specs.StepLaws.{IsMadeOf}
 
 -- parts behind an end: their lines, their packets, the end behind them and the phase
@@ -85,8 +85,8 @@ abbrev pub made-later : (p q : Phase) (change : Change) (o : Output) (ws : List 
     → Makes (LaterParts p o.end) change o q
 made-later p q change o ws ps part lines packets side = made (LaterParts p o.end) change o q ws ps (later-one part) lines packets side
 
-pub made-chain : (p q r : Phase) (f g : Change) (o : Output) → Makes (LaterParts p o.end) f o q → Makes (LaterParts q (f o).end) g (f o) r → Makes (LaterParts p o.end) (f ▷ g) o r
-made-chain p q r f g o a b = record {
+pub made-joined : (p q r : Phase) (f g : Change) (o : Output) → Makes (LaterParts p o.end) f o q → Makes (LaterParts q (f o).end) g (f o) r → Makes (LaterParts p o.end) (f ▷ g) o r
+made-joined p q r f g o a b = record {
   whats = a.whats ++ b.whats;
   packets = a.packets ++ b.packets;
   parts = later-append a.parts b.parts;
@@ -98,19 +98,19 @@ made-chain p q r f g o a b = record {
 -- Steps
 
 -- a first part, and then later ones
-pub made-begun : (schema : Schema) (p q : Phase) (f g : Change) (o : Output) → Makes (FirstPart schema o.end) f o p → Makes (LaterParts p (f o).end) g (f o) q → Makes (OwnParts schema o.end) (f ▷ g) o q
-made-begun schema p q f g o a b = record {
+pub made-begun : (schema : Schema) (p q : Phase) (f g : Change) (o : Output) → Makes (FirstPart schema o.end) f o p → Makes (LaterParts p (f o).end) g (f o) q → IsOver q → Makes (OwnParts schema o.end) (f ▷ g) o q
+made-begun schema p q f g o a b over = record {
   whats = a.whats ++ b.whats;
   packets = a.packets ++ b.packets;
-  parts = begun a.parts b.parts;
+  parts = begun a.parts b.parts over;
   lines_are = joined-lines f g o a.whats b.whats a.lines_are b.lines_are a.side_is;
   packets_are = joined-packets f g o a.packets b.packets a.packets_are b.packets_are;
   side_is = b.side_is ∙ a.side_is;
 }
 
 -- a first part alone
-pub made-alone : (schema : Schema) (q : Phase) (change : Change) (o : Output) → Makes (FirstPart schema o.end) change o q → Makes (OwnParts schema o.end) change o q
-made-alone schema q change o a = made-as (OwnParts schema o.end) change (change ▷ unchanged) o q refl (made-begun schema q q change unchanged o a (made-nothing q unchanged (change o) refl))
+pub made-alone : (schema : Schema) (q : Phase) (change : Change) (o : Output) → Makes (FirstPart schema o.end) change o q → IsOver q → Makes (OwnParts schema o.end) change o q
+made-alone schema q change o a over = made-as (OwnParts schema o.end) change (change ▷ unchanged) o q refl (made-begun schema q q change unchanged o a (made-nothing q unchanged (change o) refl) over)
 
 -- a step is its change from the beginning
 pub made-step : (Parts : PartsBehind) (e : End) (change : Change) (q : Phase) → Makes Parts change (beginning e) q → IsMadeOf Parts e.side (change (beginning e))

@@ -1,6 +1,6 @@
 -- Names, answers, falls and closing as parts.
 use Rattle.std.proofs.Common.{◌≡◌, ℕ, ℤ, Bool, true, false, not, cond, List, [], ◌∷◌, ◌++◌, map, Option, Some, None, option_and_then, refl, sym, ap, subst, ◌∙◌, append_assoc, is_some}
-use Rattle.std.proofs.lemmas.List.{append-nil}
+use Rattle.std.proofs.lemmas.List.{map-append, append-nil}
 use Rattle.std.specs.List.{AllByRecursion}
 use Rattle.ipdl_base.specs.declared.kinds.Destroy.{Destroy}
 use Rattle.ipdl_base.specs.declared.kinds.Destroy.TheVariants.{NormalShutdown}
@@ -8,6 +8,7 @@ use Rattle.ipdl_base.specs.declared.kinds.EndState.TheVariants.{Dead}
 use Rattle.ipdl_base.specs.declared.kinds.Reason.TheVariants.{ResolverDestroyed}
 use Rattle.ipdl_base.specs.declared.kinds.SendRefusal.{SendRefusal}
 use Rattle.ipdl_base.specs.declared.kinds.SendRefusal.TheVariants as refusal
+use Rattle.ipdl_base.specs.declared.line.Line.{Line}
 use Rattle.ipdl_base.specs.declared.line.What.{What}
 use Rattle.ipdl_base.specs.declared.line.What.TheVariants as what
 use Rattle.ipdl_base.specs.declared.schema.MessageRow.{MessageRow}
@@ -22,12 +23,12 @@ use Rattle.channel_model.specs.Events.{Answering, handled, kept}
 use Rattle.channel_model.specs.Falls as fall
 use Rattle.channel_model.specs.Names.{held_by_name, without_name, holding, renamed, let_go}
 use Rattle.channel_model.specs.Numbers.{top_id}
-use Rattle.channel_model.specs.Outputs.{Output, Change, ◌▷◌, unchanged, when, on_end, line, put, is_open, is_closed, is_dead_end, resolver_answered, reply_to, answer_line}
+use Rattle.channel_model.specs.Outputs.{Output, Change, ◌▷◌, unchanged, when, on_end, line, put, is_open, is_closed, is_dead_end, resolver_answered, reply_to, answer_line, line_at}
 use Rattle.channel_model.specs.Parts
-use Rattle.channel_model.specs.Parts.{FirstPart, LaterParts, OwnParts, HoldsActor, IsRefusal, IsRenaming, IsSilent, behind_outbox, reply_packet, fall_lines, abandoned_lines, shut_end}
-use Rattle.channel_model.specs.Phases.{Phase, deletion, quiet, renaming, shutting}
+use Rattle.channel_model.specs.Parts.{FirstPart, LaterParts, OwnParts, HoldsActor, IsRefusal, IsRenaming, IsSilent, behind_outbox, reply_packet, fall_lines, abandoned_lines, abandoned_end, shut_end}
+use Rattle.channel_model.specs.Phases.{Phase, nobody, deletion, quiet, renaming, shutting}
 use Rattle.channel_model.specs.Sends as send
-use Rattle.channel_model.proofs.Made.{Makes, made, made-as, made-nothing, made-later_at, made-later, made-chain, made-begun, made-alone}
+use Rattle.channel_model.proofs.Made.{Makes, made, made-as, made-nothing, made-later_at, made-later, made-joined, made-begun, made-alone}
 
 -- packets go behind the outbox
 pub put-packets : (ps : List Packet) (e : End) (packet : Packet) → ps ++ map message e.outbox ++ packet ∷ [] ≡ ps ++ behind_outbox e packet
@@ -49,6 +50,10 @@ letting before name = losing name ▷ let_go before
 
 abbrev gaining : List Naming → Change
 gaining more = on_end (λ e. record e { names = e.names ++ more })
+
+-- a phase in which no fall is due any more
+abbrev pub done_phase : Phase → Phase
+done_phase p = record p { due = nobody }
 
 -- a phase in which a name has lost what it held, or has not
 abbrev pub renamed_phase : Bool → Phase → Phase
@@ -89,12 +94,23 @@ renamed-made p name holds o may h =
     let q : Phase = renamed_phase false p in
     let lost : Output = letting before name o in
     made-as (LaterParts p o.end) (renamed name holds) (letting before name ▷ gaining more) o q refl
-    (made-chain p q q (letting before name) (gaining more) o (letting-made p name before o may refl)
+    (made-joined p q q (letting before name) (gaining more) o (letting-made p name before o may refl)
     (made-later q q (gaining more) lost [] [] (Parts.names more (holding-actor name holds h)) (sym (append-nil lost.lines)) (sym (append-nil lost.packets)) refl))
 
 pub names_actor-made : (p : Phase) (id : ℤ) (name : Option (List ℕ)) (o : Output) → p.renames ≡ true → (b : Bool) × Makes (LaterParts p o.end) (send.names_actor id name) o (renamed_phase b p)
 names_actor-made p id None o may = (p.renames, made-nothing p unchanged o refl)
 names_actor-made p id (Some name) o may = (false, renamed-made p name (Some (actor id)) o may tt)
+
+-- a new name leaves the actors
+
+letting-actors : (name : List ℕ) (before : Option NameContent) (o : Output) → (letting before name o).end.actors ≡ o.end.actors
+letting-actors name None o = refl
+letting-actors name (Some (actor id)) o = refl
+letting-actors name (Some (resolver r)) o = elim (is_open o.end.state) as (λ b. (when b (fault r) (losing name o)).end.actors ≡ o.end.actors) [ true ↦ refl | false ↦ refl ]
+
+pub names_actor-actors : (id : ℤ) (name : Option (List ℕ)) (o : Output) → (send.names_actor id name o).end.actors ≡ o.end.actors
+names_actor-actors id None o = refl
+names_actor-actors id (Some name) o = letting-actors name (held_by_name name o.end.names) o
 
 -- Keeps
 
@@ -141,7 +157,7 @@ keep-named p e seq name found o may same is =
     let more : List Naming = holding name (answering.kept_by e found) in
     let q : Phase = renamed_phase false p in
     made-as (LaterParts p o.end) (on_end (λ e. record e { stack = answering.released seq e.stack }) ▷ renamed name (answering.kept_by e found)) (letting before name ▷ keeping seq more) o q (keep-later seq name more before o)
-    (made-chain p q q (letting before name) (keeping seq more) o (letting-made p name before o may refl)
+    (made-joined p q q (letting before name) (keeping seq more) o (letting-made p name before o may refl)
     (giving-made q seq name found b (letting before name o) (handled-later seq name before found o is) (ap is_closed (letting-state name before o ∙ ap (λ (x : End). x.state) same))))
 
 module _ (schema : Schema) where
@@ -159,7 +175,7 @@ module _ (schema : Schema) where
   keep-made e seq name (Some r) o same is n =
       let told : Output = line (what.Keep seq name) o in
       made-begun schema renaming quiet (line (what.Keep seq name)) (on_end (λ e. record e { stack = answering.released seq e.stack }) ▷ renamed name (answering.kept_by e r)) o (renaming-made (what.Keep seq name) o tt)
-      (keep-named renaming e seq name r told refl same (ap (λ (x : End). answering.handled_resolver x seq) same ∙ is))
+      (keep-named renaming e seq name r told refl same (ap (λ (x : End). answering.handled_resolver x seq) same ∙ is)) (refl, refl)
 
   -- Answers
 
@@ -189,20 +205,22 @@ module _ (schema : Schema) where
 
   -- Falls and closing
 
-  pub deletes-made : (p : Phase) (id : ℤ) (o : Output) → p.cause ≡ deletion id → Makes (LaterParts p o.end) (fall.deleted id) o p
-  deletes-made p id o is = made-later p p (fall.deleted id) o (fall_lines id (fall.why_deleted id) o.end) [] (Parts.deletes id is) refl (sym (append-nil o.packets)) refl
+  pub deletes-made : (p : Phase) (id : ℤ) (o : Output) → p.due ≡ deletion id → Makes (LaterParts p o.end) (fall.deleted id) o (done_phase p)
+  deletes-made p id o is = made-later p (done_phase p) (fall.deleted id) o (fall_lines id (fall.why_deleted id) o.end) [] (Parts.deletes id is) refl (sym (append-nil o.packets)) refl
 
   -- an end closes: what it drops may be dropped first
-  pub closed-made : (why : Destroy) (begins : Change) (o : Output) → Makes (FirstPart schema o.end) (begins ▷ on_end shut_end) o (shutting why) → Makes (OwnParts schema o.end) (begins ▷ fall.closed why) o (shutting why)
+  pub closed-made : (why : Destroy) (begins : Change) (o : Output) → Makes (FirstPart schema o.end) (begins ▷ on_end shut_end) o (shutting why) → Makes (OwnParts schema o.end) (begins ▷ fall.closed why) o (done_phase (shutting why))
   closed-made why begins o h =
-      let q : Phase = shutting why in
+      let p : Phase = shutting why in
+      let q : Phase = done_phase p in
+      let rest : Change = fall.abandoned ▷ fall.fallen top_id (λ id. why) in
       let f : Output = (begins ▷ on_end shut_end) o in
-      let g : Output = fall.abandoned f in
-      made-as (OwnParts schema o.end) (begins ▷ fall.closed why) ((begins ▷ on_end shut_end) ▷ fall.abandoned ▷ fall.fallen top_id (λ id. why)) o q refl
-      (made-begun schema q q (begins ▷ on_end shut_end) (fall.abandoned ▷ fall.fallen top_id (λ id. why)) o h
-      (made-chain q q q fall.abandoned (fall.fallen top_id (λ id. why)) f
-      (made-later q q fall.abandoned f (abandoned_lines f.end) [] (Parts.abandons why refl) refl (sym (append-nil f.packets)) refl)
-      (made-later q q (fall.fallen top_id (λ id. why)) g (fall_lines top_id (λ id. why) g.end) [] (Parts.falls why refl) refl (sym (append-nil g.packets)) refl)))
+      let told : List What = abandoned_lines f.end in
+      let fell : List What = fall_lines top_id (λ id. why) (abandoned_end f.end) in
+      made-as (OwnParts schema o.end) (begins ▷ fall.closed why) ((begins ▷ on_end shut_end) ▷ rest) o q refl
+      (made-begun schema p q (begins ▷ on_end shut_end) rest o h
+      (made-later p q rest f (told ++ fell) [] (Parts.falls why refl)
+      (append_assoc f.lines (map (line_at f.end.side) told) (map (line_at f.end.side) fell) ∙ ap (λ (ls : List Line). f.lines ++ ls) (sym (map-append (line_at f.end.side) told fell))) (sym (append-nil f.packets)) refl) (refl, refl))
 
   second_test : {A : Type 0} (a b : Bool) (x y : A) → cond (not a) (Some x) (cond b (Some y) None) ≡ None → (a ≡ true) × (b ≡ false)
   second_test true false x y e = (refl, refl)
@@ -210,15 +228,15 @@ module _ (schema : Schema) where
   second_test false b x y e = cc
 
   pub close-made : (cause : Option SendRefusal) (o : Output) → act.close_refusal o.end ≡ cause → (q : Phase) × Makes (OwnParts schema o.end) (act.close_unless cause) o q
-  close-made (Some cause) o is = (quiet, made-alone schema quiet (line (what.RefusedClose cause)) o (refusal-made (what.RefusedClose cause) o tt))
+  close-made (Some cause) o is = (quiet, made-alone schema quiet (line (what.RefusedClose cause)) o (refusal-made (what.RefusedClose cause) o tt) (refl, refl))
   close-made None o is =
       let begins : Change = line what.Close ▷ put (message act.goodbye) in
-      let q : Phase = shutting NormalShutdown in
+      let q : Phase = done_phase (shutting NormalShutdown) in
       let both = second_test (is_open o.end.state) (has_wait (send.frames_of o.end)) refusal.Closed refusal.InCall is in (
         q,
         made-as (OwnParts schema o.end) (act.close_unless None) (begins ▷ fall.closed NormalShutdown) o q refl
             (closed-made NormalShutdown begins o
-            (made (FirstPart schema o.end) (begins ▷ on_end shut_end) o q (what.Close ∷ []) (behind_outbox o.end (message act.goodbye)) (Parts.closes both.0 both.1) refl (put-packets o.packets o.end (message act.goodbye)) refl)),
+            (made (FirstPart schema o.end) (begins ▷ on_end shut_end) o (shutting NormalShutdown) (what.Close ∷ []) (behind_outbox o.end (message act.goodbye)) (Parts.closes both.0 both.1) refl (put-packets o.packets o.end (message act.goodbye)) refl)),
       )
 
   abbrev leaving : Change

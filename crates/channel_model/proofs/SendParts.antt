@@ -23,12 +23,11 @@ use Rattle.channel_model.specs.Numbers.{counting, protocol_of, is_sync_row, make
 use Rattle.channel_model.specs.Outputs.{Output, Change, ◌▷◌, beginning, when, on_end, line, is_open}
 use Rattle.channel_model.specs.Parts
 use Rattle.channel_model.specs.Parts.{FirstPart, LaterParts, OwnParts, IsSent, sent_end, outbox_after, request_packets, promise_for}
-use Rattle.channel_model.specs.Phases.{Phase, manager_of, kind_cause, fresh_of, quiet, sending}
+use Rattle.channel_model.specs.Phases.{Phase, manager_of, kind_cause, fresh_of, quiet, sending, IsOver}
 use Rattle.channel_model.specs.Sends as send
 use Rattle.channel_model.specs.ValueActors.{lives_as}
-use Rattle.channel_model.proofs.Leaves.{Ignores, leaves-names_actor}
-use Rattle.channel_model.proofs.Made.{Makes, made-at, made-as, made-later, made-chain, made-begun, made-alone}
-use Rattle.channel_model.proofs.NameParts.{put-packets, refusal-made, renamed_phase, names_actor-made, deletes-made}
+use Rattle.channel_model.proofs.Made.{Makes, made-at, made-as, made-later, made-joined, made-begun, made-alone}
+use Rattle.channel_model.proofs.NameParts.{put-packets, refusal-made, done_phase, renamed_phase, names_actor-made, names_actor-actors, deletes-made}
 
 -- Tests
 
@@ -55,9 +54,6 @@ request-number schema n row found = by (message_of schema n) found
     by : (m : Option MessageRow) → option_and_then (λ (r : MessageRow). cond (r.number == n) (Some r) None) m ≡ Some row → (row.number ≡ n) × (m ≡ Some row)
     by None e = cc
     by (Some r) e = kept r (r.number == n) refl e
-
-actors-ignores : Ignores (λ (e : End). e.actors)
-actors-ignores = record { outbox = λ e ms. refl; names = λ e ns. refl }
 
 -- A request that is sent, up to its wait and its promise
 
@@ -99,6 +95,10 @@ pub builds-made : (p : Phase) (id : ℤ) (protocol : ℕ) (o : Output) → p.fre
 builds-made p id protocol o fresh alive =
     made-later p (record p { fresh = [] }) (send.built id protocol (manager_of p.start)) o (what.Built id protocol ∷ []) [] (Parts.builds id protocol [] fresh alive) refl (sym (append-nil o.packets)) refl
 
+-- no other kind makes an actor
+pub fresh-none : (row : MessageRow) (m : Message) (kind : Kind) → row.kind ≡ kind → is_constructor kind ≡ false → fresh_of row m ≡ []
+fresh-none row m kind is none = ap (λ (k : Kind). if is_constructor k then m.made ∷ [] else []) is ∙ ap (λ (b : Bool). if b then m.made ∷ [] else []) none
+
 -- the id of a constructor
 pub fresh-is : (row : MessageRow) (m : Message) (protocol : ℕ) → row.kind ≡ Constructor protocol → fresh_of row m ≡ m.made ∷ []
 fresh-is row m protocol is = ap (λ (k : Kind). if is_constructor k then m.made ∷ [] else []) is
@@ -114,11 +114,12 @@ module _ (schema : Schema) where
 
   -- what follows of a request of a kind
   finish : (row : MessageRow) (m : Message) (name : Option (List ℕ)) (kind : Kind) (o : Output) → row.kind ≡ kind → lives m.route o.end.actors ≡ true
-      → (q : Phase) × Makes (LaterParts (sending row m) o.end) (send.names_actor m.made name ▷ send.constructs m.made m.route kind ▷ fall.deletes m.route kind) o q
+      → (q : Phase) × Makes (LaterParts (sending row m) o.end) (send.names_actor m.made name ▷ send.constructs m.made m.route kind ▷ fall.deletes m.route kind) o q × IsOver q
   finish row m name Normal o is alive =
       let p : Phase = sending row m in
       let n = names_actor-made p m.made name o refl in
-      (renamed_phase n.0 p, made-as (LaterParts p o.end) (send.names_actor m.made name ▷ send.constructs m.made m.route Normal ▷ fall.deletes m.route Normal) (send.names_actor m.made name) o (renamed_phase n.0 p) refl n.1)
+      let r : Phase = renamed_phase n.0 p in
+      (r, made-as (LaterParts p o.end) (send.names_actor m.made name ▷ send.constructs m.made m.route Normal ▷ fall.deletes m.route Normal) (send.names_actor m.made name) o r refl n.1, (fresh-none row m Normal is refl, ap (λ (k : Kind). kind_cause k m.route) is))
   finish row m name (Constructor protocol) o is alive =
       let p : Phase = sending row m in
       let n = names_actor-made p m.made name o refl in
@@ -127,23 +128,26 @@ module _ (schema : Schema) where
       let named : Output = send.names_actor m.made name o in (
         q,
         made-as (LaterParts p o.end) (send.names_actor m.made name ▷ send.constructs m.made m.route (Constructor protocol) ▷ fall.deletes m.route (Constructor protocol)) (send.names_actor m.made name ▷ send.built m.made protocol m.route) o q refl
-            (made-chain p r q (send.names_actor m.made name) (send.built m.made protocol m.route) o n.1
-            (builds-made r m.made protocol named (fresh-is row m protocol is) (ap (λ (living : List Actor). lives m.route living) (leaves-names_actor (λ (e : End). e.actors) m.made name actors-ignores o) ∙ alive))),
+            (made-joined p r q (send.names_actor m.made name) (send.built m.made protocol m.route) o n.1
+            (builds-made r m.made protocol named (fresh-is row m protocol is) (ap (λ (living : List Actor). lives m.route living) (names_actor-actors m.made name o) ∙ alive))),
+        (refl, ap (λ (k : Kind). kind_cause k m.route) is),
       )
   finish row m name Delete o is alive =
       let p : Phase = sending row m in
       let n = names_actor-made p m.made name o refl in
-      let r : Phase = renamed_phase n.0 p in (
-        r,
-        made-as (LaterParts p o.end) (send.names_actor m.made name ▷ send.constructs m.made m.route Delete ▷ fall.deletes m.route Delete) (send.names_actor m.made name ▷ fall.deleted m.route) o r refl
-            (made-chain p r r (send.names_actor m.made name) (fall.deleted m.route) o n.1
+      let r : Phase = renamed_phase n.0 p in
+      let q : Phase = done_phase r in (
+        q,
+        made-as (LaterParts p o.end) (send.names_actor m.made name ▷ send.constructs m.made m.route Delete ▷ fall.deletes m.route Delete) (send.names_actor m.made name ▷ fall.deleted m.route) o q refl
+            (made-joined p r q (send.names_actor m.made name) (fall.deleted m.route) o n.1
             (deletes-made schema r m.route (send.names_actor m.made name o) (ap (λ (k : Kind). kind_cause k m.route) is))),
+        (fresh-none row m Delete is refl, refl),
       )
 
   pub send-made : (e : End) (row : MessageRow) (route : ℤ) (vs : Values) (name : Option (List ℕ)) (cause : Option SendRefusal) → request_row schema row.number ≡ Some row → send.may_send schema e row vs name ≡ true → send.send_refusal schema e row route vs ≡ cause
       → (q : Phase) × Makes (OwnParts schema e) (send.sent_unless cause row (send.request_of e row route vs) vs name) (beginning e) q
   send-made e row route vs name (Some cause) found may is =
-      (quiet, made-alone schema quiet (line (what.RefusedSend cause row.number)) (beginning e) (refusal-made schema (what.RefusedSend cause row.number) (beginning e) (row, found)))
+      (quiet, made-alone schema quiet (line (what.RefusedSend cause row.number)) (beginning e) (refusal-made schema (what.RefusedSend cause row.number) (beginning e) (row, found)) (refl, refl))
   send-made e row route vs name None found may is =
       let m : Message = send.request_of e row route vs in
       let begins : Change = request_sent row.lazy (is_sync_row row) (makes_promise row) row m (send.send_line row m vs) in
@@ -153,4 +157,4 @@ module _ (schema : Schema) where
       let sent : IsSent schema e row route vs name = record { found = found; may = may; accepted = is } in
       let end_is : (begins (beginning e)).end ≡ sent_end row m e = (request-sends row.lazy (is_sync_row row) (makes_promise row) row m (send.send_line row m vs) (beginning e)).end_is in
       let r = finish row m name row.kind (begins (beginning e)) refl (ap (λ (x : End). lives m.route x.actors) end_is ∙ lives-as e.actors (protocol_of row.number) route alive.0) in
-      (r.0, made-as (OwnParts schema e) (send.sent_unless None row m vs name) (begins ▷ rest) (beginning e) r.0 refl (made-begun schema (sending row m) r.0 begins rest (beginning e) (request-made e row route vs name sent) r.1))
+      (r.0, made-as (OwnParts schema e) (send.sent_unless None row m vs name) (begins ▷ rest) (beginning e) r.0 refl (made-begun schema (sending row m) r.0 begins rest (beginning e) (request-made e row route vs name sent) r.1 r.2))

@@ -28,7 +28,7 @@ use Rattle.channel_model.specs.Numbers.{protocol_of, is_sync_row}
 use Rattle.channel_model.specs.Outputs.{Output, Change, ◌▷◌, unchanged, when, on_end, line, is_open, AnsweredRequest, answered, request_answered, resolver_answered, body_of}
 use Rattle.channel_model.specs.Parts
 use Rattle.channel_model.specs.Parts.{FirstPart, LaterParts, OwnParts, IsReturn, behind_outbox, reply_packet, reply_lines, reply_packets, end_behind, left_end, shut_end, shut_line, shut_reason, owes_reply, is_settling}
-use Rattle.channel_model.specs.Phases.{Phase, kind_cause, quiet, taking, returning, shutting}
+use Rattle.channel_model.specs.Phases.{Phase, kind_cause, quiet, taking, returning, shutting, IsOver}
 use Rattle.channel_model.specs.Returns as return
 use Rattle.channel_model.specs.Sends as send
 use Rattle.channel_model.specs.States.{is_farewell, is_goodbye}
@@ -36,8 +36,8 @@ use Rattle.channel_model.specs.Takes as take
 use Rattle.channel_model.specs.ValueActors.{lives_as, nulled, received}
 use Rattle.channel_model.proofs.DeliveryParts.{answering, answered-at}
 use Rattle.channel_model.proofs.Made.{Makes, made, made-as, made-nothing, made-begun, made-alone}
-use Rattle.channel_model.proofs.NameParts.{put-packets, deletes-made, closed-made}
-use Rattle.channel_model.proofs.SendParts.{lives-as, fresh-is, builds-made}
+use Rattle.channel_model.proofs.NameParts.{put-packets, done_phase, deletes-made, closed-made}
+use Rattle.channel_model.proofs.SendParts.{lives-as, fresh-none, fresh-is, builds-made}
 
 module _ (schema : Schema) where
   -- Requests that are handled
@@ -56,12 +56,12 @@ module _ (schema : Schema) where
       part = made (FirstPart schema o.end) begins o (taking row m) (what.Take m.seq m.route m.number (nulled schema o.end.actors row.params vs) ∷ []) [] (Parts.takes m sync level row vs next body found stays) refl (sym (append-nil o.packets)) refl
 
       by : (k : Kind) → row.kind ≡ k → (q : Phase) × Makes (OwnParts schema o.end) (begins ▷ send.constructs m.made m.route k) o q
-      by Normal e = (taking row m, made-as (OwnParts schema o.end) (begins ▷ unchanged) begins o (taking row m) refl (made-alone schema (taking row m) begins o part))
-      by Delete e = (taking row m, made-as (OwnParts schema o.end) (begins ▷ unchanged) begins o (taking row m) refl (made-alone schema (taking row m) begins o part))
+      by Normal e = (taking row m, made-as (OwnParts schema o.end) (begins ▷ unchanged) begins o (taking row m) refl (made-alone schema (taking row m) begins o part (fresh-none row m Normal e refl, refl)))
+      by Delete e = (taking row m, made-as (OwnParts schema o.end) (begins ▷ unchanged) begins o (taking row m) refl (made-alone schema (taking row m) begins o part (fresh-none row m Delete e refl, refl)))
       by (Constructor protocol) e =
           let q : Phase = record (taking row m) { fresh = [] } in (
             q,
-            made-begun schema (taking row m) q begins (send.built m.made protocol m.route) o part (builds-made (taking row m) m.made protocol (begins o) (fresh-is row m protocol e) alive),
+            made-begun schema (taking row m) q begins (send.built m.made protocol m.route) o part (builds-made (taking row m) m.made protocol (begins o) (fresh-is row m protocol e) alive) (refl, refl),
           )
 
   -- Requests that are dropped
@@ -104,7 +104,7 @@ module _ (schema : Schema) where
         quiet,
         made-alone schema quiet dropped o
             (made-as (FirstPart schema o.end) dropped (dropping m id (owes_reply row) b) o quiet (when-answered (request_answered m) (answer.Fault reason.ActorDestroyed) (owes_reply row) b start refl)
-            (dropped-at m sync level row vs id (owes_reply row) b o next body found is refl refl)),
+            (dropped-at m sync level row vs id (owes_reply row) b o next body found is refl refl)) (refl, refl),
       )
 
   request_taken-made : (m : Message) (sync : Bool) (level : Level) (vs : Values) (row : Option MessageRow) (o : Output) → take.taken_next o.end ≡ Some (item.Message m sync level) → m.body ≡ Request vs → message_of schema m.number ≡ row
@@ -113,7 +113,7 @@ module _ (schema : Schema) where
       let dropped : Change = on_end left_end ▷ line (what.Drop m.seq m.route m.number m.route) in (
         quiet,
         made-alone schema quiet dropped o
-            (made (FirstPart schema o.end) dropped o quiet (what.Drop m.seq m.route m.number m.route ∷ []) [] (Parts.drops_unknown m sync level vs next body none) refl (sym (append-nil o.packets)) refl),
+            (made (FirstPart schema o.end) dropped o quiet (what.Drop m.seq m.route m.number m.route ∷ []) [] (Parts.drops_unknown m sync level vs next body none) refl (sym (append-nil o.packets)) refl) (refl, refl),
       )
   request_taken-made m sync level vs (Some row) o next body found =
       let r = request_row-made m sync level row vs (take.dropped_for schema o.end row m vs) o next body found refl in
@@ -146,23 +146,23 @@ module _ (schema : Schema) where
 
   -- Farewells
 
-  shuts-made : (last : Item) (o : Output) → take.taken_next o.end ≡ Some last → is_farewell last ≡ true → Makes (OwnParts schema o.end) (on_end left_end ▷ line (shut_line last) ▷ fall.closed (shut_reason last)) o (shutting (shut_reason last))
+  shuts-made : (last : Item) (o : Output) → take.taken_next o.end ≡ Some last → is_farewell last ≡ true → Makes (OwnParts schema o.end) (on_end left_end ▷ line (shut_line last) ▷ fall.closed (shut_reason last)) o (done_phase (shutting (shut_reason last)))
   shuts-made last o next is =
       let begins : Change = on_end left_end ▷ line (shut_line last) in
-      let q : Phase = shutting (shut_reason last) in
+      let q : Phase = done_phase (shutting (shut_reason last)) in
       made-as (OwnParts schema o.end) (on_end left_end ▷ line (shut_line last) ▷ fall.closed (shut_reason last)) (begins ▷ fall.closed (shut_reason last)) o q refl
-      (closed-made schema (shut_reason last) begins o (made (FirstPart schema o.end) (begins ▷ on_end shut_end) o q (shut_line last ∷ []) [] (Parts.shuts last next is) refl (sym (append-nil o.packets)) refl))
+      (closed-made schema (shut_reason last) begins o (made (FirstPart schema o.end) (begins ▷ on_end shut_end) o (shutting (shut_reason last)) (shut_line last ∷ []) [] (Parts.shuts last next is) refl (sym (append-nil o.packets)) refl))
 
   body_taken-made : (m : Message) (sync : Bool) (level : Level) (body : Body) (o : Output) → take.taken_next o.end ≡ Some (item.Message m sync level) → m.body ≡ body
       → (q : Phase) × Makes (OwnParts schema o.end) (on_end left_end ▷ take.body_taken schema m body) o q
   body_taken-made m sync level (Request vs) o next is = request_taken-made m sync level vs (message_of schema m.number) o next is refl
-  body_taken-made m sync level (Reply vs) o next is = (quiet, made-alone schema quiet (reply_leaves m ▷ option_map_or (take.reply_taken schema m (answer.Ok vs)) (message_of schema m.number) unchanged) o (reply_taken-made m sync level (answer.Ok vs) (message_of schema m.number) o next is refl))
-  body_taken-made m sync level (Fault r) o next is = (quiet, made-alone schema quiet (reply_leaves m ▷ option_map_or (take.reply_taken schema m (answer.Fault r)) (message_of schema m.number) unchanged) o (reply_taken-made m sync level (answer.Fault r) (message_of schema m.number) o next is refl))
-  body_taken-made m sync level Goodbye o next is = (shutting (shut_reason (item.Message m sync level)), shuts-made (item.Message m sync level) o next (ap is_goodbye is))
+  body_taken-made m sync level (Reply vs) o next is = (quiet, made-alone schema quiet (reply_leaves m ▷ option_map_or (take.reply_taken schema m (answer.Ok vs)) (message_of schema m.number) unchanged) o (reply_taken-made m sync level (answer.Ok vs) (message_of schema m.number) o next is refl) (refl, refl))
+  body_taken-made m sync level (Fault r) o next is = (quiet, made-alone schema quiet (reply_leaves m ▷ option_map_or (take.reply_taken schema m (answer.Fault r)) (message_of schema m.number) unchanged) o (reply_taken-made m sync level (answer.Fault r) (message_of schema m.number) o next is refl) (refl, refl))
+  body_taken-made m sync level Goodbye o next is = (done_phase (shutting (shut_reason (item.Message m sync level))), shuts-made (item.Message m sync level) o next (ap is_goodbye is))
 
   pub take-made : (x : Item) (o : Output) → take.taken_next o.end ≡ Some x → (q : Phase) × Makes (OwnParts schema o.end) (take.take schema x) o q
   take-made (item.Message m sync level) o next = body_taken-made m sync level m.body o next refl
-  take-made item.Broken o next = (shutting (shut_reason item.Broken), shuts-made item.Broken o next refl)
+  take-made item.Broken o next = (done_phase (shutting (shut_reason item.Broken)), shuts-made item.Broken o next refl)
 
   -- Returns
 
@@ -221,12 +221,12 @@ module _ (schema : Schema) where
       by false false t l =
           made (FirstPart schema o.end) (begins false false) o (returning row entry.route) (whats false false) (packets false false) (part false false t l) refl (sym (append-nil o.packets)) refl
 
-  kind-deletes : (p : Phase) (route : ℤ) (kind : Kind) (o : Output) → p.cause ≡ kind_cause kind route → Makes (LaterParts p o.end) (fall.deletes route kind) o p
-  kind-deletes p route Normal o is = made-nothing p unchanged o refl
-  kind-deletes p route (Constructor protocol) o is = made-nothing p unchanged o refl
-  kind-deletes p route Delete o is = deletes-made schema p route o is
+  kind-deletes : (row : MessageRow) (route : ℤ) (kind : Kind) (o : Output) → row.kind ≡ kind → (q : Phase) × Makes (LaterParts (returning row route) o.end) (fall.deletes route kind) o q × IsOver q
+  kind-deletes row route Normal o is = (returning row route, made-nothing (returning row route) unchanged o refl, (refl, ap (λ (k : Kind). kind_cause k route) is))
+  kind-deletes row route (Constructor protocol) o is = (returning row route, made-nothing (returning row route) unchanged o refl, (refl, ap (λ (k : Kind). kind_cause k route) is))
+  kind-deletes row route Delete o is = (done_phase (returning row route), deletes-made schema (returning row route) route o (ap (λ (k : Kind). kind_cause k route) is), (refl, refl))
 
-  pub return-made : (e : End) (row : MessageRow) (entry : StackEntry) (vs : Option Values) (o : Output) → o.end ≡ e → IsReturn schema e entry row vs → Makes (OwnParts schema o.end) (return.return schema e row entry vs) o (returning row entry.route)
+  pub return-made : (e : End) (row : MessageRow) (entry : StackEntry) (vs : Option Values) (o : Output) → o.end ≡ e → IsReturn schema e entry row vs → (q : Phase) × Makes (OwnParts schema o.end) (return.return schema e row entry vs) o q
   return-made e row entry vs o same returns =
       let b : Bool = is_open e.state in
       let q : AnsweredRequest = return.dispatch_answered entry in
@@ -237,6 +237,8 @@ module _ (schema : Schema) where
       let begins : Change = return.popped ▷ line (what.Return (head_of entry.frame).seq) ▷ when (b && is_sync_row row) (answering q a) ▷ when (b && entry.resolves) (answering r c) in
       let rest : Change = fall.deletes entry.route row.kind in
       let phase : Phase = returning row entry.route in
-      made-as (OwnParts schema o.end) (return.return schema e row entry vs) (begins ▷ rest) o phase (ap rest (two-answers q r a c (is_sync_row row) entry.resolves b off (ap (λ (x : End). is_open x.state) same)))
-      (made-begun schema phase phase begins rest o (return-begins e row entry vs (b && is_sync_row row) (b && entry.resolves) o same returns refl refl)
-      (kind-deletes phase entry.route row.kind (begins o) refl))
+      let last = kind-deletes row entry.route row.kind (begins o) refl in (
+        last.0,
+        made-as (OwnParts schema o.end) (return.return schema e row entry vs) (begins ▷ rest) o last.0 (ap rest (two-answers q r a c (is_sync_row row) entry.resolves b off (ap (λ (x : End). is_open x.state) same)))
+            (made-begun schema phase last.0 begins rest o (return-begins e row entry vs (b && is_sync_row row) (b && entry.resolves) o same returns refl refl) last.1 last.2),
+      )

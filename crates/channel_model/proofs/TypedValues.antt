@@ -1,7 +1,6 @@
 -- Nulls keep types, and typed values hold just the ids that their actors have.
-use Rattle.std.proofs.Common.{◌≡◌, ℤ, pos, Bool, true, false, not, ◌&&◌, ◌||◌, cond, List, [], ◌∷◌, ◌++◌, map, unwrap_or, is_some, if◌then◌else◌, Option, Some, None, refl, sym, ap, ◌∙◌}
+use Rattle.std.proofs.Common.{◌≡◌, ℤ, Bool, true, false, ◌&&◌, List, [], ◌∷◌, ◌++◌, map, unwrap_or, is_some, if◌then◌else◌, Option, Some, None, refl, sym, ap, ◌∙◌}
 use Rattle.std.specs.Option.{option_map_or}
-use Rattle.std.specs.Ordering.{int_eq}
 use Rattle.std.proofs.lemmas.List.{map-append}
 use Rattle.actor_tree.specs.declared.actor.Actor.{Actor as LivingActor}
 use Rattle.ipdl_base.specs.declared.schema.ParamRow.{ParamRow}
@@ -15,21 +14,13 @@ use Rattle.ipdl_base.specs.declared.value.Values.TheVariants as values
 use Rattle.ipdl_base.specs.declared.kinds.Reason.TheVariants.{ActorDestroyed}
 use Rattle.ipdl_base.specs.declared.schema.MessageRow.{MessageRow}
 use Rattle.ipdl_base.specs.Signatures.{returns_of_row}
-use Rattle.nesting_core.specs.declared.frame.Answer.{Answer}
 use Rattle.nesting_core.specs.declared.frame.Answer.TheVariants as answer
 use Rattle.channel_model.specs.Laws.{NullsKeepTypes}
 use Rattle.value_types.specs.Fits.{actor_ids, held_actor_ids, all_actor_ids}
 use Rattle.value_types.specs.Shapes.{element_of, held_by, fields_of, component_of}
+use Rattle.channel_model.proofs.Tests.{and-left, and-right}
 use Rattle.channel_model.specs.Typed.{is_actor_of, has_type, held_has_type, all_have_type, have_types}
-use Rattle.channel_model.specs.ValueActors.{ActorValue, lives_as, actor_at, actors_in, actors_held, actors_in_all, actors_in_parts, received_id, nulled_value, nulled_held, nulled_all, nulled, missing}
-
-pub and-left : (a b : Bool) → a && b ≡ true → a ≡ true
-and-left true b e = refl
-and-left false b e = cc
-
-pub and-right : (a b : Bool) → a && b ≡ true → b ≡ true
-and-right true b e = e
-and-right false b e = cc
+use Rattle.channel_model.specs.ValueActors.{ActorValue, actor_at, actors_in, actors_held, actors_in_all, actors_in_parts, received_id, nulled_value, nulled_held, nulled_all, nulled, missing}
 
 both-same : (a b c d : Bool) → a ≡ c → b ≡ d → a && b ≡ (c && d)
 both-same a b c d e f = ap (λ (x : Bool). x && b) e ∙ ap (λ (x : Bool). c && x) f

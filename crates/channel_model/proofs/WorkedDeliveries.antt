@@ -17,7 +17,7 @@ abbrev sent : ℤ → ℕ → ℤ → Body → Message
 sent route number seq body = record { route = route; number = number; seq = seq; transaction = pos 0; made = pos 0; body = body }
 
 -- the parent of the trade, which has made an actor, asked for one and calls to swap it
-abbrev trader : End
+abbrev pub trader : End
 trader = (run trading (
     record { side = side.Parent; event = event.send top pshop_construct none None }
     ∷ record { side = side.Parent; event = event.send top pshop_find none None }

@@ -19,7 +19,15 @@ pub record IsBounded (e : End) (output : Output) : Type 0 where
   pub lines : length output.lines + unsettled output.end ≤ unsettled e + 5
   pub packets : length output.packets + length output.end.outbox ≤ length e.outbox + 2
 
--- Counts of requests grow by one at most.
+-- Counts of requests grow by one at most; and the outbox, and the count of constructors, by no more than that of the
+-- requests that were sent.
 pub record HasCounted (e next : End) : Type 0 where
   pub sent : (e.sent ≤ next.sent) × (next.sent ≤ e.sent + 1)
   pub delivered : (e.delivered ≤ next.delivered) × (next.delivered ≤ e.delivered + 1)
+  pub outbox : length next.outbox + e.sent ≤ length e.outbox + next.sent
+  pub constructors : next.constructors_sent + e.sent ≤ e.constructors_sent + next.sent
+
+-- No more requests wait in the outbox, and no more of them are constructors, than an end has sent.
+pub record IsCounted (e : End) : Type 0 where
+  pub outbox : length e.outbox ≤ e.sent
+  pub constructors : e.constructors_sent ≤ e.sent

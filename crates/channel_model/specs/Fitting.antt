@@ -1,5 +1,5 @@
 -- What an end keeps and sends fits the schema.
-use Rattle.std.specs.Prelude.{◌≡◌, ◌≤◌, ℤ, pos, Bool, true, false, List, [], ◌∷◌, length, Option, Some, None}
+use Rattle.std.specs.Prelude.{◌≡◌, pos, Bool, true, false, List, [], ◌∷◌, Some, None}
 use Rattle.std.specs.List.{AllByRecursion}
 use Rattle.actor_tree.specs.declared.actor.Actor.{Actor}
 use Rattle.ipdl_base.specs.declared.kinds.Level.{Level}
@@ -59,32 +59,36 @@ pub record FitsEntry (schema : Schema) (entry : StackEntry) : Type 0 where
   pub resolves : entry.resolves ≡ true → makes_promise row ≡ true
   pub frame : FitsFrame schema row entry.frame
 
--- what a promise, and a resolver, keep of their request
+-- what a promise keeps of its request
 abbrev pub promise_answered : PromiseEntry → AnsweredRequest
 promise_answered entry = record { seq = entry.promise.seq; route = entry.promise.actor; number = entry.number; transaction = pos 0 }
 
--- a request with a promise is kept
+-- a request that makes a promise is kept
 abbrev pub FitsPromised : Schema → AnsweredRequest → Type 0
 FitsPromised schema q = (row : MessageRow) × IsRequestKept schema row q × (makes_promise row ≡ true)
 
+-- a promise is of such a request
 abbrev pub FitsPromise : Schema → PromiseEntry → Type 0
 FitsPromise schema entry = FitsPromised schema (promise_answered entry)
 
+-- a resolver is of such a request
 abbrev pub FitsResolver : Schema → Resolver → Type 0
 FitsResolver schema r = FitsPromised schema (resolver_answered r)
 
+-- what a name holds is an actor, or a resolver that fits
 abbrev pub FitsContent : Schema → NameContent → Type 0
 FitsContent schema (actor id) = Unit {0}
 FitsContent schema (resolver r) = FitsResolver schema r
 
+-- a name holds what fits
 abbrev pub FitsNaming : Schema → Naming → Type 0
 FitsNaming schema naming = FitsContent schema naming.holds
 
+-- an actor has an id that one who lives may have
 abbrev pub HasLivingId : Actor → Type 0
 HasLivingId a = IsLivingId a.id
 
--- All that an end keeps fits the schema; and no more requests wait in the outbox, and no more constructors were sent,
--- than it has sent requests.
+-- All that an end keeps fits the schema.
 pub record IsFitting (schema : Schema) (e : End) : Type 0 where
   pub actors : AllByRecursion HasLivingId e.actors
   pub arrived : AllByRecursion (FitsItem schema) e.arrived
@@ -92,8 +96,6 @@ pub record IsFitting (schema : Schema) (e : End) : Type 0 where
   pub promises : AllByRecursion (FitsPromise schema) e.promises
   pub names : AllByRecursion (FitsNaming schema) e.names
   pub outbox : AllByRecursion (Fits schema) e.outbox
-  pub few : length e.outbox ≤ e.sent
-  pub constructors : e.constructors_sent ≤ e.sent
 
 -- a packet is a message that fits, or a mark
 abbrev pub FitsPacket : Schema → Packet → Type 0

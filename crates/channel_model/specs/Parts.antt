@@ -1,5 +1,5 @@
--- The parts that steps of an end are made of: each with its lines, its packets and the end behind it. A part is the
--- largest piece of a step in which nothing that an end keeps is broken halfway.
+-- The parts that steps of an end are made of: each with its lines, its packets and the end behind it. A part is a
+-- piece of a step whose lines, packets and changes belong together.
 use Rattle.std.specs.Prelude.{◌≡◌, ℕ, ◌+◌, ℤ, Bool, true, false, ◌&&◌, ◌||◌, cond, List, [], ◌∷◌, ◌++◌, drop, flat_map, length, map, Option, Some, None, is_some}
 use Rattle.std.specs.List.{AllByRecursion}
 use Rattle.actor_tree.specs.declared.actor.Actor.{Actor}
@@ -38,7 +38,7 @@ use Rattle.channel_model.specs.Falls as fall
 use Rattle.channel_model.specs.Names.{held_by_name, without_name, without_resolvers}
 use Rattle.channel_model.specs.Numbers.{counting, is_sync_row, makes_promise, request_row, top_id}
 use Rattle.channel_model.specs.Outputs.{is_open, is_closed, is_dead_end, AnsweredRequest, request_answered, resolver_answered, reply_to, body_of, answer_line}
-use Rattle.channel_model.specs.Phases.{Phase, deletion, closing, manager_of, quiet, renaming, ending, shutting, sending, taking, returning}
+use Rattle.channel_model.specs.Phases.{Phase, nobody, deletion, closing, manager_of, quiet, renaming, ending, shutting, sending, taking, returning, IsOver}
 use Rattle.channel_model.specs.Returns as return
 use Rattle.channel_model.specs.Sends as send
 use Rattle.channel_model.specs.States.{is_farewell}
@@ -154,11 +154,12 @@ abandoned_end e = record e { promises = fall.rejected (λ p. true) ChannelClosed
 abbrev pub shut_end : End → End
 shut_end e = record e { state = Closed; arrived = []; names = without_resolvers e.names }
 
--- the line of a farewell that is taken, and the reason for which the end closes
+-- the line of a farewell that is taken
 abbrev pub shut_line : Item → What
 shut_line (item.Message m sync level) = what.ShutNormal
 shut_line item.Broken = what.ShutAbnormal
 
+-- the reason for which the end closes then
 abbrev pub shut_reason : Item → Destroy
 shut_reason (item.Message m sync level) = NormalShutdown
 shut_reason item.Broken = AbnormalShutdown
@@ -169,7 +170,7 @@ shut_reason item.Broken = AbnormalShutdown
 abbrev pub left_end : End → End
 left_end e = record e { arrived = without_first (is_free (take.holding_of e)) e.arrived }
 
--- whether a request has a reply that its handling owes
+-- whether the handling of a request owes a reply
 abbrev pub owes_reply : MessageRow → Bool
 owes_reply row = is_sync_row row || makes_promise row
 
@@ -195,11 +196,12 @@ IsNoMessage None = Unit {0}
 IsNoMessage (Some item.Broken) = Unit {0}
 IsNoMessage (Some (item.Message m sync level)) = ⊥
 
--- a packet that needs no row, as it arrives
+-- a goodbye or a mark as it arrives
 abbrev pub farewell_item : Packet → Item
 farewell_item (message m) = item.Message m false Not
 farewell_item mark = item.Broken
 
+-- the line of its delivery
 abbrev pub farewell_line : Packet → What
 farewell_line (message m) = what.DeliverGoodbye
 farewell_line mark = what.DeliverBroken
@@ -217,70 +219,100 @@ unknown_line seq Goodbye = what.DeliverGoodbye
 
 -- The parts that a step of an end's own begins with.
 pub data FirstPart (schema : Schema) : End → List What → List Packet → End → Phase → Type 0 where
+  -- a send, a close or an answer is refused
   refuses : {e : End} (w : What) → IsRefusal schema w → FirstPart schema e (w ∷ []) [] e quiet
+  -- a name is to hold something else
   renames : {e : End} (w : What) → IsRenaming w → FirstPart schema e (w ∷ []) [] e renaming
+  -- the outbox goes onto the link
   flushes : {e : End} → is_open e.state ≡ true → FirstPart schema e (what.Flush (length e.outbox) ∷ []) (map message e.outbox) (record e { outbox = [] }) quiet
+  -- a request is sent, with its counts, its wait and its promise
   sends : {e : End} (row : MessageRow) (route : ℤ) (vs : Values) (name : Option (List ℕ)) → IsSent schema e row route vs name
       → FirstPart schema e (send.send_line row (send.request_of e row route vs) vs ∷ []) (request_packets row.lazy e (send.request_of e row route vs)) (sent_end row (send.request_of e row route vs) e) (sending row (send.request_of e row route vs))
+  -- a resolver is used
   answers : {e : End} (by : Answering) (vs : Option Values) (r : Resolver) (row : MessageRow) → answering.answered_row schema e by ≡ Some row → answering.may_answer schema e row vs ≡ true → answering.answer_refusal schema e row by vs ≡ None → answering.resolver_used e by ≡ Some r
       → FirstPart schema e (answering.answering_line r.seq vs ∷ []) (behind_outbox e (message (reply_to (resolver_answered r) (answering.answer_body vs)))) (record (answering.without_resolver by e) { outbox = [] }) quiet
+  -- an open end closes: its goodbye goes onto the link
   closes : {e : End} → is_open e.state ≡ true → has_wait (send.frames_of e) ≡ false → FirstPart schema e (what.Close ∷ []) (behind_outbox e (message goodbye)) (shut_end (record e { outbox = [] })) (shutting NormalShutdown)
+  -- an open end dies: its mark goes onto the link
   dies : {e : End} → is_open e.state ≡ true → FirstPart schema e (what.Die ∷ []) (behind_outbox e mark) (record e { state = Dead; stack = []; arrived = []; outbox = [] }) quiet
+  -- an end that was not open dies
   dies_silent : {e : End} → is_open e.state ≡ false → is_dead_end e.state ≡ false → FirstPart schema e (what.Die ∷ []) [] (record e { state = Dead; stack = []; arrived = [] }) quiet
+  -- a request is handled
   takes : {e : End} (m : Message) (sync : Bool) (level : Level) (row : MessageRow) (vs : Values) → take.taken_next e ≡ Some (item.Message m sync level) → m.body ≡ Request vs → message_of schema m.number ≡ Some row → take.dropped_for schema e row m vs ≡ None
       → FirstPart schema e (what.Take m.seq m.route m.number (nulled schema e.actors row.params vs) ∷ []) [] (record (left_end e) { stack = take.dispatch_of row m ∷ e.stack }) (taking row m)
+  -- a request is dropped, and answered where that is owed
   drops : {e : End} (m : Message) (sync : Bool) (level : Level) (row : MessageRow) (vs : Values) (id : ℤ) (replies : Bool) → take.taken_next e ≡ Some (item.Message m sync level) → m.body ≡ Request vs → message_of schema m.number ≡ Some row → take.dropped_for schema e row m vs ≡ Some id
       → replies ≡ (is_open e.state && owes_reply row)
       → FirstPart schema e (what.Drop m.seq m.route m.number id ∷ reply_lines replies (request_answered m) (answer.Fault ActorDestroyed)) (reply_packets replies e (request_answered m) (answer.Fault ActorDestroyed)) (end_behind replies (left_end e)) quiet
+  -- a request that the schema has no message for is dropped
   drops_unknown : {e : End} (m : Message) (sync : Bool) (level : Level) (vs : Values) → take.taken_next e ≡ Some (item.Message m sync level) → m.body ≡ Request vs → message_of schema m.number ≡ None
       → FirstPart schema e (what.Drop m.seq m.route m.number m.route ∷ []) [] (left_end e) quiet
+  -- a reply that comes too late, or is of no message, is taken
   takes_reply : {e : End} (m : Message) (sync : Bool) (level : Level) (a : Answer) → take.taken_next e ≡ Some (item.Message m sync level) → m.body ≡ body_of a → is_settling schema e m ≡ false
       → FirstPart schema e (what.TakeReply m.seq ∷ []) [] (left_end e) quiet
+  -- a reply is taken and settles its promise
   settles : {e : End} (m : Message) (sync : Bool) (level : Level) (row : MessageRow) (a : Answer) → take.taken_next e ≡ Some (item.Message m sync level) → m.body ≡ body_of a → message_of schema m.number ≡ Some row → take.is_awaited m.seq e.promises ≡ true
       → FirstPart schema e (what.TakeReply m.seq ∷ take.settle_line m.seq (reply_outcome schema e row a) ∷ []) [] (record (left_end e) { promises = map (take.settled_entry m.seq (reply_outcome schema e row a)) e.promises }) quiet
+  -- a farewell is taken, and the end closes
   shuts : {e : End} (last : Item) → take.taken_next e ≡ Some last → is_farewell last ≡ true → FirstPart schema e (shut_line last ∷ []) [] (shut_end e) (shutting (shut_reason last))
+  -- a handler returns: a sync request is answered, and a resolver that is left over is let go
   returns : {e : End} (entry : StackEntry) (row : MessageRow) (vs : Option Values) (told lost : Bool) → IsReturn schema e entry row vs
       → told ≡ (is_open e.state && is_sync_row row) → lost ≡ (is_open e.state && entry.resolves)
       → FirstPart schema e (what.Return (head_of entry.frame).seq ∷ reply_lines told (return.dispatch_answered entry) (return.return_answer schema e row entry vs) ++ reply_lines lost (resolver_answered (answering.resolver_in entry)) (answer.Fault ResolverDestroyed))
       (reply_packets told e (return.dispatch_answered entry) (return.return_answer schema e row entry vs) ++ reply_packets lost (end_behind told e) (resolver_answered (answering.resolver_in entry)) (answer.Fault ResolverDestroyed))
       (end_behind lost (end_behind told (record e { stack = drop 1 e.stack }))) (returning row entry.route)
+  -- a call goes on with its answer
   resumes : {e : End} (wait : return.AnsweredWait) (row : MessageRow) → return.answered_wait_on_top e.stack ≡ Some wait → request_row schema wait.number ≡ Some row
       → FirstPart schema e (return.resume_line wait.seq (received schema e.actors row wait.given) ∷ []) [] (record e { stack = drop 1 e.stack }) quiet
 
--- The parts that may follow in the same step.
+-- The parts that follow in the same step.
 pub data LaterPart : Phase → End → List What → List Packet → End → Phase → Type 0 where
+  -- a name loses what it held, and nobody is told
   unnames : {p : Phase} {e : End} (name : List ℕ) → p.renames ≡ true → IsSilent e (held_by_name name e.names) → LaterPart p e [] [] (record e { names = without_name name e.names }) (record p { renames = false })
+  -- a name loses its resolver, which is answered
   lets_go : {p : Phase} {e : End} (name : List ℕ) (r : Resolver) → p.renames ≡ true → held_by_name name e.names ≡ Some (resolver r) → is_open e.state ≡ true
       → LaterPart p e (what.AnswerFault r.seq ResolverDestroyed ∷ []) (behind_outbox e (reply_packet (resolver_answered r) (answer.Fault ResolverDestroyed))) (record e { outbox = []; names = without_name name e.names }) (record p { renames = false })
+  -- names hold actors anew
   names : {p : Phase} {e : End} (more : List Naming) → AllByRecursion HoldsActor more → LaterPart p e [] [] (record e { names = e.names ++ more }) p
+  -- the resolver of a handler is kept at a closed end, which keeps nothing
   releases : {p : Phase} {e : End} (seq : ℤ) → is_closed e.state ≡ true → LaterPart p e [] [] (record e { stack = answering.released seq e.stack }) p
+  -- the resolver of a handler goes to a name
   keeps : {p : Phase} {e : End} (seq : ℤ) (name : List ℕ) (r : Resolver) → answering.handled_resolver e seq ≡ Some r → is_closed e.state ≡ false
       → LaterPart p e [] [] (record e { stack = answering.released seq e.stack; names = e.names ++ record { name = name; holds = resolver r } ∷ [] }) p
+  -- an actor is built under the one that the request went to
   builds : {p : Phase} {e : End} (id : ℤ) (protocol : ℕ) (rest : List ℤ) → p.fresh ≡ id ∷ rest → lives (manager_of p.start) e.actors ≡ true
       → LaterPart p e (what.Built id protocol ∷ []) [] (record e { actors = e.actors ++ record { id = id; protocol = protocol; manager = manager_of p.start } ∷ [] }) (record p { fresh = rest })
-  deletes : {p : Phase} {e : End} (id : ℤ) → p.cause ≡ deletion id → LaterPart p e (fall_lines id (fall.why_deleted id) e) [] (fallen_end id e) p
-  abandons : {p : Phase} {e : End} (why : Destroy) → p.cause ≡ closing why → LaterPart p e (abandoned_lines e) [] (abandoned_end e) p
-  falls : {p : Phase} {e : End} (why : Destroy) → p.cause ≡ closing why → LaterPart p e (fall_lines top_id (λ id. why) e) [] (fallen_end top_id e) p
+  -- the actor of a destructor falls with all below it
+  deletes : {p : Phase} {e : End} (id : ℤ) → p.due ≡ deletion id → LaterPart p e (fall_lines id (fall.why_deleted id) e) [] (fallen_end id e) (record p { due = nobody })
+  -- an end that closes rejects its promises, and all its actors fall
+  falls : {p : Phase} {e : End} (why : Destroy) → p.due ≡ closing why
+      → LaterPart p e (abandoned_lines e ++ fall_lines top_id (λ id. why) (abandoned_end e)) [] (fallen_end top_id (abandoned_end e)) (record p { due = nobody })
 
 -- later parts, one after another
 pub data LaterParts : Phase → End → List What → List Packet → End → Phase → Type 0 where
   done : {p : Phase} {e : End} → LaterParts p e [] [] e p
   then : {p q r : Phase} {e f g : End} {ws vs : List What} {ps qs : List Packet} → LaterPart p e ws ps f q → LaterParts q f vs qs g r → LaterParts p e (ws ++ vs) (ps ++ qs) g r
 
--- The parts of an end's own step: the one that it begins with, and those that follow.
+-- The parts of an end's own step: the one that it begins with, and those that follow until nothing is left to be done.
 pub data OwnParts (schema : Schema) : End → List What → List Packet → End → Phase → Type 0 where
-  begun : {p q : Phase} {e f g : End} {ws vs : List What} {ps qs : List Packet} → FirstPart schema e ws ps f p → LaterParts p f vs qs g q → OwnParts schema e (ws ++ vs) (ps ++ qs) g q
+  begun : {p q : Phase} {e f g : End} {ws vs : List What} {ps qs : List Packet} → FirstPart schema e ws ps f p → LaterParts p f vs qs g q → IsOver q → OwnParts schema e (ws ++ vs) (ps ++ qs) g q
 
 -- The one part that the delivery of a packet is.
 pub data DeliveryPart (schema : Schema) : Packet → End → List What → List Packet → End → Phase → Type 0 where
+  -- a request arrives and replaces none
   gets_request : {e : End} (m : Message) (row : MessageRow) (vs : Values) → m.body ≡ Request vs → message_of schema m.number ≡ Some row → IsNoMessage (replaced row.compress (delivery.item_of row m) e.arrived)
       → DeliveryPart schema (message m) e (what.DeliverRequest m.seq ∷ []) [] (delivery.counted row (delivery.item_of row m) e) quiet
+  -- a request arrives and replaces one, which is answered where it has a promise
   replaces : {e : End} (m : Message) (row : MessageRow) (vs : Values) (old : Message) (sync : Bool) (level : Level) (replies : Bool) → m.body ≡ Request vs → message_of schema m.number ≡ Some row → replaced row.compress (delivery.item_of row m) e.arrived ≡ Some (item.Message old sync level) → replies ≡ makes_promise row
       → DeliveryPart schema (message m) e (what.DeliverRequest m.seq ∷ what.Replaced old.seq ∷ reply_lines replies (request_answered old) (answer.Fault ResolverDestroyed)) (reply_packets replies e (request_answered old) (answer.Fault ResolverDestroyed)) (end_behind replies (delivery.counted row (delivery.item_of row m) e)) quiet
+  -- the reply to a sync request goes into the innermost wait without an answer
   gets_answer : {e : End} (m : Message) (row : MessageRow) (a : Answer) → m.body ≡ body_of a → message_of schema m.number ≡ Some row → is_sync_row row ≡ true
       → DeliveryPart schema (message m) e (what.DeliverReply m.seq ∷ []) [] (delivery.answers_wait a e) quiet
+  -- another reply arrives
   gets_reply : {e : End} (m : Message) (row : MessageRow) (a : Answer) → m.body ≡ body_of a → message_of schema m.number ≡ Some row → is_sync_row row ≡ false
       → DeliveryPart schema (message m) e (what.DeliverReply m.seq ∷ []) [] (delivery.arrives (delivery.item_of row m) e) quiet
+  -- the other end has ended: all waits fail, and the outbox is dropped
   drains : {e : End} (packet : Packet) → is_farewell (farewell_item packet) ≡ true
       → DeliveryPart schema packet e (farewell_line packet ∷ map what.Fails (delivery.unanswered e)) [] (drained_end (farewell_item packet) e) ending
+  -- a message that the schema has no row for changes nothing
   passes_by : {e : End} (m : Message) → is_farewell (farewell_item (message m)) ≡ false → message_of schema m.number ≡ None → DeliveryPart schema (message m) e (unknown_line m.seq m.body ∷ []) [] e quiet

@@ -1,5 +1,5 @@
 -- What an event has come to: what its later parts hang on.
-use Rattle.std.specs.Prelude.{ℤ, pos, Bool, true, false, if◌then◌else◌, List, [], ◌∷◌}
+use Rattle.std.specs.Prelude.{◌≡◌, ℤ, pos, Bool, true, false, if◌then◌else◌, List, [], ◌∷◌}
 use Rattle.ipdl_base.specs.declared.kinds.Destroy.{Destroy}
 use Rattle.ipdl_base.specs.declared.message.Message.{Message}
 use Rattle.ipdl_base.specs.declared.schema.Kind.{Kind}
@@ -22,12 +22,13 @@ pub data FallCause : Type 0 where
   deletion : ℤ → FallCause
   closing : Destroy → FallCause
 
--- How far an event has come: how it began, why actors may fall, the ids that it may still build, and whether a name may
--- still lose what it holds.
+-- How far an event has come: how it began, why actors fall in it, the ids that are still to be built, the falls that are
+-- still due, and whether a name may still lose what it holds.
 pub record Phase : Type 0 where
   pub start : EventStart
   pub cause : FallCause
   pub fresh : List ℤ
+  pub due : FallCause
   pub renames : Bool
 
 -- the actor under which an event builds
@@ -40,19 +41,19 @@ manager_of other = pos 0
 
 -- nothing is to follow
 abbrev pub quiet : Phase
-quiet = record { start = other; cause = nobody; fresh = []; renames = false }
+quiet = record { start = other; cause = nobody; fresh = []; due = nobody; renames = false }
 
 -- a name is to hold something else
 abbrev pub renaming : Phase
-renaming = record { start = other; cause = nobody; fresh = []; renames = true }
+renaming = record { start = other; cause = nobody; fresh = []; due = nobody; renames = true }
 
 -- the other end has closed or died
 abbrev pub ending : Phase
-ending = record { start = ends; cause = nobody; fresh = []; renames = false }
+ending = record { start = ends; cause = nobody; fresh = []; due = nobody; renames = false }
 
 -- the end closes for this reason
 abbrev pub shutting : Destroy → Phase
-shutting why = record { start = closes; cause = closing why; fresh = []; renames = false }
+shutting why = record { start = closes; cause = closing why; fresh = []; due = closing why; renames = false }
 
 -- why actors fall behind a request of a kind that went to this actor
 abbrev pub kind_cause : Kind → ℤ → FallCause
@@ -66,12 +67,16 @@ fresh_of row m = if is_constructor row.kind then m.made ∷ [] else []
 
 -- a request is sent
 abbrev pub sending : MessageRow → Message → Phase
-sending row m = record { start = sends m.seq m.route; cause = kind_cause row.kind m.route; fresh = fresh_of row m; renames = true }
+sending row m = record { start = sends m.seq m.route; cause = kind_cause row.kind m.route; fresh = fresh_of row m; due = kind_cause row.kind m.route; renames = true }
 
 -- a request is handled
 abbrev pub taking : MessageRow → Message → Phase
-taking row m = record { start = takes m.seq m.route; cause = nobody; fresh = fresh_of row m; renames = false }
+taking row m = record { start = takes m.seq m.route; cause = nobody; fresh = fresh_of row m; due = nobody; renames = false }
 
 -- the handler of a request that went to this actor returns
 abbrev pub returning : MessageRow → ℤ → Phase
-returning row route = record { start = other; cause = kind_cause row.kind route; fresh = []; renames = false }
+returning row route = record { start = other; cause = kind_cause row.kind route; fresh = []; due = kind_cause row.kind route; renames = false }
+
+-- all that is to be built is built, and no fall is due
+abbrev pub IsOver : Phase → Type 0
+IsOver p = (p.fresh ≡ []) × (p.due ≡ nobody)

@@ -15,7 +15,7 @@ use Rattle.channel_model.specs.Runs.{run, history_of}
 use Rattle.channel_model.specs.Sends.{next_seq}
 use Rattle.channel_model.specs.Steps.{step, first_packet}
 use Rattle.channel_model.specs.Actors.{IsAccepted, AreKnown, ids_of}
-use Rattle.channel_model.specs.Bounds.{IsBounded, HasCounted}
+use Rattle.channel_model.specs.Bounds.{IsBounded, HasCounted, IsCounted}
 use Rattle.channel_model.specs.Fitting.{IsFitting, FitsPacket, IsFittingDelivery}
 use Rattle.channel_model.specs.EventLines.{IsEventWithEffects, EffectsFollow}
 use Rattle.channel_model.specs.Requests.{AreNumbered, requests_of}
@@ -50,9 +50,9 @@ abbrev pub IsStepOfParts : Schema → End → List Packet → Event → Output �
 IsStepOfParts schema e link event.deliver output = IsDeliveryOfOnePart schema e link output
 IsStepOfParts schema e link _ output = IsMadeOf (OwnParts schema e) e.side output
 
--- Every step is made of parts: a delivery is one, and all else is one that it begins with and others that may follow.
-abbrev pub StepsAreChains : Type 0
-StepsAreChains =
+-- Every step is made of parts: a delivery is one, and all else is one that it begins with and others that follow.
+abbrev pub StepsAreMadeOfParts : Type 0
+StepsAreMadeOfParts =
     (schema : Schema) (e : End) (link : List Packet) (event : Event) (output : Output) → step schema e link event ≡ Some output → IsStepOfParts schema e link event output
 
 -- Actors stay known: a step whose packet, if it delivers one, is not refused keeps them so.
@@ -99,15 +99,16 @@ pub record FitsOutput (schema : Schema) (output : Output) : Type 0 where
 abbrev pub FittingEndsStay : Type 0
 FittingEndsStay =
     (schema : Schema) (e : End) (link : List Packet) (event : Event) (output : Output)
-    → step schema e link event ≡ Some output → IsSound schema → e.sent < 268435456 → IsFittingDelivery schema e link event → IsFitting schema e → FitsOutput schema output
+    → step schema e link event ≡ Some output → IsSound schema → IsCounted e → e.sent < 268435456 → IsFittingDelivery schema e link event → IsFitting schema e → FitsOutput schema output
 
--- An end fits as it begins.
+-- An end fits, and its counts do, as it begins.
 abbrev pub FirstEndsFit : Type 0
-FirstEndsFit = (schema : Schema) (protocol : ℕ) (side : Side) → IsFitting schema (opening_end protocol side)
+FirstEndsFit = (schema : Schema) (protocol : ℕ) (side : Side) → IsFitting schema (opening_end protocol side) × IsCounted (opening_end protocol side)
 
--- Every step adds at most one to the requests that were sent, and to those that were delivered.
+-- Every step adds at most one to the requests that were sent, and to those that were delivered; and so no more wait in
+-- the outbox, and no more are constructors, than were sent.
 abbrev pub CountsGrow : Type 0
-CountsGrow = (schema : Schema) (e : End) (link : List Packet) (event : Event) (output : Output) → step schema e link event ≡ Some output → HasCounted e output.end
+CountsGrow = (schema : Schema) (e : End) (link : List Packet) (event : Event) (output : Output) → step schema e link event ≡ Some output → HasCounted e output.end × (IsCounted e → IsCounted output.end)
 
 -- Every step is bounded where the actors of the end are known.
 abbrev pub StepsAreBounded : Type 0

@@ -1,9 +1,9 @@
-ghost use Rattle.channel_model.specs.StepLaws.{EffectsFollowEvents, EventsHaveTheirLines, FirstActorsAreKnown, FirstEndsFit, FirstStates, FittingEndsStay, KnownActorsStay, NextNumberIsFree, NumbersInEveryRun, NumbersStay, StatesStay, StepsAreChains};
+ghost use Rattle.channel_model.specs.StepLaws.{CountsGrow, EffectsFollowEvents, EventsHaveTheirLines, FirstActorsAreKnown, FirstEndsFit, FirstStates, FittingEndsStay, KnownActorsStay, NextNumberIsFree, NumbersInEveryRun, NumbersStay, StatesStay, StepsAreBounded, StepsAreMadeOfParts};
 
 /// The law of parts: every step is made of parts; a delivery is one, and all else is one that it begins with and others
-/// that may follow.
-pub fn steps_are_chains()
-    ensures { StepsAreChains }
+/// that follow.
+pub fn steps_are_made_of_parts()
+    ensures { StepsAreMadeOfParts }
 {}
 
 /// The law of an event's lines: one line of the event and then those of its effects, all of the end's side.
@@ -61,4 +61,14 @@ pub fn first_ends_fit()
 /// not fit or that it refuses.
 pub fn fitting_ends_stay()
     ensures { FittingEndsStay }
+{}
+
+/// The law of counts: every step adds at most one to the requests that were sent, and to those that were delivered.
+pub fn counts_grow()
+    ensures { CountsGrow }
+{}
+
+/// The law of bounds: every step prints few lines more than it settles, and adds at most two packets.
+pub fn steps_are_bounded()
+    ensures { StepsAreBounded }
 {}
