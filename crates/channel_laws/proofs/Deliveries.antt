@@ -36,7 +36,7 @@ use Rattle.channel_model.specs.Ends.{End, StackEntry, Packet, message, mark}
 use Rattle.channel_model.specs.Numbers.{request_row, is_sync_row, makes_promise}
 use Rattle.channel_model.specs.Outputs.{Output, Change, beginning, unchanged, on_end, line, answered, request_answered}
 use Rattle.std.proofs.lemmas.Bool.{eqb-true}
-use Rattle.channel_model.proofs.InState.{all_failed-answered}
+use Rattle.channel_model.proofs.StateSteps.{all_failed-answered}
 use Rattle.channel_model.proofs.Known.{all-append, all-map}
 use Rattle.channel_model.proofs.Sublists.{all-sublist, staying-sublist}
 use Rattle.channel_laws.proofs.SyncSteps.{SyncStep, no_step, one_step, drains, at-open, at-start}

@@ -9,7 +9,7 @@ use Rattle.channel_model.specs.Deliveries.{failed, with_failed_wait, body_delive
 use Rattle.channel_model.specs.Ends.{End, StackEntry, Packet, message, mark}
 use Rattle.channel_model.specs.Outputs.{beginning, is_open}
 use Rattle.channel_model.specs.States.{is_goodbye}
-use Rattle.channel_model.proofs.InState.{all_failed-answered}
+use Rattle.channel_model.proofs.StateSteps.{all_failed-answered}
 use Rattle.channel_model.proofs.Provided.{provided-gives}
 use Rattle.channel_laws.specs.NestedWorlds.{is_last_packet}
 use Rattle.channel_laws.specs.Laws.{AllWaitsFail, LastPacketsFailAllWaits}

@@ -55,11 +55,11 @@ pub all-append : {A : Type 0} (P : A → Type 0) (xs ys : List A) → AllByRecur
 all-append P [] ys h k = k
 all-append P (x ∷ xs) ys h k = (h.0, all-append P xs ys h.1 k)
 
-all-before : {A : Type 0} (P : A → Type 0) (xs ys : List A) → AllByRecursion P (xs ++ ys) → AllByRecursion P xs
+pub all-before : {A : Type 0} (P : A → Type 0) (xs ys : List A) → AllByRecursion P (xs ++ ys) → AllByRecursion P xs
 all-before P [] ys h = tt
 all-before P (x ∷ xs) ys h = (h.0, all-before P xs ys h.1)
 
-all-behind : {A : Type 0} (P : A → Type 0) (xs ys : List A) → AllByRecursion P (xs ++ ys) → AllByRecursion P ys
+pub all-behind : {A : Type 0} (P : A → Type 0) (xs ys : List A) → AllByRecursion P (xs ++ ys) → AllByRecursion P ys
 all-behind P [] ys h = h
 all-behind P (x ∷ xs) ys h = all-behind P xs ys h.1
 

@@ -175,7 +175,7 @@ failed-answered (Dispatch head) = refl
 failed-answered (Wait head None) = refl
 failed-answered (Wait head (Some a)) = refl
 
-all_failed-answered : (stack : List StackEntry) → AllByRecursion IsAnswered (map (λ (entry : StackEntry). entry.frame) (map with_failed_wait stack))
+pub all_failed-answered : (stack : List StackEntry) → AllByRecursion IsAnswered (map (λ (entry : StackEntry). entry.frame) (map with_failed_wait stack))
 all_failed-answered [] = tt
 all_failed-answered (entry ∷ stack) = (failed-answered entry.frame, all_failed-answered stack)
 
