@@ -1,10 +1,15 @@
 //! The program `ipdl`: the call of the library on real words, files and streams.
 #![tactic(auto)]
 
+ghost use Rattle.std.specs.Process.{exit_status};
+ghost use Rattle.ipdl_cli.specs.Ending.{IsCode};
+
+mod edge;
 mod real;
 
+use crate::edge::{behind_name, exit_code_of};
 use crate::real::{RealFiles, RealSink};
-use ipdl_top::{Status, ipdl};
+use ipdl_top::Status;
 use std::alloc::AllocError;
 use std::env;
 use std::io::{ErrorKind, Write};
@@ -14,7 +19,7 @@ use std::rt::{Env, Files};
 /// The words of the command, which stand behind the program's name; an error is want of memory.
 fn command_words<R: Env + AllocGlobal>(rt: &R) -> Result<Vec<String>, AllocError> {
     match env::args(rt) {
-        Ok(all) => all.skip(1).collect(rt.alloc()),
+        Ok(all) => behind_name(rt.alloc(), all.collect(rt.alloc())?),
         // A word that is no text is no word of a command, so the call is one without words.
         Err(error) if error.kind() == ErrorKind::InvalidData => Ok(Vec::new(rt.alloc())),
         // The words can fail in no other way than for want of memory.
@@ -22,21 +27,23 @@ fn command_words<R: Env + AllocGlobal>(rt: &R) -> Result<Vec<String>, AllocError
     }
 }
 
-/// Runs the program on the words of the process.
+/// Runs the program on the words of the process, and gives the exit code that it ends with.
 fn run<R: Files + Env + AllocGlobal, O: Write + Drop, E: Write + Drop>(
     rt: &R,
     out: O,
     err: E,
-) -> Status {
+) -> ExitCode
+    ensures { IsCode (exit_status result) }
+{
     let Ok(words) = command_words(rt) else {
-        return Status::NoMemory;
+        return ExitCode::from(Status::NoMemory.code());
     };
     let mut files = RealFiles::new(rt);
     let mut out = RealSink::new(out);
     let mut err = RealSink::new(err);
-    ipdl(rt.alloc(), words.as_slice(), &mut files, &mut out, &mut err)
+    exit_code_of(rt.alloc(), words.as_slice(), &mut files, &mut out, &mut err)
 }
 
 fn main(rt: HostRuntime) -> ExitCode {
-    ExitCode::from(run(&rt, rt.stdout(), rt.stderr()).code())
+    run(&rt, rt.stdout(), rt.stderr())
 }
