@@ -1,0 +1,9 @@
+pub mod SeekLemmas
+pub mod StackLemmas
+pub mod ResumedLemmas
+pub mod PromiseLemmas
+pub mod RejectionLemmas
+pub mod FallLemmas
+pub mod NameLemmas
+pub mod ReadLemmas
+pub mod ReceiveLemmas

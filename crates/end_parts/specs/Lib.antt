@@ -1,0 +1,14 @@
+pub mod PlainLines
+pub mod OutputView
+pub mod MovedLines
+pub mod SoughtActors
+pub mod CopiedAnswers
+pub mod StackDetails
+pub mod Resumed
+pub mod PromiseNumbers
+pub mod NameContents
+pub mod NamesView
+pub mod Rejections
+pub mod Falls
+pub mod SentRequests
+pub mod PacketReading
