@@ -1,6 +1,8 @@
 pub mod SeekLemmas
 pub mod StackLemmas
 pub mod ResumedLemmas
+pub mod WaitLemmas
+pub mod ReleaseLemmas
 pub mod PromiseLemmas
 pub mod RejectionLemmas
 pub mod FallLemmas

@@ -3,6 +3,7 @@ pub mod OutputView
 pub mod MovedLines
 pub mod SoughtActors
 pub mod CopiedAnswers
+pub mod Replies
 pub mod StackDetails
 pub mod Resumed
 pub mod PromiseNumbers

@@ -1,5 +1,5 @@
 -- What names hold.
-use Rattle.std.specs.Prelude.{ℤ, pos, Bool, true, false, Option, Some, None, if◌then◌else◌}
+use Rattle.std.specs.Prelude.{ℤ, pos, Option, Some, None, if◌then◌else◌}
 use Rattle.channel_model.specs.Acts.{is_positive}
 use Rattle.channel_model.specs.Ends as model
 use Rattle.end_parts.specs.declared.name_entries.NameContent.{NameContent}
@@ -25,12 +25,6 @@ named_by (Some (model.resolver r)) = named.Resolver r.number
 abbrev pub named_of : NameContent → Named
 named_of (Actor id) = named.Actor id
 named_of (Resolver r) = named.Resolver r.number
-
--- whether a name holds a resolver
-abbrev pub holds_resolver : Option model.NameContent → Bool
-holds_resolver None = false
-holds_resolver (Some (model.actor id)) = false
-holds_resolver (Some (model.resolver r)) = true
 
 -- what a name of this id holds: an id that is not positive stands for none
 abbrev pub holds_at : ℤ → Option model.NameContent

@@ -1,5 +1,6 @@
 -- A stack with what its frames do not keep.
-use Rattle.std.specs.Prelude.{◌≡◌, true, List, [], ◌∷◌, map, Option, Some, None, option_map}
+use Rattle.std.specs.Prelude.{◌≡◌, ℤ, true, false, ◌&&◌, if◌then◌else◌, List, [], ◌∷◌, map, Option, Some, None, option_map}
+use Rattle.std.specs.Ordering.{int_eq}
 use Rattle.ipdl_base.specs.declared.value.Values.{Values}
 use Rattle.ipdl_base.specs.Plain.{plain_values}
 use Rattle.nesting_core.specs.declared.frame.StackFrame.{StackFrame}
@@ -8,6 +9,7 @@ use Rattle.nesting_core.specs.Frames.{head_of, is_unanswered, is_dispatch}
 use Rattle.nesting_core.specs.Plain.{plain_frame}
 use Rattle.channel_model.specs.Ends.{StackEntry}
 use Rattle.end_parts.specs.CopiedAnswers.{values_of}
+use Rattle.end_parts.specs.declared.stack_entries.DispatchEntry.{DispatchEntry}
 use Rattle.end_parts.specs.declared.stack_entries.EntryDetail.{EntryDetail}
 
 -- the frames of entries
@@ -43,3 +45,16 @@ AreDetails [] [] = Unit {0}
 AreDetails [] (detail ∷ details) = ⊥
 AreDetails (frame ∷ frames) [] = ⊥
 AreDetails (frame ∷ frames) (detail ∷ details) = IsDetailOf frame detail × AreDetails frames details
+
+-- the entry of a dispatch
+abbrev pub dispatch_entry : DispatchEntry → StackEntry
+dispatch_entry d = record { frame = Dispatch d.head; route = d.route; number = d.number; resolves = d.resolves }
+
+-- a detail whose resolver is used or kept, if it is that of the request of this number
+abbrev pub released_detail : ℤ → EntryDetail → EntryDetail
+released_detail seq detail = if detail.resolves && int_eq detail.seq seq then record detail { resolves = false } else detail
+
+-- the details, innermost first, when the innermost wait without an answer gets one, of which this is the copy
+abbrev pub with_copy : Option Values → List EntryDetail → List EntryDetail
+with_copy copy [] = []
+with_copy copy (detail ∷ details) = if detail.is_unanswered then record detail { is_unanswered = false; answer_copy = copy } ∷ details else detail ∷ with_copy copy details

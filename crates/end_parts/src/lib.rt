@@ -10,6 +10,7 @@ mod name_entries;
 mod packet;
 mod packet_reading;
 mod promise_entries;
+mod reply;
 mod resolver;
 mod sent_request;
 mod stack_entries;
@@ -22,9 +23,10 @@ pub use name_entries::{NameContent, NameEntries, Named, shown_id};
 pub use packet::Packet;
 pub use packet_reading::{PacketReading, frame_of, goodbye_frame, read_packet};
 pub use promise_entries::PromiseEntries;
+pub use reply::{AnsweredRequest, is_replied_to, reply_to};
 pub use resolver::Resolver;
 pub use sent_request::{
     await_reply, id_of, next_request, send_line, send_refusal, seq_of, values_refusal,
 };
-pub use stack_entries::{ResumedCall, StackEntries};
+pub use stack_entries::{DispatchEntry, ResumedCall, StackEntries};
 pub use value_actors::{ActorTest, first_actor, lives_as, lives_otherwise, null_dead};

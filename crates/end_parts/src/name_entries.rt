@@ -1,8 +1,10 @@
-ghost use Rattle.std.specs.Prelude.{◌≡◌, ◌+◌, ◌<◌, ◌≤◌, not, Some, [], ◌∷◌, ◌++◌, find, filter, option_map, vec_len, vec_capacity, OnOk};
+ghost use Rattle.std.specs.Prelude.{◌≡◌, ◌+◌, ◌<◌, ◌≤◌, not, Some, [], ◌∷◌, ◌++◌, find, filter, option_and_then, option_map, vec_len, vec_capacity, OnOk};
 ghost use Rattle.std.specs.Str.{bytes_eq};
 ghost use Rattle.channel_model.specs.Names.{held_by_name, without_name, holding, without_resolvers, is_actor};
-ghost use Rattle.end_parts.specs.NameContents.{named_by, content_of, naming_of, named_of, holds_resolver, holds_at, shown_id};
+ghost use Rattle.end_parts.specs.NameContents.{named_by, content_of, naming_of, named_of, holds_at, shown_id};
+ghost use Rattle.end_parts.specs.Replies.{answered_by, answered_of};
 
+use crate::reply::AnsweredRequest;
 use crate::resolver::Resolver;
 use ipdl_base::Name;
 use std::alloc::{AllocError, Global};
@@ -67,13 +69,13 @@ impl NameEntries {
         }
     }
 
-    /// Whether a name holds a resolver.
-    pub fn has_resolver(&self, name: &Name) -> bool
-        ensures { result ≡ holds_resolver (held_by_name name.now self.now.names) }
+    /// What the answer by the resolver repeats that a name holds; `None` where it holds none.
+    pub fn resolver_held(&self, name: &Name) -> Option<AnsweredRequest>
+        ensures { option_map answered_of result ≡ option_and_then answered_by (held_by_name name.now self.now.names) }
     {
         match find_entry(self.entries.as_slice(), name.as_slice()) {
-            None => false,
-            Some(entry) => !is_actor(entry),
+            None => None,
+            Some(entry) => answered_by(&entry.content),
         }
     }
 
@@ -162,6 +164,16 @@ fn named_of(content: &NameContent) -> Named
     match content {
         NameContent::Actor(id) => Named::Actor(*id),
         NameContent::Resolver(resolver) => Named::Resolver(resolver.number()),
+    }
+}
+
+// What the answer by a resolver that is held repeats.
+fn answered_by(content: &NameContent) -> Option<AnsweredRequest>
+    ensures { option_map answered_of result ≡ answered_by (content_of content.now) }
+{
+    match content {
+        NameContent::Actor(_) => None,
+        NameContent::Resolver(resolver) => Some(resolver.answered()),
     }
 }
 

@@ -1,5 +1,8 @@
 ghost use Rattle.std.specs.Prelude.{◌≡◌};
+ghost use Rattle.channel_model.specs.Outputs.{resolver_answered};
+ghost use Rattle.end_parts.specs.Replies.{answered_of};
 
+use crate::reply::AnsweredRequest;
 use std::marker::Model;
 
 /// The right to answer an async request, which a take gives. Contracts see the number of the
@@ -46,5 +49,17 @@ impl Resolver {
         ensures { result ≡ self.now.number }
     {
         self.number
+    }
+
+    /// What the answer by it repeats.
+    pub fn answered(&self) -> AnsweredRequest
+        ensures { answered_of result ≡ resolver_answered self.now }
+    {
+        AnsweredRequest {
+            seq: self.seq,
+            route: self.route,
+            number: self.number,
+            transaction: 0,
+        }
     }
 }

@@ -1,13 +1,24 @@
-ghost use Rattle.std.specs.Prelude.{◌≡◌, ◌<◌, ◌≤◌, [], ◌∷◌, ◌++◌, false, length, None, IsSome, IsSomeAnd, IfOk, vec_len, vec_capacity};
+ghost use Rattle.std.specs.Prelude.{◌≡◌, ◌<◌, ◌≤◌, [], ◌∷◌, ◌++◌, false, drop, find, length, map, option_map, reverse, None, Some, IsSome, IsSomeAnd, IfOk, vec_len, vec_capacity};
 ghost use Rattle.nesting_core.specs.declared.frame.StackFrame.TheVariants.{Dispatch, Wait};
 ghost use Rattle.nesting_core.specs.Deferral.{transaction_of};
 ghost use Rattle.nesting_core.specs.Frames.{has_wait};
 ghost use Rattle.nesting_core.specs.Refusals.{refusal_of};
 ghost use Rattle.nesting_core.specs.Top.{top_of};
+ghost use Rattle.ipdl_base.specs.declared.kinds.Reason.TheVariants.{ChannelClosed};
+ghost use Rattle.nesting_core.specs.declared.frame.Answer.TheVariants.{Fault};
+ghost use Rattle.nesting_core.specs.Answers.{awaited, with_answer};
+ghost use Rattle.nesting_core.specs.Plain.{plain_answer};
+ghost use Rattle.channel_model.specs.Answers.{released};
+ghost use Rattle.channel_model.specs.Deliveries.{with_frames};
+ghost use Rattle.channel_model.specs.Returns.{dispatch_on_top};
+ghost use Rattle.end_parts.specs.CopiedAnswers.{IsCopied};
+ghost use Rattle.end_parts.specs.Replies.{is_waited_for_in};
+ghost use Rattle.end_parts.specs.StackDetails.{dispatch_entry, released_detail, with_copy};
 ghost use Rattle.end_parts.specs.Resumed.{IsTakenOff, IsWaitPopped, IsResumed};
 
 use crate::copied_answer::CopiedAnswer;
-use ipdl_base::{SendRefusal, Values};
+use crate::reply::is_replied_to;
+use ipdl_base::{Message, SendRefusal, Values};
 use nesting_core::{Head, Popped, SendHead, Stack, StackTop};
 use std::alloc::{AllocError, Global};
 use std::marker::Model;
@@ -150,6 +161,72 @@ impl StackEntries {
         }
     }
 
+    /// The entry on top, where it is a dispatch.
+    pub fn dispatch_on_top(&self) -> Option<DispatchEntry>
+        ensures { option_map dispatch_entry result ≡ dispatch_on_top self.now }
+    {
+        match self.frames.top() {
+            StackTop::Empty | StackTop::Unanswered(_) | StackTop::Answered(_) => None,
+            StackTop::Dispatch(head) => match self.details.last() {
+                None => unreachable!(),
+                Some(detail) => Some(DispatchEntry {
+                    head,
+                    route: detail.route,
+                    number: detail.number,
+                    resolves: detail.resolves,
+                }),
+            },
+        }
+    }
+
+    /// Takes the dispatch on top off.
+    pub fn pop_dispatch(&mut self)
+        requires { IsSome (dispatch_on_top self.old) }
+        ensures { self.new ≡ drop 1 self.old }
+    {
+        self.frames.pop();
+        self.details.pop();
+    }
+
+    /// The resolver of the request of a number is used or kept, where its dispatch has it.
+    pub fn release(&mut self, seq: i32)
+        ensures { self.new ≡ released seq self.old }
+    {
+        release_details(self.details.as_mut_slice(), seq);
+    }
+
+    /// Whether the innermost wait without an answer waits for this reply.
+    pub fn is_waited_for(&self, reply: &Message) -> bool
+        ensures { result ≡ is_waited_for_in self.now reply.now }
+    {
+        match innermost_unanswered(self.details.as_slice()) {
+            None => false,
+            Some(detail) => { is_replied_to(reply, detail.seq, detail.number, detail.route) }
+        }
+    }
+
+    /// The innermost wait without an answer, which has this number, gets its answer.
+    pub fn answer_wait(&mut self, seq: i32, given: CopiedAnswer)
+        requires awaited { awaited (frames_in self.old) ≡ Some seq }
+        requires copied { IsCopied given }
+        ensures { self.new ≡ with_frames (with_answer (plain_answer given.answer) (frames_in self.old)) self.old }
+    {
+        let CopiedAnswer { answer, copy } = given;
+        self.frames.answer(seq, answer);
+        keep_copy(self.details.as_mut_slice(), copy);
+    }
+
+    /// The innermost wait without an answer fails, and its number is given; `None` where there is
+    /// none, and then nothing changes.
+    pub fn fail_next(&mut self) -> Option<i32>
+        ensures number { result ≡ awaited (frames_in self.old) }
+        ensures failed { self.new ≡ with_frames (with_answer (Fault ChannelClosed) (frames_in self.old)) self.old }
+    {
+        let seq = self.frames.fail_next();
+        keep_copy(self.details.as_mut_slice(), None);
+        seq
+    }
+
     /// Takes all entries off.
     pub fn clear(&mut self)
         ensures { self.new ≡ [] }
@@ -167,6 +244,18 @@ pub struct ResumedCall {
     /// The number of the request's message.
     pub number: u32,
     pub given: CopiedAnswer,
+}
+
+/// The entry of a dispatch.
+#[derive(Clone, Copy)]
+pub struct DispatchEntry {
+    pub head: Head,
+    /// The actor that the request went to.
+    pub route: i32,
+    /// The number of the request's message.
+    pub number: u32,
+    /// Whether its resolver is neither used nor kept.
+    pub resolves: bool,
 }
 
 // What came off a stack, which is a wait with its answer.
@@ -207,4 +296,50 @@ fn push_spare(details: &mut Vec<EntryDetail>, detail: EntryDetail)
     if details.push(detail).is_err() {
         unreachable!();
     }
+}
+
+// The resolver of a detail is used or kept, if it is that of the request of this number.
+fn release_detail(detail: &mut EntryDetail, seq: i32)
+    ensures { detail.new ≡ released_detail seq detail.old }
+{
+    if detail.resolves && detail.seq == seq {
+        detail.resolves = false;
+    }
+}
+
+// The same of all details.
+fn release_details(details: &mut [EntryDetail], seq: i32)
+    ensures { reverse details.new ≡ map (released_detail seq) (reverse details.old) }
+{
+    match details.split_last_mut() {
+        None => {}
+        Some((last, rest)) => {
+            release_detail(last, seq);
+            release_details(rest, seq);
+        }
+    }
+}
+
+// Keeps the copy of an answer beside the innermost wait that had none.
+fn keep_copy(details: &mut [EntryDetail], copy: Option<Values>)
+    ensures { reverse details.new ≡ with_copy copy (reverse details.old) }
+{
+    match details.split_last_mut() {
+        None => {}
+        Some((last, rest)) => {
+            if last.is_unanswered {
+                last.is_unanswered = false;
+                last.answer_copy = copy;
+            } else {
+                keep_copy(rest, copy);
+            }
+        }
+    }
+}
+
+// The innermost detail of a wait without an answer.
+fn innermost_unanswered(details: &[EntryDetail]) -> Option<&EntryDetail>
+    ensures { option_map (λ d. d.now) result ≡ find (λ d. d.is_unanswered) (reverse details.now) }
+{
+    details.iter().rev().find(|detail| detail.is_unanswered)
 }
