@@ -24,7 +24,7 @@ use Rattle.channel_model.specs.Outputs.{line_at}
 use Rattle.end_parts.specs.Rejections.{HasRejected}
 use Rattle.end_parts.specs.Falls.{HasFallen}
 use Rattle.end_parts.specs.OutputView.{OutputView, with_line}
-use Rattle.end_parts.specs.PromiseNumbers.{pending_in}
+use Rattle.end_parts.specs.PromiseRequests.{pending_in}
 
 -- Ids
 

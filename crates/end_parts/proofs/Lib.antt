@@ -4,6 +4,7 @@ pub mod ResumedLemmas
 pub mod WaitLemmas
 pub mod ReleaseLemmas
 pub mod PromiseLemmas
+pub mod RequestLemmas
 pub mod RejectionLemmas
 pub mod FallLemmas
 pub mod NameLemmas

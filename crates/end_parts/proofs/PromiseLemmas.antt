@@ -13,19 +13,20 @@ use Rattle.promise_table.specs.Plain.{plain_outcome, plain_promise}
 use Rattle.promise_table.specs.Promises.{made, has_number, is_pending, is_pending_of, settled, with_settled, oldest, with_rejected, HaveDistinctNumbers}
 use Rattle.channel_model.specs.Ends.{PromiseEntry}
 use Rattle.channel_model.specs.Falls.{rejected_entry}
-use Rattle.end_parts.specs.PromiseNumbers.{entries_of, oldest_of, with_oldest_rejected}
+use Rattle.end_parts.specs.declared.reply.RequestKey.{RequestKey}
+use Rattle.end_parts.specs.PromiseRequests.{entries_of, oldest_of, with_oldest_rejected}
 
--- an entry with its promise's boxes at one place
-abbrev with_number : Promise → ℕ → PromiseEntry
-with_number p n = record { promise = plain_promise p; number = n }
+-- the entry of a promise
+abbrev with_request : Promise → RequestKey → PromiseEntry
+with_request p r = record { promise = plain_promise p; number = r.number }
 
 -- the first entry that passes, or what is found behind
-seq_or : (b : Bool) (p : Promise) (n : ℕ) (there : Option PromiseEntry) (here : Option Promise) → option_map (λ (entry : PromiseEntry). entry.promise.seq) there ≡ option_map (λ (q : Promise). q.seq) here
-    → option_map (λ (entry : PromiseEntry). entry.promise.seq) (cond b (Some (with_number p n)) there) ≡ option_map (λ (q : Promise). q.seq) (cond b (Some p) here)
+seq_or : (b : Bool) (p : Promise) (n : RequestKey) (there : Option PromiseEntry) (here : Option Promise) → option_map (λ (entry : PromiseEntry). entry.promise.seq) there ≡ option_map (λ (q : Promise). q.seq) here
+    → option_map (λ (entry : PromiseEntry). entry.promise.seq) (cond b (Some (with_request p n)) there) ≡ option_map (λ (q : Promise). q.seq) (cond b (Some p) here)
 seq_or true p n there here behind = refl
 seq_or false p n there here behind = behind
 
-pub oldest-entries : (test : Promise → Bool) → ((p : Promise) → test (plain_promise p) ≡ test p) → (ps : List Promise) (ns : List ℕ) → length ns ≡ length ps → oldest_of test (entries_of ps ns) ≡ oldest test ps
+pub oldest-entries : (test : Promise → Bool) → ((p : Promise) → test (plain_promise p) ≡ test p) → (ps : List Promise) (ns : List RequestKey) → length ns ≡ length ps → oldest_of test (entries_of ps ns) ≡ oldest test ps
 oldest-entries test blind [] ns e = refl
 oldest-entries test blind (p ∷ ps) [] e = absurd (omega arith)
 oldest-entries test blind (p ∷ ps) (n ∷ ns) e =
@@ -87,20 +88,20 @@ behind_first reason p ps (Some n) h =
     ap (λ (q : Promise). q ∷ with_settled ps n (Rejected reason)) (settled_other n (Rejected reason) p (λ e. h n refl (sym e)))
 
 -- the oldest of the entries is rejected as the oldest of the promises is
-rejected_at : (test : Promise → Bool) (reason : Reason) (p : Promise) (ps : List Promise) (n : ℕ) (ns : List ℕ) (b : Bool) → test p ≡ b → (b ≡ true → is_pending p ≡ true) → HaveDistinctNumbers (p ∷ ps)
+rejected_at : (test : Promise → Bool) (reason : Reason) (p : Promise) (ps : List Promise) (n : RequestKey) (ns : List RequestKey) (b : Bool) → test p ≡ b → (b ≡ true → is_pending p ≡ true) → HaveDistinctNumbers (p ∷ ps)
     → entries_of (with_rejected ps (oldest test ps) reason) ns ≡ with_oldest_rejected test reason (entries_of ps ns)
-    → entries_of (with_rejected (p ∷ ps) (option_map (λ (q : Promise). q.seq) (cond b (Some p) (find test ps))) reason) (n ∷ ns) ≡ cond b (rejected_entry reason (with_number p n) ∷ entries_of ps ns) (with_number p n ∷ with_oldest_rejected test reason (entries_of ps ns))
+    → entries_of (with_rejected (p ∷ ps) (option_map (λ (q : Promise). q.seq) (cond b (Some p) (find test ps))) reason) (n ∷ ns) ≡ cond b (rejected_entry reason (with_request p n) ∷ entries_of ps ns) (with_request p n ∷ with_oldest_rejected test reason (entries_of ps ns))
 rejected_at test reason p ps n ns true e pends distinct rest =
     let first : settled p.seq (Rejected reason) p ≡ record p { outcome = Some (Rejected reason) } = settled_here p.seq (Rejected reason) p refl (pends refl) in
     let others : with_settled ps p.seq (Rejected reason) ≡ ps = others_stay p.seq (Rejected reason) ps (first_apart p ps distinct) in
-    ap (λ (q : Promise). with_number q n ∷ entries_of (with_settled ps p.seq (Rejected reason)) ns) first
-    ∙ ap (λ (qs : List Promise). rejected_entry reason (with_number p n) ∷ entries_of qs ns) others
+    ap (λ (q : Promise). with_request q n ∷ entries_of (with_settled ps p.seq (Rejected reason)) ns) first
+    ∙ ap (λ (qs : List Promise). rejected_entry reason (with_request p n) ∷ entries_of qs ns) others
 rejected_at test reason p ps n ns false e pends distinct rest =
     let same : with_rejected (p ∷ ps) (oldest test ps) reason ≡ p ∷ with_rejected ps (oldest test ps) reason = behind_first reason p ps (oldest test ps) (λ m found. found_apart p.seq test ps m (first_apart p ps distinct) found) in
-    ap (λ (qs : List Promise). entries_of qs (n ∷ ns)) same ∙ ap (λ (es : List PromiseEntry). with_number p n ∷ es) rest
+    ap (λ (qs : List Promise). entries_of qs (n ∷ ns)) same ∙ ap (λ (es : List PromiseEntry). with_request p n ∷ es) rest
 
 pub rejected-entries : (test : Promise → Bool) → ((p : Promise) → test (plain_promise p) ≡ test p) → ((p : Promise) → test p ≡ true → is_pending p ≡ true)
-    → (reason : Reason) (ps : List Promise) (ns : List ℕ) → length ns ≡ length ps → HaveDistinctNumbers ps → entries_of (with_rejected ps (oldest test ps) reason) ns ≡ with_oldest_rejected test reason (entries_of ps ns)
+    → (reason : Reason) (ps : List Promise) (ns : List RequestKey) → length ns ≡ length ps → HaveDistinctNumbers ps → entries_of (with_rejected ps (oldest test ps) reason) ns ≡ with_oldest_rejected test reason (entries_of ps ns)
 rejected-entries test blind pends reason [] ns e distinct = refl
 rejected-entries test blind pends reason (p ∷ ps) [] e distinct = absurd (omega arith)
 rejected-entries test blind pends reason (p ∷ ps) (n ∷ ns) e distinct =
@@ -116,21 +117,17 @@ pends_of actor p e = both (int_eq p.actor actor) (is_pending p) e
 
 -- A promise more
 
-pub unmade : (seq : ℤ) (ps : List Promise) (ns : List ℕ) → length ns ≡ length ps → AllByRecursion (λ (e : PromiseEntry). e.promise.seq ≢ seq) (entries_of ps ns) → (k : ℕ) (d : Promise) → k < length ps → (get_or ps k d).seq ≢ seq
+pub unmade : (seq : ℤ) (ps : List Promise) (ns : List RequestKey) → length ns ≡ length ps → AllByRecursion (λ (e : PromiseEntry). e.promise.seq ≢ seq) (entries_of ps ns) → (k : ℕ) (d : Promise) → k < length ps → (get_or ps k d).seq ≢ seq
 unmade seq [] ns e h k d l = absurd (omega arith)
 unmade seq (p ∷ ps) [] e h k d l = absurd (omega arith)
 unmade seq (p ∷ ps) (n ∷ ns) e h zero d l = h.0
 unmade seq (p ∷ ps) (n ∷ ns) e h (suc k) d l = unmade seq ps ns (omega arith) h.1 k d (omega arith)
 
-pub one_more : (seq actor : ℤ) (n : ℕ) (ps : List Promise) (ns : List ℕ) → length ns ≡ length ps → entries_of (ps ++ made seq actor ∷ []) (ns ++ n ∷ []) ≡ entries_of ps ns ++ record { promise = made seq actor; number = n } ∷ []
+pub one_more : (seq actor : ℤ) (n : RequestKey) (ps : List Promise) (ns : List RequestKey) → length ns ≡ length ps → entries_of (ps ++ made seq actor ∷ []) (ns ++ n ∷ []) ≡ entries_of ps ns ++ record { promise = made seq actor; number = n.number } ∷ []
 one_more seq actor n [] [] e = refl
 one_more seq actor n [] (m ∷ ns) e = absurd (omega arith)
 one_more seq actor n (p ∷ ps) [] e = absurd (omega arith)
-one_more seq actor n (p ∷ ps) (m ∷ ns) e = ap (λ (es : List PromiseEntry). with_number p m ∷ es) (one_more seq actor n ps ns (omega arith))
-
-pub length-more : {X : Type 0} (xs : List X) (x : X) → length (xs ++ x ∷ []) ≡ suc (length xs)
-length-more [] x = refl
-length-more (y ∷ xs) x = ap suc (length-more xs x)
+one_more seq actor n (p ∷ ps) (m ∷ ns) e = ap (λ (es : List PromiseEntry). with_request p m ∷ es) (one_more seq actor n ps ns (omega arith))
 
 pub distinct_more : (seq actor : ℤ) (ps : List Promise) → HaveDistinctNumbers ps → ((k : ℕ) (d : Promise) → k < length ps → (get_or ps k d).seq ≢ seq) → HaveDistinctNumbers (ps ++ made seq actor ∷ [])
 distinct_more seq actor ps h new = all_pairs_push (λ (p q : Promise). p.seq ≢ q.seq) ps (made seq actor) h new

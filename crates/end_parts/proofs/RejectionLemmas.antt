@@ -15,7 +15,7 @@ use Rattle.channel_model.specs.Falls.{passes, rejections, rejected, rejected_ent
 use Rattle.channel_model.specs.Outputs.{line_at}
 use Rattle.end_parts.specs.OutputView.{OutputView, with_line}
 use Rattle.end_parts.specs.Rejections.{HasRejected}
-use Rattle.end_parts.specs.PromiseNumbers.{pending_in, oldest_of, with_oldest_rejected}
+use Rattle.end_parts.specs.PromiseRequests.{pending_in, oldest_of, with_oldest_rejected}
 
 -- The test of the code says what that of the definitions says, and only of what pends.
 pub record Agree (t u : Promise → Bool) : Type 0 where

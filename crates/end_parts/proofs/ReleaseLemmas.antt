@@ -33,9 +33,9 @@ never false x h = refl
 released_entry : (seq : ℤ) (frame : StackFrame) (detail : EntryDetail) → IsDetailOf frame detail
     → entry_of frame (released_detail seq detail) ≡ cond (has_resolver seq (entry_of frame detail)) (record (entry_of frame detail) { resolves = false }) (entry_of frame detail)
 released_entry seq (Dispatch head) detail is =
-    released_by (detail.resolves && int_eq detail.seq seq) (detail.resolves && int_eq head.seq seq) (Dispatch head) detail (ap (λ (z : ℤ). detail.resolves && int_eq z seq) is.seq)
+    released_by (detail.resolves && int_eq detail.request.seq seq) (detail.resolves && int_eq head.seq seq) (Dispatch head) detail (ap (λ (z : ℤ). detail.resolves && int_eq z seq) is.seq)
 released_entry seq (Wait head a) detail is =
-    released_by (detail.resolves && int_eq detail.seq seq) false (Wait head a) detail (never detail.resolves (int_eq detail.seq seq) is.resolves)
+    released_by (detail.resolves && int_eq detail.request.seq seq) false (Wait head a) detail (never detail.resolves (int_eq detail.request.seq seq) is.resolves)
 
 -- the entries, as their details, when a resolver is used or kept
 pub released-entries : (seq : ℤ) (frames : List StackFrame) (details : List EntryDetail) → AreDetails frames details → entries_of frames (map (released_detail seq) details) ≡ released seq (entries_of frames details)
@@ -55,7 +55,7 @@ pub released-details : (seq : ℤ) (frames : List StackFrame) (details : List En
 released-details seq [] [] h = tt
 released-details seq [] (detail ∷ details) h = absurd h
 released-details seq (frame ∷ frames) [] h = absurd h
-released-details seq (frame ∷ frames) (detail ∷ details) h = (stays_detail (detail.resolves && int_eq detail.seq seq) frame detail h.0, released-details seq frames details h.1)
+released-details seq (frame ∷ frames) (detail ∷ details) h = (stays_detail (detail.resolves && int_eq detail.request.seq seq) frame detail h.0, released-details seq frames details h.1)
 
 -- What is left when the frame on top has come off with its detail.
 pub record IsOff (frames : List StackFrame) (details : List EntryDetail) (after : List StackFrame) (rest : List EntryDetail) : Type 0 where

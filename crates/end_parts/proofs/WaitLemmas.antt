@@ -86,12 +86,12 @@ answered-details a copy is (Wait head (Some earlier) ∷ frames) (detail ∷ det
 
 -- whether a reply is one to the request of a detail, if that is there
 abbrev pub waits_for : Message → Option EntryDetail → Bool
-waits_for m found = option_map_or (λ (d : EntryDetail). is_replied_to m d.seq d.number d.route) found false
+waits_for m found = option_map_or (λ (d : EntryDetail). is_replied_to m d.request.seq d.request.number d.request.route) found false
 
-waited_at : (b c : Bool) (m : Message) (frame : StackFrame) (detail : EntryDetail) (there : Option StackEntry) (here : Option EntryDetail) → b ≡ c → detail.seq ≡ (head_of (plain_frame frame)).seq
+waited_at : (b c : Bool) (m : Message) (frame : StackFrame) (detail : EntryDetail) (there : Option StackEntry) (here : Option EntryDetail) → b ≡ c → detail.request.seq ≡ (head_of (plain_frame frame)).seq
     → option_map_or (λ (e : StackEntry). is_replied_to m (head_of e.frame).seq e.number e.route) there false ≡ waits_for m here
     → option_map_or (λ (e : StackEntry). is_replied_to m (head_of e.frame).seq e.number e.route) (cond b (Some (entry_of frame detail)) there) false ≡ waits_for m (cond c (Some detail) here)
-waited_at true true m frame detail there here e s h = ap (λ (z : ℤ). is_replied_to m z detail.number detail.route) (sym s)
+waited_at true true m frame detail there here e s h = ap (λ (z : ℤ). is_replied_to m z detail.request.number detail.request.route) (sym s)
 waited_at true false m frame detail there here e s h = cc
 waited_at false true m frame detail there here e s h = cc
 waited_at false false m frame detail there here e s h = h

@@ -14,7 +14,7 @@ use Rattle.channel_model.specs.Outputs.{line_at}
 use Rattle.end_parts.specs.declared.closing.FallCause.{FallCause}
 use Rattle.end_parts.specs.declared.closing.FallCause.TheVariants.{Deletion, Closing}
 use Rattle.end_parts.specs.OutputView.{OutputView}
-use Rattle.end_parts.specs.PromiseNumbers.{pending_in}
+use Rattle.end_parts.specs.PromiseRequests.{pending_in}
 use Rattle.end_parts.specs.Rejections.{HasRejected}
 
 -- the reason for which an actor falls

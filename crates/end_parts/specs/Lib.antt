@@ -3,10 +3,10 @@ pub mod OutputView
 pub mod MovedLines
 pub mod SoughtActors
 pub mod CopiedAnswers
+pub mod PromiseRequests
 pub mod Replies
 pub mod StackDetails
 pub mod Resumed
-pub mod PromiseNumbers
 pub mod NameContents
 pub mod NamesView
 pub mod Rejections

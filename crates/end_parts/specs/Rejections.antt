@@ -7,7 +7,7 @@ use Rattle.channel_model.specs.Ends.{PromiseEntry}
 use Rattle.channel_model.specs.Falls.{rejections, rejected}
 use Rattle.channel_model.specs.Outputs.{line_at}
 use Rattle.end_parts.specs.OutputView.{OutputView}
-use Rattle.end_parts.specs.PromiseNumbers.{pending_in}
+use Rattle.end_parts.specs.PromiseRequests.{pending_in}
 
 -- Of some promises those that pend and pass are rejected, each with its line.
 pub record HasRejected (side : Side) (test : Promise → Bool) (reason : Reason) (promises : List PromiseEntry) (out : OutputView) (promises' : List PromiseEntry) (out' : OutputView) : Type 0 where

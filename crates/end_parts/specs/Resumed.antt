@@ -26,5 +26,5 @@ IsWaitPopped (popped.Wait head a) = Unit {0}
 
 -- the call that goes on is that of the wait that came off
 abbrev pub IsResumed : Option Popped → Option EntryDetail → ResumedCall → Type 0
-IsResumed (Some (popped.Wait head a)) (Some detail) call = call ≡ record { seq = head.seq; number = detail.number; given = record { answer = a; copy = detail.answer_copy } }
+IsResumed (Some (popped.Wait head a)) (Some detail) call = call ≡ record { seq = head.seq; number = detail.request.number; given = record { answer = a; copy = detail.answer_copy } }
 IsResumed _ _ call = ⊥

@@ -18,7 +18,7 @@ frames_in entries = map (λ entry. entry.frame) entries
 
 -- a frame with what it does not keep
 abbrev pub entry_of : StackFrame → EntryDetail → StackEntry
-entry_of frame detail = record { frame = plain_frame frame; route = detail.route; number = detail.number; resolves = detail.resolves }
+entry_of frame detail = record { frame = plain_frame frame; route = detail.request.route; number = detail.request.number; resolves = detail.resolves }
 
 -- the frames with what they do not keep, both innermost first
 abbrev pub entries_of : List StackFrame → List EntryDetail → List StackEntry
@@ -34,7 +34,7 @@ copy_beside (Wait head (Some a)) = values_of a
 
 -- A detail belongs to a frame.
 pub record IsDetailOf (frame : StackFrame) (detail : EntryDetail) : Type 0 where
-  pub seq : detail.seq ≡ (head_of frame).seq
+  pub seq : detail.request.seq ≡ (head_of frame).seq
   pub unanswered : detail.is_unanswered ≡ is_unanswered frame
   pub resolves : detail.resolves ≡ true → is_dispatch frame ≡ true
   pub copy : option_map plain_values detail.answer_copy ≡ copy_beside frame
@@ -52,7 +52,7 @@ dispatch_entry d = record { frame = Dispatch d.head; route = d.route; number = d
 
 -- a detail whose resolver is used or kept, if it is that of the request of this number
 abbrev pub released_detail : ℤ → EntryDetail → EntryDetail
-released_detail seq detail = if detail.resolves && int_eq detail.seq seq then record detail { resolves = false } else detail
+released_detail seq detail = if detail.resolves && int_eq detail.request.seq seq then record detail { resolves = false } else detail
 
 -- the details, innermost first, when the innermost wait without an answer gets one, of which this is the copy
 abbrev pub with_copy : Option Values → List EntryDetail → List EntryDetail

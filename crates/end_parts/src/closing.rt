@@ -4,7 +4,7 @@ ghost use Rattle.ipdl_base.specs.declared.kinds.Reason.TheVariants.{ActorDestroy
 ghost use Rattle.channel_model.specs.Names.{without_resolvers};
 ghost use Rattle.promise_table.specs.Promises.{is_pending_of};
 ghost use Rattle.end_parts.specs.Falls.{destroy_by, HasFallen, HasClosed};
-ghost use Rattle.end_parts.specs.PromiseNumbers.{pending_in};
+ghost use Rattle.end_parts.specs.PromiseRequests.{pending_in};
 ghost use Rattle.end_parts.specs.Rejections.{HasRejected};
 
 use crate::end_output::EndOutput;

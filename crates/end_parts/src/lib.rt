@@ -23,7 +23,7 @@ pub use name_entries::{NameContent, NameEntries, Named, shown_id};
 pub use packet::Packet;
 pub use packet_reading::{PacketReading, frame_of, goodbye_frame, read_packet};
 pub use promise_entries::PromiseEntries;
-pub use reply::{AnsweredRequest, is_replied_to, reply_to};
+pub use reply::{AnsweredRequest, RequestKey, is_replied_to, reply_to};
 pub use resolver::Resolver;
 pub use sent_request::{
     await_reply, id_of, next_request, send_line, send_refusal, seq_of, values_refusal,

@@ -31,9 +31,21 @@ pub fn reply_to(request: &AnsweredRequest, body: Body) -> Message
     }
 }
 
-/// Whether a reply is one to the request of this number, message and actor.
-pub fn is_replied_to(reply: &Message, seq: i32, number: u32, route: i32) -> bool
-    ensures { result ≡ is_replied_to reply.now seq number route }
+/// What a reply shows of its request: its number, the actor that it went to, and the number of its
+/// message.
+#[derive(Clone, Copy)]
+pub struct RequestKey {
+    pub seq: i32,
+    pub route: i32,
+    pub number: u32,
+}
+
+/// Whether a reply is one to the request.
+pub fn is_replied_to(reply: &Message, request: &RequestKey) -> bool
+    ensures { result ≡ is_replied_to reply.now request.now.seq request.now.number request.now.route }
 {
-    reply.seq == seq && reply.number > number && reply.number - 1 == number && reply.route == route
+    reply.seq == request.seq
+        && reply.number > request.number
+        && reply.number - 1 == request.number
+        && reply.route == request.route
 }

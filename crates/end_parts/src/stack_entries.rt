@@ -17,7 +17,7 @@ ghost use Rattle.end_parts.specs.StackDetails.{dispatch_entry, released_detail, 
 ghost use Rattle.end_parts.specs.Resumed.{IsTakenOff, IsWaitPopped, IsResumed};
 
 use crate::copied_answer::CopiedAnswer;
-use crate::reply::is_replied_to;
+use crate::reply::{RequestKey, is_replied_to};
 use ipdl_base::{Message, SendRefusal, Values};
 use nesting_core::{Head, Popped, SendHead, Stack, StackTop};
 use std::alloc::{AllocError, Global};
@@ -26,12 +26,8 @@ use std::marker::Model;
 /// What a frame of a stack does not keep.
 #[derive(Drop)]
 pub struct EntryDetail {
-    /// The actor that the request went to.
-    route: i32,
-    /// The number of the request's message.
-    number: u32,
-    /// The number of the request, as the frame has it.
-    seq: i32,
+    /// The request; its number is that of the frame.
+    request: RequestKey,
     /// Whether the frame is a wait without an answer.
     is_unanswered: bool,
     /// Whether it is a dispatch whose resolver is neither used nor kept.
@@ -116,9 +112,11 @@ impl StackEntries {
         push_spare(
             &mut self.details,
             EntryDetail {
-                route,
-                number,
-                seq: head.seq,
+                request: RequestKey {
+                    seq: head.seq,
+                    route,
+                    number,
+                },
                 is_unanswered: true,
                 resolves: false,
                 answer_copy: None,
@@ -135,9 +133,11 @@ impl StackEntries {
         push_spare(
             &mut self.details,
             EntryDetail {
-                route,
-                number,
-                seq: head.seq,
+                request: RequestKey {
+                    seq: head.seq,
+                    route,
+                    number,
+                },
                 is_unanswered: false,
                 resolves,
                 answer_copy: None,
@@ -171,8 +171,8 @@ impl StackEntries {
                 None => unreachable!(),
                 Some(detail) => Some(DispatchEntry {
                     head,
-                    route: detail.route,
-                    number: detail.number,
+                    route: detail.request.route,
+                    number: detail.request.number,
                     resolves: detail.resolves,
                 }),
             },
@@ -201,7 +201,7 @@ impl StackEntries {
     {
         match innermost_unanswered(self.details.as_slice()) {
             None => false,
-            Some(detail) => { is_replied_to(reply, detail.seq, detail.number, detail.route) }
+            Some(detail) => is_replied_to(reply, &detail.request),
         }
     }
 
@@ -267,16 +267,14 @@ fn resumed_call(frame: Option<Popped>, detail: Option<EntryDetail>) -> ResumedCa
     match (frame, detail) {
         (Some(Popped::Wait(head, answer)), Some(detail)) => {
             let EntryDetail {
-                route: _route,
-                number,
-                seq: _seq,
+                request,
                 is_unanswered: _is_unanswered,
                 resolves: _resolves,
                 answer_copy,
             } = detail;
             ResumedCall {
                 seq: head.seq,
-                number,
+                number: request.number,
                 given: CopiedAnswer {
                     answer,
                     copy: answer_copy,
@@ -302,7 +300,7 @@ fn push_spare(details: &mut Vec<EntryDetail>, detail: EntryDetail)
 fn release_detail(detail: &mut EntryDetail, seq: i32)
     ensures { detail.new ≡ released_detail seq detail.old }
 {
-    if detail.resolves && detail.seq == seq {
+    if detail.resolves && detail.request.seq == seq {
         detail.resolves = false;
     }
 }

@@ -8,7 +8,7 @@ use Rattle.actor_tree.specs.Falling.{living, root_of}
 use Rattle.ipdl_base.specs.declared.line.What.TheVariants as what
 use Rattle.channel_model.specs.Outputs.{line_at}
 use Rattle.end_parts.specs.Falls.{destroy_by, HasFallen}
-use Rattle.end_parts.specs.PromiseNumbers.{pending_in}
+use Rattle.end_parts.specs.PromiseRequests.{pending_in}
 use Rattle.end_parts.specs.OutputView.{with_line}
 use Rattle.end_parts.proofs.FallLemmas.{FallsNext, is_shorter, IsFalling, falling_goes_on, falling_ends}
 use Rattle.end_parts.proofs.closing.let_fall.Goals as goal

@@ -1,6 +1,6 @@
 use Rattle.std.proofs.Common.{true}
 use Rattle.ipdl_base.specs.declared.kinds.Reason.TheVariants.{ChannelClosed}
-use Rattle.end_parts.specs.PromiseNumbers.{pending_in}
+use Rattle.end_parts.specs.PromiseRequests.{pending_in}
 use Rattle.end_parts.proofs.RejectionLemmas.{IsRejecting}
 use Rattle.end_parts.proofs.closing.reject_all.Given as goal
 

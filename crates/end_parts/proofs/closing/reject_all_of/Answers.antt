@@ -6,7 +6,7 @@ use Rattle.ipdl_base.specs.declared.line.What.TheVariants as what
 use Rattle.ipdl_base.specs.declared.kinds.Reason.TheVariants.{ActorDestroyed}
 use Rattle.promise_table.specs.Promises.{is_pending_of}
 use Rattle.channel_model.specs.Outputs.{line_at}
-use Rattle.end_parts.specs.PromiseNumbers.{oldest_of, with_oldest_rejected}
+use Rattle.end_parts.specs.PromiseRequests.{oldest_of, with_oldest_rejected}
 use Rattle.end_parts.specs.OutputView.{with_line}
 use Rattle.end_parts.proofs.RejectionLemmas.{has_room, is_fewer, goes_on, is_over, begins, agree_of}
 use Rattle.end_parts.proofs.RejectionLemmas.{has_room, is_fewer, goes_on, is_over, begins, agree_of}

@@ -1,6 +1,6 @@
 use Rattle.promise_table.specs.Promises.{is_pending_of}
 use Rattle.ipdl_base.specs.declared.kinds.Reason.TheVariants.{ActorDestroyed}
-use Rattle.end_parts.specs.PromiseNumbers.{pending_in}
+use Rattle.end_parts.specs.PromiseRequests.{pending_in}
 use Rattle.end_parts.proofs.RejectionLemmas.{IsRejecting}
 use Rattle.end_parts.proofs.closing.reject_all_of.Given as goal
 

@@ -33,10 +33,12 @@ invariant_of-self c =
     let changed : reverse now ≡ with_copy copy (reverse items) = c.keep_copy.ensures ∙ ap (λ (ds : List EntryDetail). with_copy copy (reverse ds)) c.as_mut_slice.ensures.value in
     let waits : awaited frames ≡ Some c.args.seq = sym (awaited-entries frames (reverse items) c.self.invariant.0) ∙ ap (λ (es : List StackEntry). awaited (frames_in es)) c.self.view_is ∙ c.requires.awaited in
     let same : awaited frames ≡ Some (to_z w32 (of_z w32 c.args.seq)) = waits ∙ ap (λ (z : ℤ). Some z) (sym (to_z-of_z w32 c.args.seq c.ranges.seq)) in
-    let stored : c.answer.new.self ≡ with_answer a frames = stored_by c.answer.result (c.answer.new.self ≡ with_answer a frames) (c.answer.ensures.found.1 same) c.answer.ensures.stored in
-    (subst (λ (ds : List EntryDetail). AreDetails c.answer.new.self (reverse ds)) (sym is)
-    (subst (λ (fs : List StackFrame). AreDetails fs (reverse now)) (sym stored)
-    (subst (AreDetails (with_answer a frames)) (sym changed) (answered-details a copy c.requires.copied frames (reverse items) c.self.invariant.0))), c.self.invariant.1)
+    let stored : c.answer.new.self ≡ with_answer a frames = stored_by c.answer.result (c.answer.new.self ≡ with_answer a frames) (c.answer.ensures.found.1 same) c.answer.ensures.stored in (
+      subst (λ (ds : List EntryDetail). AreDetails c.answer.new.self (reverse ds)) (sym is)
+          (subst (λ (fs : List StackFrame). AreDetails fs (reverse now)) (sym stored)
+          (subst (AreDetails (with_answer a frames)) (sym changed) (answered-details a copy c.requires.copied frames (reverse items) c.self.invariant.0))),
+      c.self.invariant.1,
+    )
 
 pub returns : goal.returns
 returns c =

@@ -18,10 +18,12 @@ invariant_of-self c =
     let items = c.self.inside.details.items in
     let now = c.keep_copy.new.details in
     let is : (with_items c.self.inside.details now).items ≡ now = with_items_is c.self.inside.details now (omega (arith, c.keep_copy.auto.details, c.as_mut_slice.ensures.len, ap (λ (ds : List EntryDetail). length ds) c.as_mut_slice.ensures.value, c.self.inside.details.ok.0)) in
-    let changed : reverse now ≡ with_copy None (reverse items) = c.keep_copy.ensures ∙ ap (λ (ds : List EntryDetail). with_copy None (reverse ds)) c.as_mut_slice.ensures.value in
-    (subst (λ (ds : List EntryDetail). AreDetails c.fail_next-seq.new.self (reverse ds)) (sym is)
-    (subst (λ (fs : List StackFrame). AreDetails fs (reverse now)) (sym c.fail_next-seq.ensures.failed)
-    (subst (AreDetails (with_answer (Fault ChannelClosed) frames)) (sym changed) (answered-details (Fault ChannelClosed) None refl frames (reverse items) c.self.invariant.0))), c.self.invariant.1)
+    let changed : reverse now ≡ with_copy None (reverse items) = c.keep_copy.ensures ∙ ap (λ (ds : List EntryDetail). with_copy None (reverse ds)) c.as_mut_slice.ensures.value in (
+      subst (λ (ds : List EntryDetail). AreDetails c.fail_next-seq.new.self (reverse ds)) (sym is)
+          (subst (λ (fs : List StackFrame). AreDetails fs (reverse now)) (sym c.fail_next-seq.ensures.failed)
+          (subst (AreDetails (with_answer (Fault ChannelClosed) frames)) (sym changed) (answered-details (Fault ChannelClosed) None refl frames (reverse items) c.self.invariant.0))),
+      c.self.invariant.1,
+    )
 
 pub returns-clause-number : goal.returns-clause-number
 returns-clause-number c =

@@ -17,9 +17,11 @@ invariant_of-self c =
     let now = c.release_details.new.details in
     let is : (with_items c.self.inside.details now).items ≡ now = with_items_is c.self.inside.details now (omega (arith, c.release_details.auto.details, c.as_mut_slice.ensures.len, ap (λ (ds : List EntryDetail). length ds) c.as_mut_slice.ensures.value, c.self.inside.details.ok.0)) in
     let changed : reverse now ≡ map (released_detail c.args.seq) (reverse items) =
-    subst (λ (z : ℤ). reverse now ≡ map (released_detail z) (reverse items)) (to_z-of_z w32 c.args.seq c.ranges.seq) (c.release_details.ensures ∙ ap (λ (ds : List EntryDetail). map (released_detail (to_z w32 (of_z w32 c.args.seq))) (reverse ds)) c.as_mut_slice.ensures.value) in
-    (subst (λ (ds : List EntryDetail). AreDetails c.self.inside.frames (reverse ds)) (sym is)
-    (subst (AreDetails c.self.inside.frames) (sym changed) (released-details c.args.seq c.self.inside.frames (reverse items) c.self.invariant.0)), c.self.invariant.1)
+    subst (λ (z : ℤ). reverse now ≡ map (released_detail z) (reverse items)) (to_z-of_z w32 c.args.seq c.ranges.seq) (c.release_details.ensures ∙ ap (λ (ds : List EntryDetail). map (released_detail (to_z w32 (of_z w32 c.args.seq))) (reverse ds)) c.as_mut_slice.ensures.value) in (
+      subst (λ (ds : List EntryDetail). AreDetails c.self.inside.frames (reverse ds)) (sym is)
+          (subst (AreDetails c.self.inside.frames) (sym changed) (released-details c.args.seq c.self.inside.frames (reverse items) c.self.invariant.0)),
+      c.self.invariant.1,
+    )
 
 pub returns : goal.returns
 returns c =
