@@ -7,6 +7,7 @@ pub mod PromiseLemmas
 pub mod RequestLemmas
 pub mod RejectionLemmas
 pub mod FallLemmas
+pub mod FailLemmas
 pub mod NameLemmas
 pub mod ReadLemmas
 pub mod ReceiveLemmas

@@ -26,7 +26,7 @@ pub awaited-entries : (frames : List StackFrame) (details : List EntryDetail) �
 awaited-entries frames details h = ap awaited (frames-entries frames details h) ∙ awaited-plain frames
 
 -- its own frames change nothing
-with_same_frames : (entries : List StackEntry) → with_frames (frames_in entries) entries ≡ entries
+pub with_same_frames : (entries : List StackEntry) → with_frames (frames_in entries) entries ≡ entries
 with_same_frames [] = refl
 with_same_frames (entry ∷ entries) = ap (λ (es : List StackEntry). entry ∷ es) (with_same_frames entries)
 

@@ -11,5 +11,7 @@ pub mod NameContents
 pub mod NamesView
 pub mod Rejections
 pub mod Falls
+pub mod FailedWaits
+pub mod Refusals
 pub mod SentRequests
 pub mod PacketReading

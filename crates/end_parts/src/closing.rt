@@ -1,8 +1,9 @@
-//! Promises that are rejected, actors that fall, and an end that closes.
+//! Promises that are rejected, waits that fail, actors that fall, and an end that closes.
 ghost use Rattle.std.specs.Prelude.{◌≡◌, ◌+◌, ◌≤◌, true, length};
 ghost use Rattle.ipdl_base.specs.declared.kinds.Reason.TheVariants.{ActorDestroyed, ChannelClosed};
 ghost use Rattle.channel_model.specs.Names.{without_resolvers};
 ghost use Rattle.promise_table.specs.Promises.{is_pending_of};
+ghost use Rattle.end_parts.specs.FailedWaits.{unanswered_in, HasFailed};
 ghost use Rattle.end_parts.specs.Falls.{destroy_by, HasFallen, HasClosed};
 ghost use Rattle.end_parts.specs.PromiseRequests.{pending_in};
 ghost use Rattle.end_parts.specs.Rejections.{HasRejected};
@@ -10,6 +11,7 @@ ghost use Rattle.end_parts.specs.Rejections.{HasRejected};
 use crate::end_output::EndOutput;
 use crate::name_entries::NameEntries;
 use crate::promise_entries::PromiseEntries;
+use crate::stack_entries::StackEntries;
 use actor_tree::{Actor, Tree, falls_once};
 use ipdl_base::{Destroy, Line, Reason, Side, What};
 
@@ -38,6 +40,19 @@ fn reject_all_of(side: Side, actor: &Actor, promises: &mut PromiseEntries, out: 
         out.push_line(Line {
             side,
             what: What::Rejected(seq, Reason::ActorDestroyed),
+        });
+    }
+}
+
+/// Fails all waits without an answer, innermost first, each with its line. It takes no memory.
+pub fn fail_all(side: Side, stack: &mut StackEntries, out: &mut EndOutput)
+    requires { length (unanswered_in stack.old) ≤ out.old.line_spare }
+    ensures { HasFailed side stack.old out.old stack.new out.new }
+{
+    while let Some(seq) = stack.fail_next() {
+        out.push_line(Line {
+            side,
+            what: What::Fails(seq),
         });
     }
 }

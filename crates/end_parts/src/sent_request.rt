@@ -1,27 +1,20 @@
-//! Requests as they are sent: their numbers, why they are refused, and what they leave behind.
+//! Requests as they are sent: their numbers, their lines, and what they leave behind.
 ghost use Rattle.std.specs.Prelude.{◌≡◌, ◌≢◌, ◌+◌, ◌<◌, ◌≤◌, pos, true, if◌then◌else◌, length, IfOk, OnOk, OnErr};
 ghost use Rattle.std.specs.List.{AllByRecursion};
 ghost use Rattle.ipdl_base.specs.declared.message.Body.TheVariants.{Request};
 ghost use Rattle.ipdl_base.specs.Plain.{plain_message, plain_values};
-ghost use Rattle.ipdl_base.specs.Sound.{IsSound};
 ghost use Rattle.nesting_core.specs.Deferral.{transaction_of};
 ghost use Rattle.channel_model.specs.Numbers.{seq_of, id_of, is_constructor, is_sync_row};
-ghost use Rattle.channel_model.specs.Sends.{is_too_large, send_line, value_refusal};
-ghost use Rattle.channel_model.specs.ValueActors.{has_dead};
+ghost use Rattle.channel_model.specs.Sends.{send_line};
 ghost use Rattle.end_parts.specs.PlainLines.{plain_what};
-ghost use Rattle.end_parts.specs.SentRequests.{promises_behind, refusal_by, stack_behind};
+ghost use Rattle.end_parts.specs.SentRequests.{promises_behind, stack_behind};
 ghost use Rattle.end_parts.specs.StackDetails.{frames_in};
 
 use crate::promise_entries::PromiseEntries;
 use crate::stack_entries::StackEntries;
-use crate::value_actors::{ActorTest, first_actor, lives_as};
-use actor_tree::Tree;
-use ipdl_base::{
-    Body, Kind, Message, MessageRow, ParamRow, Schema, Semantics, SendRefusal, Side, Values, What,
-};
-use nesting_core::{Head, SendHead};
+use ipdl_base::{Body, Kind, Message, MessageRow, Semantics, Side, Values, What};
+use nesting_core::Head;
 use std::alloc::{AllocError, Global};
-use value_types::{NEW, payload_size};
 
 /// The number of a side's k-th request.
 pub fn seq_of(side: Side, k: u32) -> i32
@@ -97,56 +90,6 @@ pub fn next_request(
         made,
         body: Body::Request(values.copy(alloc)?),
     })
-}
-
-/// Why values are not sent in a message, be it a request or a reply. It takes no memory.
-pub fn values_refusal(
-    schema: &Schema,
-    tree: &Tree,
-    types: &[ParamRow],
-    message: &Message,
-    values: &Values,
-) -> Option<SendRefusal>
-    requires { IsSound schema.now }
-    ensures { result ≡ value_refusal (is_too_large schema.now message.now) (has_dead schema.now tree.now types.now values.now) }
-{
-    if payload_size(schema, NEW, message) > NEW.most_payload {
-        Some(SendRefusal::TooLarge)
-    } else if first_actor(values, ActorTest::Dead, schema, tree, types).is_some() {
-        Some(SendRefusal::DeadValue)
-    } else {
-        None
-    }
-}
-
-/// Why a request is not sent: the first cause that holds. It takes no memory.
-pub fn send_refusal(
-    is_open: bool,
-    schema: &Schema,
-    tree: &Tree,
-    stack: &StackEntries,
-    row: &MessageRow,
-    message: &Message,
-    values: &Values,
-) -> Option<SendRefusal>
-    requires { IsSound schema.now }
-    ensures { result ≡ refusal_by is_open schema.now tree.now (frames_in stack.now) row.now message.now values.now }
-{
-    if !is_open {
-        return Some(SendRefusal::Closed);
-    }
-    if !lives_as(tree, row.number / 65536, message.route) {
-        return Some(SendRefusal::DeadActor);
-    }
-    let head = SendHead {
-        sync: row.semantics == Semantics::Sync,
-        level: row.level,
-    };
-    let refusal = stack.refusal(&head);
-    if refusal.is_some() {
-        return refusal;
-    }
-    values_refusal(schema, tree, row.params.as_slice(), message, values)
 }
 
 /// The line of a request that is sent.

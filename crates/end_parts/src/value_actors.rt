@@ -1,11 +1,13 @@
 //! The actors in values: which of them live, and nulls in place of those that do not.
 ghost use Rattle.std.specs.Prelude.{◌≡◌, find};
-ghost use Rattle.channel_model.specs.Refusals.{lives_otherwise};
+ghost use Rattle.channel_model.specs.Refusals.{actors_of, lives_otherwise};
 ghost use Rattle.channel_model.specs.ValueActors.{lives_as, actor_at, actors_in, actors_in_all, actors_in_parts, nulled_value, nulled_all, nulled, received_id};
 ghost use Rattle.end_parts.specs.SoughtActors.{is_sought, first_id};
 
 use actor_tree::Tree;
-use ipdl_base::{ParamRow, Schema, Shape, Value, Values};
+use ipdl_base::{
+    Body, Message, MessageRow, ParamRow, Schema, Shape, Value, Values, returns_of_row,
+};
 use value_types::{component_of, element_of, fields_of, held_by};
 
 /// Which actors in values are looked for.
@@ -147,6 +149,40 @@ pub fn first_actor(
             }
         }
         _ => None,
+    }
+}
+
+/// The first actor that a message speaks of and that lives with another protocol: the one that it
+/// goes to, and then those of its values.
+pub fn wrong_actor(schema: &Schema, tree: &Tree, row: &MessageRow, message: &Message) -> Option<i32>
+    ensures { result ≡ first_id (is_sought ActorTest.Otherwise tree.now) (actors_of schema.now row.now message.now message.now.body) }
+{
+    if matches!(message.body, Body::Goodbye) {
+        return None;
+    }
+    if lives_otherwise(tree, message.number / 65536, message.route) {
+        return Some(message.route);
+    }
+    match &message.body {
+        Body::Request(values) => {
+            first_actor(
+                values,
+                ActorTest::Otherwise,
+                schema,
+                tree,
+                row.params.as_slice(),
+            )
+        }
+        Body::Reply(values) => {
+            first_actor(
+                values,
+                ActorTest::Otherwise,
+                schema,
+                tree,
+                returns_of_row(row),
+            )
+        }
+        Body::Fault(_) | Body::Goodbye => None,
     }
 }
 

@@ -7,7 +7,7 @@ use Rattle.channel_model.specs.ValueActors.{has_dead, actors_in_parts}
 use Rattle.end_parts.specs.declared.value_actors.ActorTest.TheVariants.{Dead}
 use Rattle.end_parts.specs.SoughtActors.{is_sought}
 use Rattle.end_parts.proofs.SeekLemmas.{some_first_id}
-use Rattle.end_parts.proofs.sent_request.values_refusal.Goals as goal
+use Rattle.end_parts.proofs.refusals.values_refusal.Goals as goal
 
 -- a size that is not above the limit as far as it is counted is not above it
 small : (n size : ℕ) → n ≡ min size 18446744073709551615 → n ≤ 4096 → nat_lt 4096 size ≡ false
