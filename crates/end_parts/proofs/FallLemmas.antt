@@ -235,9 +235,6 @@ pub record IsFalling (side : Side) (id : ℤ) (why : ℤ → Destroy) (actors : 
   pub room : out.line_spare + (length actors' + pending_in promises') ≤ out'.line_spare + (length actors + pending_in promises)
   pub fewer : length actors' + pending_in promises' ≤ length actors + pending_in promises
 
-pub falling_begins : (side : Side) (id : ℤ) (why : ℤ → Destroy) (actors : List Actor) (promises : List PromiseEntry) (out : OutputView) → EachOnce (post_order id actors) → IsFalling side id why actors promises out actors promises out
-falling_begins side id why actors promises out once = record { same = refl; said = refl; rejected = refl; left = refl; once = once; room = omega arith; fewer = omega arith }
-
 -- an actor is the next to fall
 pub record FallsNext (id : ℤ) (actors : List Actor) (a : Actor) (after : List Actor) : Type 0 where
   pub next : post_order id actors ≡ a ∷ post_order id after
