@@ -1,3 +1,5 @@
+ghost use Rattle.std.specs.Prelude.{◌≡◌};
+
 use super::checks::{answer_text, check, number_text, refusal_text, top_text};
 use super::schemas::{ASK, CALL, TOP};
 use end_parts::{CopiedAnswer, StackEntries};
@@ -7,7 +9,9 @@ use std::alloc::Global;
 use std::test::Fail;
 
 /// The head of a sync message of level `inside_sync`.
-fn head_of(seq: i32) -> Head {
+fn head_of(seq: i32) -> Head
+    ensures { result.seq ≡ seq }
+{
     Head {
         sync: true,
         level: Level::InsideSync,
