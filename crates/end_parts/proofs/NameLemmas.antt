@@ -1,11 +1,10 @@
 -- Names and what they hold, as the definitions have them.
-use Rattle.std.proofs.Common.{◌≡◌, ℕ, Bool, true, false, not, cond, List, [], ◌∷◌, map, Option, Some, None, refl, ap, sym, ◌∙◌}
+use Rattle.std.proofs.Common.{◌≡◌, ℕ, Bool, true, false, not, cond, List, [], ◌∷◌, map, Option, Some, refl, ap}
 use Rattle.std.specs.Option.{option_map}
 use Rattle.std.specs.List.{find, filter}
 use Rattle.std.specs.Str.{bytes_eq}
 use Rattle.channel_model.specs.Ends.{Naming}
 use Rattle.channel_model.specs.Names.{held_by_name, without_name, without_resolvers, is_actor}
-use Rattle.end_parts.specs.declared.name_entries.Named.{Named}
 use Rattle.end_parts.specs.declared.name_entries.NameContent.{NameContent}
 use Rattle.end_parts.specs.declared.name_entries.NameContent.TheVariants.{Actor, Resolver}
 use Rattle.end_parts.specs.declared.name_entries.NameEntry.{NameEntry}

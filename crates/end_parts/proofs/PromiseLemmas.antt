@@ -1,5 +1,5 @@
 -- What happens to promises happens to their entries.
-use Rattle.std.proofs.Common.{◌≡◌, ◌≢◌, ℕ, ℤ, zero, suc, ◌<◌, Bool, true, false, ◌&&◌, cond, List, [], ◌∷◌, ◌++◌, map, length, get_or, Option, Some, None, is_none, refl, ap, sym, ◌∙◌, arith}
+use Rattle.std.proofs.Common.{◌≡◌, ◌≢◌, ℕ, ℤ, zero, suc, ◌<◌, Bool, true, false, ◌&&◌, cond, List, [], ◌∷◌, ◌++◌, length, get_or, Option, Some, None, refl, ap, sym, ◌∙◌, arith}
 use Rattle.std.specs.Option.{option_map}
 use Rattle.std.specs.Ordering.{int_eq}
 use Rattle.std.specs.List.{find, AllByRecursion}
@@ -9,7 +9,7 @@ use Rattle.ipdl_base.specs.declared.kinds.Reason.{Reason}
 use Rattle.promise_table.specs.declared.promise.Outcome.{Outcome}
 use Rattle.promise_table.specs.declared.promise.Outcome.TheVariants.{Rejected}
 use Rattle.promise_table.specs.declared.promise.Promise.{Promise}
-use Rattle.promise_table.specs.Plain.{plain_outcome, plain_promise}
+use Rattle.promise_table.specs.Plain.{plain_promise}
 use Rattle.promise_table.specs.Promises.{made, has_number, is_pending, is_pending_of, settled, with_settled, oldest, with_rejected, HaveDistinctNumbers}
 use Rattle.channel_model.specs.Ends.{PromiseEntry}
 use Rattle.channel_model.specs.Falls.{rejected_entry}

@@ -1,17 +1,16 @@
 -- Rejecting the oldest again and again rejects all that pass, with their lines.
-use Rattle.std.proofs.Common.{◌≡◌, ℕ, ℤ, suc, ◌+◌, ◌-◌, ◌<◌, ◌≤◌, Bool, true, false, ◌&&◌, cond, List, [], ◌∷◌, ◌++◌, map, Option, Some, None, refl, ap, sym, ◌∙◌, arith, append_assoc, append-nil}
+use Rattle.std.proofs.Common.{◌≡◌, ℕ, ℤ, suc, ◌+◌, ◌<◌, ◌≤◌, Bool, true, false, ◌&&◌, cond, List, [], ◌∷◌, ◌++◌, map, Some, None, refl, ap, sym, ◌∙◌, arith, append_assoc, append-nil}
 use Rattle.std.specs.Option.{option_map}
 use Rattle.std.specs.Ordering.{int_eq}
-use Rattle.std.specs.List.{find, filter}
+use Rattle.std.specs.List.{find}
 use Rattle.ipdl_base.specs.declared.line.Line.{Line}
-use Rattle.ipdl_base.specs.declared.line.What.{What}
 use Rattle.ipdl_base.specs.declared.line.What.TheVariants as what
 use Rattle.ipdl_base.specs.declared.kinds.Reason.{Reason}
 use Rattle.ipdl_base.specs.declared.kinds.Side.{Side}
 use Rattle.promise_table.specs.declared.promise.Promise.{Promise}
 use Rattle.promise_table.specs.Promises.{is_pending, is_pending_of}
 use Rattle.channel_model.specs.Ends.{PromiseEntry}
-use Rattle.channel_model.specs.Falls.{passes, rejections, rejected, rejected_entry}
+use Rattle.channel_model.specs.Falls.{passes, rejections, rejected}
 use Rattle.channel_model.specs.Outputs.{line_at}
 use Rattle.end_parts.specs.OutputView.{OutputView, with_line}
 use Rattle.end_parts.specs.Rejections.{HasRejected}

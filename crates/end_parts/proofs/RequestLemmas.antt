@@ -1,6 +1,6 @@
 -- Promises with their requests.
 use Rattle.std.proofs.Common.{◌≡◌, ℤ, suc, Bool, true, false, ◌||◌, ◌&&◌, cond, List, [], ◌∷◌, ◌++◌, map, length, Option, Some, None, refl, ap, sym, ◌∙◌}
-use Rattle.std.specs.Option.{option_map, option_map_or}
+use Rattle.std.specs.Option.{option_map_or}
 use Rattle.std.specs.List.{find, list_any}
 use Rattle.ipdl_base.specs.declared.kinds.Reason.{Reason}
 use Rattle.ipdl_base.specs.declared.message.Message.{Message}
@@ -9,7 +9,7 @@ use Rattle.promise_table.specs.declared.promise.Outcome.TheVariants.{Rejected}
 use Rattle.promise_table.specs.declared.promise.Promise.{Promise}
 use Rattle.promise_table.specs.declared.promise.Settling.TheVariants.{Now, Already}
 use Rattle.promise_table.specs.Plain.{plain_outcome, plain_promise}
-use Rattle.promise_table.specs.Promises.{made, has_number, is_pending, promise_of, settled, settling_of, with_settled, with_rejected}
+use Rattle.promise_table.specs.Promises.{has_number, is_pending, promise_of, settling_of, with_settled, with_rejected}
 use Rattle.promise_table.proofs.PlainLemmas.{is_pending-plain}
 use Rattle.channel_model.specs.Ends.{PromiseEntry}
 use Rattle.channel_model.specs.Refusals.{is_replied_to}

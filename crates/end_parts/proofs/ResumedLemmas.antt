@@ -1,8 +1,7 @@
 -- A wait with its answer comes off.
-use Rattle.std.proofs.Common.{◌≡◌, List, [], ◌∷◌, ◌++◌, drop, reverse, Option, Some, None, refl, ap, sym, subst, ◌∙◌}
-use Rattle.std.specs.Option.{option_map, option_to_list}
+use Rattle.std.proofs.Common.{◌≡◌, List, [], ◌∷◌, ◌++◌, reverse, Option, Some, None, refl, ap, sym, subst, ◌∙◌}
+use Rattle.std.specs.Option.{option_to_list}
 use Rattle.std.proofs.lemmas.List.{reverse-append}
-use Rattle.ipdl_base.specs.Plain.{plain_values}
 use Rattle.nesting_core.specs.declared.frame.Answer.{Answer}
 use Rattle.nesting_core.specs.declared.frame.StackFrame.{StackFrame}
 use Rattle.nesting_core.specs.declared.frame.StackFrame.TheVariants.{Dispatch, Wait}
@@ -13,7 +12,7 @@ use Rattle.nesting_core.specs.declared.frame.StackTop.TheVariants as top
 use Rattle.nesting_core.specs.Top.{top_of, popped_of, after_pop}
 use Rattle.end_parts.specs.declared.stack_entries.EntryDetail.{EntryDetail}
 use Rattle.end_parts.specs.declared.stack_entries.ResumedCall.{ResumedCall}
-use Rattle.end_parts.specs.StackDetails.{entries_of, AreDetails, IsDetailOf}
+use Rattle.end_parts.specs.StackDetails.{entries_of, AreDetails}
 use Rattle.end_parts.specs.Resumed.{IsTakenOff, IsResumed}
 
 -- the last is the first of the reverse

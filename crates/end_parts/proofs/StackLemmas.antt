@@ -10,7 +10,7 @@ use Rattle.nesting_core.specs.Plain.{plain_frame}
 use Rattle.nesting_core.proofs.PlainLemmas.{has_wait-plain, refusal_of-plain, transaction_of-plain}
 use Rattle.channel_model.specs.Ends.{StackEntry}
 use Rattle.end_parts.specs.declared.stack_entries.EntryDetail.{EntryDetail}
-use Rattle.end_parts.specs.StackDetails.{frames_in, entries_of, entry_of, AreDetails}
+use Rattle.end_parts.specs.StackDetails.{frames_in, entries_of, AreDetails}
 
 -- the frames of entries are those of the stack
 pub frames-entries : (frames : List StackFrame) (details : List EntryDetail) → AreDetails frames details → frames_in (entries_of frames details) ≡ map plain_frame frames

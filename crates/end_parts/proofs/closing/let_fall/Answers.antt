@@ -1,6 +1,6 @@
 use Rattle.std.proofs.Common.{◌≡◌, ◌+◌, ◌≤◌, ℤ, List, [], length, Some, None, ◌∙◌, sym, ap, subst, rules}
 use Rattle.std.proofs.lemmas.Int.{to_z-of_z}
-use mir.Val.{SFits, to_z, of_z}
+use mir.Val.{SFits}
 use mir.Syntax.{w32}
 use Rattle.actor_tree.specs.declared.actor.Actor.{Actor}
 use Rattle.actor_tree.specs.Fall.{IsNext, post_order}

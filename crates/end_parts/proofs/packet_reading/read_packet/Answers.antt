@@ -1,8 +1,5 @@
-use Rattle.std.proofs.Common.{◌≡◌, ℕ, List, length, sym, ap, subst, ◌∙◌}
+use Rattle.std.proofs.Common.{sym, ap, ◌∙◌}
 use Rattle.ipdl_base.specs.Plain.{plain_message}
-use Rattle.value_types.specs.declared.layout.TheConstants.{NEW}
-use Rattle.value_codec.specs.declared.decoding.Decoded.TheVariants as decoded
-use Rattle.value_codec.specs.Decoding.{begins}
 use Rattle.end_parts.specs.declared.packet.Packet.TheVariants.{Bytes}
 use Rattle.end_parts.proofs.ReadLemmas.{read-broken, read-message, read-part, read-short, read-bad}
 use Rattle.end_parts.proofs.packet_reading.read_packet.Goals as goal

@@ -1,8 +1,8 @@
-use Rattle.std.proofs.Common.{◌≡◌, ℕ, ◌<◌, ◌≤◌, min, nat_lt, Bool, true, false, is_some, Some, None, refl, ap, sym, ◌∙◌, arith}
+use Rattle.std.proofs.Common.{◌≡◌, ℕ, ◌≤◌, min, nat_lt, true, false, is_some, refl, ap, sym, ◌∙◌, arith}
 use Rattle.std.proofs.lemmas.Bool.Decides.{nat_tests}
 use Rattle.value_types.specs.declared.layout.TheConstants.{NEW}
-use Rattle.value_types.specs.Sizes.{payload_size, greatest_size}
-use Rattle.channel_model.specs.Sends.{is_too_large, value_refusal}
+use Rattle.value_types.specs.Sizes.{payload_size}
+use Rattle.channel_model.specs.Sends.{is_too_large}
 use Rattle.channel_model.specs.ValueActors.{has_dead, actors_in_parts}
 use Rattle.end_parts.specs.declared.value_actors.ActorTest.TheVariants.{Dead}
 use Rattle.end_parts.specs.SoughtActors.{is_sought}

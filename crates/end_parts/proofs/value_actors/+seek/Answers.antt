@@ -1,5 +1,5 @@
-use Rattle.std.proofs.Common.{◌≡◌, ℤ, List, Some, None, sym, ◌∙◌, refl}
-use Rattle.channel_model.specs.ValueActors.{ActorValue, actors_in, actors_in_all, actors_in_parts}
+use Rattle.std.proofs.Common.{◌≡◌, sym, ◌∙◌}
+use Rattle.channel_model.specs.ValueActors.{actors_in, actors_in_all, actors_in_parts}
 use Rattle.end_parts.specs.SoughtActors.{is_sought, first_id}
 use Rattle.end_parts.proofs.SeekLemmas.{found_front, found_back}
 use Rattle.end_parts.proofs.value_actors.+seek.Goals as goal

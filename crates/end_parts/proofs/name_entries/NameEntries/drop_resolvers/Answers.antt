@@ -1,4 +1,4 @@
-use Rattle.std.proofs.Common.{◌≡◌, List, map, sym, ap, ◌∙◌}
+use Rattle.std.proofs.Common.{List, map, sym, ap, ◌∙◌}
 use Rattle.channel_model.specs.Names.{without_resolvers}
 use Rattle.end_parts.specs.declared.name_entries.NameEntry.{NameEntry}
 use Rattle.end_parts.specs.NameContents.{naming_of}

@@ -5,7 +5,7 @@ use Rattle.std.proofs.lemmas.List.{map-append}
 use Rattle.channel_model.specs.Ends.{Naming}
 use Rattle.channel_model.specs.Names.{without_name}
 use Rattle.end_parts.specs.declared.name_entries.NameEntry.{NameEntry}
-use Rattle.end_parts.specs.NameContents.{naming_of, content_of}
+use Rattle.end_parts.specs.NameContents.{naming_of}
 use Rattle.end_parts.specs.NamesView.{NamesView}
 use Rattle.end_parts.proofs.NameLemmas.{others-names}
 use Rattle.end_parts.proofs.name_entries.NameEntries.hold.Goals as goal

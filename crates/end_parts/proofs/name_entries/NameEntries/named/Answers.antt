@@ -1,12 +1,8 @@
-use Rattle.std.proofs.Common.{◌≡◌, List, Option, Some, None, map, sym, ap, refl, ◌∙◌}
+use Rattle.std.proofs.Common.{◌≡◌, Some, None, sym, ap, refl, ◌∙◌}
 use Rattle.std.specs.Option.{option_map}
 use Rattle.std.specs.List.{find}
 use Rattle.std.specs.Str.{bytes_eq}
-use Rattle.channel_model.specs.Ends as ends
-use Rattle.channel_model.specs.Names.{held_by_name}
-use Rattle.end_parts.specs.NameContents.{named_by}
 use Rattle.end_parts.specs.declared.name_entries.NameEntry.{NameEntry}
-use Rattle.end_parts.specs.NameContents.{naming_of, content_of}
 use Rattle.end_parts.proofs.NameLemmas.{content-names, named_by-content}
 use Rattle.end_parts.proofs.name_entries.NameEntries.named.Goals as goal
 

@@ -1,4 +1,4 @@
-use Rattle.std.proofs.Common.{◌≡◌, List, ℕ, map, not, sym, ap, ◌∙◌}
+use Rattle.std.proofs.Common.{List, ℕ, map, not, sym, ap, ◌∙◌}
 use Rattle.std.specs.List.{filter}
 use Rattle.std.specs.Str.{bytes_eq}
 use Rattle.channel_model.specs.Names.{without_name}

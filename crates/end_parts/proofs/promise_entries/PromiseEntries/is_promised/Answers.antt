@@ -1,4 +1,4 @@
-use Rattle.std.proofs.Common.{◌≡◌, List, sym, ap, ◌∙◌}
+use Rattle.std.proofs.Common.{List, sym, ap, ◌∙◌}
 use Rattle.std.specs.List.{list_any}
 use Rattle.channel_model.specs.Ends.{PromiseEntry}
 use Rattle.channel_model.specs.Refusals.{is_replied_to}

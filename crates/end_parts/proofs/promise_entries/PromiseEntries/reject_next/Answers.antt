@@ -2,7 +2,6 @@ use Rattle.std.proofs.Common.{◌≡◌, List, sym, ap, subst, ◌∙◌}
 use Rattle.promise_table.specs.declared.promise.Promise.{Promise}
 use Rattle.promise_table.specs.Promises.{is_pending, oldest, with_rejected}
 use Rattle.promise_table.proofs.PlainLemmas.{is_pending-plain}
-use Rattle.channel_model.specs.Ends.{PromiseEntry}
 use Rattle.end_parts.specs.PromiseRequests.{entries_of, oldest_of, with_oldest_rejected, AreRequestsOf}
 use Rattle.end_parts.proofs.PromiseLemmas.{oldest-entries, rejected-entries}
 use Rattle.end_parts.proofs.RequestLemmas.{length-requests, requests-rejected}

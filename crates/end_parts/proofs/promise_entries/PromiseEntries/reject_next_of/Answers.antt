@@ -5,7 +5,6 @@ use mir.Syntax.{w32}
 use Rattle.promise_table.specs.declared.promise.Promise.{Promise}
 use Rattle.promise_table.specs.Promises.{is_pending_of, oldest, with_rejected}
 use Rattle.promise_table.proofs.PlainLemmas.{is_pending_of-plain}
-use Rattle.channel_model.specs.Ends.{PromiseEntry}
 use Rattle.end_parts.specs.PromiseRequests.{entries_of, oldest_of, with_oldest_rejected, AreRequestsOf}
 use Rattle.end_parts.proofs.PromiseLemmas.{oldest-entries, rejected-entries, pends_of}
 use Rattle.end_parts.proofs.RequestLemmas.{length-requests, requests-rejected}

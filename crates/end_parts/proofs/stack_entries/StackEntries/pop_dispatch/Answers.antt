@@ -1,4 +1,4 @@
-use Rattle.std.proofs.Common.{◌≡◌, List, drop, reverse, sym, ap, subst, ◌∙◌, arith}
+use Rattle.std.proofs.Common.{List, drop, reverse, sym, ap, subst, ◌∙◌, arith}
 use Rattle.std.specs.Prelude.{IsSome}
 use Rattle.channel_model.specs.Ends.{StackEntry}
 use Rattle.channel_model.specs.Returns.{dispatch_on_top}

@@ -1,4 +1,4 @@
-use Rattle.std.proofs.Common.{◌≡◌, List, sym, ap, ◌∙◌, reverse}
+use Rattle.std.proofs.Common.{List, sym, ap, ◌∙◌, reverse}
 use Rattle.nesting_core.specs.Refusals.{refusal_of}
 use Rattle.channel_model.specs.Ends.{StackEntry}
 use Rattle.end_parts.specs.StackDetails.{frames_in}

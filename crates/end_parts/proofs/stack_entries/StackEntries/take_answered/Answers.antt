@@ -1,4 +1,4 @@
-use Rattle.std.proofs.Common.{◌≡◌, List, Some, reverse, sym, subst, ◌∙◌}
+use Rattle.std.proofs.Common.{List, Some, reverse, sym, subst, ◌∙◌}
 use Rattle.channel_model.specs.Ends.{StackEntry}
 use Rattle.end_parts.specs.StackDetails.{entries_of}
 use Rattle.end_parts.specs.Resumed.{IsTakenOff}

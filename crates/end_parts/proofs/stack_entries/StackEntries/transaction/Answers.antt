@@ -1,6 +1,6 @@
-use Rattle.std.proofs.Common.{◌≡◌, ℤ, List, sym, ap, ◌∙◌, reverse, rules}
+use Rattle.std.proofs.Common.{List, sym, ap, ◌∙◌, reverse, rules}
 use Rattle.std.proofs.lemmas.Int.{to_z-of_z}
-use mir.Val.{SFits, to_z, of_z}
+use mir.Val.{SFits}
 use mir.Syntax.{w32}
 use Rattle.nesting_core.specs.Deferral.{transaction_of}
 use Rattle.channel_model.specs.Ends.{StackEntry}
