@@ -4,3 +4,9 @@ pub mod Below
 pub mod Kept
 pub mod Whole
 pub mod Order
+pub mod Managed
+pub mod LinkLemmas
+pub mod Added
+pub mod Removed
+pub mod Paths
+pub mod TreeLemmas

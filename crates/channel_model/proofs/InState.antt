@@ -160,7 +160,7 @@ released_one : (b : Bool) (entry : StackEntry) → (cond b (record entry { resol
 released_one true entry = refl
 released_one false entry = refl
 
-released-frames : (seq : ℤ) (stack : List StackEntry) → map (λ (entry : StackEntry). entry.frame) (released seq stack) ≡ map (λ (entry : StackEntry). entry.frame) stack
+pub released-frames : (seq : ℤ) (stack : List StackEntry) → map (λ (entry : StackEntry). entry.frame) (released seq stack) ≡ map (λ (entry : StackEntry). entry.frame) stack
 released-frames seq [] = refl
 released-frames seq (entry ∷ stack) =
     ap (λ (frame : StackFrame). frame ∷ map (λ (entry : StackEntry). entry.frame) (released seq stack)) (released_one (has_resolver seq entry) entry)
@@ -177,7 +177,7 @@ state-released seq o = record {
   stack = λ none. ap (released seq) none;
 }
 
-popped-answered : (stack : List StackEntry) → AllByRecursion IsAnswered (map (λ (entry : StackEntry). entry.frame) stack) → AllByRecursion IsAnswered (map (λ (entry : StackEntry). entry.frame) (drop 1 stack))
+pub popped-answered : (stack : List StackEntry) → AllByRecursion IsAnswered (map (λ (entry : StackEntry). entry.frame) stack) → AllByRecursion IsAnswered (map (λ (entry : StackEntry). entry.frame) (drop 1 stack))
 popped-answered [] h = tt
 popped-answered (entry ∷ stack) h = h.1
 

@@ -187,11 +187,11 @@ neither : (a b : Bool) → (a || b) ≡ false → (a ≡ false) × (b ≡ false)
 neither true b h = cc
 neither false b h = (refl, h)
 
-no_waits : (frames : List StackFrame) → has_wait frames ≡ false → AllByRecursion IsAnswered frames
+pub no_waits : (frames : List StackFrame) → has_wait frames ≡ false → AllByRecursion IsAnswered frames
 no_waits [] h = tt
 no_waits (frame ∷ frames) h = let both = neither (is_wait frame) (has_wait frames) h in (no_wait frame both.0, no_waits frames both.1)
 
-second_test : {A : Type 0} (a b : Bool) (x y : A) → cond (not a) (Some x) (cond b (Some y) None) ≡ None → b ≡ false
+pub second_test : {A : Type 0} (a b : Bool) (x y : A) → cond (not a) (Some x) (cond b (Some y) None) ≡ None → b ≡ false
 second_test true false x y e = refl
 second_test true true x y e = cc
 second_test false b x y e = cc

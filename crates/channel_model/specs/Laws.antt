@@ -9,12 +9,14 @@ use Rattle.ipdl_base.specs.declared.schema.Shape.{Shape}
 use Rattle.ipdl_base.specs.declared.value.Value.{Value}
 use Rattle.ipdl_base.specs.declared.value.Values.{Values}
 use Rattle.ipdl_base.specs.Plain.{plain, plain_values}
+use Rattle.ipdl_base.specs.Signatures.{returns_of_row}
 use Rattle.nesting_core.specs.declared.frame.Answer.{Answer}
+use Rattle.nesting_core.specs.declared.frame.Answer.TheVariants as answer
 use Rattle.nesting_core.specs.Plain.{plain_answer}
 use Rattle.value_types.specs.HasType.{HasType, HaveTypes}
 use Rattle.channel_model.specs.Ends.{World}
 use Rattle.channel_model.specs.Events.{Move}
-use Rattle.channel_model.specs.Runs.{output_of, happens, run, history_of, IsLegalHistory}
+use Rattle.channel_model.specs.Runs.{output_of, happens, run, history_of}
 use Rattle.channel_model.specs.Typed as typed
 use Rattle.channel_model.specs.ValueActors as actors
 
@@ -38,10 +40,9 @@ pub record MovesFollow (schema : Schema) (front back : List Move) (from : World)
 abbrev pub MovesGoOneAfterAnother : Type 0
 MovesGoOneAfterAnother = (schema : Schema) (front back : List Move) (world : World) → MovesFollow schema front back world
 
--- Every list of moves has one history, which is legal, and each history of a front of the moves is a front of it.
-pub record EveryRunIsLegal : Type 0 where
-  pub legal : (schema : Schema) (top : ℕ) (moves : List Move) → IsLegalHistory schema top (history_of schema top moves)
-  pub front : (schema : Schema) (top : ℕ) (front back : List Move) → (rest : List Line) × (history_of schema top (front ++ back) ≡ history_of schema top front ++ rest)
+-- Histories grow: that of a front of the moves is a front of that of all.
+abbrev pub HistoriesGrow : Type 0
+HistoriesGrow = (schema : Schema) (top : ℕ) (front back : List Move) → (rest : List Line) × (history_of schema top (front ++ back) ≡ history_of schema top front ++ rest)
 
 -- What values say of types and actors does not hang on where their boxes lie: each of these gives the same on the plain
 -- values, or the plain form of what it gives.
@@ -55,3 +56,10 @@ pub record PlainFormsCommute : Type 0 where
   pub nulled_value : (schema : Schema) (living : List Actor) (shape : Shape) (v : Value) → actors.nulled_value schema living shape (plain v) ≡ plain (actors.nulled_value schema living shape v)
   pub nulled : (schema : Schema) (living : List Actor) (fields : List ParamRow) (vs : Values) → actors.nulled schema living fields (plain_values vs) ≡ plain_values (actors.nulled schema living fields vs)
   pub received : (schema : Schema) (living : List Actor) (row : MessageRow) (a : Answer) → actors.received schema living row (plain_answer a) ≡ plain_answer (actors.received schema living row a)
+
+-- Values that are taken, and those of an answer that is received, have their types where they had them before null took
+-- the place of actors.
+pub record NullsKeepTypes : Type 0 where
+  pub taken : (schema : Schema) (living : List Actor) (fields : List ParamRow) (vs : Values) → typed.have_types schema fields (actors.nulled schema living fields vs) ≡ typed.have_types schema fields vs
+  pub received : (schema : Schema) (living : List Actor) (row : MessageRow) (vs ws : Values) → actors.received schema living row (answer.Ok vs) ≡ answer.Ok ws
+      → typed.have_types schema (returns_of_row row) ws ≡ typed.have_types schema (returns_of_row row) vs

@@ -1,4 +1,10 @@
-ghost use Rattle.channel_model.specs.StepLaws.{EffectsFollowEvents, EventsHaveTheirLines, FirstActorsAreKnown, FirstStates, KnownActorsStay, NextNumberIsFree, NumbersInEveryRun, NumbersStay, StatesStay};
+ghost use Rattle.channel_model.specs.StepLaws.{EffectsFollowEvents, EventsHaveTheirLines, FirstActorsAreKnown, FirstEndsFit, FirstStates, FittingEndsStay, KnownActorsStay, NextNumberIsFree, NumbersInEveryRun, NumbersStay, StatesStay, StepsAreChains};
+
+/// The law of parts: every step is made of parts; a delivery is one, and all else is one that it begins with and others
+/// that may follow.
+pub fn steps_are_chains()
+    ensures { StepsAreChains }
+{}
 
 /// The law of an event's lines: one line of the event and then those of its effects, all of the end's side.
 pub fn events_have_their_lines()
@@ -44,4 +50,15 @@ pub fn next_number_is_free()
 /// The law of numbers in runs: at both ends of every run promises are numbered.
 pub fn numbers_in_every_run()
     ensures { NumbersInEveryRun }
+{}
+
+/// The law of first ends: one fits the schema as it begins.
+pub fn first_ends_fit()
+    ensures { FirstEndsFit }
+{}
+
+/// The law of fitting ends: what an end keeps and sends fits a sound schema, where nothing is delivered to it that does
+/// not fit or that it refuses.
+pub fn fitting_ends_stay()
+    ensures { FittingEndsStay }
 {}

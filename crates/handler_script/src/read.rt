@@ -13,7 +13,8 @@ use std::alloc::Global;
 
 /// The script of a text, for a schema and the number of its top protocol (docs/scripts.md). `Broken`
 /// gives the rules that the text breaks, in order, where it breaks any. Takes time in proportion to
-/// the text, but for the sort of the findings.
+/// the text, but for the sort of the findings, and for each line that names a message, which goes
+/// through all messages of the program, several times for a `send`.
 pub fn read_script(
     alloc: Global,
     text: &[u8],

@@ -25,10 +25,14 @@ take nothing: -7
 take nothing: -9
 take nothing: 0";
 
-/// Room for two items, and two plain ones.
+/// Room for two items, two plain ones, and one where those are cleared.
 const TWO_PLAIN_ITEMS: &str = "reserve 2: reserved
 push async 4 1/0 plain: 0 added
-push async 4 2/0 plain: 0 added";
+push async 4 2/0 plain: 0 added
+clear: cleared
+push async 4 3/0 all: 0 added
+take nothing: 3
+take nothing: 0";
 
 /// What a parent that awaits a reply of level 1, in the transaction 7, takes first: first the request
 /// of level 2, then the one of its transaction, then what says that the other end is gone.
@@ -170,6 +174,10 @@ fn answer(alloc: Global, pending: &mut Pending, call: &str) -> Result<String, Fa
         "reserve" => {
             pending.reserve(argument.parse::<usize>()?)?;
             Ok(String::from_str(alloc, "reserved")?)
+        }
+        "clear" => {
+            pending.clear();
+            Ok(String::from_str(alloc, "cleared")?)
         }
         "is_empty" => {
             let is_empty = pending.is_empty();

@@ -5,3 +5,9 @@ pub mod Plain
 pub mod Laws
 mod CompressionExamples
 mod HoldingExamples
+pub mod Nodes
+pub mod Classes
+pub mod Alike
+pub mod Links
+pub mod Queue
+pub mod Walk

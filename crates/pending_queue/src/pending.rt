@@ -1,9 +1,11 @@
-ghost use Rattle.std.specs.Prelude.{◌≡◌, ◌==◌, ◌+◌, ◌<◌, ◌≤◌, [], ◌∷◌, ◌++◌, find, length, option_map, position, remove, HoldsAt, vec_len, vec_capacity, IfOk, IfErr, OnOk, OnErr, IfNone, IsOk};
-ghost use Rattle.pending_queue.specs.Compression.{replaced, ReplacesAt, staying, pushed_of};
+//! The arrived items of one end, as its callers see them.
+ghost use Rattle.std.specs.Prelude.{◌≡◌, ◌==◌, ◌+◌, ◌<◌, ◌≤◌, [], ◌∷◌, ◌++◌, find, length, option_map, IfOk, IfErr, OnOk, OnErr, IfNone, IsOk};
+ghost use Rattle.pending_queue.specs.Compression.{replaced, staying, pushed_of};
 ghost use Rattle.pending_queue.specs.Holding.{is_free, without_first};
 
-use crate::holding::{Holding, defers};
-use crate::item::{Item, PushFault, Pushed, are_alike};
+use crate::holding::Holding;
+use crate::item::{Item, PushFault, Pushed};
+use crate::queue::Queue;
 use ipdl_base::Compress;
 use std::alloc::{AllocError, Global};
 use std::marker::Model;
@@ -12,11 +14,10 @@ use std::marker::Model;
 /// first, and a number: how many more items there is room for.
 #[derive(Drop)]
 pub struct Pending {
-    items: Vec<Item>,
+    queue: Queue,
 }
 
 impl Model for Pending {
-    ghost use Rattle.std.specs.Prelude.{◌-◌, vec_len, vec_capacity};
     ghost use Rattle.pending_queue.specs.ArrivedItems.{ArrivedItems};
     ghost use Rattle.ipdl_base.specs.contracts.value.Values as values;
     ghost use Rattle.std.specs.Coded.{codes};
@@ -25,7 +26,11 @@ impl Model for Pending {
 
     ghost coded = { Prim.hlevel (codes, values.the_row.coded) };
 
-    ghost view = { λ a. record { items = a.items.items; spare = vec_capacity a.items - vec_len a.items } };
+    ghost use Rattle.pending_queue.specs.Queue.{items_in, IsQueue};
+
+    ghost view = { λ a. record { items = items_in a.queue; spare = a.queue.spare } };
+
+    ghost invariant = { λ a. IsQueue a.queue };
 }
 
 impl Pending {
@@ -34,7 +39,7 @@ impl Pending {
         ensures { IfOk result (λ pending. pending.items ≡ []) }
     {
         Ok(Pending {
-            items: Vec::new(alloc),
+            queue: Queue::new(alloc),
         })
     }
 
@@ -49,10 +54,7 @@ impl Pending {
         ensures room { 0 < self.old.spare → IsOk result }
         ensures spare { self.old.spare ≤ self.new.spare + 1 }
     {
-        let Some(index) = replaced_index(self.items.as_slice(), &item, compress) else {
-            return append(&mut self.items, item);
-        };
-        Ok(Pushed::Replaced(replace(&mut self.items, index, item)))
+        self.queue.push(item, compress)
     }
 
     /// Makes room for `n` more items. The only error is want of memory; there is never less room
@@ -62,29 +64,29 @@ impl Pending {
         ensures ok { OnOk result (n ≤ self.new.spare) }
         ensures spare { self.old.spare ≤ self.new.spare }
     {
-        self.items.reserve(n)
+        self.queue.reserve(n)
     }
 
     /// The number of items.
     pub fn len(&self) -> usize
         ensures { result ≡ length self.now.items }
     {
-        self.items.len()
+        self.queue.len()
     }
 
     /// Whether there are no items.
     pub fn is_empty(&self) -> bool
         ensures { result ≡ (length self.now.items == 0) }
     {
-        self.items.is_empty()
+        self.queue.len() == 0
     }
 
     /// The item that a push of this one would replace; `None` where it would replace none.
     pub fn replaced(&self, item: &Item, compress: Compress) -> Option<&Item>
         ensures { option_map (λ old. old.now) result ≡ replaced compress item.now self.now.items }
     {
-        let index = replaced_index(self.items.as_slice(), item, compress)?;
-        self.items.get(index)
+        let key = self.queue.target(item, compress)?;
+        self.queue.item(key)
     }
 
     /// The oldest item that is not deferred, which `take_first` would take; `None` exactly where
@@ -92,7 +94,8 @@ impl Pending {
     pub fn first(&self, holding: &Holding) -> Option<&Item>
         ensures { option_map (λ item. item.now) result ≡ find (is_free holding.now) self.now.items }
     {
-        self.items.iter().find(|item| !defers(holding, item))
+        let key = self.queue.first_free(holding)?;
+        self.queue.item(key)
     }
 
     /// Takes the oldest item that is not deferred (docs/arrived.md); `None` exactly where there is
@@ -103,102 +106,13 @@ impl Pending {
         ensures none { IfNone result (self.new ≡ self.old) }
         ensures spare { self.old.spare ≤ self.new.spare }
     {
-        take_free(&mut self.items, holding)
+        self.queue.take_free(holding)
     }
-}
-
-// The index of the oldest item that is not deferred.
-fn first_free(items: &[Item], holding: &Holding) -> Option<usize>
-    ensures { result ≡ position (is_free holding.now) items.now }
-{
-    items.iter().position(|item| !defers(holding, item))
-}
-
-// Takes the oldest item that is not deferred.
-fn take_free(items: &mut Vec<Item>, holding: &Holding) -> Option<Item>
-    ensures first { result ≡ find (is_free holding.now) items.old.items }
-    ensures rest { items.new.items ≡ without_first (is_free holding.now) items.old.items }
-    ensures none { IfNone result ((items.new.items ≡ items.old.items) × (vec_len items.new ≡ vec_len items.old)) }
-    ensures len { vec_len items.new ≤ vec_len items.old }
-    ensures capacity { vec_capacity items.new ≡ vec_capacity items.old }
-{
-    let index = first_free(items.as_slice(), holding)?;
-    Some(items.remove(index))
-}
-
-// The index of the latest item that is a request of the new one's type and route.
-fn latest_alike(items: &[Item], new: &Item) -> Option<usize>
-    ensures { ReplacesAt Compress.All new.now items.now result }
-{
-    for index in (0..items.len()).rev() {
-        if are_alike(new, &items[index]) {
-            return Some(index);
-        }
+    /// Takes out all items and keeps none. It takes no memory, and there is never less room after it.
+    pub fn clear(&mut self)
+        ensures items { self.new.items ≡ [] }
+        ensures spare { self.old.spare ≤ self.new.spare }
+    {
+        self.queue.clear();
     }
-    None
-}
-
-// The index of the last item, where it is a request of the new one's type and route.
-fn last_alike(items: &[Item], new: &Item) -> Option<usize>
-    ensures { ReplacesAt Compress.Last new.now items.now result }
-{
-    let last = items.last()?;
-    if are_alike(new, last) {
-        Some(items.len() - 1)
-    } else {
-        None
-    }
-}
-
-// The index of the item that a new one replaces.
-fn replaced_index(items: &[Item], new: &Item, compress: Compress) -> Option<usize>
-    ensures { ReplacesAt compress new.now items.now result }
-{
-    match compress {
-        Compress::Plain => None,
-        Compress::Last => last_alike(items, new),
-        Compress::All => latest_alike(items, new),
-    }
-}
-
-// Puts an item last where there is room.
-fn push_spare(items: &mut Vec<Item>, item: Item)
-    requires { vec_len items.old < vec_capacity items.old }
-    ensures items { items.new.items ≡ items.old.items ++ item ∷ [] }
-    ensures len { vec_len items.new ≡ vec_len items.old + 1 }
-    ensures capacity { vec_capacity items.old ≤ vec_capacity items.new }
-{
-    if items.push(item).is_err() {
-        unreachable!();
-    }
-}
-
-// Puts an item last.
-fn append(items: &mut Vec<Item>, item: Item) -> Result<Pushed, PushFault>
-    ensures answer { IfOk result (λ pushed. pushed ≡ Pushed.Added) }
-    ensures items { OnOk result (items.new.items ≡ items.old.items ++ item ∷ []) }
-    ensures len { OnOk result (vec_len items.new ≡ vec_len items.old + 1) }
-    ensures capacity { vec_capacity items.old ≤ vec_capacity items.new }
-    ensures fault { IfErr result (λ fault. fault ≡ PushFault.NoMemory item) }
-    ensures unchanged { OnErr result ((items.new.items ≡ items.old.items) × (vec_len items.new ≡ vec_len items.old) × (vec_capacity items.new ≡ vec_capacity items.old)) }
-    ensures full { OnErr result (vec_capacity items.old ≤ vec_len items.old) }
-{
-    if items.reserve(1).is_err() {
-        return Err(PushFault::NoMemory(item));
-    }
-    push_spare(items, item);
-    Ok(Pushed::Added)
-}
-
-// Removes the item at the index, and puts a new one last in the room that it had.
-fn replace(items: &mut Vec<Item>, index: usize, new: Item) -> Item
-    requires { index < vec_len items.old }
-    ensures value { HoldsAt (λ old. result ≡ old) items.old.items index }
-    ensures items { items.new.items ≡ remove items.old.items index ++ new ∷ [] }
-    ensures len { vec_len items.new ≡ vec_len items.old }
-    ensures capacity { vec_capacity items.old ≤ vec_capacity items.new }
-{
-    let old = items.remove(index);
-    push_spare(items, new);
-    old
 }

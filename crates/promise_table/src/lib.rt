@@ -2,8 +2,10 @@
 #![tactic(auto)]
 
 mod laws;
+mod node;
 mod promise;
 mod promises;
+mod table;
 
 pub use laws::plain_forms_commute;
 pub use promise::{Outcome, Promise, Settling};

@@ -1,7 +1,7 @@
-ghost use Rattle.std.specs.Prelude.{◌≡◌, ◌≢◌, ◌↔◌, [], ◌∷◌, ◌++◌, ◌<◌, length, position, IfOk, OnOk, OnErr, HoldsAt, Some, None};
+//! The promises of one end, as its callers see them.
+ghost use Rattle.std.specs.Prelude.{◌≡◌, ◌≢◌, ◌↔◌, [], ◌∷◌, ◌++◌, IfOk, OnOk, OnErr};
 ghost use Rattle.promise_table.specs.Promises.{
   made,
-  has_number,
   is_pending,
   is_pending_of,
   IsUnmade,
@@ -13,7 +13,8 @@ ghost use Rattle.promise_table.specs.Promises.{
   with_rejected,
 };
 
-use crate::promise::{Outcome, Promise, Settling};
+use crate::promise::{Outcome, Settling};
+use crate::table::Table;
 use ipdl_base::Reason;
 use std::alloc::{AllocError, Global};
 use std::marker::Model;
@@ -22,7 +23,7 @@ use std::marker::Model;
 /// have one number. Only `new` and `make` take memory.
 #[derive(Drop)]
 pub struct Promises {
-    promises: Vec<Promise>,
+    table: Table,
 }
 
 impl Model for Promises {
@@ -36,9 +37,11 @@ impl Model for Promises {
 
     ghost coded = { Prim.hlevel (codes, values.the_row.coded) };
 
-    ghost view = { λ a. a.promises.items };
+    ghost use Rattle.promise_table.specs.Table.{promises_in, IsTable};
 
-    ghost invariant = { λ a. HaveDistinctNumbers a.promises.items };
+    ghost view = { λ a. promises_in a.table };
+
+    ghost invariant = { λ a. IsTable a.table × HaveDistinctNumbers (promises_in a.table) };
 }
 
 impl Promises {
@@ -47,7 +50,7 @@ impl Promises {
         ensures { IfOk result (λ promises. promises ≡ []) }
     {
         Ok(Promises {
-            promises: Vec::new(alloc),
+            table: Table::new(alloc),
         })
     }
 
@@ -58,12 +61,7 @@ impl Promises {
         ensures ok { OnOk result (self.new ≡ self.old ++ made seq actor ∷ []) }
         ensures err { OnErr result (self.new ≡ self.old) }
     {
-        self.promises.push(Promise {
-            seq,
-            actor,
-            outcome: None,
-        })?;
-        Ok(())
+        self.table.make(seq, actor)
     }
 
     /// Settles the promise of this number, and says how it found it. Only one that was pending
@@ -75,7 +73,7 @@ impl Promises {
         ensures unchanged { result ≢ Settling.Now → self.new ≡ self.old }
         ensures distinct { HaveDistinctNumbers self.new }
     {
-        settle_number(self.promises.as_mut_slice(), seq, outcome)
+        self.table.settle(seq, outcome)
     }
 
     /// One step of a rejection of the actor's promises: the oldest of them that pends is rejected and
@@ -85,7 +83,7 @@ impl Promises {
         ensures rejected { self.new ≡ with_rejected self.old result reason }
         ensures distinct { HaveDistinctNumbers self.new }
     {
-        reject_oldest_of(self.promises.as_mut_slice(), actor, reason)
+        self.table.reject_of(actor, reason)
     }
 
     /// One step of a rejection of all promises, of whatever actor: the oldest that pends is rejected
@@ -95,94 +93,6 @@ impl Promises {
         ensures rejected { self.new ≡ with_rejected self.old result reason }
         ensures distinct { HaveDistinctNumbers self.new }
     {
-        reject_oldest(self.promises.as_mut_slice(), reason)
+        self.table.reject_all(reason)
     }
-}
-
-// The index of the promise of this number.
-fn index_of(promises: &[Promise], seq: i32) -> Option<usize>
-    ensures { result ≡ position (has_number seq) promises.now }
-{
-    promises.iter().position(|promise| promise.seq == seq)
-}
-
-// The index of the actor's oldest pending promise.
-fn oldest_of(promises: &[Promise], actor: i32) -> Option<usize>
-    ensures { result ≡ position (is_pending_of actor) promises.now }
-{
-    promises.iter().position(|promise| promise.actor == actor && promise.outcome.is_none())
-}
-
-// The index of the oldest pending promise.
-fn oldest_pending(promises: &[Promise]) -> Option<usize>
-    ensures { result ≡ position is_pending promises.now }
-{
-    promises
-        .iter()
-        .position(|promise| promise.outcome.is_none())
-}
-
-// Gives the pending promise at the index, which has this number, its outcome.
-fn set_outcome(promises: &mut [Promise], index: usize, seq: i32, outcome: Outcome)
-    requires distinct { HaveDistinctNumbers promises.old }
-    requires in_range { index < length promises.old }
-    requires pending { HoldsAt (λ p. (p.seq ≡ seq) × (p.outcome ≡ None)) promises.old index }
-    ensures settled { promises.new ≡ with_settled promises.old seq outcome }
-    ensures distinct { HaveDistinctNumbers promises.new }
-{
-    promises[index].outcome = Some(outcome);
-}
-
-// Settles the promise of this number where it is pending, and says how it found it.
-fn settle_number(promises: &mut [Promise], seq: i32, outcome: Outcome) -> Settling
-    requires { HaveDistinctNumbers promises.old }
-    ensures answer { result ≡ settling_of (promise_of promises.old seq) }
-    ensures settled { promises.new ≡ with_settled promises.old seq outcome }
-    ensures unchanged { result ≢ Settling.Now → promises.new ≡ promises.old }
-    ensures distinct { HaveDistinctNumbers promises.new }
-{
-    let Some(index) = index_of(promises, seq) else {
-        return Settling::Unknown;
-    };
-    if promises[index].outcome.is_some() {
-        return Settling::Already;
-    }
-    set_outcome(promises, index, seq, outcome);
-    Settling::Now
-}
-
-// Rejects the pending promise at the index, and gives its number.
-fn reject_at(promises: &mut [Promise], index: usize, reason: Reason) -> i32
-    requires distinct { HaveDistinctNumbers promises.old }
-    requires in_range { index < length promises.old }
-    requires pending { HoldsAt (λ p. p.outcome ≡ None) promises.old index }
-    ensures seq { HoldsAt (λ p. result ≡ p.seq) promises.old index }
-    ensures rejected { promises.new ≡ with_settled promises.old result (Outcome.Rejected reason) }
-    ensures distinct { HaveDistinctNumbers promises.new }
-{
-    let seq = promises[index].seq;
-    set_outcome(promises, index, seq, Outcome::Rejected(reason));
-    seq
-}
-
-// Rejects the actor's oldest pending promise, and gives its number.
-fn reject_oldest_of(promises: &mut [Promise], actor: i32, reason: Reason) -> Option<i32>
-    requires { HaveDistinctNumbers promises.old }
-    ensures oldest { result ≡ oldest (is_pending_of actor) promises.old }
-    ensures rejected { promises.new ≡ with_rejected promises.old result reason }
-    ensures distinct { HaveDistinctNumbers promises.new }
-{
-    let index = oldest_of(promises, actor)?;
-    Some(reject_at(promises, index, reason))
-}
-
-// Rejects the oldest pending promise, and gives its number.
-fn reject_oldest(promises: &mut [Promise], reason: Reason) -> Option<i32>
-    requires { HaveDistinctNumbers promises.old }
-    ensures oldest { result ≡ oldest is_pending promises.old }
-    ensures rejected { promises.new ≡ with_rejected promises.old result reason }
-    ensures distinct { HaveDistinctNumbers promises.new }
-{
-    let index = oldest_pending(promises)?;
-    Some(reject_at(promises, index, reason))
 }

@@ -1,4 +1,4 @@
--- Which types are defined: those that have a finite value. The rule on definedness (B3).
+-- Which types are defined: those whose parts come to an end, in finitely many steps. The rule on definedness (B3).
 use Rattle.std.specs.Prelude.{◌≡◌, ℕ, ◌⊎◌, Bool, List, Option, Some}
 use Rattle.std.specs.List.{Any, Contains}
 use Rattle.ipdl_base.specs.declared.finding.Place.{Place}

@@ -1,0 +1,6 @@
+pub mod SyncCalls
+pub mod Rows
+pub mod SyncStack
+pub mod OpenEnds
+pub mod NestedWorlds
+pub mod Laws

@@ -1,0 +1,11 @@
+//! No end waits for ever: the law of nested calls for every sound schema and every run (docs/nesting.md), and what
+//! follows from it for replies, for still worlds and for ends that have closed or died. No function that runs.
+#![tactic(auto)]
+
+mod laws;
+
+pub use laws::{
+    ends_are_told_in_runs, last_packets_fail_all_waits, nested_worlds_stay, nesting_in_every_run,
+    replies_find_their_waits, sound_schemas_have_sound_rows, still_ends_wait_for_nothing,
+    still_histories_leave_no_end_waiting, sync_replies_are_not_stray, waits_give_way,
+};

@@ -1,0 +1,7 @@
+-- Keys are told apart by their test.
+use Rattle.std.proofs.lemmas.Bool.Decides.{Decides-eqb}
+use Rattle.linked_lists.specs.Places.{IsTest}
+use Rattle.linked_lists.specs.Links.{key_eq}
+
+pub key_test : IsTest key_eq
+key_test = Decides-eqb

@@ -1,0 +1,5 @@
+pub mod PlaceLemmas
+pub mod KeyTest
+pub mod ChainLemmas
+pub mod ChosenLemmas
+mod Walks

@@ -1,0 +1,10 @@
+//! Why two ends that call each other never wait for one another for ever, told of sync calls alone: what an end may do
+//! with them, the shapes that two ends can be in, and the laws of these (docs/nesting.md). No function that runs.
+#![tactic(auto)]
+
+mod laws;
+
+pub use laws::{
+    alone_stays, links_tell_of_ends, nesting_stays, nobody_is_stuck, one_gives_way,
+    replies_are_for_top,
+};
