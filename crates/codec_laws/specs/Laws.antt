@@ -54,3 +54,7 @@ OneOfThreeBegins = (layout : Layout) → HasLengths layout → (schema : Schema)
 -- The message of an old frame has a new frame.
 abbrev pub OldHasNew : Type 0
 OldHasNew = (schema : Schema) (message : Message) (frame : List ℕ) → FrameOf OLD schema message frame → FrameOf NEW schema message (frame_bytes NEW schema message)
+
+-- A message has the same frame wherever the boxes of its values lie.
+abbrev pub FramesLookAtNoBox : Type 0
+FramesLookAtNoBox = (layout : Layout) (schema : Schema) (message : Message) → frame_bytes layout schema (plain_message message) ≡ frame_bytes layout schema message

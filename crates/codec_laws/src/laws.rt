@@ -1,4 +1,4 @@
-ghost use Rattle.codec_laws.specs.Laws.{OneSpelling, ReadAgain, OneOfThreeBegins, OldHasNew};
+ghost use Rattle.codec_laws.specs.Laws.{FramesLookAtNoBox, OneSpelling, ReadAgain, OneOfThreeBegins, OldHasNew};
 
 /// The law of the spelling: a message has at most one frame in a layout, and it has as many bytes as
 /// its size says.
@@ -20,4 +20,9 @@ pub fn one_of_three_begins()
 /// The law of the two layouts: the message of an old frame has a new one.
 pub fn old_frames_have_new_ones()
     ensures { OldHasNew }
+{}
+
+/// The law of boxes: no frame looks at where a box of its message lies.
+pub fn frames_look_at_no_box()
+    ensures { FramesLookAtNoBox }
 {}

@@ -5,5 +5,6 @@
 mod laws;
 
 pub use laws::{
-    frames_are_read_again, frames_have_one_spelling, old_frames_have_new_ones, one_of_three_begins,
+    frames_are_read_again, frames_have_one_spelling, frames_look_at_no_box,
+    old_frames_have_new_ones, one_of_three_begins,
 };

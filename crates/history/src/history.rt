@@ -34,11 +34,12 @@ impl History {
         }
     }
 
-    /// Makes room for `n` more lines. The only error is want of memory; there is never less room
-    /// after it.
+    /// Makes room for `n` more lines. The only error is want of memory, which does not come where
+    /// there is that room; there is never less room after it.
     pub fn reserve(&mut self, n: usize) -> Result<(), AllocError>
         ensures lines { self.new.lines ≡ self.old.lines }
         ensures ok { OnOk result (n ≤ self.new.spare) }
+        ensures room { n ≤ self.old.spare → IsOk result }
         ensures spare { self.old.spare ≤ self.new.spare }
     {
         self.lines.reserve(n)

@@ -1,0 +1,13 @@
+pub mod SeekLemmas
+pub mod StackLemmas
+pub mod ResumedLemmas
+pub mod WaitLemmas
+pub mod ReleaseLemmas
+pub mod PromiseLemmas
+pub mod RequestLemmas
+pub mod RejectionLemmas
+pub mod FallLemmas
+pub mod FailLemmas
+pub mod NameLemmas
+pub mod ReadLemmas
+pub mod ReceiveLemmas

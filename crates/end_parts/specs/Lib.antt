@@ -1,0 +1,17 @@
+pub mod PlainLines
+pub mod OutputView
+pub mod MovedLines
+pub mod SoughtActors
+pub mod CopiedAnswers
+pub mod PromiseRequests
+pub mod Replies
+pub mod StackDetails
+pub mod Resumed
+pub mod NameContents
+pub mod NamesView
+pub mod Rejections
+pub mod Falls
+pub mod FailedWaits
+pub mod Refusals
+pub mod SentRequests
+pub mod PacketReading

@@ -1,0 +1,8 @@
+-- What contracts see of the names of an end.
+use Rattle.std.specs.Prelude.{ℕ, List}
+use Rattle.channel_model.specs.Ends.{Naming}
+
+-- the names with what they hold, and how many more there is room for
+pub record NamesView : Type 0 where
+  pub names : List Naming
+  pub spare : ℕ

@@ -1,0 +1,89 @@
+//! Packets as what they carry, and messages as packets.
+ghost use Rattle.std.specs.Prelude.{◌≡◌, IfOk};
+ghost use Rattle.channel_model.specs.Acts.{goodbye};
+ghost use Rattle.ipdl_base.specs.Plain.{plain_message};
+ghost use Rattle.ipdl_base.specs.Sound.{IsSound};
+ghost use Rattle.value_codec.specs.Spelling.{FrameOf, frame_bytes};
+ghost use Rattle.value_types.specs.Fits.{Fits};
+ghost use Rattle.end_parts.specs.PacketReading.{IsReading, packet_read};
+
+use crate::packet::Packet;
+use codec_laws::frames_look_at_no_box;
+use ipdl_base::{Body, Items, Message, Schema};
+use std::alloc::{AllocError, Global};
+use value_codec::{Decoded, decode, encode};
+use value_types::NEW;
+
+/// What a packet is.
+#[derive(Drop)]
+pub enum PacketReading {
+    /// A message that fits the schema.
+    Message(Message),
+    /// The mark that its sender has died.
+    Mark,
+    /// No frame of a message and nothing more: the offset and the rule of the first fault.
+    Bad(usize, u8),
+    NoMemory,
+}
+
+/// The rule that bytes break which are less than one frame, or more.
+const NOT_ONE_FRAME: u8 = 10;
+
+/// The number of a goodbye.
+const GOODBYE: u32 = 4294901760;
+
+/// What a packet is.
+pub fn read_packet(alloc: Global, schema: &Schema, packet: &Packet) -> PacketReading
+    requires { IsSound schema.now }
+    ensures { IsReading schema.now (packet_read schema.now packet.now) result }
+{
+    match packet {
+        Packet::Broken => PacketReading::Mark,
+        Packet::Bytes(frame) => {
+            let bytes = frame.as_slice();
+            match decode(alloc, schema, bytes) {
+                Decoded::Frame(message, size) => {
+                    if size == bytes.len() {
+                        PacketReading::Message(message)
+                    } else {
+                        PacketReading::Bad(size, NOT_ONE_FRAME)
+                    }
+                }
+                Decoded::Short(_) => PacketReading::Bad(bytes.len(), NOT_ONE_FRAME),
+                Decoded::Bad(offset, rule) => PacketReading::Bad(offset, rule),
+                Decoded::NoMemory => PacketReading::NoMemory,
+            }
+        }
+    }
+}
+
+/// The frame of a message.
+pub fn frame_of(alloc: Global, schema: &Schema, message: &Message) -> Result<Items<u8>, AllocError>
+    requires sound { IsSound schema.now }
+    requires fits { Fits schema.now message.now }
+    ensures frame { IfOk result (λ frame. frame ≡ frame_bytes NEW schema.now (plain_message message.now)) }
+    ensures spelling { IfOk result (λ frame. FrameOf NEW schema.now message.now frame) }
+{
+    frames_look_at_no_box();
+    let mut frame = Vec::new(alloc);
+    match encode(alloc, schema, message, &mut frame) {
+        Ok(()) => Ok(Items::from_vec(frame)),
+        Err(_) => Err(AllocError),
+    }
+}
+
+/// The frame of a goodbye.
+pub fn goodbye_frame(alloc: Global, schema: &Schema) -> Result<Items<u8>, AllocError>
+    requires { IsSound schema.now }
+    ensures { IfOk result (λ frame. frame ≡ frame_bytes NEW schema.now goodbye) }
+{
+    let message = Message {
+        route: 0,
+        number: GOODBYE,
+        seq: 0,
+        transaction: 0,
+        made: 0,
+        body: Body::Goodbye,
+    };
+    frame_of(alloc, schema, &message)
+}

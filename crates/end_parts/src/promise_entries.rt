@@ -1,0 +1,118 @@
+ghost use Rattle.std.specs.Prelude.{◌≡◌, ◌≢◌, [], ◌∷◌, ◌++◌, map, IfOk, OnOk, OnErr};
+ghost use Rattle.std.specs.List.{AllByRecursion, list_any};
+ghost use Rattle.promise_table.specs.Promises.{is_pending, is_pending_of, made};
+ghost use Rattle.promise_table.specs.Plain.{plain_outcome};
+ghost use Rattle.channel_model.specs.Refusals.{is_replied_to};
+ghost use Rattle.channel_model.specs.Takes.{is_awaited, settled_entry};
+ghost use Rattle.end_parts.specs.Replies.{is_promised_in};
+ghost use Rattle.end_parts.specs.PromiseRequests.{is_now, oldest_of, with_oldest_rejected};
+
+use crate::reply::{RequestKey, is_replied_to};
+use ipdl_base::{Message, Reason};
+use promise_table::{Outcome, Promises, Settling};
+use std::alloc::{AllocError, Global};
+use std::marker::Model;
+
+/// The promises of an end, with the messages of their requests. Contracts see the entries, oldest
+/// first, with their boxes at one place. Only `new` and `make` take memory.
+#[derive(Drop)]
+pub struct PromiseEntries {
+    promises: Promises,
+    /// The request of each, in the same order.
+    requests: Vec<RequestKey>,
+}
+
+impl Model for PromiseEntries {
+    ghost use Rattle.std.specs.Prelude.{List};
+    ghost use Rattle.channel_model.specs.Ends.{PromiseEntry};
+    ghost use Rattle.end_parts.specs.PromiseRequests.{entries_of, AreRequestsOf};
+    ghost use Rattle.promise_table.specs.Promises.{HaveDistinctNumbers};
+    ghost use Rattle.ipdl_base.specs.contracts.value.Values as values;
+    ghost use Rattle.std.specs.Coded.{codes};
+
+    ghost Value = { List PromiseEntry };
+
+    ghost coded = { Prim.hlevel (codes, values.the_row.coded) };
+
+    ghost view = { λ a. entries_of a.promises a.requests.items };
+
+    ghost invariant = { λ a. AreRequestsOf a.promises a.requests.items × HaveDistinctNumbers a.promises };
+}
+
+impl PromiseEntries {
+    /// No promise.
+    pub fn new(alloc: Global) -> Result<PromiseEntries, AllocError>
+        ensures { IfOk result (λ entries. entries ≡ []) }
+    {
+        Ok(PromiseEntries {
+            promises: Promises::new(alloc)?,
+            requests: Vec::new(alloc),
+        })
+    }
+
+    /// Makes a pending promise of a number that none has, for a request of this message. It goes
+    /// last. Want of memory changes nothing.
+    pub fn make(&mut self, seq: i32, actor: i32, number: u32) -> Result<(), AllocError>
+        requires { AllByRecursion (λ e. e.promise.seq ≢ seq) self.old }
+        ensures ok { OnOk result (self.new ≡ self.old ++ record { promise = made seq actor; number = number } ∷ []) }
+        ensures err { OnErr result (self.new ≡ self.old) }
+    {
+        self.requests.reserve(1)?;
+        self.promises.make(seq, actor)?;
+        self.requests.push(RequestKey {
+            seq,
+            route: actor,
+            number,
+        })?;
+        Ok(())
+    }
+
+    /// Rejects the oldest that pends, and gives its number; `None` where none pends.
+    pub fn reject_next(&mut self, reason: Reason) -> Option<i32>
+        ensures oldest { result ≡ oldest_of is_pending self.old }
+        ensures rejected { self.new ≡ with_oldest_rejected is_pending reason self.old }
+    {
+        self.promises.reject_all(reason)
+    }
+
+    /// Rejects the oldest of an actor that pends, and gives its number; `None` where none of them
+    /// pends.
+    pub fn reject_next_of(&mut self, actor: i32, reason: Reason) -> Option<i32>
+        ensures oldest { result ≡ oldest_of (is_pending_of actor) self.old }
+        ensures rejected { self.new ≡ with_oldest_rejected (is_pending_of actor) reason self.old }
+    {
+        self.promises.reject_of(actor, reason)
+    }
+
+    /// Settles the promise of a number, if it pends, and says whether it did.
+    pub fn settle(&mut self, seq: i32, outcome: Outcome) -> bool
+        ensures awaited { result ≡ is_awaited seq self.old }
+        ensures settled { self.new ≡ map (settled_entry seq (plain_outcome outcome)) self.old }
+    {
+        is_now(self.promises.settle(seq, outcome))
+    }
+
+    /// Whether a promise, settled or not, was made for the reply.
+    pub fn is_promised(&self, reply: &Message) -> bool
+        ensures { result ≡ is_promised_in self.now reply.now }
+    {
+        is_any_replied_to(self.requests.as_slice(), reply)
+    }
+}
+
+// Whether a settling found its promise pending.
+fn is_now(settling: Settling) -> bool
+    ensures { result ≡ is_now settling }
+{
+    match settling {
+        Settling::Now => true,
+        Settling::Already | Settling::Unknown => false,
+    }
+}
+
+// Whether a reply is one to any of the requests.
+fn is_any_replied_to(requests: &[RequestKey], reply: &Message) -> bool
+    ensures { result ≡ list_any (λ r. is_replied_to reply.now r.seq r.number r.route) requests.now }
+{
+    requests.iter().any(|request| is_replied_to(reply, request))
+}

@@ -1,0 +1,57 @@
+ghost use Rattle.std.specs.Prelude.{IfOk};
+ghost use Rattle.ipdl_base.specs.Sound.{IsSound};
+
+use ipdl_base::{MemoryFiles, Schema};
+use schema_of_text::schema_of;
+use std::alloc::Global;
+use std::test::Fail;
+
+/// The id of the top actor.
+pub const TOP: i32 = 2147483647;
+
+/// The numbers of the messages of the top protocol, which has the number 1: a constructor, one with a
+/// promise and one that is sync.
+pub const KID: u32 = 65536;
+
+pub const ASK: u32 = 65538;
+
+pub const CALL: u32 = 65540;
+
+/// The files of the one program. Its protocols are numbered by their names.
+const FILES: &[(&str, &str)] = &[
+    (
+        "PTop.ipdl",
+        "include protocol PKid;
+[NestedUpTo=inside_cpow] sync protocol PTop {
+  manages PKid;
+both:
+  async PKid();
+  async Ask(nullable PKid k) returns (bool b);
+parent:
+  [Nested=inside_sync] sync Call(PKid k) returns (nullable PKid r);
+};
+",
+    ),
+    (
+        "PKid.ipdl",
+        "include protocol PTop;
+protocol PKid {
+  manager PTop;
+both:
+  async __delete__();
+};
+",
+    ),
+];
+
+/// The schema of the one program.
+pub fn the_schema(alloc: Global) -> Result<Schema, Fail>
+    ensures { IfOk result IsSound }
+{
+    let mut files = Vec::new(alloc);
+    for (name, text) in FILES {
+        let name = String::from_str(alloc, name)?;
+        files.push((name, Vec::from_slice(alloc, text.as_bytes())?))?;
+    }
+    schema_of(alloc, MemoryFiles::new(files, Vec::new(alloc)), "PTop.ipdl")
+}
