@@ -3,7 +3,7 @@ use Rattle.std.proofs.Common.{◌≡◌, List, [], ◌∷◌, ◌++◌, Option, 
 use Rattle.ipdl_base.specs.declared.schema.Schema.{Schema}
 use Rattle.channel_model.specs.Ends.{World, opening}
 use Rattle.channel_model.specs.Events.{Move}
-use Rattle.channel_model.specs.Laws.{ImpossibleMovesChangeNothing, MovesFollow, MovesGoOneAfterAnother, EveryRunIsLegal}
+use Rattle.channel_model.specs.Laws.{ImpossibleMovesChangeNothing, MovesFollow, MovesGoOneAfterAnother, HistoriesGrow}
 use Rattle.channel_model.specs.Outputs.{Output}
 use Rattle.channel_model.specs.Runs.{RunState, output_of, passed_by, happens, run}
 
@@ -27,8 +27,5 @@ moves_follow schema (move ∷ front) back world =
 pub moves_go_one_after_another : MovesGoOneAfterAnother
 moves_go_one_after_another schema front back world = moves_follow schema front back world
 
-pub every_run_is_legal : EveryRunIsLegal
-every_run_is_legal = record {
-  legal = λ schema top moves. (moves, refl);
-  front = λ schema top front back. ((run schema back (run schema front (opening top)).world).lines, (moves_follow schema front back (opening top)).lines);
-}
+pub histories_grow : HistoriesGrow
+histories_grow schema top front back = ((run schema back (run schema front (opening top)).world).lines, (moves_follow schema front back (opening top)).lines)

@@ -28,18 +28,18 @@ not_top Parent k e = let f : 4 * k + 2 ≡ 2147483647 = cc in absurd (omega arit
 not_top Child k e = let f : 4 * k ≡ 2147483647 = cc in absurd (omega arith)
 
 more_ids : (side : Side) (n m : ℕ) (id : ℤ) → n ≤ m → IsIdOf side n id → IsIdOf side m id
-more_ids side n m id h (k, low, e) = (k, omega arith, e)
+more_ids side n m id h (k, one, low, e) = (k, one, omega arith, e)
 
 -- the next id of this side is not taken, and neither is that of the other side
 own_is_free : (ids : Ids) → ¬ IsTaken ids (id_of ids.side (ids.sent + 1))
 own_is_free ids (inl e) = not_top ids.side (ids.sent + 1) e
-own_is_free ids (inr (inl (k, low, e))) = let f : ids.sent + 1 ≡ k = same_id ids.side (ids.sent + 1) k e in absurd (omega arith)
-own_is_free ids (inr (inr (k, low, e))) = ids_apart ids.side (ids.sent + 1) k e
+own_is_free ids (inr (inl (k, one, low, e))) = let f : ids.sent + 1 ≡ k = same_id ids.side (ids.sent + 1) k e in absurd (omega arith)
+own_is_free ids (inr (inr (k, one, low, e))) = ids_apart ids.side (ids.sent + 1) k e
 
 others_is_free : (ids : Ids) → ¬ IsTaken ids (id_of (other ids.side) (ids.delivered + 1))
 others_is_free ids (inl e) = not_top (other ids.side) (ids.delivered + 1) e
-others_is_free ids (inr (inl (k, low, e))) = ids_apart ids.side k (ids.delivered + 1) (sym e)
-others_is_free ids (inr (inr (k, low, e))) = let f : ids.delivered + 1 ≡ k = same_id (other ids.side) (ids.delivered + 1) k e in absurd (omega arith)
+others_is_free ids (inr (inl (k, one, low, e))) = ids_apart ids.side k (ids.delivered + 1) (sym e)
+others_is_free ids (inr (inr (k, one, low, e))) = let f : ids.delivered + 1 ≡ k = same_id (other ids.side) (ids.delivered + 1) k e in absurd (omega arith)
 
 -- Lists
 
@@ -145,10 +145,10 @@ known-own protocol ids a h is manager =
       top = all-append (IsTopOf protocol) ids.actors (a ∷ []) h.top ((λ e. absurd (not_top ids.side (ids.sent + 1) (sym is ∙ e))), tt);
       taken = λ id k. elim (living-append id ids.actors a k) [
         | inl before ↦ (known-counted protocol ids h).taken id before
-        | inr e ↦ inr (inl (ids.sent + 1, omega arith, sym e ∙ is))
+        | inr e ↦ inr (inl (ids.sent + 1, omega arith, omega arith, sym e ∙ is))
       ];
       waiting = all-map (IsNew ids) (IsNew (record ids { sent = ids.sent + 1; actors = ids.actors ++ a ∷ [] })) ids.waiting
-          (λ id new. (new.0, dead-append id ids.actors a new.1 (λ e. ids_apart ids.side (ids.sent + 1) new.0.0 (sym is ∙ sym e ∙ new.0.2)))) h.waiting;
+          (λ id new. (new.0, dead-append id ids.actors a new.1 (λ e. ids_apart ids.side (ids.sent + 1) new.0.0 (sym is ∙ sym e ∙ new.0.3)))) h.waiting;
       distinct = h.distinct;
     }
 
@@ -162,7 +162,7 @@ known-arrived protocol ids a before behind h is manager =
     let rest : AllByRecursion (IsNew ids) (before ++ behind) = all-append (IsNew ids) before behind (all-before (IsNew ids) before (a.id ∷ behind) waiting) (all-behind (IsNew ids) before (a.id ∷ behind) waiting).1 in
     record {
       tree = IsTree-append ids.actors a h.tree own.1 manager;
-      top = all-append (IsTopOf protocol) ids.actors (a ∷ []) h.top ((λ e. absurd (not_top (other ids.side) own.0.0 (sym own.0.2 ∙ e))), tt);
+      top = all-append (IsTopOf protocol) ids.actors (a ∷ []) h.top ((λ e. absurd (not_top (other ids.side) own.0.0 (sym own.0.3 ∙ e))), tt);
       taken = λ id k. elim (living-append id ids.actors a k) [
         | inl lived ↦ h.taken id lived
         | inr e ↦ inr (inr (subst (IsIdOf (other ids.side) ids.delivered) e own.0))
@@ -198,7 +198,7 @@ known-arrives protocol ids some made h s is =
       ];
       waiting = all-append (IsNew new) some (made ∷ [])
           (all-map (IsNew ids) (IsNew new) some (λ id old. (more_ids (other ids.side) ids.delivered (ids.delivered + 1) id (omega arith) old.0, old.1)) fewer)
-          (((ids.delivered + 1, omega arith, is), free), tt);
+          (((ids.delivered + 1, omega arith, omega arith, is), free), tt);
       distinct = distinct-last some made (distinct-sublist some ids.waiting s h.distinct)
           (all-map (IsNew ids) (λ x. x ≢ made) some (λ id old e. others_is_free ids (inr (inr (subst (IsIdOf (other ids.side) ids.delivered) (e ∙ is) old.0)))) fewer);
     }

@@ -20,3 +20,11 @@ pub mod InState
 pub mod StateSteps
 pub mod Numbered
 pub mod RunsKeep
+pub mod Made
+pub mod NameParts
+pub mod SendParts
+pub mod DeliveryParts
+pub mod TakeParts
+pub mod StepParts
+pub mod TypedValues
+pub mod SoundRows

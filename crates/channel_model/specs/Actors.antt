@@ -42,7 +42,7 @@ ids_of schema e = record { side = e.side; actors = e.actors; sent = e.constructo
 
 -- an id is that of one of the first n actors that a side constructs
 abbrev pub IsIdOf : Side → ℕ → ℤ → Type 0
-IsIdOf side n id = (k : ℕ) × (k ≤ n) × (id ≡ id_of side k)
+IsIdOf side n id = (k : ℕ) × (1 ≤ k) × (k ≤ n) × (id ≡ id_of side k)
 
 -- an id is taken: by the top actor, or by one that a side has constructed
 abbrev pub IsTaken : Ids → ℤ → Type 0

@@ -14,7 +14,7 @@ use Rattle.nesting_core.specs.Plain.{plain_answer}
 use Rattle.value_types.specs.HasType.{HasType, HaveTypes}
 use Rattle.channel_model.specs.Ends.{World}
 use Rattle.channel_model.specs.Events.{Move}
-use Rattle.channel_model.specs.Runs.{output_of, happens, run, history_of, IsLegalHistory}
+use Rattle.channel_model.specs.Runs.{output_of, happens, run, history_of}
 use Rattle.channel_model.specs.Typed as typed
 use Rattle.channel_model.specs.ValueActors as actors
 
@@ -38,10 +38,9 @@ pub record MovesFollow (schema : Schema) (front back : List Move) (from : World)
 abbrev pub MovesGoOneAfterAnother : Type 0
 MovesGoOneAfterAnother = (schema : Schema) (front back : List Move) (world : World) → MovesFollow schema front back world
 
--- Every list of moves has one history, which is legal, and each history of a front of the moves is a front of it.
-pub record EveryRunIsLegal : Type 0 where
-  pub legal : (schema : Schema) (top : ℕ) (moves : List Move) → IsLegalHistory schema top (history_of schema top moves)
-  pub front : (schema : Schema) (top : ℕ) (front back : List Move) → (rest : List Line) × (history_of schema top (front ++ back) ≡ history_of schema top front ++ rest)
+-- Histories grow: that of a front of the moves is a front of that of all.
+abbrev pub HistoriesGrow : Type 0
+HistoriesGrow = (schema : Schema) (top : ℕ) (front back : List Move) → (rest : List Line) × (history_of schema top (front ++ back) ≡ history_of schema top front ++ rest)
 
 -- What values say of types and actors does not hang on where their boxes lie: each of these gives the same on the plain
 -- values, or the plain form of what it gives.

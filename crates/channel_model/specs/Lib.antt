@@ -21,3 +21,6 @@ pub mod StepLaws
 pub mod Actors
 pub mod States
 pub mod Requests
+pub mod Phases
+pub mod Parts
+pub mod Fitting

@@ -1,15 +1,21 @@
 -- What follows from the steps of ends, for every schema and every list of moves.
-use Rattle.std.specs.Prelude.{◌≡◌, ◌≢◌, ℕ, List, Some, None}
+use Rattle.std.specs.Prelude.{◌≡◌, ◌≢◌, ℕ, ◌<◌, true, List, map, Some, None}
 use Rattle.std.specs.List.{AllByRecursion}
 use Rattle.ipdl_base.specs.declared.kinds.Side.{Side}
+use Rattle.ipdl_base.specs.declared.line.What.{What}
 use Rattle.ipdl_base.specs.declared.schema.Schema.{Schema}
+use Rattle.ipdl_base.specs.Sound.{IsSound}
 use Rattle.channel_model.specs.Ends.{End, Packet, opening, opening_end}
 use Rattle.channel_model.specs.Events.{Event, Move}
-use Rattle.channel_model.specs.Outputs.{Output}
+use Rattle.channel_model.specs.Events as event
+use Rattle.channel_model.specs.Outputs.{Output, line_at, is_open}
+use Rattle.channel_model.specs.Parts.{OwnParts, DeliveryPart}
+use Rattle.channel_model.specs.Phases.{Phase}
 use Rattle.channel_model.specs.Runs.{run, history_of}
 use Rattle.channel_model.specs.Sends.{next_seq}
-use Rattle.channel_model.specs.Steps.{step}
+use Rattle.channel_model.specs.Steps.{step, first_packet}
 use Rattle.channel_model.specs.Actors.{IsAccepted, AreKnown, ids_of}
+use Rattle.channel_model.specs.Fitting.{IsFitting, FitsPacket, IsFittingDelivery}
 use Rattle.channel_model.specs.EventLines.{IsEventWithEffects, EffectsFollow}
 use Rattle.channel_model.specs.Requests.{AreNumbered, requests_of}
 use Rattle.channel_model.specs.States.{IsInState}
@@ -26,6 +32,27 @@ EventsHaveTheirLines =
 -- In every history each effect stands behind an event of its side, or behind another effect of that event.
 abbrev pub EffectsFollowEvents : Type 0
 EffectsFollowEvents = (schema : Schema) (top : ℕ) (moves : List Move) → EffectsFollow None (history_of schema top moves)
+
+-- Parts make what a step makes: its lines on the end's side, its packets and the end behind it.
+pub record IsMadeOf (Parts : List What → List Packet → End → Phase → Type 0) (side : Side) (output : Output) : Type 0 where
+  pub whats : List What
+  pub phase : Phase
+  pub parts : Parts whats output.packets output.end phase
+  pub lines : output.lines ≡ map (line_at side) whats
+
+-- the delivery of the first packet on the link to an open end is one part
+abbrev pub IsDeliveryOfOnePart : Schema → End → List Packet → Output → Type 0
+IsDeliveryOfOnePart schema e link output = (packet : Packet) × (first_packet link ≡ Some packet) × (is_open e.state ≡ true) × IsMadeOf (DeliveryPart schema packet e) e.side output
+
+-- what an event makes, as parts
+abbrev pub IsStepOfParts : Schema → End → List Packet → Event → Output → Type 0
+IsStepOfParts schema e link event.deliver output = IsDeliveryOfOnePart schema e link output
+IsStepOfParts schema e link _ output = IsMadeOf (OwnParts schema e) e.side output
+
+-- Every step is made of parts: a delivery is one, and all else is one that it begins with and others that may follow.
+abbrev pub StepsAreChains : Type 0
+StepsAreChains =
+    (schema : Schema) (e : End) (link : List Packet) (event : Event) (output : Output) → step schema e link event ≡ Some output → IsStepOfParts schema e link event output
 
 -- Actors stay known: a step whose packet, if it delivers one, is not refused keeps them so.
 abbrev pub KnownActorsStay : Type 0
@@ -60,3 +87,19 @@ abbrev pub NumbersInEveryRun : Type 0
 NumbersInEveryRun =
     (schema : Schema) (top : ℕ) (moves : List Move)
     → AreNumbered (requests_of (run schema moves (opening top)).world.parent) × AreNumbered (requests_of (run schema moves (opening top)).world.child)
+
+-- A step leaves an end that fits, and each of its packets fits.
+pub record FitsOutput (schema : Schema) (output : Output) : Type 0 where
+  pub end : IsFitting schema output.end
+  pub packets : AllByRecursion (FitsPacket schema) output.packets
+
+-- What an end keeps and sends fits a sound schema, while it has sent less than 2^28 requests and nothing is delivered
+-- that does not fit or is refused.
+abbrev pub FittingEndsStay : Type 0
+FittingEndsStay =
+    (schema : Schema) (e : End) (link : List Packet) (event : Event) (output : Output)
+    → step schema e link event ≡ Some output → IsSound schema → e.sent < 268435456 → IsFittingDelivery schema e link event → IsFitting schema e → FitsOutput schema output
+
+-- An end fits as it begins.
+abbrev pub FirstEndsFit : Type 0
+FirstEndsFit = (schema : Schema) (protocol : ℕ) (side : Side) → IsFitting schema (opening_end protocol side)

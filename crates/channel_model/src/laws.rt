@@ -1,4 +1,4 @@
-ghost use Rattle.channel_model.specs.Laws.{DecidesTypes, EveryRunIsLegal, ImpossibleMovesChangeNothing, MovesGoOneAfterAnother, PlainFormsCommute};
+ghost use Rattle.channel_model.specs.Laws.{DecidesTypes, HistoriesGrow, ImpossibleMovesChangeNothing, MovesGoOneAfterAnother, PlainFormsCommute};
 
 /// The law of typed values: the test that steps make is true exactly where values have their types.
 pub fn decides_types()
@@ -15,9 +15,9 @@ pub fn moves_go_one_after_another()
     ensures { MovesGoOneAfterAnother }
 {}
 
-/// The law of histories: every list of moves makes one, and those of its fronts are fronts of it.
-pub fn every_run_is_legal()
-    ensures { EveryRunIsLegal }
+/// The law of histories: that of a front of the moves is a front of that of all.
+pub fn histories_grow()
+    ensures { HistoriesGrow }
 {}
 
 /// The law of plain forms: what values say of types and actors does not hang on where their boxes lie.

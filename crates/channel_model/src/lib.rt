@@ -8,10 +8,11 @@ mod step_laws;
 
 pub use ipdl_base::EndState;
 pub use laws::{
-    decides_types, every_run_is_legal, impossible_moves_change_nothing, moves_go_one_after_another,
+    decides_types, histories_grow, impossible_moves_change_nothing, moves_go_one_after_another,
     plain_forms_commute,
 };
 pub use step_laws::{
     effects_follow_events, events_have_their_lines, first_actors_are_known, first_states,
     known_actors_stay, next_number_is_free, numbers_in_every_run, numbers_stay, states_stay,
+    steps_are_chains,
 };

@@ -1,4 +1,10 @@
-ghost use Rattle.channel_model.specs.StepLaws.{EffectsFollowEvents, EventsHaveTheirLines, FirstActorsAreKnown, FirstStates, KnownActorsStay, NextNumberIsFree, NumbersInEveryRun, NumbersStay, StatesStay};
+ghost use Rattle.channel_model.specs.StepLaws.{EffectsFollowEvents, EventsHaveTheirLines, FirstActorsAreKnown, FirstStates, KnownActorsStay, NextNumberIsFree, NumbersInEveryRun, NumbersStay, StatesStay, StepsAreChains};
+
+/// The law of parts: every step is made of parts; a delivery is one, and all else is one that it begins with and others
+/// that may follow.
+pub fn steps_are_chains()
+    ensures { StepsAreChains }
+{}
 
 /// The law of an event's lines: one line of the event and then those of its effects, all of the end's side.
 pub fn events_have_their_lines()
