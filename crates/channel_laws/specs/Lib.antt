@@ -4,3 +4,6 @@ pub mod SyncStack
 pub mod OpenEnds
 pub mod NestedWorlds
 pub mod Laws
+pub mod EndLines
+pub mod Counts
+pub mod Arrivals
