@@ -19,3 +19,8 @@ pub mod GivingWay
 pub mod EndsTold
 mod WorkedSchema
 mod Worked
+pub mod Counting
+pub mod Leaving
+pub mod EffectLines
+pub mod Replacing
+pub mod Arriving

@@ -13,11 +13,10 @@ use Rattle.pending_queue.specs.declared.item.Item.TheVariants as item
 use Rattle.channel_model.specs.Ends.{End, Packet, message, mark}
 use Rattle.channel_model.specs.Numbers.{other, is_sync_row}
 use Rattle.channel_model.specs.Refusals.{expected_seq}
-use Rattle.channel_model.specs.Requests.{IsSeqOf}
 use Rattle.history_reading.specs.declared.parts.PacketKind.{PacketKind}
 use Rattle.history_reading.specs.declared.parts.PacketKind.TheVariants as kind
 use Rattle.history_reading.specs.EndReading.{EndReading, is_sync_request}
-use Rattle.channel_laws.specs.Counts.{how_many, is_number, is_packet}
+use Rattle.channel_laws.specs.Counts.{how_many, is_number, is_packet, AreNumberedOnce}
 
 -- what a line shows of a message, and of what has arrived
 abbrev pub body_kind : ℤ → Body → PacketKind
@@ -74,8 +73,7 @@ pub record HasArrivals (side : Side) (items : List Item) (count : ℕ) (a : Arri
   pub async : AllByRecursion IsNoSyncReply items
   pub requests : (n : ℤ) → requests_in a n ≤ requests_delivered a n
   pub replies : (n : ℤ) → replies_in a n ≤ replies_delivered a n
-  pub once : (n : ℤ) → requests_delivered a n ≤ 1
-  pub counted : (n : ℤ) → 1 ≤ requests_delivered a n → IsSeqOf (other side) count n
+  pub numbered : AreNumberedOnce (other side) count (requests_delivered a)
 
 abbrev pub ArrivalsAreRead : End → EndReading → Type 0
 ArrivalsAreRead e own = HasArrivals e.side e.arrived e.delivered (arrival_reading own)

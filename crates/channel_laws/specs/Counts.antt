@@ -1,6 +1,8 @@
 -- How many of a list pass a test.
-use Rattle.std.specs.Prelude.{ℕ, ◌+◌, ℤ, Bool, cond, List, [], ◌∷◌}
+use Rattle.std.specs.Prelude.{ℕ, ◌+◌, ◌≤◌, ℤ, Bool, cond, List, [], ◌∷◌}
 use Rattle.std.specs.Ordering.{int_eq}
+use Rattle.ipdl_base.specs.declared.kinds.Side.{Side}
+use Rattle.channel_model.specs.Requests.{IsSeqOf}
 use Rattle.history_reading.specs.declared.parts.PacketKind.{PacketKind}
 use Rattle.history_reading.specs.Numbers.{same_packet}
 
@@ -20,3 +22,8 @@ is_number n m = int_eq m n
 -- whether a packet shows the same as this one
 abbrev pub is_packet : PacketKind → PacketKind → Bool
 is_packet one p = same_packet p one
+
+-- Each number that is counted is that of one of the first so many requests of a side, and is counted once.
+pub record AreNumberedOnce (side : Side) (sent : ℕ) (count : ℤ → ℕ) : Type 0 where
+  pub once : (n : ℤ) → count n ≤ 1
+  pub known : (n : ℤ) → 1 ≤ count n → IsSeqOf side sent n
