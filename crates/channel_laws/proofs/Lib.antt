@@ -19,3 +19,4 @@ pub mod GivingWay
 pub mod EndsTold
 mod WorkedSchema
 mod Worked
+pub mod Testing

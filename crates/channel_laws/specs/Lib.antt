@@ -4,3 +4,12 @@ pub mod SyncStack
 pub mod OpenEnds
 pub mod NestedWorlds
 pub mod Laws
+pub mod Tested
+pub mod Outlines
+pub mod Notes
+pub mod Origins
+pub mod SentAccounts
+pub mod Delivered
+pub mod TwoEnds
+pub mod NextPackets
+pub mod WaitOrder
