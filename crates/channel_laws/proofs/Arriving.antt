@@ -23,8 +23,9 @@ use Rattle.history_reading.specs.declared.parts.PacketKind.{PacketKind}
 use Rattle.history_reading.specs.declared.parts.PacketKind.TheVariants as kind
 use Rattle.history_reading.specs.Numbers.{same_packet}
 use Rattle.history_reading.specs.Reading as reads
+use Rattle.channel_laws.specs.Delivered.{body_kind}
 use Rattle.channel_laws.specs.Counts.{one_if, how_many, is_number, is_packet, AreNumberedOnce}
-use Rattle.channel_laws.specs.Arrivals.{body_kind, item_kind, ArrivalReading, requests_in, requests_delivered, replies_in, replies_delivered, IsAsyncReply, IsNoSyncReply, HasArrivals}
+use Rattle.channel_laws.specs.Arrivals.{item_kind, ArrivalReading, requests_in, requests_delivered, replies_in, replies_delivered, IsAsyncReply, IsNoSyncReply, HasArrivals}
 use Rattle.channel_laws.proofs.Counting.{many-append, many-middle, many-last, none-passes, next-once, fewer-once}
 use Rattle.channel_laws.proofs.Leaving.{TakenFrom, FirstTaken, ShowOthers, leaves-alike, same_packet-refl}
 

@@ -23,7 +23,7 @@ use Rattle.channel_model.specs.Takes.{settle_line}
 use Rattle.channel_model.proofs.Known.{all-append}
 use Rattle.history_reading.specs.EndReading.{EndReading}
 use Rattle.history_reading.specs.Reading.{after_what}
-use Rattle.channel_laws.specs.EndLines.{after_whats}
+use Rattle.channel_laws.specs.Tested.{after_whats}
 
 -- A line of an effect, but for that of a request that is replaced.
 pub data IsEffectLine : What → Type 0 where

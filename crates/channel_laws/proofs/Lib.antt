@@ -19,6 +19,7 @@ pub mod GivingWay
 pub mod EndsTold
 mod WorkedSchema
 mod Worked
+pub mod Testing
 pub mod Counting
 pub mod Leaving
 pub mod EffectLines

@@ -16,15 +16,10 @@ use Rattle.channel_model.specs.Refusals.{expected_seq}
 use Rattle.history_reading.specs.declared.parts.PacketKind.{PacketKind}
 use Rattle.history_reading.specs.declared.parts.PacketKind.TheVariants as kind
 use Rattle.history_reading.specs.EndReading.{EndReading, is_sync_request}
+use Rattle.channel_laws.specs.Delivered.{body_kind}
 use Rattle.channel_laws.specs.Counts.{how_many, is_number, is_packet, AreNumberedOnce}
 
--- what a line shows of a message, and of what has arrived
-abbrev pub body_kind : ℤ → Body → PacketKind
-body_kind seq (Request vs) = kind.Request seq
-body_kind seq (Reply vs) = kind.Reply seq
-body_kind seq (Fault reason) = kind.Reply seq
-body_kind seq Goodbye = kind.Goodbye
-
+-- what lines show of what has arrived
 abbrev pub item_kind : Item → PacketKind
 item_kind (item.Message m sync level) = body_kind m.seq m.body
 item_kind item.Broken = kind.Broken

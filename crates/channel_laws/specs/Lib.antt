@@ -4,6 +4,14 @@ pub mod SyncStack
 pub mod OpenEnds
 pub mod NestedWorlds
 pub mod Laws
-pub mod EndLines
+pub mod Tested
+pub mod Outlines
+pub mod Notes
+pub mod Origins
+pub mod SentAccounts
+pub mod Delivered
+pub mod TwoEnds
+pub mod NextPackets
+pub mod WaitOrder
 pub mod Counts
 pub mod Arrivals
