@@ -1,5 +1,5 @@
 -- The first that shows a packet leaves what has arrived, in the end as in the reading.
-use Rattle.std.proofs.Common.{◌≡◌, ℕ, suc, ◌+◌, ◌<◌, Bool, true, false, not, cond, if◌then◌else◌, List, [], ◌∷◌, ◌++◌, find, length, map, take, Option, Some, None, is_some, option_and_then, refl, sym, ap, ◌∙◌, arith}
+use Rattle.std.proofs.Common.{◌≡◌, ℕ, suc, ◌+◌, ◌<◌, Bool, true, false, not, cond, if◌then◌else◌, List, [], ◌∷◌, ◌++◌, find, length, map, take, Option, Some, None, is_some, option_and_then, refl, sym, ap, ◌∙◌, append_assoc, arith}
 use Rattle.std.specs.Prelude.{position, remove, nat_lt, slice_get}
 use Rattle.std.specs.List.{AllByRecursion, list_any, position_or_len, prefix_len}
 use Rattle.std.specs.Option.{option_map_or}
@@ -25,6 +25,15 @@ pub record TakenFrom (items rest : List Item) (x : Item) : Type 0 where
 -- one more item before
 abbrev pub taken-behind : (items rest : List Item) (x y : Item) → TakenFrom items rest x → TakenFrom (y ∷ items) (y ∷ rest) x
 taken-behind items rest x y t = record { front = y ∷ t.front; back = t.back; whole = ap (λ (zs : List Item). y ∷ zs) t.whole; left = ap (λ (zs : List Item). y ∷ zs) t.left }
+
+-- more items behind
+abbrev pub taken-before : (items rest more : List Item) (x : Item) → TakenFrom items rest x → TakenFrom (items ++ more) (rest ++ more) x
+taken-before items rest more x t = record {
+  front = t.front;
+  back = t.back ++ more;
+  whole = ap (λ (zs : List Item). zs ++ more) t.whole ∙ append_assoc t.front (x ∷ t.back) more;
+  left = ap (λ (zs : List Item). zs ++ more) t.left ∙ append_assoc t.front t.back more;
+}
 
 -- The first that passes is taken, and none before it passes.
 pub record FirstTaken (test : Item → Bool) (items : List Item) (x : Item) : Type 0 where

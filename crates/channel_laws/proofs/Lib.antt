@@ -25,3 +25,4 @@ pub mod Leaving
 pub mod EffectLines
 pub mod Replacing
 pub mod Arriving
+pub mod ArrivalParts
