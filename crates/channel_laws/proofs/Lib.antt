@@ -26,3 +26,4 @@ pub mod EffectLines
 pub mod Replacing
 pub mod Arriving
 pub mod ArrivalParts
+pub mod Promising

@@ -15,3 +15,4 @@ pub mod NextPackets
 pub mod WaitOrder
 pub mod Counts
 pub mod Arrivals
+pub mod Promised
