@@ -27,3 +27,4 @@ pub mod Replacing
 pub mod Arriving
 pub mod ArrivalParts
 pub mod Promising
+pub mod PromiseParts
