@@ -20,3 +20,5 @@ pub mod EndsTold
 mod WorkedSchema
 mod Worked
 pub mod Testing
+pub mod Outlines
+pub mod Origins
