@@ -22,3 +22,4 @@ mod Worked
 pub mod Testing
 pub mod Outlines
 pub mod Origins
+pub mod SentAccounts
