@@ -23,3 +23,4 @@ pub mod Testing
 pub mod Outlines
 pub mod Origins
 pub mod SentAccounts
+pub mod Growing
