@@ -25,3 +25,4 @@ pub mod Origins
 pub mod SentAccounts
 pub mod Growing
 pub mod Delivered
+pub mod TwoEnds
