@@ -26,3 +26,5 @@ pub mod SentAccounts
 pub mod Growing
 pub mod Delivered
 pub mod TwoEnds
+pub mod Moves
+pub mod Runs
