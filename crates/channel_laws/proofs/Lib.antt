@@ -28,3 +28,11 @@ pub mod Arriving
 pub mod ArrivalParts
 pub mod Promising
 pub mod PromiseParts
+pub mod Outlines
+pub mod Origins
+pub mod SentAccounts
+pub mod Growing
+pub mod Delivered
+pub mod TwoEnds
+pub mod Moves
+pub mod Runs
