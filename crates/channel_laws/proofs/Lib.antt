@@ -19,3 +19,8 @@ pub mod GivingWay
 pub mod EndsTold
 mod WorkedSchema
 mod Worked
+pub mod Testing
+pub mod ActorLines
+pub mod ActorParts
+pub mod ActorIds
+pub mod Standing

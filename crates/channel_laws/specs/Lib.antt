@@ -4,3 +4,5 @@ pub mod SyncStack
 pub mod OpenEnds
 pub mod NestedWorlds
 pub mod Laws
+pub mod Tested
+pub mod EndActors
