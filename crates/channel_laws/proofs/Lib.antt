@@ -24,3 +24,7 @@ pub mod ActorLines
 pub mod ActorParts
 pub mod ActorIds
 pub mod Standing
+pub mod Outlines
+pub mod Origins
+pub mod SentAccounts
+pub mod Growing
