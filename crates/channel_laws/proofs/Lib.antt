@@ -28,3 +28,4 @@ pub mod Outlines
 pub mod Origins
 pub mod SentAccounts
 pub mod Growing
+pub mod FallOrder
