@@ -28,6 +28,10 @@ pub mod Arriving
 pub mod ArrivalParts
 pub mod Promising
 pub mod PromiseParts
+pub mod ActorLines
+pub mod ActorParts
+pub mod ActorIds
+pub mod Standing
 pub mod Outlines
 pub mod Origins
 pub mod SentAccounts
@@ -36,3 +40,4 @@ pub mod Delivered
 pub mod TwoEnds
 pub mod Moves
 pub mod Runs
+pub mod FallOrder

@@ -5,6 +5,7 @@ pub mod OpenEnds
 pub mod NestedWorlds
 pub mod Laws
 pub mod Tested
+pub mod EndActors
 pub mod Outlines
 pub mod Notes
 pub mod Origins
