@@ -19,3 +19,9 @@ pub mod GivingWay
 pub mod EndsTold
 mod WorkedSchema
 mod Worked
+pub mod NulledAlike
+pub mod MissingAlike
+pub mod StandsFor
+pub mod ReplyRows
+pub mod ProtocolGrowth
+pub mod ProtocolParts

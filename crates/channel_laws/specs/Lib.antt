@@ -4,3 +4,4 @@ pub mod SyncStack
 pub mod OpenEnds
 pub mod NestedWorlds
 pub mod Laws
+pub mod Protocols
