@@ -25,3 +25,4 @@ pub mod StandsFor
 pub mod ReplyRows
 pub mod ProtocolGrowth
 pub mod ProtocolParts
+pub mod ProtocolRuns

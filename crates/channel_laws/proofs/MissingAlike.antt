@@ -17,7 +17,8 @@ use Rattle.ipdl_base.specs.declared.value.Values.TheVariants as values
 use Rattle.value_types.specs.Shapes as shapes
 use Rattle.channel_model.specs.ValueActors as world
 use Rattle.channel_model.specs.ValueActors.{ActorValue, lives_as}
-use Rattle.channel_laws.proofs.NulledAlike.{Agrees}
+use Rattle.channel_laws.specs.ValueReadings.{LivesAlike, ValuesAreReadAlike}
+use Rattle.channel_laws.proofs.NulledAlike.{same-fields}
 
 abbrev pub named : ActorValue → TypedActor
 named a = record { nullable = a.nullable; id = a.id }
@@ -104,13 +105,16 @@ module _ (schema : Schema) where
   found-alike true false a x y e rec = cc
   found-alike false true a x y e rec = cc
 
-  first-missing : (actors : List LivingActor) (lives : ℤ → Bool) (few : List ActorValue) → AllByRecursion (Agrees schema actors lives) few
+  first-missing : (actors : List LivingActor) (lives : ℤ → Bool) (few : List ActorValue) → AllByRecursion (LivesAlike actors lives) few
       → option_map (λ (n : TypedActor). n.id) (find (lines.is_missing lives) (map named few)) ≡ option_map (λ (a : ActorValue). a.id) (find (λ a. not a.nullable && world.is_dead actors a) few)
   first-missing actors lives [] h = refl
   first-missing actors lives (a ∷ few) h =
       found-alike (lines.is_missing lives (named a)) (not a.nullable && world.is_dead actors a) a (find (lines.is_missing lives) (map named few)) (find (λ a. not a.nullable && world.is_dead actors a) few)
       (ap (λ (b : Bool). not a.nullable && not b) (sym h.0)) (first-missing actors lives few h.1)
 
-  pub same-missing : (actors : List LivingActor) (lives : ℤ → Bool) (fields : List ParamRow) (vs : Values) → AllByRecursion (Agrees schema actors lives) (world.actors_in_parts schema fields vs) → lines.missing schema lives fields vs ≡ world.missing schema actors fields vs
+  pub same-missing : (actors : List LivingActor) (lives : ℤ → Bool) (fields : List ParamRow) (vs : Values) → AllByRecursion (LivesAlike actors lives) (world.actors_in_parts schema fields vs) → lines.missing schema lives fields vs ≡ world.missing schema actors fields vs
   same-missing actors lives fields vs h =
       ap (λ (l : List TypedActor). option_map (λ (n : TypedActor). n.id) (find (lines.is_missing lives) l)) (same-parts fields vs) ∙ first-missing actors lives (world.actors_in_parts schema fields vs) h
+
+pub values_are_read_alike : ValuesAreReadAlike
+values_are_read_alike = record { nulled = same-fields; missing = same-missing }

@@ -15,6 +15,7 @@ use Rattle.ipdl_base.specs.declared.value.Values.TheVariants as values
 use Rattle.value_types.specs.Shapes as shapes
 use Rattle.channel_model.specs.ValueActors as world
 use Rattle.channel_model.specs.ValueActors.{ActorValue, lives_as}
+use Rattle.channel_laws.specs.ValueReadings.{LivesAlike}
 
 -- What has no type stays
 
@@ -46,14 +47,11 @@ mutual
 -- Who lives is the same for the actors in a value
 
 module _ (schema : Schema) (actors : List LivingActor) (lives : ℤ → Bool) where
-  abbrev pub Agrees : ActorValue → Type 0
-  Agrees a = lives_as actors a.protocol a.id ≡ lives a.id
-
-  before : (xs ys : List ActorValue) → AllByRecursion Agrees (xs ++ ys) → AllByRecursion Agrees xs
+  before : (xs ys : List ActorValue) → AllByRecursion (LivesAlike actors lives) (xs ++ ys) → AllByRecursion (LivesAlike actors lives) xs
   before [] ys h = tt
   before (x ∷ xs) ys h = (h.0, before xs ys h.1)
 
-  behind : (xs ys : List ActorValue) → AllByRecursion Agrees (xs ++ ys) → AllByRecursion Agrees ys
+  behind : (xs ys : List ActorValue) → AllByRecursion (LivesAlike actors lives) (xs ++ ys) → AllByRecursion (LivesAlike actors lives) ys
   behind [] ys h = h
   behind (x ∷ xs) ys h = behind xs ys h.1
 
@@ -63,7 +61,7 @@ module _ (schema : Schema) (actors : List LivingActor) (lives : ℤ → Bool) wh
   null-or true false id e = cc
   null-or false true id e = cc
 
-  same-id : (shape : Shape) (id : ℤ) → AllByRecursion Agrees (world.actor_at shape id) → lines.nulled_id lives (Some shape) id ≡ world.received_id actors shape id
+  same-id : (shape : Shape) (id : ℤ) → AllByRecursion (LivesAlike actors lives) (world.actor_at shape id) → lines.nulled_id lives (Some shape) id ≡ world.received_id actors shape id
   same-id (Actor protocol true) id h = null-or (lives id) (lives_as actors protocol id) id h.0
   same-id (Actor protocol false) id h = refl
   same-id (Builtin b) id h = refl
@@ -74,20 +72,20 @@ module _ (schema : Schema) (actors : List LivingActor) (lives : ℤ → Bool) wh
   same-id (Unique' at s) id h = refl
   same-id (Endpoint p managed) id h = refl
 
-  same-component : (component : Option Shape) (v : Value) → ((c : Shape) → AllByRecursion Agrees (world.actors_in schema c v) → lines.nulled schema lives (Some c) v ≡ world.nulled_value schema actors c v) → AllByRecursion Agrees (option_map_or (λ (c : Shape). world.actors_in schema c v) component []) → lines.nulled schema lives component v ≡ option_map_or (λ (c : Shape). world.nulled_value schema actors c v) component v
+  same-component : (component : Option Shape) (v : Value) → ((c : Shape) → AllByRecursion (LivesAlike actors lives) (world.actors_in schema c v) → lines.nulled schema lives (Some c) v ≡ world.nulled_value schema actors c v) → AllByRecursion (LivesAlike actors lives) (option_map_or (λ (c : Shape). world.actors_in schema c v) component []) → lines.nulled schema lives component v ≡ option_map_or (λ (c : Shape). world.nulled_value schema actors c v) component v
   same-component None v rec h = untyped-value schema lives v
   same-component (Some c) v rec h = rec c h
 
-  same-element : (element : Option Shape) (vs : Values) → ((c : Shape) → AllByRecursion Agrees (world.actors_in_all schema c vs) → lines.nulled_each schema lives (Some c) vs ≡ world.nulled_all schema actors c vs) → AllByRecursion Agrees (option_map_or (λ (c : Shape). world.actors_in_all schema c vs) element []) → lines.nulled_each schema lives element vs ≡ option_map_or (λ (c : Shape). world.nulled_all schema actors c vs) element vs
+  same-element : (element : Option Shape) (vs : Values) → ((c : Shape) → AllByRecursion (LivesAlike actors lives) (world.actors_in_all schema c vs) → lines.nulled_each schema lives (Some c) vs ≡ world.nulled_all schema actors c vs) → AllByRecursion (LivesAlike actors lives) (option_map_or (λ (c : Shape). world.actors_in_all schema c vs) element []) → lines.nulled_each schema lives element vs ≡ option_map_or (λ (c : Shape). world.nulled_all schema actors c vs) element vs
   same-element None vs rec h = untyped-each schema lives vs
   same-element (Some c) vs rec h = rec c h
 
-  same-inner : (inner : Option Shape) (held : Held-Value-Maybe-0) → ((c : Shape) → AllByRecursion Agrees (world.actors_held schema c held) → lines.nulled_held schema lives (Some c) held ≡ world.nulled_held schema actors c held) → AllByRecursion Agrees (option_map_or (λ (c : Shape). world.actors_held schema c held) inner []) → lines.nulled_held schema lives inner held ≡ option_map_or (λ (c : Shape). world.nulled_held schema actors c held) inner held
+  same-inner : (inner : Option Shape) (held : Held-Value-Maybe-0) → ((c : Shape) → AllByRecursion (LivesAlike actors lives) (world.actors_held schema c held) → lines.nulled_held schema lives (Some c) held ≡ world.nulled_held schema actors c held) → AllByRecursion (LivesAlike actors lives) (option_map_or (λ (c : Shape). world.actors_held schema c held) inner []) → lines.nulled_held schema lives inner held ≡ option_map_or (λ (c : Shape). world.nulled_held schema actors c held) inner held
   same-inner None held rec h = untyped-held schema lives held
   same-inner (Some c) held rec h = rec c h
 
   mutual
-    pub same-value : (shape : Shape) (v : Value) → AllByRecursion Agrees (world.actors_in schema shape v) → lines.nulled schema lives (Some shape) v ≡ world.nulled_value schema actors shape v
+    pub same-value : (shape : Shape) (v : Value) → AllByRecursion (LivesAlike actors lives) (world.actors_in schema shape v) → lines.nulled schema lives (Some shape) v ≡ world.nulled_value schema actors shape v
     same-value shape (value.Bool b) h = refl
     same-value shape (value.Int n) h = refl
     same-value shape (value.Text text) h = refl
@@ -99,17 +97,17 @@ module _ (schema : Schema) (actors : List LivingActor) (lives : ℤ → Bool) wh
     same-value shape (Maybe' held) h = ap (λ (x : Held-Value-Maybe-0). Maybe' x) (same-inner (shapes.held_by shape) held (λ c k. same-held c held k) h)
     same-value shape (value.Actor id) h = ap (λ (x : ℤ). value.Actor x) (same-id shape id h)
 
-    same-held : (shape : Shape) (held : Held-Value-Maybe-0) → AllByRecursion Agrees (world.actors_held schema shape held) → lines.nulled_held schema lives (Some shape) held ≡ world.nulled_held schema actors shape held
+    same-held : (shape : Shape) (held : Held-Value-Maybe-0) → AllByRecursion (LivesAlike actors lives) (world.actors_held schema shape held) → lines.nulled_held schema lives (Some shape) held ≡ world.nulled_held schema actors shape held
     same-held shape None' h = refl
     same-held shape (Some' at v) h = ap (λ (x : Value). Some' at x) (same-value shape v h)
 
-    same-all : (shape : Shape) (vs : Values) → AllByRecursion Agrees (world.actors_in_all schema shape vs) → lines.nulled_each schema lives (Some shape) vs ≡ world.nulled_all schema actors shape vs
+    same-all : (shape : Shape) (vs : Values) → AllByRecursion (LivesAlike actors lives) (world.actors_in_all schema shape vs) → lines.nulled_each schema lives (Some shape) vs ≡ world.nulled_all schema actors shape vs
     same-all shape values.Nothing h = refl
     same-all shape (First' at v more vs) h =
         ap (λ (x : Value). First' at x more (lines.nulled_each schema lives (Some shape) vs)) (same-value shape v (before (world.actors_in schema shape v) (world.actors_in_all schema shape vs) h))
         ∙ ap (λ (x : Values). First' at (world.nulled_value schema actors shape v) more x) (same-all shape vs (behind (world.actors_in schema shape v) (world.actors_in_all schema shape vs) h))
 
-    pub same-fields : (fields : List ParamRow) (vs : Values) → AllByRecursion Agrees (world.actors_in_parts schema fields vs) → lines.nulled_fields schema lives fields vs ≡ world.nulled schema actors fields vs
+    pub same-fields : (fields : List ParamRow) (vs : Values) → AllByRecursion (LivesAlike actors lives) (world.actors_in_parts schema fields vs) → lines.nulled_fields schema lives fields vs ≡ world.nulled schema actors fields vs
     same-fields [] vs h = untyped-fields schema lives vs
     same-fields (field ∷ fields) values.Nothing h = refl
     same-fields (field ∷ fields) (First' at v more vs) h =

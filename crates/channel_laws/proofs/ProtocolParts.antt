@@ -149,6 +149,10 @@ SendsRight made _ = Unit {0}
 abbrev pub OwnSendsRight : {schema : Schema} {e f : End} {ws : List What} {ps : List Packet} {q : Phase} → Protocols → OwnParts schema e ws ps f q → Type 0
 OwnSendsRight made (Parts.begun part rest) = SendsRight made part
 
+-- the reply to a sync request that is delivered is the one that is awaited
+abbrev pub IsAwaited : Schema → Packet → End → Type 0
+IsAwaited schema packet e = (m : Message) → packet ≡ message m → IsReply m.body → is_sync_number schema m.number ≡ true → awaited_reply e.stack ≡ Some (reply_head m)
+
 -- Behind a part the end keeps, and has sent, what has its protocols, and what it may still build has too.
 pub record Right (schema : Schema) (made : Protocols) (f : End) (ps : List Packet) (q : Phase) : Type 0 where
   pub keeps : HasProtocols schema made f
@@ -503,16 +507,12 @@ module _ (schema : Schema) (sound : IsSound schema) (made : Protocols) where
       let b = laters-right rest a.fresh a.keeps in
       record { keeps = b.keeps; packets = all-append (PacketHasProtocols schema made) ps qs a.packets b.packets; fresh = b.fresh }
 
-  -- the reply to a sync request that is delivered is the one that is awaited
-  abbrev pub IsAwaited : Packet → End → Type 0
-  IsAwaited packet e = (m : Message) → packet ≡ message m → IsReply m.body → is_sync_number schema m.number ≡ true → awaited_reply e.stack ≡ Some (reply_head m)
-
   is-reply : (m : Message) (a : Answer) → m.body ≡ body_of a → IsReply m.body
   is-reply m (answer.Ok vs) e = subst IsReply (sym e) tt
   is-reply m (answer.Fault reason) e = subst IsReply (sym e) tt
 
   -- a delivery
-  pub delivery-right : {packet : Packet} {q : Phase} {e f : End} {ws : List What} {ps : List Packet} → DeliveryPart schema packet e ws ps f q → IsAwaited packet e → PacketHasProtocols schema made packet → HasProtocols schema made e → Right schema made f ps q
+  pub delivery-right : {packet : Packet} {q : Phase} {e f : End} {ws : List What} {ps : List Packet} → DeliveryPart schema packet e ws ps f q → IsAwaited schema packet e → PacketHasProtocols schema made packet → HasProtocols schema made e → Right schema made f ps q
   delivery-right {e} (Parts.gets_request m row vs body found none) aw h k = quiet-right (delivery.counted row (delivery.item_of row m) e) [] (counted-right e row m h k) tt
   delivery-right {e} (Parts.replaces m row vs old sync level replies body found rep is) aw h k =
       quiet-right (end_behind replies (delivery.counted row (delivery.item_of row m) e)) (reply_packets replies e (request_answered old) (answer.Fault ResolverDestroyed)) (sent-behind replies (delivery.counted row (delivery.item_of row m) e) (counted-right e row m h k))

@@ -3,5 +3,6 @@ pub mod Rows
 pub mod SyncStack
 pub mod OpenEnds
 pub mod NestedWorlds
-pub mod Laws
+pub mod ValueReadings
 pub mod Protocols
+pub mod Laws
