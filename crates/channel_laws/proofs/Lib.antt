@@ -26,3 +26,12 @@ pub mod ReplyRows
 pub mod ProtocolGrowth
 pub mod ProtocolParts
 pub mod ProtocolRuns
+pub mod Testing
+pub mod ActorLines
+pub mod ActorParts
+pub mod ActorIds
+pub mod Standing
+pub mod Outlines
+pub mod Origins
+pub mod SentAccounts
+pub mod Growing

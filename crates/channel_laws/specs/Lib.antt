@@ -6,3 +6,13 @@ pub mod NestedWorlds
 pub mod ValueReadings
 pub mod Protocols
 pub mod Laws
+pub mod Tested
+pub mod EndActors
+pub mod Outlines
+pub mod Notes
+pub mod Origins
+pub mod SentAccounts
+pub mod Delivered
+pub mod TwoEnds
+pub mod NextPackets
+pub mod WaitOrder
