@@ -35,3 +35,10 @@ pub mod Outlines
 pub mod Origins
 pub mod SentAccounts
 pub mod Growing
+pub mod Counting
+pub mod Leaving
+pub mod EffectLines
+pub mod Replacing
+pub mod Arriving
+pub mod ArrivalParts
+pub mod Promising

@@ -16,3 +16,6 @@ pub mod Delivered
 pub mod TwoEnds
 pub mod NextPackets
 pub mod WaitOrder
+pub mod Counts
+pub mod Arrivals
+pub mod Promised
