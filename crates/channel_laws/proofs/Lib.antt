@@ -42,3 +42,5 @@ pub mod Replacing
 pub mod Arriving
 pub mod ArrivalParts
 pub mod Promising
+pub mod Delivered
+pub mod TwoEnds
