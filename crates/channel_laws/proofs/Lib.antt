@@ -19,6 +19,13 @@ pub mod GivingWay
 pub mod EndsTold
 mod WorkedSchema
 mod Worked
+pub mod NulledAlike
+pub mod MissingAlike
+pub mod StandsFor
+pub mod ReplyRows
+pub mod ProtocolGrowth
+pub mod ProtocolParts
+pub mod ProtocolRuns
 pub mod Testing
 pub mod Counting
 pub mod Leaving
@@ -41,3 +48,12 @@ pub mod TwoEnds
 pub mod Moves
 pub mod Runs
 pub mod FallOrder
+pub mod Counting
+pub mod Leaving
+pub mod EffectLines
+pub mod Replacing
+pub mod Arriving
+pub mod ArrivalParts
+pub mod Promising
+pub mod Delivered
+pub mod TwoEnds

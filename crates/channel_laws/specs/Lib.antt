@@ -3,6 +3,8 @@ pub mod Rows
 pub mod SyncStack
 pub mod OpenEnds
 pub mod NestedWorlds
+pub mod ValueReadings
+pub mod Protocols
 pub mod Laws
 pub mod Tested
 pub mod EndActors
