@@ -48,12 +48,3 @@ pub mod TwoEnds
 pub mod Moves
 pub mod Runs
 pub mod FallOrder
-pub mod Counting
-pub mod Leaving
-pub mod EffectLines
-pub mod Replacing
-pub mod Arriving
-pub mod ArrivalParts
-pub mod Promising
-pub mod Delivered
-pub mod TwoEnds
