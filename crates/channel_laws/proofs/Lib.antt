@@ -48,3 +48,4 @@ pub mod TwoEnds
 pub mod Moves
 pub mod Runs
 pub mod FallOrder
+pub mod Answering

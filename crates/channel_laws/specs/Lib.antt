@@ -19,3 +19,4 @@ pub mod WaitOrder
 pub mod Counts
 pub mod Arrivals
 pub mod Promised
+pub mod AnswersOnce
