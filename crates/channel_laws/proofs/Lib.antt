@@ -49,3 +49,4 @@ pub mod Moves
 pub mod Runs
 pub mod FallOrder
 pub mod Answering
+pub mod AnswerParts
