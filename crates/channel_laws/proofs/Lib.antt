@@ -28,3 +28,4 @@ pub mod Delivered
 pub mod TwoEnds
 pub mod Moves
 pub mod Runs
+pub mod Readable

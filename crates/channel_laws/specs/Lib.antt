@@ -13,3 +13,4 @@ pub mod Delivered
 pub mod TwoEnds
 pub mod NextPackets
 pub mod WaitOrder
+pub mod ReadingLaws
