@@ -29,3 +29,4 @@ pub mod TwoEnds
 pub mod Moves
 pub mod Runs
 pub mod Readable
+pub mod NextPackets
