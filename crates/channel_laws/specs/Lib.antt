@@ -3,8 +3,11 @@ pub mod Rows
 pub mod SyncStack
 pub mod OpenEnds
 pub mod NestedWorlds
+pub mod ValueReadings
+pub mod Protocols
 pub mod Laws
 pub mod Tested
+pub mod EndActors
 pub mod Outlines
 pub mod Notes
 pub mod Origins
@@ -14,3 +17,6 @@ pub mod TwoEnds
 pub mod NextPackets
 pub mod WaitOrder
 pub mod ReadingLaws
+pub mod Counts
+pub mod Arrivals
+pub mod Promised

@@ -142,7 +142,7 @@ sent-known schema protocol row m vs name e h next manager =
     (leaves-chain (ids_of schema) (sends.awaits_reply row m) (sends.names_actor m.made name) waits (leaves-names_actor (ids_of schema) m.made name (ignores schema))) in
     sent-last schema protocol row.kind m.made m.route (ids_of schema e) ((sends.posted row m ▷ sends.awaits_reply row m ▷ sends.names_actor m.made name) counted) (quiet counted) h next manager
 
-next_made-is : (e : End) (kind : Kind) → is_constructor kind ≡ true → sends.next_made e kind ≡ id_of e.side (e.constructors_sent + 1)
+pub next_made-is : (e : End) (kind : Kind) → is_constructor kind ≡ true → sends.next_made e kind ≡ id_of e.side (e.constructors_sent + 1)
 next_made-is e Normal is = cc
 next_made-is e (Constructor p) is = refl
 next_made-is e Delete is = cc
@@ -185,7 +185,7 @@ die-known schema protocol =
 -- Deliveries
 
 -- what has arrived, and one more
-new_ids-last : (schema : Schema) (items : List Item) (new : Item) → new_ids schema (items ++ new ∷ []) ≡ new_ids schema items ++ new_ids_in schema new
+pub new_ids-last : (schema : Schema) (items : List Item) (new : Item) → new_ids schema (items ++ new ∷ []) ≡ new_ids schema items ++ new_ids_in schema new
 new_ids-last schema items new = flat_map-append (new_ids_in schema) items (new ∷ []) ∙ ap (λ ids. new_ids schema items ++ ids) (append-nil (new_ids_in schema new))
 
 -- an item without a new id arrives last
@@ -193,7 +193,7 @@ arrives-known : (schema : Schema) (new : Item) (e : End) → new_ids_in schema n
 arrives-known schema new e none =
     ap (λ (ids : List ℤ). record (ids_of schema e) { waiting = ids }) (new_ids-last schema e.arrived new ∙ ap (λ ids. new_ids schema e.arrived ++ ids) none ∙ append-nil (new_ids schema e.arrived))
 
-not_request : (schema : Schema) (m : Message) (sync : Bool) (level : _) → is_request m.body ≡ false → new_ids_in schema (item.Message m sync level) ≡ []
+pub not_request : (schema : Schema) (m : Message) (sync : Bool) (level : _) → is_request m.body ≡ false → new_ids_in schema (item.Message m sync level) ≡ []
 not_request schema m sync level plain = ap (λ (b : Bool). cond (b && constructs_by schema m.number) (m.made ∷ []) []) plain
 
 ended-known : (schema : Schema) (last : Item) → new_ids_in schema last ≡ [] → Leaves (ids_of schema) (delivery.ended last)
@@ -216,7 +216,7 @@ counted-known schema protocol e some new true made h s is next =
 counted-known schema protocol e some new false made h s is next =
     subst (λ (ids : List ℤ). AreKnown protocol (record (ids_of schema e) { waiting = ids })) (sym (ap (λ ids. some ++ ids) is ∙ append-nil some)) (known-fewer protocol (ids_of schema e) some h s)
 
-constructs_by-row : (schema : Schema) (number : ℕ) (row : MessageRow) → message_of schema number ≡ Some row → constructs_by schema number ≡ is_constructor row.kind
+pub constructs_by-row : (schema : Schema) (number : ℕ) (row : MessageRow) → message_of schema number ≡ Some row → constructs_by schema number ≡ is_constructor row.kind
 constructs_by-row schema number row is = ap (λ (found : Option MessageRow). option_map_or (λ row. is_constructor row.kind) found false) is
 
 request_arrives-known : (schema : Schema) (protocol : ℕ) (m : Message) (row : MessageRow) (o : Output)
@@ -330,7 +330,7 @@ take-known schema protocol taken e found h =
     item_taken-known schema protocol taken e test (on_end (λ e. record e { arrived = without_first (is_free (takes.holding_of e)) e.arrived }) (beginning e)) refl found h
     (known-fewer protocol (ids_of schema e) (new_ids schema (without_first test e.arrived)) h (sublist-flat_map (new_ids_in schema) (without_first test e.arrived) e.arrived (without_first-sublist test e.arrived)))
 
-taken_next-found : (b : Bool) (found : Option Item) (x : Item) → cond b found None ≡ Some x → found ≡ Some x
+pub taken_next-found : (b : Bool) (found : Option Item) (x : Item) → cond b found None ≡ Some x → found ≡ Some x
 taken_next-found true found x is = is
 taken_next-found false found x is = cc
 
