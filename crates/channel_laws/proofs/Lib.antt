@@ -44,3 +44,4 @@ pub mod ArrivalParts
 pub mod Promising
 pub mod Delivered
 pub mod TwoEnds
+pub mod RequestOrder
