@@ -50,3 +50,4 @@ pub mod Runs
 pub mod Readable
 pub mod NextPackets
 pub mod FallOrder
+pub mod RequestOrder

@@ -5,6 +5,7 @@ pub mod OpenEnds
 pub mod NestedWorlds
 pub mod ValueReadings
 pub mod Protocols
+pub mod RequestOrder
 pub mod Laws
 pub mod Tested
 pub mod EndActors
