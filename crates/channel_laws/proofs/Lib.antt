@@ -47,6 +47,9 @@ pub mod Delivered
 pub mod TwoEnds
 pub mod Moves
 pub mod Runs
+pub mod Readable
+pub mod NextPackets
 pub mod FallOrder
 pub mod Answering
 pub mod AnswerParts
+pub mod RequestOrder

@@ -5,6 +5,7 @@ pub mod OpenEnds
 pub mod NestedWorlds
 pub mod ValueReadings
 pub mod Protocols
+pub mod RequestOrder
 pub mod Laws
 pub mod Tested
 pub mod EndActors
@@ -16,6 +17,7 @@ pub mod Delivered
 pub mod TwoEnds
 pub mod NextPackets
 pub mod WaitOrder
+pub mod ReadingLaws
 pub mod Counts
 pub mod Arrivals
 pub mod Promised
