@@ -29,3 +29,4 @@ pub mod Origins
 pub mod SentAccounts
 pub mod Growing
 pub mod FallOrder
+pub mod ActorFalls
