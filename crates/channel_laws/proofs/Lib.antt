@@ -30,3 +30,4 @@ pub mod SentAccounts
 pub mod Growing
 pub mod FallOrder
 pub mod ActorFalls
+pub mod ActorsKept
