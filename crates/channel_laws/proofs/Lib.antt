@@ -45,3 +45,4 @@ pub mod Promising
 pub mod Delivered
 pub mod TwoEnds
 pub mod RequestOrder
+pub mod OrderRuns
