@@ -112,6 +112,14 @@ pub first-is : (link : List Packet) (packet : Packet) → first_packet link ≡ 
 first-is [] packet e = cc
 first-is (p ∷ rest) packet e = ap (λ (x : Packet). x ∷ rest) (same_Some p packet e)
 
+-- What is known of the first packet on the link toward an end, and of those behind it.
+pub record Arrival (schema : Schema) (mine theirs : End) (own others : EndReading) (to_me : List Packet) (packet : Packet) : Type 0 where
+  pub link : to_me ≡ packet ∷ drop 1 to_me
+  pub account : LinkAccount schema theirs others own (packet ∷ drop 1 to_me)
+  pub replies : AllByRecursion (PacketReplies schema (told_notes mine.side own.sent)) (packet ∷ drop 1 to_me)
+  pub origin : PacketOrigin schema (told_notes theirs.side others.sent) packet
+  pub fits : RepliesFit schema packet mine own
+
 -- The answer to a sync call is awaited.
 abbrev pub Awaits : Schema → End → List Packet → Type 0
 Awaits schema e link = (m : Message) (a : Answer) → first_packet link ≡ Some (message m) → m.body ≡ body_of a → is_open e.state ≡ true → reading.is_sync_number schema m.number ≡ true → awaited (frames_of e) ≡ Some m.seq
@@ -220,15 +228,7 @@ module _ (schema : Schema) (rows : HasSoundRows schema) where
       (record { got = pair.comes.got; kinds = pair.comes.kinds ∙ (sym (append-nil own.delivered) ∙ (ap (λ (l : List PacketKind). own.delivered ++ l) (sym (own-delivers-none steps)) ∙ sym (delivered-are schema place ws own))); sent = pair.comes.sent })
       pair.replies k.1
 
-  -- the packet of a delivery, and what is left on the link
-  pub record Arrival (mine theirs : End) (own others : EndReading) (to_me : List Packet) (packet : Packet) : Type 0 where
-    pub link : to_me ≡ packet ∷ drop 1 to_me
-    pub account : LinkAccount schema theirs others own (packet ∷ drop 1 to_me)
-    pub replies : AllByRecursion (PacketReplies schema (told_notes mine.side own.sent)) (packet ∷ drop 1 to_me)
-    pub origin : PacketOrigin schema (told_notes theirs.side others.sent) packet
-    pub fits : RepliesFit schema packet mine own
-
-  pub arrival : (mine theirs : End) (own others : EndReading) (to_me to_them : List Packet) (packet : Packet) (pair : TwoEnds schema mine theirs own others to_me to_them) → first_packet to_me ≡ Some packet → is_open mine.state ≡ true → Awaits schema mine to_me → Arrival mine theirs own others to_me packet
+  pub arrival : (mine theirs : End) (own others : EndReading) (to_me to_them : List Packet) (packet : Packet) (pair : TwoEnds schema mine theirs own others to_me to_them) → first_packet to_me ≡ Some packet → is_open mine.state ≡ true → Awaits schema mine to_me → Arrival schema mine theirs own others to_me packet
   arrival mine theirs own others to_me to_them packet pair first o aw =
       let link : to_me ≡ packet ∷ drop 1 to_me = first-is to_me packet first in
       let account : LinkAccount schema theirs others own (packet ∷ drop 1 to_me) = subst (LinkAccount schema theirs others own) link pair.comes in
@@ -237,7 +237,7 @@ module _ (schema : Schema) (rows : HasSoundRows schema) where
       record { link = link; account = account; replies = replies; origin = origin; fits = replies-fit mine own (pair.goes.got ++ notes schema to_them) (told_notes theirs.side others.sent) packet to_me first o aw origin pair.goes.sent replies.0 }
 
   -- a delivery
-  pub delivery-paired : (mine theirs next : End) (own others : EndReading) (to_me to_them sent : List Packet) (place : ℕ) (ws : List What) (q : Phase) (packet : Packet) (pair : TwoEnds schema mine theirs own others to_me to_them) → next.side ≡ mine.side → is_open mine.state ≡ true → Arrival mine theirs own others to_me packet → DeliveryPart schema packet mine ws sent next q
+  pub delivery-paired : (mine theirs next : End) (own others : EndReading) (to_me to_them sent : List Packet) (place : ℕ) (ws : List What) (q : Phase) (packet : Packet) (pair : TwoEnds schema mine theirs own others to_me to_them) → next.side ≡ mine.side → is_open mine.state ≡ true → Arrival schema mine theirs own others to_me packet → DeliveryPart schema packet mine ws sent next q
       → TwoEnds schema next theirs (after_whats schema place ws own) others (drop 1 to_me) (to_them ++ sent)
   delivery-paired mine theirs next own others to_me to_them sent place ws q packet pair side o a part =
       let rest : List Packet = drop 1 to_me in

@@ -17,6 +17,7 @@ pub mod Delivered
 pub mod TwoEnds
 pub mod NextPackets
 pub mod WaitOrder
+pub mod ReadingLaws
 pub mod Counts
 pub mod Arrivals
 pub mod Promised

@@ -3,6 +3,7 @@
 #![tactic(auto)]
 
 mod laws;
+mod reading_laws;
 
 pub use laws::{
     ends_are_told_in_runs, last_packets_fail_all_waits, nested_worlds_stay, nesting_in_every_run,
@@ -11,3 +12,4 @@ pub use laws::{
     still_histories_leave_no_end_waiting, sync_replies_are_not_stray, types_tell_who_lives,
     values_are_read_alike, waits_give_way,
 };
+pub use reading_laws::{histories_are_readable, reading_is_world};
