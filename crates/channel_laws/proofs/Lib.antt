@@ -53,3 +53,4 @@ pub mod FallOrder
 pub mod RequestOrder
 pub mod OrderRuns
 pub mod ActorFalls
+pub mod Answering
