@@ -186,7 +186,7 @@ replaced-last_at : (b : Bool) (old x : Item) → cond b (Some old) None ≡ Some
 replaced-last_at true old x e = (refl, same_Some old x e)
 replaced-last_at false old x e = cc
 
-replaced-last : (new : Item) (found : Option Item) (x : Item) → option_and_then (λ old. if are_alike new old then Some old else None) found ≡ Some x → (found ≡ Some x) × (are_alike new x ≡ true)
+pub replaced-last : (new : Item) (found : Option Item) (x : Item) → option_and_then (λ old. if are_alike new old then Some old else None) found ≡ Some x → (found ≡ Some x) × (are_alike new x ≡ true)
 replaced-last new None x e = cc
 replaced-last new (Some old) x e =
     let r = replaced-last_at (are_alike new old) old x e in

@@ -19,7 +19,22 @@ pub mod GivingWay
 pub mod EndsTold
 mod WorkedSchema
 mod Worked
+pub mod NulledAlike
+pub mod MissingAlike
+pub mod StandsFor
+pub mod ReplyRows
+pub mod ProtocolGrowth
+pub mod ProtocolParts
+pub mod ProtocolRuns
 pub mod Testing
+pub mod Counting
+pub mod Leaving
+pub mod EffectLines
+pub mod Replacing
+pub mod Arriving
+pub mod ArrivalParts
+pub mod Promising
+pub mod PromiseParts
 pub mod ActorLines
 pub mod ActorParts
 pub mod ActorIds
@@ -28,6 +43,15 @@ pub mod Outlines
 pub mod Origins
 pub mod SentAccounts
 pub mod Growing
+pub mod Delivered
+pub mod TwoEnds
+pub mod Moves
+pub mod Runs
+pub mod Readable
+pub mod NextPackets
 pub mod FallOrder
+pub mod RequestOrder
+pub mod OrderRuns
 pub mod ActorFalls
 pub mod ActorsKept
+pub mod Answering

@@ -3,6 +3,9 @@ pub mod Rows
 pub mod SyncStack
 pub mod OpenEnds
 pub mod NestedWorlds
+pub mod ValueReadings
+pub mod Protocols
+pub mod RequestOrder
 pub mod Laws
 pub mod Tested
 pub mod EndActors
@@ -14,3 +17,8 @@ pub mod Delivered
 pub mod TwoEnds
 pub mod NextPackets
 pub mod WaitOrder
+pub mod ReadingLaws
+pub mod Counts
+pub mod Arrivals
+pub mod Promised
+pub mod AnswersOnce

@@ -22,10 +22,11 @@ pub data FallCause : Type 0 where
   deletion : ℤ → FallCause
   closing : Destroy → FallCause
 
--- How far an event has come: how it began, why actors may fall, the ids that it may still build, and whether a name may
--- still lose what it holds.
+-- How far an event has come: how it began, with a request of which kind, why actors may fall, the ids that it may still
+-- build, and whether a name may still lose what it holds.
 pub record Phase : Type 0 where
   pub start : EventStart
+  pub kind : Kind
   pub cause : FallCause
   pub fresh : List ℤ
   pub renames : Bool
@@ -40,19 +41,19 @@ manager_of other = pos 0
 
 -- nothing is to follow
 abbrev pub quiet : Phase
-quiet = record { start = other; cause = nobody; fresh = []; renames = false }
+quiet = record { start = other; kind = Normal; cause = nobody; fresh = []; renames = false }
 
 -- a name is to hold something else
 abbrev pub renaming : Phase
-renaming = record { start = other; cause = nobody; fresh = []; renames = true }
+renaming = record { start = other; kind = Normal; cause = nobody; fresh = []; renames = true }
 
 -- the other end has closed or died
 abbrev pub ending : Phase
-ending = record { start = ends; cause = nobody; fresh = []; renames = false }
+ending = record { start = ends; kind = Normal; cause = nobody; fresh = []; renames = false }
 
 -- the end closes for this reason
 abbrev pub shutting : Destroy → Phase
-shutting why = record { start = closes; cause = closing why; fresh = []; renames = false }
+shutting why = record { start = closes; kind = Normal; cause = closing why; fresh = []; renames = false }
 
 -- why actors fall behind a request of a kind that went to this actor
 abbrev pub kind_cause : Kind → ℤ → FallCause
@@ -66,12 +67,12 @@ fresh_of row m = if is_constructor row.kind then m.made ∷ [] else []
 
 -- a request is sent
 abbrev pub sending : MessageRow → Message → Phase
-sending row m = record { start = sends m.seq m.route; cause = kind_cause row.kind m.route; fresh = fresh_of row m; renames = true }
+sending row m = record { start = sends m.seq m.route; kind = row.kind; cause = kind_cause row.kind m.route; fresh = fresh_of row m; renames = true }
 
 -- a request is handled
 abbrev pub taking : MessageRow → Message → Phase
-taking row m = record { start = takes m.seq m.route; cause = nobody; fresh = fresh_of row m; renames = false }
+taking row m = record { start = takes m.seq m.route; kind = row.kind; cause = nobody; fresh = fresh_of row m; renames = false }
 
 -- the handler of a request that went to this actor returns
 abbrev pub returning : MessageRow → ℤ → Phase
-returning row route = record { start = other; cause = kind_cause row.kind route; fresh = []; renames = false }
+returning row route = record { start = other; kind = Normal; cause = kind_cause row.kind route; fresh = []; renames = false }
