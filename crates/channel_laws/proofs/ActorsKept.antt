@@ -243,9 +243,9 @@ later-kept schema place own {p} {q} {e} {f} (part.releases seq c) k =
     quiet-kept schema place [] own q f tt (left-keeps schema p p.renames e (actor_reading own) (answering.released seq e.stack) e.names e.outbox e.promises (released-handled seq e.stack) k)
 later-kept schema place own {p} {q} {e} {f} (part.keeps seq name r is c) k =
     quiet-kept schema place [] own q f tt (left-keeps schema p p.renames e (actor_reading own) (answering.released seq e.stack) f.names e.outbox e.promises (released-handled seq e.stack) k)
-later-kept schema place own {p} {q} {e} {f} (part.builds id protocol rest fresh alive) k = record {
-  pass = (ap not (subst (λ (n : ℤ). has own.fallen n ≡ false) (sym (ap route_of k.event.event ∙ route-shown p.start)) (alive-unfallen own.built own.fallen e.actors (manager_of p.start) k.living.living alive)), tt);
-  kept = builds-keeps schema p e (actor_reading own) id protocol rest fresh alive k;
+later-kept schema place own {p} {q} {e} {f} (part.builds id protocol rest fresh built) k = record {
+  pass = (ap not (subst (λ (n : ℤ). has own.fallen n ≡ false) (sym (ap route_of k.event.event ∙ route-shown p.start)) (alive-unfallen own.built own.fallen e.actors (manager_of p.start) k.living.living built.alive)), tt);
+  kept = builds-keeps schema p e (actor_reading own) id protocol rest fresh built.alive k;
 }
 later-kept schema place own {p} {q} {e} {f} (part.deletes id is) k =
     let why : own.cause ≡ read_cause.Delete id = k.event.cause ∙ ap shown_cause is in
@@ -267,3 +267,106 @@ later-parts-kept schema place own part.done k = record { pass = tt; kept = k }
 later-parts-kept schema place own (part.then {p} {q} {r} {e} {f} {g} {ws} {vs} one more) k =
     let first : KeptBy schema place ws own q f = later-kept schema place own one k in
     then-kept schema place ws vs own q r f g first (λ at. later-parts-kept schema at (after_whats schema place ws own) more first.kept)
+
+-- What begins an event
+
+-- behind its first part an end is in a phase
+begun-keeps : (schema : Schema) (e f : End) (own : EndReading) (p : Phase) (after : ActorReading) → ReadsActors schema e own → Begins e f p.start p.cause (actor_reading own) after → HasIds schema p.fresh f own.built → KeepsActors schema p f after
+begun-keeps schema e f own p after k b ids = record {
+  living = record {
+    living = ap (λ (x : List ℤ). standing x after.built) b.fallen ∙ (ap (standing own.fallen) b.built ∙ (k.living.living ∙ sym (ap (map shown_actor) b.actors)));
+    fell = subst (λ (xs : List BuiltActor). AllByRecursion (λ id. was_built xs id ≡ true) after.fallen) (sym b.built) (subst (AllByRecursion (λ id. was_built own.built id ≡ true)) (sym b.fallen) k.living.fell);
+  };
+  event = record { event = b.event; cause = b.cause; handled = b.handled };
+  falls = record { over = λ o. elim (b.over o) [ inl c ↦ inl c | inr before ↦ inr (b.actors ∙ k.over before) ]; root = inl b.falls };
+  ids = subst (HasIds schema p.fresh f) (sym b.built) ids;
+}
+
+refusal-pass : (schema : Schema) (w : What) (own : EndReading) → IsRefusal schema w → IsFallenLine own w
+refusal-pass schema (what.RefusedSend c n) own q = refl
+refusal-pass schema (what.RefusedClose c) own q = refl
+refusal-pass schema (what.RefusedResolve c) own q = refl
+refusal-pass schema (what.RefusedReject c) own q = refl
+refusal-pass schema _ own q = absurd q
+
+renaming-pass : (w : What) (own : EndReading) → IsRenaming w → IsFallenLine own w
+renaming-pass (what.Keep n name) own q = refl
+renaming-pass (what.Let name id) own q = refl
+renaming-pass _ own q = absurd q
+
+send-pass : (sync : Bool) (m : Message) (vs : Values) (own : EndReading) → IsFallenLine own (if sync then what.Call m.seq m.transaction m.route m.number vs else what.Send m.seq m.route m.number vs)
+send-pass true m vs own = refl
+send-pass false m vs own = refl
+
+answering-pass : (seq : ℤ) (vs : Option Values) (own : EndReading) → IsFallenLine own (answering.answering_line seq vs)
+answering-pass seq None own = refl
+answering-pass seq (Some vs) own = refl
+
+shut-pass : (last : Item) (own : EndReading) → IsFallenLine own (part.shut_line last)
+shut-pass (item.Message m sync level) own = refl
+shut-pass item.Broken own = refl
+
+resume-pass : (seq : ℤ) (a : Answer) (own : EndReading) → IsFallenLine own (return.resume_line seq a)
+resume-pass seq (answer.Ok vs) own = refl
+resume-pass seq (answer.Fault r) own = refl
+
+farewell-pass : (packet : Packet) (own : EndReading) → IsFallenLine own (farewell_line packet)
+farewell-pass (message m) own = refl
+farewell-pass mark own = refl
+
+unknown-pass : (seq : ℤ) (body : Body) (own : EndReading) → IsFallenLine own (part.unknown_line seq body)
+unknown-pass seq (Request vs) own = refl
+unknown-pass seq (Reply vs) own = refl
+unknown-pass seq (Fault r) own = refl
+unknown-pass seq Goodbye own = refl
+
+first-pass : (schema : Schema) (place : ℕ) (own : EndReading) {e f : End} {ws : List What} {ps : List Packet} {p : Phase} → FirstPart schema e ws ps f p → EndLinesPass schema IsFallenLine place ws own
+first-pass schema place own (part.refuses w is) = (refusal-pass schema w own is, tt)
+first-pass schema place own (part.renames w is) = (renaming-pass w own is, tt)
+first-pass schema place own (part.flushes o) = (refl, tt)
+first-pass schema place own {e} (part.sends row route vs name is) = (send-pass (is_sync_row row) (send.request_of e row route vs) vs own, tt)
+first-pass schema place own (part.answers by vs r row found may ok used) = (answering-pass r.seq vs own, tt)
+first-pass schema place own (part.closes o waits) = (refl, tt)
+first-pass schema place own (part.dies o) = (refl, tt)
+first-pass schema place own (part.dies_silent o alive) = (refl, tt)
+first-pass schema place own (part.takes m sync level row vs next body found stays) = (refl, tt)
+first-pass schema place own (part.drops m sync level row vs id replies next body found gone is) =
+    (refl, no_actor-pass schema (place + 1) (reply_lines replies (request_answered m) (answer.Fault ActorDestroyed)) (after_what schema place (what.Drop m.seq m.route m.number id) own) (no_actor-reply replies (request_answered m) (answer.Fault ActorDestroyed)))
+first-pass schema place own (part.drops_unknown m sync level vs next body none) = (refl, tt)
+first-pass schema place own (part.takes_reply m sync level a next body late) = (refl, tt)
+first-pass schema place own {e} (part.settles m sync level row a next body found awaited) =
+    (refl, no_actor-pass schema (place + 1) (take.settle_line m.seq (part.reply_outcome schema e row a) ∷ []) (after_what schema place (what.TakeReply m.seq) own) (no_actor-settles m.seq (part.reply_outcome schema e row a), tt))
+first-pass schema place own (part.shuts last next is) = (shut-pass last own, tt)
+first-pass schema place own {e} (part.returns entry row vs told lost is t l) =
+    let ls : List What = reply_lines told (return.dispatch_answered entry) (return.return_answer schema e row entry vs) in
+    let ms : List What = reply_lines lost (resolver_answered (answering.resolver_in entry)) (answer.Fault ResolverDestroyed) in
+    (refl, no_actor-pass schema (place + 1) (ls ++ ms) (after_what schema place (what.Return (head_of entry.frame).seq) own)
+    (all-append SaysNoActor ls ms (no_actor-reply told (return.dispatch_answered entry) (return.return_answer schema e row entry vs)) (no_actor-reply lost (resolver_answered (answering.resolver_in entry)) (answer.Fault ResolverDestroyed))))
+first-pass schema place own {e} (part.resumes wait row on_top found) = (resume-pass wait.seq (received schema e.actors row wait.given) own, tt)
+
+delivery-pass : (schema : Schema) (place : ℕ) (own : EndReading) (packet : Packet) {e f : End} {ws : List What} {ps : List Packet} {p : Phase} → DeliveryPart schema packet e ws ps f p → EndLinesPass schema IsFallenLine place ws own
+delivery-pass schema place own packet (part.gets_request m row vs body found none) = (refl, tt)
+delivery-pass schema place own packet (part.replaces m row vs old sync level replies body found is makes) =
+    let ws : List What = what.Replaced old.seq ∷ reply_lines replies (request_answered old) (answer.Fault ResolverDestroyed) in
+    (refl, no_actor-pass schema (place + 1) ws (after_what schema place (what.DeliverRequest m.seq) own) (replaced old.seq, no_actor-reply replies (request_answered old) (answer.Fault ResolverDestroyed)))
+delivery-pass schema place own packet (part.gets_answer m row a body found is) = (refl, tt)
+delivery-pass schema place own packet (part.gets_reply m row a body found is) = (refl, tt)
+delivery-pass schema place own packet {e} (part.drains p is) =
+    (farewell-pass p own, no_actor-pass schema (place + 1) (map what.Fails (delivery.unanswered e)) (after_what schema place (farewell_line p) own) (no_actor-fails (delivery.unanswered e)))
+delivery-pass schema place own packet (part.passes_by m ordinary none) = (unknown-pass m.seq m.body own, tt)
+
+-- Whole steps
+
+pub own-kept : (schema : Schema) → HasSoundRows schema → (place : ℕ) (own : EndReading) {e g : End} {ws : List What} {ps : List Packet} {q : Phase} → OwnParts schema e ws ps g q → ReadsActors schema e own → KeptBy schema place ws own q g
+own-kept schema rows place own {e} (part.begun {p} {q} {f = f} {g = g} {ws} {vs} first more) k =
+    let first-kept : KeptBy schema place ws own p f = record {
+      pass = first-pass schema place own first;
+      kept = begun-keeps schema e f own p (actor_reading (after_whats schema place ws own)) k (first-begins schema rows place own first k.handled) (first-ids schema [] own.built first k.ids);
+    } in
+    then-kept schema place ws vs own p q f g first-kept (λ at. later-parts-kept schema at (after_whats schema place ws own) more first-kept.kept)
+
+pub delivery-kept : (schema : Schema) (place : ℕ) (own : EndReading) (packet : Packet) {e f : End} {ws : List What} {ps : List Packet} {q : Phase} → DeliveryPart schema packet e ws ps f q → HasNextId schema e packet → ReadsActors schema e own → KeptBy schema place ws own q f
+delivery-kept schema place own packet {e} {f} {ws} {ps} {q} one next k = record {
+  pass = delivery-pass schema place own packet one;
+  kept = begun-keeps schema e f own q (actor_reading (after_whats schema place ws own)) k (delivery-begins schema place own packet one k.handled) (delivery-ids schema [] own.built packet one next k.ids);
+}
