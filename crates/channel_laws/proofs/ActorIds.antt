@@ -70,13 +70,15 @@ sent-ids schema Normal made e built next h = (h, tt)
 sent-ids schema Delete made e built next h = (h, tt)
 sent-ids schema (Constructor protocol) made e built next h =
     let ids : Ids = built_ids schema e built in
-    let is : made ≡ id_of e.side (e.constructors_sent + 1) = next refl in
-    (known-counted 0 ids h, (
-      inr (inl (e.constructors_sent + 1, omega arith, omega arith, is)),
-      lives-false made ids.actors (λ k. own_is_free ids (subst (IsTaken ids) is (h.taken made (lives-true made ids.actors k)))),
-      all-map (IsNew ids) (λ waiting. waiting ≢ made) ids.waiting (λ id new same. ids_apart e.side (e.constructors_sent + 1) new.0.0 (sym is ∙ sym same ∙ new.0.3)) h.waiting,
-      refl,
-    ))
+    let is : made ≡ id_of e.side (e.constructors_sent + 1) = next refl in (
+      known-counted 0 ids h,
+      (
+        inr (inl (e.constructors_sent + 1, omega arith, omega arith, is)),
+        lives-false made ids.actors (λ k. own_is_free ids (subst (IsTaken ids) is (h.taken made (lives-true made ids.actors k)))),
+        all-map (IsNew ids) (λ waiting. waiting ≢ made) ids.waiting (λ id new same. ids_apart e.side (e.constructors_sent + 1) new.0.0 (sym is ∙ sym same ∙ new.0.3)) h.waiting,
+        refl,
+      ),
+    )
 
 -- Items that leave and arrive
 
@@ -99,12 +101,16 @@ constructor-taken : (schema : Schema) (ids : Ids) (made : ℤ) (before after : L
 constructor-taken schema ids made before after h is =
     let waiting : AllByRecursion (IsNew ids) (before ++ made ∷ after) = subst (AllByRecursion (IsNew ids)) is h.waiting in
     let distinct : AreDistinct (before ++ made ∷ after) = subst AreDistinct is h.distinct in
-    let own : IsNew ids made = (all-behind (IsNew ids) before (made ∷ after) waiting).0 in
-    (record {
-      tree = h.tree; top = h.top; taken = h.taken;
-      waiting = all-append (IsNew ids) before after (all-before (IsNew ids) before (made ∷ after) waiting) (all-behind (IsNew ids) before (made ∷ after) waiting).1;
-      distinct = distinct-without before made after distinct;
-    }, (inr (inr own.0), own.1, distinct-from before made after distinct, refl))
+    let own : IsNew ids made = (all-behind (IsNew ids) before (made ∷ after) waiting).0 in (
+      record {
+        tree = h.tree;
+        top = h.top;
+        taken = h.taken;
+        waiting = all-append (IsNew ids) before after (all-before (IsNew ids) before (made ∷ after) waiting) (all-behind (IsNew ids) before (made ∷ after) waiting).1;
+        distinct = distinct-without before made after distinct;
+      },
+      (inr (inr own.0), own.1, distinct-from before made after distinct, refl),
+    )
 
 taken-ids : (schema : Schema) (constructor : Bool) (ids : Ids) (made : ℤ) (rest : List ℤ) (new before after : List ℤ) → AreKnown 0 ids → new ≡ cond constructor (made ∷ []) [] → ids.waiting ≡ before ++ (new ++ after) → rest ≡ before ++ after
     → AreKnown 0 (record ids { waiting = rest }) × IsPending (record ids { waiting = rest }) (cond constructor (made ∷ []) [])

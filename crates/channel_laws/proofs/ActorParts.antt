@@ -189,16 +189,24 @@ sends-begins : (schema : Schema) (place : ℕ) (e f : End) (own : EndReading) (r
     → map handled_frame own.stack ≡ map handled_entry e.stack → f.actors ≡ e.actors → f.stack ≡ (cond sync (send.wait_for row m ∷ e.stack) e.stack)
     → Begins e f (sends m.seq m.route) (kind_cause row.kind m.route) (actor_reading own) (actor_reading (after_what schema place (if sync then what.Call m.seq m.transaction m.route m.number vs else what.Send m.seq m.route m.number vs) own))
 sends-begins schema place e f own row m vs true number found async k actors stack = record {
-  built = refl; fallen = refl; falls = refl; event = refl;
+  built = refl;
+  fallen = refl;
+  falls = refl;
+  event = refl;
   cause = sync-cause row.kind m.route true async refl;
   handled = ap (λ (fs : List (Option HandledRequest)). None ∷ fs) k ∙ sym (ap (map handled_entry) stack);
-  actors = actors; over = λ o. inr o;
+  actors = actors;
+  over = λ o. inr o;
 }
 sends-begins schema place e f own row m vs false number found async k actors stack = record {
-  built = refl; fallen = refl; falls = refl; event = refl;
+  built = refl;
+  fallen = refl;
+  falls = refl;
+  event = refl;
   cause = ap (λ (n : ℕ). rows.delete_cause schema n m.route) number ∙ row-cause schema row row.number m.route found;
   handled = k ∙ sym (ap (map handled_entry) stack);
-  actors = actors; over = λ o. inr o;
+  actors = actors;
+  over = λ o. inr o;
 }
 
 answering-begins : (schema : Schema) (place : ℕ) (seq : ℤ) (vs : Option Values) (e f : End) (own : EndReading) → f.actors ≡ e.actors → map handled_frame own.stack ≡ map handled_entry f.stack
@@ -275,9 +283,14 @@ first-begins schema sound place own {e} (part.returns entry row vs told lost is 
     (behind schema (place + 1) (ls ++ ms) (after_what schema place line own) e popped start why (actor_reading own)
     (all-append SaysNoActor ls ms (no_actor-reply told (return.dispatch_answered entry) (return.return_answer schema e row entry vs)) (no_actor-reply lost (resolver_answered (answering.resolver_in entry)) (answer.Fault ResolverDestroyed)))
     (record {
-      built = refl; fallen = refl; falls = refl; event = refl;
+      built = refl;
+      fallen = refl;
+      falls = refl;
+      event = refl;
       cause = return-cause schema own.stack e.stack entry row k is.on_top (request-message schema entry.number row is.found);
-      handled = popped-handled own.stack e.stack k; actors = refl; over = λ o. inr o;
+      handled = popped-handled own.stack e.stack k;
+      actors = refl;
+      over = λ o. inr o;
     })))
 first-begins schema sound place own {e} (part.resumes wait row on_top found) k = resume-begins schema place wait.seq (received schema e.actors row wait.given) e own k
 

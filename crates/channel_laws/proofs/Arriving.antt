@@ -189,7 +189,6 @@ module _ (side : Side) (items rest : List Item) (count : ℕ) (a : ArrivalReadin
 
 -- no reply before the first that is free shows the same: it would be as free
 
-
 -- No reply before the first that is free shows the same, since that would be as free.
 
 -- what is deferred, by what arrives

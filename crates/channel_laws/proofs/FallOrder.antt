@@ -131,7 +131,7 @@ ids_in xs = map (λ (a : Actor). a.id) xs
 precedes-here : (x b a : ℤ) (xs : List ℤ) → x ≡ b → precedes (x ∷ xs) b a ≡ true
 precedes-here x b a xs e = ap (λ (t : Bool). if t then true else (if int_eq x a then false else precedes xs b a)) (same x b e)
 
-precedes-past : (x b a : ℤ) (xs : List ℤ) → x ≢ b → x ≢ a → precedes xs b a ≡ true → precedes (x ∷ xs) b a ≡ true
+pub precedes-past : (x b a : ℤ) (xs : List ℤ) → x ≢ b → x ≢ a → precedes xs b a ≡ true → precedes (x ∷ xs) b a ≡ true
 precedes-past x b a xs n m e =
     ap (λ (t : Bool). if t then true else (if int_eq x a then false else precedes xs b a)) (other x b n)
     ∙ (ap (λ (t : Bool). if t then false else precedes xs b a) (other x a m) ∙ e)

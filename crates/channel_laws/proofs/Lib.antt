@@ -50,6 +50,10 @@ pub mod Runs
 pub mod Readable
 pub mod NextPackets
 pub mod FallOrder
+pub mod RequestOrder
+pub mod OrderRuns
+pub mod ActorFalls
+pub mod ActorsKept
 pub mod Answering
 pub mod AnswerParts
 pub mod RequestOrder

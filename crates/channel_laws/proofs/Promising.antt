@@ -127,10 +127,12 @@ IsAmong test numbers entry = has numbers (promise_seq entry) ≡ test entry
 
 among-later : (test : PromiseEntry → Bool) (entry : PromiseEntry) (all some : List PromiseEntry) → AllByRecursion (λ later. promise_seq entry ≢ later) (map promise_seq some) → AllByRecursion (IsAmong test (numbers_passing test all)) some → AllByRecursion (IsAmong test (numbers_passing test (entry ∷ all))) some
 among-later test entry all [] h k = tt
-among-later test entry all (x ∷ some) h k =
-    (filtered test (test entry) entry all (promise_seq x)
-    ∙ (ap (λ (b : Bool). (test entry && b) || has (numbers_passing test all) (promise_seq x)) (int-apart (promise_seq entry) (promise_seq x) h.0)
-    ∙ (by (test entry) ∙ k.0)), among-later test entry all some h.1 k.1)
+among-later test entry all (x ∷ some) h k = (
+  filtered test (test entry) entry all (promise_seq x)
+      ∙ (ap (λ (b : Bool). (test entry && b) || has (numbers_passing test all) (promise_seq x)) (int-apart (promise_seq entry) (promise_seq x) h.0)
+      ∙ (by (test entry) ∙ k.0)),
+  among-later test entry all some h.1 k.1,
+)
   where
     by : (b : Bool) → (b && false) || has (numbers_passing test all) (promise_seq x) ≡ has (numbers_passing test all) (promise_seq x)
     by true = refl
@@ -138,10 +140,12 @@ among-later test entry all (x ∷ some) h k =
 
 pub among-passing : (test : PromiseEntry → Bool) (promises : List PromiseEntry) → AreDistinct (map promise_seq promises) → AllByRecursion (IsAmong test (numbers_passing test promises)) promises
 among-passing test [] d = tt
-among-passing test (entry ∷ promises) d =
-    (filtered test (test entry) entry promises (promise_seq entry)
-    ∙ (ap (λ (b : Bool). (test entry && b) || has (numbers_passing test promises) (promise_seq entry)) (int-same (promise_seq entry))
-    ∙ (ap (λ (b : Bool). (test entry && true) || b) (elsewhere test promises (promise_seq entry) d.0) ∙ by (test entry))), among-later test entry promises promises d.0 (among-passing test promises d.1))
+among-passing test (entry ∷ promises) d = (
+  filtered test (test entry) entry promises (promise_seq entry)
+      ∙ (ap (λ (b : Bool). (test entry && b) || has (numbers_passing test promises) (promise_seq entry)) (int-same (promise_seq entry))
+      ∙ (ap (λ (b : Bool). (test entry && true) || b) (elsewhere test promises (promise_seq entry) d.0) ∙ by (test entry))),
+  among-later test entry promises promises d.0 (among-passing test promises d.1),
+)
   where
     by : (b : Bool) → (b && true) || false ≡ b
     by true = refl
