@@ -56,4 +56,3 @@ pub mod ActorFalls
 pub mod ActorsKept
 pub mod Answering
 pub mod AnswerParts
-pub mod RequestOrder
