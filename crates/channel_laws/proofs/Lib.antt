@@ -56,3 +56,4 @@ pub mod ActorFalls
 pub mod ActorsKept
 pub mod Answering
 pub mod AnswerParts
+pub mod Exchanges
