@@ -57,3 +57,4 @@ pub mod ActorsKept
 pub mod Answering
 pub mod AnswerParts
 pub mod Exchanges
+pub mod Taken
