@@ -58,3 +58,4 @@ pub mod Answering
 pub mod AnswerParts
 pub mod Exchanges
 pub mod Taken
+pub mod Settling
