@@ -55,3 +55,5 @@ pub mod OrderRuns
 pub mod ActorFalls
 pub mod ActorsKept
 pub mod Answering
+pub mod Holding
+pub mod FallenRuns
