@@ -51,3 +51,4 @@ pub mod Readable
 pub mod NextPackets
 pub mod FallOrder
 pub mod RequestOrder
+pub mod GivenAnswers

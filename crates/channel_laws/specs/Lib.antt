@@ -21,3 +21,4 @@ pub mod ReadingLaws
 pub mod Counts
 pub mod Arrivals
 pub mod Promised
+pub mod GivenAnswers
