@@ -1,5 +1,5 @@
 -- Each step keeps what waits and arrived items come from.
-use Rattle.std.proofs.Common.{◌≡◌, ℕ, ◌+◌, ℤ, Bool, true, false, ◌||◌, cond, if◌then◌else◌, int_eq, List, [], ◌∷◌, ◌++◌, drop, filter, map, Option, Some, None, refl, sym, ap, subst, ◌∙◌}
+use Rattle.std.proofs.Common.{◌≡◌, ℕ, ◌+◌, ℤ, pos, Bool, true, false, ◌||◌, cond, if◌then◌else◌, int_eq, List, [], ◌∷◌, ◌++◌, drop, filter, map, Option, Some, None, refl, sym, ap, subst, ◌∙◌}
 use Rattle.std.specs.List.{AllByRecursion}
 use Rattle.std.specs.Option.{option_map_or}
 use Rattle.std.proofs.lemmas.Bool.Decides.{Decides-int_eq}
@@ -53,7 +53,7 @@ use Rattle.channel_laws.specs.Origins.{IsRequested}
 use Rattle.channel_laws.specs.SentAccounts.{EndAccount}
 use Rattle.channel_laws.specs.Tested.{after_whats}
 use Rattle.channel_laws.specs.TwoEnds.{LinkAccount, TwoEnds}
-use Rattle.channel_laws.proofs.Growing.{grows, in-before, in-behind}
+use Rattle.channel_laws.proofs.Growing.{whats-append, grows, in-before, in-behind}
 use Rattle.channel_laws.proofs.Moves.{EndMove, StepParts, acts, delivers}
 use Rattle.channel_laws.proofs.Outlines.{RepliesFit, cons-head}
 use Rattle.channel_laws.proofs.TwoEnds.{Arrival}
@@ -320,3 +320,79 @@ module _ (schema : Schema) (sent own : List Note) where
     arrived = all-append (ItemIsSent schema sent) e.arrived (farewell_item packet ∷ []) k.arrived (farewell-sent packet new, tt);
   }
   delivery-answers place h (parts.passes_by m ordinary none) fit new k = absurd (fit.known m refl ordinary none)
+
+-- Steps
+
+module _ (schema : Schema) (sent : List Note) (side : Side) where
+  told-behind : (place : ℕ) (ws : List What) (h : EndReading) → (more : List Note) × (told_notes side (after_whats schema place ws h).sent ≡ told_notes side h.sent ++ more)
+  told-behind place ws h = let g = grows schema place ws h in (told_notes side g.0, ap (told_notes side) g.1 ∙ map-append (told_note side) h.sent g.0)
+
+  -- what is kept behind more lines
+  answers-behind : (place : ℕ) (ws : List What) (h : EndReading) (e : End) → HasAnswers schema sent (told_notes side h.sent) h.failed e → HasAnswers schema sent (told_notes side (after_whats schema place ws h).sent) (after_whats schema place ws h).failed e
+  answers-behind place ws h e k =
+      let g = told-behind place ws h in
+      let next : List ℤ = (after_whats schema place ws h).failed in
+      subst (λ (own : List Note). HasAnswers schema sent own next e) (sym g.1)
+      (subst (λ (xs : List Note). HasAnswers schema xs (told_notes side h.sent ++ g.0) next e) (append-nil sent) (answers-grow schema sent [] (told_notes side h.sent) g.0 h.failed next (λ n x. failed-stays schema place ws h n x) e k))
+
+  first-own : {q : Phase} {e f : End} {ws : List What} {ps : List Packet} (place : ℕ) (h : EndReading) (part : FirstPart schema e ws ps f q) → SentIsOwn schema sent (told_notes side (after_whats schema place ws h).sent) part
+  first-own {e} place h (parts.sends row route vs name is) = λ sync. by (is_sync_row row)
+    where
+      last : (r : told.Request) → In (asks (request_note side r)) (told_notes side (h.sent ++ told.request r ∷ []))
+      last r = subst (In (asks (request_note side r))) (sym (map-append (told_note side) h.sent (told.request r ∷ []))) (in-behind (told_notes side h.sent) here)
+
+      by : (sync : Bool) → IsRequested (told_notes side (after_what schema place (if sync then what.Call (send.request_of e row route vs).seq (send.request_of e row route vs).transaction route row.number vs else what.Send (send.request_of e row route vs).seq route row.number vs) h).sent) (send.request_of e row route vs).seq route row.number
+      by true = let r : told.Request = reads.request_after schema (send.request_of e row route vs).seq (send.request_of e row route vs).transaction route row.number vs h in record { request = request_note side r; sent_it = last r; seq_is = refl; route_is = refl; number_is = refl }
+      by false = let r : told.Request = reads.request_after schema (send.request_of e row route vs).seq (pos 0) route row.number vs h in record { request = request_note side r; sent_it = last r; seq_is = refl; route_is = refl; number_is = refl }
+  first-own place h (parts.refuses w q) = tt
+  first-own place h (parts.renames w q) = tt
+  first-own place h (parts.flushes o) = tt
+  first-own place h (parts.answers by vs r row found may ok used) = tt
+  first-own place h (parts.closes o waits) = tt
+  first-own place h (parts.dies o) = tt
+  first-own place h (parts.dies_silent o alive) = tt
+  first-own place h (parts.takes m sync level row vs next body found stays) = tt
+  first-own place h (parts.drops m sync level row vs id replies next body found gone is) = tt
+  first-own place h (parts.drops_unknown m sync level vs next body none) = tt
+  first-own place h (parts.takes_reply m sync level a next body late) = tt
+  first-own place h (parts.settles m sync level row a next body found is) = tt
+  first-own place h (parts.shuts last next is) = tt
+  first-own place h (parts.returns entry row vs told lost on_top t l) = tt
+  first-own place h (parts.resumes wait row on_top found) = tt
+
+  own-answers : {q : Phase} {e f : End} {ws : List What} {ps : List Packet} (place : ℕ) (h : EndReading) → OwnParts schema e ws ps f q → HasAnswers schema sent (told_notes side h.sent) h.failed e → HasAnswers schema sent (told_notes side (after_whats schema place ws h).sent) (after_whats schema place ws h).failed f
+  own-answers {e} {f = g} place h (parts.begun {f} {ws} {vs} part rest) k =
+      let mid : EndReading = after_whats schema place ws h in
+      let own : List Note = told_notes side mid.sent in
+      let a : HasAnswers schema sent own mid.failed f = first-answers schema sent own mid.failed part (first-own place h part) (answers-behind place ws h e k) in
+      let b : HasAnswers schema sent own mid.failed g = laters-answers schema sent own mid.failed rest a in
+      let at = whats-append schema place ws vs h in
+      subst (λ (x : EndReading). HasAnswers schema sent (told_notes side x.sent) x.failed g) (sym at.1) (answers-behind at.0 vs mid g b)
+
+arrival-sent : (schema : Schema) (mine theirs : End) (own others : EndReading) (to_me : List Packet) (packet : Packet) → Arrival schema mine theirs own others to_me packet → PacketIsSent schema (told_notes theirs.side others.sent) packet
+arrival-sent schema mine theirs own others to_me mark a = tt
+arrival-sent schema mine theirs own others to_me (message m) a = subst (λ (l : List Note). In (packet_note schema (message m)) l) (sym a.account.sent.whole) (in-before _ (in-behind a.account.got here))
+
+-- An end keeps it behind its own step, and behind that of the other.
+pub move-answers : (schema : Schema) (side : Side) (place : ℕ) (mine theirs : End) (own others : EndReading) (to_me to_them : List Packet) (ev : Event) (output : Output) (m : EndMove schema place mine theirs own others to_me to_them ev output) → HasAnswers schema (told_notes theirs.side others.sent) (told_notes side own.sent) own.failed mine
+    → HasAnswers schema (told_notes theirs.side others.sent) (told_notes side (after_whats schema place m.whats own).sent) (after_whats schema place m.whats own).failed output.end
+move-answers schema side place mine theirs own others to_me to_them ev output m k = by m.parts
+  where
+    sent : List Note
+    sent = told_notes theirs.side others.sent
+
+    by : {ev : Event} {ws : List What} {ps : List Packet} {f : End} {q : Phase} → StepParts schema mine to_me ev ws ps f q → HasAnswers schema (told_notes theirs.side others.sent) (told_notes side (after_whats schema place ws own).sent) (after_whats schema place ws own).failed f
+    by (acts same steps) = own-answers schema (told_notes theirs.side others.sent) side place own steps k
+    by {ws} {f} (delivers packet first o part) =
+        let a : Arrival schema mine theirs own others to_me packet = m.arrives packet first o in
+        let g = told-behind schema (told_notes theirs.side others.sent) side place ws own in
+        let d : HasAnswers schema (told_notes theirs.side others.sent) (told_notes side own.sent) (after_whats schema place ws own).failed f = delivery-answers schema (told_notes theirs.side others.sent) (told_notes side own.sent) place own part a.fits (arrival-sent schema mine theirs own others to_me packet a) k in
+        subst (λ (x : List Note). HasAnswers schema (told_notes theirs.side others.sent) x (after_whats schema place ws own).failed f) (sym g.1)
+        (subst (λ (xs : List Note). HasAnswers schema xs (told_notes side own.sent ++ g.0) (after_whats schema place ws own).failed f) (append-nil (told_notes theirs.side others.sent))
+        (answers-grow schema (told_notes theirs.side others.sent) [] (told_notes side own.sent) g.0 (after_whats schema place ws own).failed (after_whats schema place ws own).failed (λ n x. x) f d))
+
+pub other-answers : (schema : Schema) (side : Side) (place : ℕ) (ws : List What) (h others : EndReading) (own : List Note) (theirs : End) → HasAnswers schema (told_notes side h.sent) own others.failed theirs → HasAnswers schema (told_notes side (after_whats schema place ws h).sent) own others.failed theirs
+other-answers schema side place ws h others own theirs k =
+    let g = told-behind schema [] side place ws h in
+    subst (λ (xs : List Note). HasAnswers schema xs own others.failed theirs) (sym g.1)
+    (subst (λ (ys : List Note). HasAnswers schema (told_notes side h.sent ++ g.0) ys others.failed theirs) (append-nil own) (answers-grow schema (told_notes side h.sent) g.0 own [] others.failed others.failed (λ n x. x) theirs k))

@@ -14,6 +14,7 @@ use Rattle.history_reading.specs.EndReading.{EndReading}
 use Rattle.history_reading.specs.Numbers.{has}
 use Rattle.history_reading.specs.SentPacket.{ReplyContent, ok, fault}
 use Rattle.channel_model.specs.Ends.{End, Packet, message, mark, StackEntry}
+use Rattle.channel_model.specs.Numbers.{other}
 use Rattle.channel_laws.specs.Notes.{Note, says, broken, told_notes, body_note, In}
 use Rattle.channel_laws.specs.Origins.{IsRequested}
 
@@ -55,4 +56,4 @@ pub record HasAnswers (schema : Schema) (sent own : List Note) (failed : List �
 
 -- an end keeps that with its own lines and those of the other, which is on this side
 abbrev pub KeepsAnswers : Schema → Side → EndReading → End → EndReading → Type 0
-KeepsAnswers schema side others e own = HasAnswers schema (told_notes side others.sent) (told_notes e.side own.sent) own.failed e
+KeepsAnswers schema side others e own = HasAnswers schema (told_notes side others.sent) (told_notes (other side) own.sent) own.failed e
