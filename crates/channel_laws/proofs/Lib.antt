@@ -52,3 +52,4 @@ pub mod NextPackets
 pub mod FallOrder
 pub mod RequestOrder
 pub mod GivenAnswers
+pub mod WaitLines
