@@ -57,3 +57,5 @@ pub mod ActorsKept
 pub mod Answering
 pub mod Holding
 pub mod FallenRuns
+pub mod GivenAnswers
+pub mod WaitLines

@@ -23,3 +23,4 @@ pub mod Counts
 pub mod Arrivals
 pub mod Promised
 pub mod AnswersOnce
+pub mod GivenAnswers
