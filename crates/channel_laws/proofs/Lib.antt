@@ -59,3 +59,5 @@ pub mod Holding
 pub mod FallenRuns
 pub mod GivenAnswers
 pub mod WaitLines
+pub mod AnswerParts
+pub mod Exchanges

@@ -24,3 +24,4 @@ pub mod Arrivals
 pub mod Promised
 pub mod AnswersOnce
 pub mod GivenAnswers
+pub mod Exchanges
