@@ -329,8 +329,11 @@ module _ (schema : Schema) (why : ℤ → Destroy) (promises : List PromiseEntry
       let here_reading : ActorReading = fallen_reading start front in
       tested-append schema (λ h w. fallen_line h w ≡ true) place (ls ++ what.Fall a.id (why a.id) ∷ []) more own
       (tested-append schema (λ h w. fallen_line h w ≡ true) place ls (what.Fall a.id (why a.id) ∷ []) own (no_actor-pass schema place ls own quiet)
-      (λ next. (may_fall-is (after_whats schema place ls own) a.id (why a.id)
-      (subst (λ (r : ActorReading). MayFall r.built r.fallen r.falls r.cause a.id (why a.id)) (sym (no_actor-read schema place ls own quiet ∙ at))
-      (subst (λ (f : List ActorPlace). MayFall start.built (start.fallen ++ fallen_ids front) (f ++ places_of start.built front) start.cause a.id (why a.id)) (sym none) (may front a fs is))), tt)))
+      (λ next. (
+        may_fall-is (after_whats schema place ls own) a.id (why a.id)
+            (subst (λ (r : ActorReading). MayFall r.built r.fallen r.falls r.cause a.id (why a.id)) (sym (no_actor-read schema place ls own quiet ∙ at))
+            (subst (λ (f : List ActorPlace). MayFall start.built (start.fallen ++ fallen_ids front) (f ++ places_of start.built front) start.cause a.id (why a.id)) (sym none) (may front a fs is))),
+        tt,
+      )))
       (λ next. falls-pass start whole none may next (front ++ a ∷ []) fs (after_whats schema place (ls ++ what.Fall a.id (why a.id) ∷ []) own) (is ∙ sym (append_assoc front (a ∷ []) fs))
       (one-read place ls a own quiet ∙ (ap (λ (r : ActorReading). fallen_reading r (a ∷ [])) at ∙ more-fallen start front (a ∷ []))))

@@ -54,3 +54,5 @@ pub mod RequestOrder
 pub mod OrderRuns
 pub mod ActorFalls
 pub mod Answering
+pub mod NotedArrivals
+pub mod KeptEnds

@@ -22,3 +22,4 @@ pub mod Counts
 pub mod Arrivals
 pub mod Promised
 pub mod AnswersOnce
+pub mod NotedArrivals
