@@ -212,7 +212,7 @@ module _ (built : List BuiltActor) (fallen : List ℤ) (actors : List Actor) (sh
   oldest-all front a back [] order all = tt
   oldest-all front a back (b ∷ some) order all = (oldest-one front a back b order (all b here).0 (all b here).1, oldest-all front a back some order (λ x i. all x (there i)))
 
-  one-may_fall : (why : Cause) (reason : Destroy) (front : List Actor) (a : Actor) (back : List Actor) → post_order root actors ≡ front ++ a ∷ back → lets_fall built why a.id reason ≡ true
+  pub one-may_fall : (why : Cause) (reason : Destroy) (front : List Actor) (a : Actor) (back : List Actor) → post_order root actors ≡ front ++ a ∷ back → lets_fall built why a.id reason ≡ true
       → MayFall built (fallen ++ fallen_ids front) (places_of built front) why a.id reason
   one-may_fall why reason front a back order allowed =
       let in_a : In a actors = falls-alive front a back order in
@@ -293,7 +293,7 @@ closing-allowed built destroy.AbnormalShutdown id = refl
 abbrev pub fallen_reading : ActorReading → List Actor → ActorReading
 fallen_reading read front = record read { fallen = read.fallen ++ fallen_ids front; falls = read.falls ++ places_of read.built front }
 
-none-fallen : (read : ActorReading) → fallen_reading read [] ≡ read
+pub none-fallen : (read : ActorReading) → fallen_reading read [] ≡ read
 none-fallen read = ap (λ (f : List ℤ). record read { fallen = f; falls = read.falls ++ [] }) (append-nil read.fallen) ∙ ap (λ (f : List ActorPlace). record read { falls = f }) (append-nil read.falls)
 
 more-fallen : (read : ActorReading) (xs ys : List Actor) → fallen_reading (fallen_reading read xs) ys ≡ fallen_reading read (xs ++ ys)

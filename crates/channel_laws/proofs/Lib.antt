@@ -53,6 +53,7 @@ pub mod FallOrder
 pub mod RequestOrder
 pub mod OrderRuns
 pub mod ActorFalls
+pub mod ActorsKept
 pub mod Answering
 pub mod NotedArrivals
 pub mod KeptEnds
