@@ -1,5 +1,5 @@
 -- How often a request may still be answered, as stacks, names and what was sent change.
-use Rattle.std.proofs.Common.{◌≡◌, ℕ, ◌+◌, ◌≤◌, ℤ, Bool, true, false, not, ◌&&◌, ◌||◌, cond, if◌then◌else◌, int_eq, List, [], ◌∷◌, ◌++◌, drop, filter, find, map, Option, Some, None, option_map, refl, sym, ap, subst, ◌∙◌, arith}
+use Rattle.std.proofs.Common.{◌≡◌, ℕ, ◌+◌, ◌≤◌, ℤ, Bool, true, false, not, ◌&&◌, ◌||◌, cond, if◌then◌else◌, int_eq, List, [], ◌∷◌, ◌++◌, drop, filter, find, map, Option, Some, None, option_map, option_and_then, ◌==◌, refl, sym, ap, subst, ◌∙◌, arith}
 use Rattle.std.specs.List.{AllByRecursion}
 use Rattle.std.proofs.lemmas.Option.{same_Some}
 use Rattle.ipdl_base.specs.declared.schema.MessageRow.{MessageRow}
@@ -105,13 +105,13 @@ module _ (schema : Schema) where
   failed-keeps [] h = tt
   failed-keeps (x ∷ xs) h = (failed-way x x.frame refl h.0, failed-keeps xs h.1)
 
--- one that is released owes nothing more by its resolver, or is none of this number
-released-bools : (d r s same found : Bool) → d && (r && found) ≡ true → (r ≡ true → s ≡ false) → found ≡ true → one_if (d && ((false || s) && same)) + one_if same ≤ one_if (d && ((r || s) && same))
-released-bools true true true same found e alone is = let f : true ≡ false = alone refl in cc
-released-bools true true false true found e alone is = omega arith
-released-bools true true false false found e alone is = omega arith
-released-bools true false s same found e alone is = cc
-released-bools false r s same found e alone is = cc
+-- the frame whose resolver is used owes nothing more
+used-bools : (d r s same found : Bool) → d && (r && found) ≡ true → (r ≡ true → s ≡ false) → one_if (d && ((false || s) && same)) + one_if same ≤ one_if (d && ((r || s) && same))
+used-bools true true true same found e alone = let f : true ≡ false = alone refl in cc
+used-bools true true false true found e alone = omega arith
+used-bools true true false false found e alone = omega arith
+used-bools true false s same found e alone = cc
+used-bools false r s same found e alone = cc
 
 released-less : (b d r s same : Bool) → one_if (if b then d && ((false || s) && same) else d && ((r || s) && same)) ≤ one_if (d && ((r || s) && same))
 released-less true true true true true = omega arith
@@ -133,3 +133,72 @@ released-fewer n seq (x ∷ xs) =
     let same = ap one_if (released-one n (answering.has_resolver seq x) x) in
     let less = released-less (answering.has_resolver seq x) (is_dispatch x.frame) x.resolves (head_of x.frame).sync (int_eq (head_of x.frame).seq n) in
     omega arith
+
+pub used-owed : (schema : Schema) (n seq : ℤ) (r : Resolver) (stack : List StackEntry) → AllByRecursion (AnswersOneWay schema) stack → option_map answering.resolver_in (find (answering.has_resolver seq) stack) ≡ Some r → owed n (answering.released seq stack) + one_if (int_eq r.seq n) ≤ owed n stack
+used-owed schema n seq r [] h e = cc
+used-owed schema n seq r (x ∷ xs) h e = by (answering.has_resolver seq x) refl e (used-owed schema n seq r xs h.1)
+  where
+    later : Option StackEntry
+    later = find (answering.has_resolver seq) xs
+
+    rest_owed : ℕ
+    rest_owed = owed n (answering.released seq xs)
+
+    by : (b : Bool) → answering.has_resolver seq x ≡ b → option_map answering.resolver_in (cond b (Some x) later) ≡ Some r → (option_map answering.resolver_in later ≡ Some r → owed n (answering.released seq xs) + one_if (int_eq r.seq n) ≤ owed n xs)
+        → (one_if (owes_answer n (if b then record x { resolves = false } else x)) + owed n (answering.released seq xs)) + one_if (int_eq r.seq n) ≤ one_if (owes_answer n x) + owed n xs
+    by true is e rec =
+        let same : answering.resolver_in x ≡ r = same_Some (answering.resolver_in x) r e in
+        let number : one_if (int_eq (head_of x.frame).seq n) ≡ one_if (int_eq r.seq n) = ap (λ (y : Resolver). one_if (int_eq y.seq n)) same in
+        let used = used-bools (is_dispatch x.frame) x.resolves (head_of x.frame).sync (int_eq (head_of x.frame).seq n) (int_eq (head_of x.frame).seq seq) is h.0.resolves in
+        let fewer = released-fewer n seq xs in
+        omega arith
+    by false is e rec = let low = rec e in omega arith
+
+-- Names
+
+pub filter-fewer : {A : Type 0} (test keeps : A → Bool) (xs : List A) → how_many test (filter keeps xs) ≤ how_many test xs
+filter-fewer test keeps [] = omega arith
+filter-fewer {A} test keeps (x ∷ xs) = by (keeps x) (filter-fewer test keeps xs)
+  where
+    by : (b : Bool) → how_many test (filter keeps xs) ≤ how_many test xs → how_many test (cond b (x ∷ filter keeps xs) (filter keeps xs)) ≤ one_if (test x) + how_many test xs
+    by true low = omega arith
+    by false low = omega arith
+
+abbrev named : ℤ → List Naming → ℕ
+named n names = how_many (names_resolver n) names
+
+-- the name whose resolver is used holds nothing more
+pub used-named : (n : ℤ) (name : List ℕ) (r : Resolver) (names : List Naming) → held_by_name name names ≡ Some (resolver r) → named n (without_name name names) + one_if (int_eq r.seq n) ≤ named n names
+used-named n name r [] e = cc
+used-named n name r (x ∷ xs) e = by (has_name name x) e (used-named n name r xs)
+  where
+    later : Option Naming
+    later = find (has_name name) xs
+
+    by : (b : Bool) → option_map (λ (naming : Naming). naming.holds) (cond b (Some x) later) ≡ Some (resolver r) → (option_map (λ (naming : Naming). naming.holds) later ≡ Some (resolver r) → named n (without_name name xs) + one_if (int_eq r.seq n) ≤ named n xs)
+        → named n (cond (not b) (x ∷ without_name name xs) (without_name name xs)) + one_if (int_eq r.seq n) ≤ one_if (names_resolver n x) + named n xs
+    by true e rec =
+        let same : x.holds ≡ resolver r = same_Some x.holds (resolver r) e in
+        let number : one_if (names_resolver n x) ≡ one_if (int_eq r.seq n) = ap (λ (h : NameContent). one_if (holds_resolver_of n h)) same in
+        let fewer : named n (without_name name xs) ≤ named n xs = filter-fewer (names_resolver n) (λ naming. not (has_name name naming)) xs in
+        omega arith
+    by false e rec = let low = rec e in omega arith
+
+-- names that hold actors hold no resolver
+pub actors-named : (n : ℤ) (more : List Naming) → AllByRecursion HoldsActor more → named n more ≡ 0
+actors-named n [] h = refl
+actors-named n (x ∷ xs) h = let rest = actors-named n xs h.1 in let none = by x.holds h.0 in omega arith
+  where
+    by : (c : NameContent) → elim c as (λ y. Type 0) [ actor id ↦ Unit {0} | resolver r ↦ ⊥ ] → one_if (holds_resolver_of n c) ≡ 0
+    by (actor id) h = refl
+    by (resolver r) h = absurd h
+
+-- the resolver of a name that is used is what the name held
+pub used-held : (number : ℕ) (r : Resolver) (held : Option NameContent) → option_and_then (answering.resolver_of number) held ≡ Some r → held ≡ Some (resolver r)
+used-held number r None e = cc
+used-held number r (Some (actor id)) e = cc
+used-held number r (Some (resolver q)) e = by (q.number == number) e
+  where
+    by : (b : Bool) → (if b then Some q else None) ≡ Some r → Some (resolver q) ≡ Some (resolver r)
+    by true e = ap (λ (x : Resolver). Some (resolver x)) (same_Some q r e)
+    by false e = cc

@@ -103,7 +103,7 @@ nothing-arrived side items count a h = record {
 
 -- Leaving
 
-leaves-count : (test : PacketKind → Bool) (items rest : List Item) (x : Item) → TakenFrom items rest x → how_many test (map item_kind items) ≡ one_if (test (item_kind x)) + how_many test (map item_kind rest)
+pub leaves-count : (test : PacketKind → Bool) (items rest : List Item) (x : Item) → TakenFrom items rest x → how_many test (map item_kind items) ≡ one_if (test (item_kind x)) + how_many test (map item_kind rest)
 leaves-count test items rest x t =
     ap (λ (xs : List Item). how_many test (map item_kind xs)) t.whole
     ∙ (ap (how_many test) (map-append item_kind t.front (x ∷ t.back))

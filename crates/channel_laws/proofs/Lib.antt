@@ -57,3 +57,4 @@ pub mod ActorsKept
 pub mod Answering
 pub mod NotedArrivals
 pub mod KeptEnds
+pub mod AnswerParts
