@@ -56,5 +56,5 @@ pub mod ActorFalls
 pub mod ActorsKept
 pub mod Answering
 pub mod NotedArrivals
-pub mod KeptEnds
 pub mod AnswerParts
+pub mod ComingRequests

@@ -16,27 +16,31 @@ use Rattle.pending_queue.specs.Holding.{is_free, without_first}
 use Rattle.history_reading.specs.declared.parts.PacketKind.TheVariants as seen
 use Rattle.history_reading.specs.EndReading.{EndReading, is_sync_request}
 use Rattle.history_reading.specs.Reading as reads
-use Rattle.history_reading.specs.Reading.{after_what, request_after}
+use Rattle.history_reading.specs.Reading.{Reading, after_what, request_after, end_reading_of, other_of}
 use Rattle.history_reading.specs.SentPacket as told
 use Rattle.history_reading.specs.SentPacket.{SentPacket, requests_of}
 use Rattle.channel_model.specs.Answers as answering
 use Rattle.channel_model.specs.Deliveries as delivery
-use Rattle.channel_model.specs.Ends.{End, Packet, message, mark}
-use Rattle.channel_model.specs.Events.{Event, Answering, handled, kept}
+use Rattle.channel_model.specs.Ends.{End, World, Packet, message, mark, end_of, link_to}
+use Rattle.channel_model.specs.Events.{Event, Move, Answering, handled, kept}
+use Rattle.channel_model.specs.Numbers.{other}
 use Rattle.channel_model.specs.Outputs.{Output, is_open}
 use Rattle.channel_model.specs.Parts
 use Rattle.channel_model.specs.Parts.{FirstPart, LaterPart, LaterParts, OwnParts, DeliveryPart, end_behind, left_end, farewell_item}
 use Rattle.channel_model.specs.Phases.{Phase}
+use Rattle.channel_model.specs.Runs.{world_after}
 use Rattle.channel_model.specs.Steps.{first_packet}
 use Rattle.channel_model.specs.Takes as take
 use Rattle.channel_model.proofs.Known.{all-append, all-map}
 use Rattle.channel_model.proofs.Sublists.{all-sublist, without_first-sublist, staying-sublist}
-use Rattle.channel_laws.specs.NotedArrivals.{ItemIsNoted, ArrivalsAreNoted, HasWantsOfRow, HaveWantsOfRows, EndsAreNoted}
+use Rattle.channel_laws.specs.NotedArrivals.{ItemIsNoted, ArrivalsAreNoted, HasWantsOfRow, HaveWantsOfRows, IsNoted}
 use Rattle.channel_laws.specs.Notes.{Note, body_note, packet_note, told_note, told_notes, notes, In, here}
-use Rattle.channel_laws.specs.Tested.{after_whats}
+use Rattle.channel_laws.specs.Tested.{after_whats, read_from}
 use Rattle.channel_laws.specs.TwoEnds.{LinkAccount}
 use Rattle.channel_laws.proofs.Growing.{grows, in-before, in-behind}
-use Rattle.channel_laws.proofs.Moves.{EndMove, StepParts, acts, delivers}
+use Rattle.channel_laws.proofs.EveryRun.{end-side}
+use Rattle.channel_laws.proofs.Moves.{StepParts, acts, delivers}
+use Rattle.channel_laws.proofs.Runs.{RunMove, AcrossEnds, across-ends, across-keep}
 use Rattle.channel_laws.proofs.SentAccounts.{requests-append}
 
 -- What has arrived, and what arrives
@@ -169,19 +173,26 @@ module _ (schema : Schema) where
   mine-noted mine to_me sent (delivers packet first o part) coming h =
       delivery-arrived (ItemIsNoted schema sent) part (λ k row packet_is. subst (λ (p : Packet). In (packet_note schema p) sent) packet_is (coming packet first o)) (farewell-noted sent packet (coming packet first o)) h
 
-  pub noted-move : (place : ℕ) (mine theirs : End) (own others : EndReading) (to_me to_them : List Packet) (ev : Event) (output : Output) (m : EndMove schema place mine theirs own others to_me to_them ev output) → EndsAreNoted schema mine theirs own others → EndsAreNoted schema output.end theirs (after_whats schema place m.whats own) others
-  noted-move place mine theirs own others to_me to_them ev output m h =
-      let after : EndReading = after_whats schema place m.whats own in
-      let g = grows schema place m.whats own in
-      let notes_are : told_notes mine.side after.sent ≡ told_notes mine.side own.sent ++ told_notes mine.side g.0 = ap (told_notes mine.side) g.1 ∙ map-append (told_note mine.side) own.sent g.0 in
+  -- what is kept across both ends
+
+  grown-noted : (side : Side) (own : EndReading) (theirs : End) (others : EndReading) (place : ℕ) (ws : List What) → IsNoted schema side own theirs others → IsNoted schema side (after_whats schema place ws own) theirs others
+  grown-noted side own theirs others place ws h =
+      let g = grows schema place ws own in
       record {
-        noted = mine-noted mine to_me (told_notes theirs.side others.sent) m.parts (λ packet first o. noted-coming theirs others own packet (drop 1 to_me) (m.arrives packet first o).account) h.noted;
-        their_noted = subst (λ (s : Side). ArrivalsAreNoted schema (told_notes s after.sent) theirs) (sym m.side)
-            (subst (λ (sent : List Note). ArrivalsAreNoted schema sent theirs) (sym notes_are)
-            (all-map (ItemIsNoted schema (told_notes mine.side own.sent)) (ItemIsNoted schema (told_notes mine.side own.sent ++ told_notes mine.side g.0)) theirs.arrived (item-grows (told_notes mine.side own.sent) (told_notes mine.side g.0)) h.their_noted));
-        wants = wants-behind place m.whats own h.wants;
-        their_wants = h.their_wants;
+        arrived = subst (λ (sent : List Note). ArrivalsAreNoted schema sent theirs) (sym (ap (told_notes side) g.1 ∙ map-append (told_note side) own.sent g.0))
+            (all-map (ItemIsNoted schema (told_notes side own.sent)) (ItemIsNoted schema (told_notes side own.sent ++ told_notes side g.0)) theirs.arrived (item-grows (told_notes side own.sent) (told_notes side g.0)) h.arrived);
+        wants = h.wants;
       }
 
-pub noted-flip : {schema : Schema} {mine theirs : End} {own others : EndReading} → EndsAreNoted schema mine theirs own others → EndsAreNoted schema theirs mine others own
-noted-flip h = record { noted = h.their_noted; their_noted = h.noted; wants = h.their_wants; their_wants = h.wants }
+  pub noted-behind : (move : Move) (w : World) (r : Reading) (output : Output) → RunMove schema move w r output → AcrossEnds schema (IsNoted schema) w r → AcrossEnds schema (IsNoted schema) (world_after move output w) (read_from schema r output.lines)
+  noted-behind move w r output m k =
+      let side : Side = move.side in
+      let both = across-ends schema (IsNoted schema) side w r k in
+      let sent_by : (end_of (other side) w).side ≡ other side = end-side schema (other side) w m.nested in
+      across-keep schema (IsNoted schema) side move.event w r output m.nested m.ends
+      (record {
+        arrived = mine-noted (end_of side w) (link_to side w) (told_notes (other side) (other_of side r).sent) m.ends.parts
+            (λ packet first o. subst (λ (s : Side). In (packet_note schema packet) (told_notes s (other_of side r).sent)) sent_by (noted-coming (end_of (other side) w) (other_of side r) (end_reading_of side r) packet (drop 1 (link_to side w)) (m.ends.arrives packet first o).account)) both.0.arrived;
+        wants = wants-behind r.lines m.ends.whats (end_reading_of side r) both.0.wants;
+      })
+      (grown-noted side (end_reading_of side r) (end_of (other side) w) (other_of side r) r.lines m.ends.whats both.1)

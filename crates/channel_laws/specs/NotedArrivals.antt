@@ -1,6 +1,7 @@
 -- What has arrived at an end is what the other end's lines tell of.
 use Rattle.std.specs.Prelude.{◌≡◌, List}
 use Rattle.std.specs.List.{AllByRecursion}
+use Rattle.ipdl_base.specs.declared.kinds.Side.{Side}
 use Rattle.ipdl_base.specs.declared.schema.Schema.{Schema}
 use Rattle.pending_queue.specs.declared.item.Item.{Item}
 use Rattle.pending_queue.specs.declared.item.Item.TheVariants as item
@@ -25,9 +26,8 @@ HasWantsOfRow schema r = r.wants ≡ wants_number schema r.number
 abbrev pub HaveWantsOfRows : Schema → List SentPacket → Type 0
 HaveWantsOfRows schema sent = AllByRecursion (HasWantsOfRow schema) (requests_of sent)
 
--- What has arrived at each of two ends is noted among what the other has sent, and requests are read as their messages are.
-pub record EndsAreNoted (schema : Schema) (mine theirs : End) (own others : EndReading) : Type 0 where
-  pub noted : ArrivalsAreNoted schema (told_notes theirs.side others.sent) mine
-  pub their_noted : ArrivalsAreNoted schema (told_notes mine.side own.sent) theirs
+-- What has arrived at an end is noted among what the other, that of a side, has sent; and requests are read as their
+-- messages are.
+pub record IsNoted (schema : Schema) (their_side : Side) (others : EndReading) (e : End) (own : EndReading) : Type 0 where
+  pub arrived : ArrivalsAreNoted schema (told_notes their_side others.sent) e
   pub wants : HaveWantsOfRows schema own.sent
-  pub their_wants : HaveWantsOfRows schema others.sent
