@@ -339,9 +339,11 @@ first-pass schema place own {e} (part.settles m sync level row a next body found
 first-pass schema place own (part.shuts last next is) = (shut-pass last own, tt)
 first-pass schema place own {e} (part.returns entry row vs told lost is t l) =
     let ls : List What = reply_lines told (return.dispatch_answered entry) (return.return_answer schema e row entry vs) in
-    let ms : List What = reply_lines lost (resolver_answered (answering.resolver_in entry)) (answer.Fault ResolverDestroyed) in
-    (refl, no_actor-pass schema (place + 1) (ls ++ ms) (after_what schema place (what.Return (head_of entry.frame).seq) own)
-    (all-append SaysNoActor ls ms (no_actor-reply told (return.dispatch_answered entry) (return.return_answer schema e row entry vs)) (no_actor-reply lost (resolver_answered (answering.resolver_in entry)) (answer.Fault ResolverDestroyed))))
+    let ms : List What = reply_lines lost (resolver_answered (answering.resolver_in entry)) (answer.Fault ResolverDestroyed) in (
+      refl,
+      no_actor-pass schema (place + 1) (ls ++ ms) (after_what schema place (what.Return (head_of entry.frame).seq) own)
+          (all-append SaysNoActor ls ms (no_actor-reply told (return.dispatch_answered entry) (return.return_answer schema e row entry vs)) (no_actor-reply lost (resolver_answered (answering.resolver_in entry)) (answer.Fault ResolverDestroyed))),
+    )
 first-pass schema place own {e} (part.resumes wait row on_top found) = (resume-pass wait.seq (received schema e.actors row wait.given) own, tt)
 
 delivery-pass : (schema : Schema) (place : ℕ) (own : EndReading) (packet : Packet) {e f : End} {ws : List What} {ps : List Packet} {p : Phase} → DeliveryPart schema packet e ws ps f p → EndLinesPass schema IsFallenLine place ws own

@@ -38,6 +38,6 @@ module _ (schema : Schema) (side : Side) (w : World) (order : WorldInOrder schem
       let theirs : End = end_of (other side) w in
       let rest : List Packet = on_way theirs (drop 1 (link_to side w)) in
       let h : InOrder schema (other side) (message m ∷ rest) theirs.sent theirs.constructors_sent e.delivered e.constructors_delivered =
-          subst (λ (l : List Packet). InOrder schema (other side) (on_way theirs l) theirs.sent theirs.constructors_sent e.delivered e.constructors_delivered) (first-is (link_to side w) (message m) first) (comes-at schema side w order o)
+      subst (λ (l : List Packet). InOrder schema (other side) (on_way theirs l) theirs.sent theirs.constructors_sent e.delivered e.constructors_delivered) (first-is (link_to side w) (message m) first) (comes-at schema side w order o)
       in
       (subst (λ (b : Body). BodyInOrder schema (other side) m b (InOrder schema (other side) rest theirs.sent theirs.constructors_sent) e.delivered e.constructors_delivered) body h).0

@@ -58,3 +58,4 @@ pub mod Answering
 pub mod NotedArrivals
 pub mod AnswerParts
 pub mod ComingRequests
+pub mod HonestPackets
