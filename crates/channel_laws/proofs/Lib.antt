@@ -59,3 +59,4 @@ pub mod NotedArrivals
 pub mod AnswerParts
 pub mod ComingRequests
 pub mod HonestPackets
+pub mod GivenAnswers

@@ -23,3 +23,4 @@ pub mod Arrivals
 pub mod Promised
 pub mod AnswersOnce
 pub mod NotedArrivals
+pub mod GivenAnswers
