@@ -60,3 +60,5 @@ pub mod AnswerParts
 pub mod ComingRequests
 pub mod HonestPackets
 pub mod GivenAnswers
+pub mod Holding
+pub mod FallenRuns

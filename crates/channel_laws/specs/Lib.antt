@@ -9,6 +9,7 @@ pub mod RequestOrder
 pub mod Laws
 pub mod Tested
 pub mod EndActors
+pub mod ActorLaws
 pub mod Outlines
 pub mod Notes
 pub mod Origins
