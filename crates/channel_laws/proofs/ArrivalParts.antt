@@ -152,7 +152,7 @@ request-leaves e own m sync level vs h next body =
     let shows : item_kind x ≡ kind.Request m.seq = request-kind m.seq vs m.body body in
     record { taken = f.taken; shows = shows; others = request-alone e.side e.arrived (left_end e).arrived e.delivered (arrival_reading own) x m.seq h f.taken shows }
 
-reply-is-taken : (e : End) (own : EndReading) (m : Message) (sync : Bool) (level : Level) (a : Answer) → ArrivalsAreRead e own → take.taken_next e ≡ Some (item.Message m sync level) → m.body ≡ body_of a → Leaves e.arrived (left_end e).arrived (item.Message m sync level) (kind.Reply m.seq)
+pub reply-is-taken : (e : End) (own : EndReading) (m : Message) (sync : Bool) (level : Level) (a : Answer) → ArrivalsAreRead e own → take.taken_next e ≡ Some (item.Message m sync level) → m.body ≡ body_of a → Leaves e.arrived (left_end e).arrived (item.Message m sync level) (kind.Reply m.seq)
 reply-is-taken e own m sync level a h next body =
     let x : Item = item.Message m sync level in
     let f = taken-first e x next in

@@ -129,7 +129,7 @@ module _ (side : Side) (items rest : List Item) (count : ℕ) (a : ArrivalReadin
       ap (reads.without_first p) h.arrived
       ∙ (ap (λ (q : PacketKind). reads.without_first q (map item_kind items)) (sym l.shows) ∙ leaves-alike items rest x l.taken l.others)
 
-  left-count : (p : PacketKind) (test : PacketKind → Bool) → HasArrivals side items count a → Leaves items rest x p → how_many test a.arrived ≡ one_if (test p) + how_many test (reads.without_first p a.arrived)
+  pub left-count : (p : PacketKind) (test : PacketKind → Bool) → HasArrivals side items count a → Leaves items rest x p → how_many test a.arrived ≡ one_if (test p) + how_many test (reads.without_first p a.arrived)
   left-count p test h l =
       ap (how_many test) h.arrived
       ∙ (leaves-count test items rest x l.taken

@@ -62,3 +62,4 @@ pub mod HonestPackets
 pub mod GivenAnswers
 pub mod Holding
 pub mod FallenRuns
+pub mod Exchanges

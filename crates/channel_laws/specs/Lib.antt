@@ -25,3 +25,4 @@ pub mod Promised
 pub mod AnswersOnce
 pub mod NotedArrivals
 pub mod GivenAnswers
+pub mod Exchanges
