@@ -60,4 +60,7 @@ pub mod FallenRuns
 pub mod GivenAnswers
 pub mod WaitLines
 pub mod AnswerParts
+pub mod NotedArrivals
+pub mod ComingRequests
+pub mod HonestPackets
 pub mod Exchanges

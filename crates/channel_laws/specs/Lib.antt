@@ -23,5 +23,6 @@ pub mod Counts
 pub mod Arrivals
 pub mod Promised
 pub mod AnswersOnce
+pub mod NotedArrivals
 pub mod GivenAnswers
 pub mod Exchanges
