@@ -326,11 +326,7 @@ module _ (schema : Schema) (why : ℤ → Destroy) (promises : List PromiseEntry
       (λ next. (
         may_fall-is (after_whats schema place ls own) a.id (why a.id)
             (subst (λ (r : ActorReading). MayFall r.built r.fallen r.falls r.cause a.id (why a.id)) (sym (no_actor-read schema place ls own quiet ∙ at))
-<<<<<<< HEAD
             (subst (λ (f : List ActorPlace). MayFall start.built (start.fallen ++ ids_in front) (f ++ places_of start.built front) start.cause a.id (why a.id)) (sym none) (may front a fs is))),
-=======
-            (subst (λ (f : List ActorPlace). MayFall start.built (start.fallen ++ fallen_ids front) (f ++ places_of start.built front) start.cause a.id (why a.id)) (sym none) (may front a fs is))),
->>>>>>> d2a5995d1695e2a2f62787e92c8683a275b060b1
         tt,
       )))
       (λ next. falls-pass start whole none may next (front ++ a ∷ []) fs (after_whats schema place (ls ++ what.Fall a.id (why a.id) ∷ []) own) (is ∙ sym (append_assoc front (a ∷ []) fs))
