@@ -291,10 +291,10 @@ module _ (schema : Schema) where
       let next : EndReading = after_what schema place (send.send_line row m vs) own in
       fewer e f (sent_kinds own) (sent_kinds next) h refl refl (wait-entries (is_sync_row row) row m e.stack h.entries)
       (λ n.
-          let w = wait-owed (is_sync_row row) row m e.stack n in
-          let k = ap (replied n) (request-sent place (is_sync_row row) m vs own) in
-          let s = same-replied (sent_kinds own) (kind.Request m.seq) (λ j. refl) n in
-          omega arith)
+      let w = wait-owed (is_sync_row row) row m e.stack n in
+      let k = ap (replied n) (request-sent place (is_sync_row row) m vs own) in
+      let s = same-replied (sent_kinds own) (kind.Request m.seq) (λ j. refl) n in
+      omega arith)
   first-answers-once {e} place own (Parts.answers by vs r row found may ok used) h = at by used
     where
       next : EndReading
@@ -313,10 +313,10 @@ module _ (schema : Schema) where
   first-answers-once {e} {f} place own (Parts.closes o waits) h =
       fewer e f (sent_kinds own) (sent_kinds (after_what schema place what.Close own)) h refl refl h.entries
       (λ n.
-          let k = ap (replied n) (sent-last own told.goodbye) in
-          let s = same-replied (sent_kinds own) kind.Goodbye (λ j. refl) n in
-          let u = filter-fewer (names_resolver n) is_actor e.names in
-          omega arith)
+      let k = ap (replied n) (sent-last own told.goodbye) in
+      let s = same-replied (sent_kinds own) kind.Goodbye (λ j. refl) n in
+      let u = filter-fewer (names_resolver n) is_actor e.names in
+      omega arith)
   first-answers-once {e} {f} place own (Parts.dies o) h =
       fewer e f (sent_kinds own) (sent_kinds (after_what schema place what.Die own)) h refl refl tt (λ n. let s = dying-sent place own n in omega arith)
   first-answers-once {e} {f} place own (Parts.dies_silent o alive) h =
@@ -325,9 +325,9 @@ module _ (schema : Schema) where
       fewer e f (sent_kinds own) (sent_kinds own) h refl refl
       (record { is_sync = λ other_row dispatch other_found. ap is_sync_row (same_Some other_row row (sym (message-row schema m.number other_row other_found) ∙ found)); resolves = λ is. promise-async row is }, h.entries)
       (λ n.
-          let c = left-waiting e m sync level vs next body n in
-          let a = and-less (makes_promise row || is_sync_row row) (int_eq m.seq n) in
-          omega arith)
+      let c = left-waiting e m sync level vs next body n in
+      let a = and-less (makes_promise row || is_sync_row row) (int_eq m.seq n) in
+      omega arith)
   first-answers-once {e} place own (Parts.drops m sync level row vs id replies next body found gone is) h =
       let ws : List What = reply_lines replies (request_answered m) (answer.Fault ActorDestroyed) in
       let dropped : EndReading = after_what schema place (what.Drop m.seq m.route m.number id) own in
@@ -335,12 +335,12 @@ module _ (schema : Schema) where
       behind-kept replies (left_end e) (sent_kinds after)
       (fewer e (left_end e) (sent_kinds own) (sent_kinds after) h refl refl h.entries
       (λ n.
-          let c = left-waiting e m sync level vs next body n in
-          let k = replied-more n (sent_kinds own) (replied_by_lines ws) (sent_kinds after) (lines-replied schema (place + 1) ws dropped (reply-effects replies (request_answered m) (answer.Fault ActorDestroyed))) in
-          let r = ap (replied n) (replies-replied replies (request_answered m) (answer.Fault ActorDestroyed)) in
-          let b = replied-kinds n m.seq replies in
-          let a = and-less replies (int_eq m.seq n) in
-          omega arith))
+      let c = left-waiting e m sync level vs next body n in
+      let k = replied-more n (sent_kinds own) (replied_by_lines ws) (sent_kinds after) (lines-replied schema (place + 1) ws dropped (reply-effects replies (request_answered m) (answer.Fault ActorDestroyed))) in
+      let r = ap (replied n) (replies-replied replies (request_answered m) (answer.Fault ActorDestroyed)) in
+      let b = replied-kinds n m.seq replies in
+      let a = and-less replies (int_eq m.seq n) in
+      omega arith))
   first-answers-once {e} {f} place own (Parts.drops_unknown m sync level vs next body found) h =
       fewer e f (sent_kinds own) (sent_kinds own) h refl refl h.entries (λ n. let c = left-fewer e (item.Message m sync level) next n in omega arith)
   first-answers-once {e} {f} place own (Parts.takes_reply m sync level a next body late) h =
@@ -353,9 +353,9 @@ module _ (schema : Schema) where
   first-answers-once {e} {f} place own (Parts.shuts last next is) h =
       fewer e f (sent_kinds own) (sent_kinds (after_what schema place (shut_line last) own)) h refl refl h.entries
       (λ n.
-          let k = ap (replied n) (shut-sent place last own) in
-          let u = filter-fewer (names_resolver n) is_actor e.names in
-          omega arith)
+      let k = ap (replied n) (shut-sent place last own) in
+      let u = filter-fewer (names_resolver n) is_actor e.names in
+      omega arith)
   first-answers-once {e} place own (Parts.returns entry row vs told_it lost may t l) h =
       let q : AnsweredRequest = return.dispatch_answered entry in
       let a : Answer = return.return_answer schema e row entry vs in
@@ -372,24 +372,24 @@ module _ (schema : Schema) where
       (behind-kept told_it popped (sent_kinds after)
       (fewer e popped (sent_kinds own) (sent_kinds after) h refl refl (drop-keeps schema e.stack h.entries)
       (λ n.
-          let seq : ℤ = (head_of entry.frame).seq in
-          let before = ap (how_many (owes_answer n)) top.1 in
-          let below = ap (λ (xs : List StackEntry). how_many (owes_answer n) (drop 1 xs)) top.1 in
-          let owes = ap (λ (d : Bool). one_if (d && ((entry.resolves || (head_of entry.frame).sync) && int_eq seq n))) top.2 in
-          let k = replied-more n (sent_kinds own) (replied_by_lines (ls ++ ms)) (sent_kinds after) (lines-replied schema (place + 1) (ls ++ ms) returned (all-append IsEffectLine ls ms (reply-effects told_it q a) (reply-effects lost p (answer.Fault ResolverDestroyed)))) in
-          let both = replied-more n (replied_by_lines ls) (replied_by_lines ms) (replied_by_lines (ls ++ ms)) (replied-append ls ms) in
-          let first = ap (replied n) (replies-replied told_it q a) in
-          let second = ap (replied n) (replies-replied lost p (answer.Fault ResolverDestroyed)) in
-          let b = replied-kinds n seq told_it ∙ ap (λ (x : Bool). one_if (x && int_eq seq n)) (t ∙ ap (λ (x : Bool). is_open e.state && x) is_sync) in
-          let c = replied-kinds n seq lost ∙ ap (λ (x : Bool). one_if (x && int_eq seq n)) l in
-          let d = return-bools (is_open e.state) (head_of entry.frame).sync entry.resolves (int_eq seq n) ways.0.resolves in
-          omega arith)))
+      let seq : ℤ = (head_of entry.frame).seq in
+      let before = ap (how_many (owes_answer n)) top.1 in
+      let below = ap (λ (xs : List StackEntry). how_many (owes_answer n) (drop 1 xs)) top.1 in
+      let owes = ap (λ (d : Bool). one_if (d && ((entry.resolves || (head_of entry.frame).sync) && int_eq seq n))) top.2 in
+      let k = replied-more n (sent_kinds own) (replied_by_lines (ls ++ ms)) (sent_kinds after) (lines-replied schema (place + 1) (ls ++ ms) returned (all-append IsEffectLine ls ms (reply-effects told_it q a) (reply-effects lost p (answer.Fault ResolverDestroyed)))) in
+      let both = replied-more n (replied_by_lines ls) (replied_by_lines ms) (replied_by_lines (ls ++ ms)) (replied-append ls ms) in
+      let first = ap (replied n) (replies-replied told_it q a) in
+      let second = ap (replied n) (replies-replied lost p (answer.Fault ResolverDestroyed)) in
+      let b = replied-kinds n seq told_it ∙ ap (λ (x : Bool). one_if (x && int_eq seq n)) (t ∙ ap (λ (x : Bool). is_open e.state && x) is_sync) in
+      let c = replied-kinds n seq lost ∙ ap (λ (x : Bool). one_if (x && int_eq seq n)) l in
+      let d = return-bools (is_open e.state) (head_of entry.frame).sync entry.resolves (int_eq seq n) ways.0.resolves in
+      omega arith)))
   first-answers-once {e} {f} place own (Parts.resumes wait row on_top found) h =
       fewer e f (sent_kinds own) (sent_kinds (after_what schema place (return.resume_line wait.seq (received schema e.actors row wait.given)) own)) h refl refl (drop-keeps schema e.stack h.entries)
       (λ n.
-          let k = ap (replied n) (resume-sent place wait.seq (received schema e.actors row wait.given) own) in
-          let d = drop-fewer n e.stack in
-          omega arith)
+      let k = ap (replied n) (resume-sent place wait.seq (received schema e.actors row wait.given) own) in
+      let d = drop-fewer n e.stack in
+      omega arith)
 
   pub later-answers-once : {p q : Phase} {e f : End} {ws : List What} {ps : List Packet} (place : ℕ) (own : EndReading) → LaterPart p e ws ps f q → AnswersOnce schema e own → AnswersOnce schema f (after_whats schema place ws own)
   later-answers-once {e = e} {f = f} place own (Parts.unnames name may silent) h =
@@ -397,23 +397,23 @@ module _ (schema : Schema) where
   later-answers-once {e = e} {f = f} place own (Parts.lets_go name r may held o) h =
       fewer e f (sent_kinds own) (sent_kinds (after_what schema place (what.AnswerFault r.seq ResolverDestroyed) own)) h refl refl h.entries
       (λ n.
-          let k = ap (replied n) (sent-last own (told.said r.seq (told.fault ResolverDestroyed))) ∙ many-last (is_packet (kind.Reply n)) (sent_kinds own) (kind.Reply r.seq) in
-          let u = used-named n name r e.names held in
-          omega arith)
+      let k = ap (replied n) (sent-last own (told.said r.seq (told.fault ResolverDestroyed))) ∙ many-last (is_packet (kind.Reply n)) (sent_kinds own) (kind.Reply r.seq) in
+      let u = used-named n name r e.names held in
+      omega arith)
   later-answers-once {e = e} {f = f} place own (Parts.names more holds) h =
       fewer e f (sent_kinds own) (sent_kinds own) h refl refl h.entries
       (λ n.
-          let c = many-append (names_resolver n) e.names more in
-          let z = actors-named n more holds in
-          omega arith)
+      let c = many-append (names_resolver n) e.names more in
+      let z = actors-named n more holds in
+      omega arith)
   later-answers-once {e = e} {f = f} place own (Parts.releases seq is) h =
       fewer e f (sent_kinds own) (sent_kinds own) h refl refl (released-keeps schema seq e.stack h.entries) (λ n. let c = released-fewer n seq e.stack in omega arith)
   later-answers-once {e = e} {f = f} place own (Parts.keeps seq name r is o) h =
       fewer e f (sent_kinds own) (sent_kinds own) h refl refl (released-keeps schema seq e.stack h.entries)
       (λ n.
-          let c = used-owed schema n seq r e.stack h.entries is in
-          let k = many-last (names_resolver n) e.names (record { name = name; holds = resolver r }) in
-          omega arith)
+      let c = used-owed schema n seq r e.stack h.entries is in
+      let k = many-last (names_resolver n) e.names (record { name = name; holds = resolver r }) in
+      omega arith)
   later-answers-once place own (Parts.builds id protocol rest fresh alive) h = h
   later-answers-once {e = e} place own (Parts.deletes id is) h = effects-kept place (fall_lines id (fall.why_deleted id) e) e own (fall-effects id (fall.why_deleted id) e) (falls-replied (fall.why_deleted id) e.promises (falling id e)) h
   later-answers-once {e = e} place own (Parts.abandons why is) h = effects-kept place (Parts.abandoned_lines e) e own (rejection-effects (λ x. true) ChannelClosed e.promises) (rejections-replied (λ x. true) ChannelClosed e.promises) h
@@ -425,7 +425,7 @@ module _ (schema : Schema) where
       let new : Item = delivery.item_of row m in
       record {
         numbered = next-once (other e.side) e.delivered (answers e.arrived e.stack e.names ks) (answers (e.arrived ++ new ∷ []) e.stack e.names ks) m.seq h.numbered is
-        (λ n.
+            (λ n.
             let c = ap (how_many (is_packet (kind.Request n))) (map-append item_kind e.arrived (new ∷ [])) ∙ many-last (is_packet (kind.Request n)) (map item_kind e.arrived) (item_kind new) in
             let k = ap (λ (p : PacketKind). one_if (same_packet p (kind.Request n))) (request-kind m.seq vs m.body body) in
             omega arith);
@@ -456,13 +456,13 @@ module _ (schema : Schema) where
       behind-kept replies next (sent_kinds after)
       (fewer got next (sent_kinds own) (sent_kinds after) (one-arrived e m row vs (sent_kinds own) body (request-due schema e own m row vs body found due) h) refl refl h.entries
       (λ n.
-          let c = leaves-count (is_packet (kind.Request n)) got.arrived next.arrived x t in
-          let s = ap (λ (p : PacketKind). one_if (same_packet p (kind.Request n))) (request-shown schema old.seq old.body (alike-request new x r.alike)) in
-          let k = replied-more n (sent_kinds own) (replied_by_lines ls) (sent_kinds after) (lines-replied schema (place + 1 + 1) ls lost (reply-effects replies (request_answered old) (answer.Fault ResolverDestroyed))) in
-          let b = ap (replied n) (replies-replied replies (request_answered old) (answer.Fault ResolverDestroyed)) in
-          let d = replied-kinds n old.seq replies in
-          let a = and-less replies (int_eq old.seq n) in
-          omega arith))
+      let c = leaves-count (is_packet (kind.Request n)) got.arrived next.arrived x t in
+      let s = ap (λ (p : PacketKind). one_if (same_packet p (kind.Request n))) (request-shown schema old.seq old.body (alike-request new x r.alike)) in
+      let k = replied-more n (sent_kinds own) (replied_by_lines ls) (sent_kinds after) (lines-replied schema (place + 1 + 1) ls lost (reply-effects replies (request_answered old) (answer.Fault ResolverDestroyed))) in
+      let b = ap (replied n) (replies-replied replies (request_answered old) (answer.Fault ResolverDestroyed)) in
+      let d = replied-kinds n old.seq replies in
+      let a = and-less replies (int_eq old.seq n) in
+      omega arith))
   delivery-answers-once {e = e} {f = f} place own (Parts.gets_answer m row a body found is) due h =
       fewer e f (sent_kinds own) (sent_kinds (after_what schema place (what.DeliverReply m.seq) own)) h refl refl (answered-keeps schema a e.stack h.entries)
       (λ n. let k = ap (replied n) (reply-sent place m.seq own) in let c = answered-owed n a e.stack in omega arith)
@@ -470,16 +470,16 @@ module _ (schema : Schema) where
       let new : Item = delivery.item_of row m in
       fewer e f (sent_kinds own) (sent_kinds (after_what schema place (what.DeliverReply m.seq) own)) h refl refl h.entries
       (λ n.
-          let k = ap (replied n) (reply-sent place m.seq own) in
-          let c = other-waiting n e.arrived new (ap (λ (p : PacketKind). same_packet p (kind.Request n)) (reply-kind m.seq a m.body body)) in
-          omega arith)
+      let k = ap (replied n) (reply-sent place m.seq own) in
+      let c = other-waiting n e.arrived new (ap (λ (p : PacketKind). same_packet p (kind.Request n)) (reply-kind m.seq a m.body body)) in
+      omega arith)
   delivery-answers-once {e = e} {f = f} place own (Parts.drains packet is) due h =
       let farewell : EndReading = after_what schema place (farewell_line packet) own in
       effects-kept (place + 1) (map what.Fails (delivery.unanswered e)) f farewell (fail-effects (delivery.unanswered e)) (mapped-replied what.Fails (delivery.unanswered e) (λ n. refl))
       (fewer e f (sent_kinds own) (sent_kinds farewell) h refl refl (failed-keeps schema e.stack h.entries)
       (λ n.
-          let k = ap (replied n) (farewell-sent place packet own) in
-          let c = other-waiting n e.arrived (farewell_item packet) (farewell-other schema packet is n) in
-          let d = failed-owed n e.stack in
-          omega arith))
+      let k = ap (replied n) (farewell-sent place packet own) in
+      let c = other-waiting n e.arrived (farewell_item packet) (farewell-other schema packet is n) in
+      let d = failed-owed n e.stack in
+      omega arith))
   delivery-answers-once {e = e} place own (Parts.passes_by m is found) due h = read-kept e own (after_what schema place (Parts.unknown_line m.seq m.body) own) (unknown-sent place m.seq m.body own) h

@@ -55,7 +55,14 @@ pub mod OrderRuns
 pub mod ActorFalls
 pub mod ActorsKept
 pub mod Answering
+pub mod Holding
+pub mod FallenRuns
+pub mod GivenAnswers
+pub mod WaitLines
 pub mod AnswerParts
+pub mod NotedArrivals
+pub mod ComingRequests
+pub mod HonestPackets
 pub mod Exchanges
 pub mod Taken
 pub mod Settling

@@ -310,12 +310,14 @@ none-falling (entry ∷ promises) = (by (is_pending entry.promise), none-falling
 
 more-falling : (a : Actor) (fs : List Actor) (all some : List PromiseEntry) → AllByRecursion (IsAmong (passes (is_pending_of a.id)) (numbers_passing (passes (is_pending_of a.id)) all)) some → AllByRecursion (IsAmong (passes (is_falling fs)) (numbers_falling all fs)) some → AllByRecursion (IsAmong (passes (is_falling (a ∷ fs))) (numbers_falling all (a ∷ fs))) some
 more-falling a fs all [] one rest = tt
-more-falling a fs all (entry ∷ some) one rest =
-    (has-append (numbers_passing (passes (is_pending_of a.id)) all) (numbers_falling all fs) (promise_seq entry)
-    ∙ (ap (λ (b : Bool). b || has (numbers_falling all fs) (promise_seq entry)) one.0
-    ∙ (ap (λ (b : Bool). passes (is_pending_of a.id) entry || b) rest.0
-    ∙ (falling-bools (is_pending entry.promise) (int_eq entry.promise.actor a.id) (int_eq a.id entry.promise.actor) (is_falling fs entry.promise) (int-flip entry.promise.actor a.id)
-    ∙ ap (λ (b : Bool). is_pending entry.promise && b) (sym (lives-more (int_eq a.id entry.promise.actor) a (find (λ (x : Actor). int_eq x.id entry.promise.actor) fs)))))), more-falling a fs all some one.1 rest.1)
+more-falling a fs all (entry ∷ some) one rest = (
+  has-append (numbers_passing (passes (is_pending_of a.id)) all) (numbers_falling all fs) (promise_seq entry)
+      ∙ (ap (λ (b : Bool). b || has (numbers_falling all fs) (promise_seq entry)) one.0
+      ∙ (ap (λ (b : Bool). passes (is_pending_of a.id) entry || b) rest.0
+      ∙ (falling-bools (is_pending entry.promise) (int_eq entry.promise.actor a.id) (int_eq a.id entry.promise.actor) (is_falling fs entry.promise) (int-flip entry.promise.actor a.id)
+      ∙ ap (λ (b : Bool). is_pending entry.promise && b) (sym (lives-more (int_eq a.id entry.promise.actor) a (find (λ (x : Actor). int_eq x.id entry.promise.actor) fs)))))),
+  more-falling a fs all some one.1 rest.1,
+)
 
 pub among-falling : (promises : List PromiseEntry) (fs : List Actor) → AreDistinct (map promise_seq promises) → AllByRecursion (IsAmong (passes (is_falling fs)) (numbers_falling promises fs)) promises
 among-falling promises [] d = none-falling promises

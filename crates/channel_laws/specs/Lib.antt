@@ -9,6 +9,7 @@ pub mod RequestOrder
 pub mod Laws
 pub mod Tested
 pub mod EndActors
+pub mod ActorLaws
 pub mod Outlines
 pub mod Notes
 pub mod Origins
@@ -22,5 +23,7 @@ pub mod Counts
 pub mod Arrivals
 pub mod Promised
 pub mod AnswersOnce
+pub mod NotedArrivals
+pub mod GivenAnswers
 pub mod Exchanges
 pub mod Taken

@@ -2,9 +2,11 @@
 //! follows from it for replies, for still worlds and for ends that have closed or died. No function that runs.
 #![tactic(auto)]
 
+mod actor_laws;
 mod laws;
 mod reading_laws;
 
+pub use actor_laws::{ends_obey_fallen, histories_obey_fallen};
 pub use laws::{
     ends_are_told_in_runs, last_packets_fail_all_waits, nested_worlds_stay, nesting_in_every_run,
     protocols_in_every_run, replies_find_their_waits, requests_come_in_order,
