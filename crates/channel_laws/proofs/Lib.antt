@@ -53,3 +53,6 @@ pub mod FallOrder
 pub mod RequestOrder
 pub mod GivenAnswers
 pub mod WaitLines
+pub mod SameValues
+pub mod Said
+pub mod Resumes
