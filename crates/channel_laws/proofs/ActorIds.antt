@@ -1,10 +1,9 @@
 -- Each part keeps the ids of actors known.
-use Rattle.std.proofs.Common.{◌≡◌, ◌≢◌, ◌⊎◌, inl, inr, ℕ, ◌+◌, ℤ, Bool, true, false, cond, List, [], ◌∷◌, ◌++◌, map, drop, ◌&&◌, Option, Some, None, refl, sym, ap, subst, ◌∙◌, arith}
+use Rattle.std.proofs.Common.{◌≡◌, ◌≢◌, inl, inr, ℕ, ◌+◌, ℤ, Bool, true, false, cond, List, [], ◌∷◌, ◌++◌, drop, ◌&&◌, Some, refl, sym, ap, subst, ◌∙◌, arith}
 use Rattle.std.specs.List.{AllByRecursion}
 use Rattle.std.proofs.lemmas.List.{append-nil}
 use Rattle.actor_tree.specs.declared.actor.Actor.{Actor}
-use Rattle.actor_tree.specs.Fall.{post_order}
-use Rattle.actor_tree.specs.Tree.{lives, IsTree}
+use Rattle.actor_tree.specs.Tree.{lives}
 use Rattle.actor_tree.proofs.Ids.{lives-true, lives-false}
 use Rattle.actor_tree.proofs.Kept.{IsTree-append}
 use Rattle.ipdl_base.specs.declared.line.What.{What}
@@ -21,17 +20,15 @@ use Rattle.ipdl_base.specs.declared.value.Values.{Values}
 use Rattle.ipdl_base.specs.Sound.{message_of}
 use Rattle.nesting_core.specs.declared.frame.Answer.{Answer}
 use Rattle.nesting_core.specs.declared.frame.Answer.TheVariants as answer
-use Rattle.nesting_core.specs.Top.{top_of}
 use Rattle.pending_queue.specs.declared.item.Item.{Item}
 use Rattle.pending_queue.specs.declared.item.Item.TheVariants as item
 use Rattle.pending_queue.specs.Compression.{is_request, staying}
 use Rattle.pending_queue.specs.Holding.{is_free, without_first}
 use Rattle.history_reading.specs.declared.parts.BuiltActor.{BuiltActor}
-use Rattle.channel_model.specs.Actors.{Ids, IsTaken, IsIdOf, AreKnown, IsNew, IsTopOf, AreDistinct, new_ids, new_ids_in, constructs_by}
-use Rattle.channel_model.specs.Answers as answering
+use Rattle.channel_model.specs.Actors.{Ids, IsTaken, AreKnown, IsNew, IsTopOf, AreDistinct, new_ids, new_ids_in, constructs_by}
 use Rattle.channel_model.specs.Deliveries as delivery
 use Rattle.channel_model.specs.Ends.{End, Packet, message, mark}
-use Rattle.channel_model.specs.Events.{Answering, handled, kept}
+use Rattle.channel_model.specs.Events.{handled, kept}
 use Rattle.channel_model.specs.Numbers.{other, id_of, counting, is_constructor, is_sync_row}
 use Rattle.channel_model.specs.Outputs.{body_of}
 use Rattle.channel_model.specs.Parts as part
@@ -41,10 +38,10 @@ use Rattle.channel_model.specs.Refusals.{expected_id}
 use Rattle.channel_model.specs.Sends as send
 use Rattle.channel_model.specs.States.{is_farewell, is_goodbye}
 use Rattle.channel_model.specs.Takes as take
-use Rattle.channel_model.proofs.Known.{own_is_free, ids_apart, all-map, all-append, all-both, all-before, all-behind, distinct-from, distinct-without, dead-append, living-append, known-counted, known-fewer, known-arrives, not_top}
+use Rattle.channel_model.proofs.Known.{own_is_free, ids_apart, all-map, all-append, all-both, all-before, all-behind, distinct-from, distinct-without, dead-append, living-append, known-counted, known-fewer, known-arrives}
 use Rattle.channel_model.proofs.KnownSteps.{new_ids-last, not_request, constructs_by-row, taken_next-found, next_made-is}
 use Rattle.channel_model.proofs.Sublists.{Sublist, sublist-none, sublist-flat_map, without_first-sublist, staying-sublist, TakenOut, taken_out}
-use Rattle.channel_laws.specs.EndActors.{built_ids, built_actor, IsPending, HasIds, HasNextId}
+use Rattle.channel_laws.specs.EndActors.{built_ids, IsPending, HasIds, HasNextId}
 
 -- An actor is built
 
@@ -70,13 +67,15 @@ sent-ids schema Normal made e built next h = (h, tt)
 sent-ids schema Delete made e built next h = (h, tt)
 sent-ids schema (Constructor protocol) made e built next h =
     let ids : Ids = built_ids schema e built in
-    let is : made ≡ id_of e.side (e.constructors_sent + 1) = next refl in
-    (known-counted 0 ids h, (
-      inr (inl (e.constructors_sent + 1, omega arith, omega arith, is)),
-      lives-false made ids.actors (λ k. own_is_free ids (subst (IsTaken ids) is (h.taken made (lives-true made ids.actors k)))),
-      all-map (IsNew ids) (λ waiting. waiting ≢ made) ids.waiting (λ id new same. ids_apart e.side (e.constructors_sent + 1) new.0.0 (sym is ∙ sym same ∙ new.0.3)) h.waiting,
-      refl,
-    ))
+    let is : made ≡ id_of e.side (e.constructors_sent + 1) = next refl in (
+      known-counted 0 ids h,
+      (
+        inr (inl (e.constructors_sent + 1, omega arith, omega arith, is)),
+        lives-false made ids.actors (λ k. own_is_free ids (subst (IsTaken ids) is (h.taken made (lives-true made ids.actors k)))),
+        all-map (IsNew ids) (λ waiting. waiting ≢ made) ids.waiting (λ id new same. ids_apart e.side (e.constructors_sent + 1) new.0.0 (sym is ∙ sym same ∙ new.0.3)) h.waiting,
+        refl,
+      ),
+    )
 
 -- Items that leave and arrive
 
@@ -99,12 +98,16 @@ constructor-taken : (schema : Schema) (ids : Ids) (made : ℤ) (before after : L
 constructor-taken schema ids made before after h is =
     let waiting : AllByRecursion (IsNew ids) (before ++ made ∷ after) = subst (AllByRecursion (IsNew ids)) is h.waiting in
     let distinct : AreDistinct (before ++ made ∷ after) = subst AreDistinct is h.distinct in
-    let own : IsNew ids made = (all-behind (IsNew ids) before (made ∷ after) waiting).0 in
-    (record {
-      tree = h.tree; top = h.top; taken = h.taken;
-      waiting = all-append (IsNew ids) before after (all-before (IsNew ids) before (made ∷ after) waiting) (all-behind (IsNew ids) before (made ∷ after) waiting).1;
-      distinct = distinct-without before made after distinct;
-    }, (inr (inr own.0), own.1, distinct-from before made after distinct, refl))
+    let own : IsNew ids made = (all-behind (IsNew ids) before (made ∷ after) waiting).0 in (
+      record {
+        tree = h.tree;
+        top = h.top;
+        taken = h.taken;
+        waiting = all-append (IsNew ids) before after (all-before (IsNew ids) before (made ∷ after) waiting) (all-behind (IsNew ids) before (made ∷ after) waiting).1;
+        distinct = distinct-without before made after distinct;
+      },
+      (inr (inr own.0), own.1, distinct-from before made after distinct, refl),
+    )
 
 taken-ids : (schema : Schema) (constructor : Bool) (ids : Ids) (made : ℤ) (rest : List ℤ) (new before after : List ℤ) → AreKnown 0 ids → new ≡ cond constructor (made ∷ []) [] → ids.waiting ≡ before ++ (new ++ after) → rest ≡ before ++ after
     → AreKnown 0 (record ids { waiting = rest }) × IsPending (record ids { waiting = rest }) (cond constructor (made ∷ []) [])

@@ -3,7 +3,6 @@ use Rattle.std.proofs.Common.{◌≡◌, ◌⊎◌, inl, inr, ℕ, ◌+◌, ℤ,
 use Rattle.std.specs.List.{AllByRecursion}
 use Rattle.std.specs.Option.{option_map_or}
 use Rattle.std.proofs.lemmas.Option.{same_Some}
-use Rattle.actor_tree.specs.declared.actor.Actor.{Actor}
 use Rattle.ipdl_base.specs.declared.kinds.EndState.TheVariants.{Dead}
 use Rattle.ipdl_base.specs.declared.kinds.Reason.TheVariants.{ActorDestroyed, ResolverDestroyed}
 use Rattle.ipdl_base.specs.declared.line.What.{What}
@@ -38,21 +37,22 @@ use Rattle.history_reading.specs.Rows as rows
 use Rattle.channel_model.specs.Answers as answering
 use Rattle.channel_model.specs.Deliveries as delivery
 use Rattle.channel_model.specs.Ends.{End, Packet, message, mark, StackEntry}
-use Rattle.channel_model.specs.Events.{Answering, handled, kept}
-use Rattle.channel_model.specs.Numbers.{is_sync_row, request_row}
+use Rattle.channel_model.specs.Events.{handled, kept}
+use Rattle.channel_model.specs.Numbers.{is_sync_row}
 use Rattle.channel_model.specs.Outputs.{is_closed, request_answered, resolver_answered}
 use Rattle.channel_model.specs.Parts as part
 use Rattle.channel_model.specs.Parts.{FirstPart, DeliveryPart, IsRefusal, IsRenaming, reply_lines, end_behind, farewell_item, farewell_line}
 use Rattle.channel_model.specs.Phases.{EventStart, sends, ends, closes, other, FallCause, nobody, closing, kind_cause, Phase}
 use Rattle.channel_model.specs.Returns as return
 use Rattle.channel_model.specs.Sends as send
-use Rattle.channel_model.specs.States.{is_farewell, is_goodbye}
+use Rattle.channel_model.specs.States.{is_goodbye}
 use Rattle.channel_model.specs.Takes as take
 use Rattle.channel_model.specs.ValueActors.{received}
 use Rattle.channel_laws.specs.EndActors.{ActorReading, actor_reading, handled_frame, handled_entry, shown_event, shown_cause}
 use Rattle.channel_laws.specs.Rows.{HasSoundRows}
 use Rattle.channel_laws.specs.Tested.{after_whats}
 use Rattle.channel_laws.proofs.ActorLines.{SaysNoActor, replaced, no_actor-read, answered-handled, no_actor-reply, no_actor-fails, no_actor-settles}
+use Rattle.channel_laws.proofs.Outlines.{cons-head}
 use Rattle.channel_laws.proofs.Rows.{request-message}
 use Rattle.channel_model.proofs.Known.{all-append}
 
@@ -124,9 +124,6 @@ sync-cause Normal route sync async is = refl
 sync-cause (Constructor protocol) route sync async is = refl
 sync-cause Delete route sync async is = let k : true ≡ false = sym is ∙ async refl in cc
 
-cons-head : {A : Type 0} {x y : A} {xs ys : List A} → x ∷ xs ≡ y ∷ ys → x ≡ y
-cons-head {A} {x} {y} {xs} {ys} e = cc
-
 -- by a return actors fall for the request of the dispatch on top
 return-cause : (schema : Schema) (hs : List CallFrame) (es : List StackEntry) (entry : StackEntry) (row : MessageRow) → map handled_frame hs ≡ map handled_entry es → return.dispatch_on_top es ≡ Some entry → message_of schema entry.number ≡ Some row
     → reading.return_cause schema hs ≡ shown_cause (kind_cause row.kind entry.route)
@@ -189,16 +186,24 @@ sends-begins : (schema : Schema) (place : ℕ) (e f : End) (own : EndReading) (r
     → map handled_frame own.stack ≡ map handled_entry e.stack → f.actors ≡ e.actors → f.stack ≡ (cond sync (send.wait_for row m ∷ e.stack) e.stack)
     → Begins e f (sends m.seq m.route) (kind_cause row.kind m.route) (actor_reading own) (actor_reading (after_what schema place (if sync then what.Call m.seq m.transaction m.route m.number vs else what.Send m.seq m.route m.number vs) own))
 sends-begins schema place e f own row m vs true number found async k actors stack = record {
-  built = refl; fallen = refl; falls = refl; event = refl;
+  built = refl;
+  fallen = refl;
+  falls = refl;
+  event = refl;
   cause = sync-cause row.kind m.route true async refl;
   handled = ap (λ (fs : List (Option HandledRequest)). None ∷ fs) k ∙ sym (ap (map handled_entry) stack);
-  actors = actors; over = λ o. inr o;
+  actors = actors;
+  over = λ o. inr o;
 }
 sends-begins schema place e f own row m vs false number found async k actors stack = record {
-  built = refl; fallen = refl; falls = refl; event = refl;
+  built = refl;
+  fallen = refl;
+  falls = refl;
+  event = refl;
   cause = ap (λ (n : ℕ). rows.delete_cause schema n m.route) number ∙ row-cause schema row row.number m.route found;
   handled = k ∙ sym (ap (map handled_entry) stack);
-  actors = actors; over = λ o. inr o;
+  actors = actors;
+  over = λ o. inr o;
 }
 
 answering-begins : (schema : Schema) (place : ℕ) (seq : ℤ) (vs : Option Values) (e f : End) (own : EndReading) → f.actors ≡ e.actors → map handled_frame own.stack ≡ map handled_entry f.stack
@@ -275,9 +280,14 @@ first-begins schema sound place own {e} (part.returns entry row vs told lost is 
     (behind schema (place + 1) (ls ++ ms) (after_what schema place line own) e popped start why (actor_reading own)
     (all-append SaysNoActor ls ms (no_actor-reply told (return.dispatch_answered entry) (return.return_answer schema e row entry vs)) (no_actor-reply lost (resolver_answered (answering.resolver_in entry)) (answer.Fault ResolverDestroyed)))
     (record {
-      built = refl; fallen = refl; falls = refl; event = refl;
+      built = refl;
+      fallen = refl;
+      falls = refl;
+      event = refl;
       cause = return-cause schema own.stack e.stack entry row k is.on_top (request-message schema entry.number row is.found);
-      handled = popped-handled own.stack e.stack k; actors = refl; over = λ o. inr o;
+      handled = popped-handled own.stack e.stack k;
+      actors = refl;
+      over = λ o. inr o;
     })))
 first-begins schema sound place own {e} (part.resumes wait row on_top found) k = resume-begins schema place wait.seq (received schema e.actors row wait.given) e own k
 

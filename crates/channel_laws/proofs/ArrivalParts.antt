@@ -152,7 +152,7 @@ request-leaves e own m sync level vs h next body =
     let shows : item_kind x ≡ kind.Request m.seq = request-kind m.seq vs m.body body in
     record { taken = f.taken; shows = shows; others = request-alone e.side e.arrived (left_end e).arrived e.delivered (arrival_reading own) x m.seq h f.taken shows }
 
-reply-is-taken : (e : End) (own : EndReading) (m : Message) (sync : Bool) (level : Level) (a : Answer) → ArrivalsAreRead e own → take.taken_next e ≡ Some (item.Message m sync level) → m.body ≡ body_of a → Leaves e.arrived (left_end e).arrived (item.Message m sync level) (kind.Reply m.seq)
+pub reply-is-taken : (e : End) (own : EndReading) (m : Message) (sync : Bool) (level : Level) (a : Answer) → ArrivalsAreRead e own → take.taken_next e ≡ Some (item.Message m sync level) → m.body ≡ body_of a → Leaves e.arrived (left_end e).arrived (item.Message m sync level) (kind.Reply m.seq)
 reply-is-taken e own m sync level a h next body =
     let x : Item = item.Message m sync level in
     let f = taken-first e x next in
@@ -216,7 +216,7 @@ module _ (schema : Schema) where
   due-row e own m row (Fault reason) found due is = let same : due.0 ≡ row = same_Some due.0 row (sym due.1 ∙ found) in subst (IsDueBody e own m (is_sync_row row)) is (subst (λ (r : MessageRow). IsDueBody e own m (is_sync_row r) m.body) same due.2)
   due-row e own m row Goodbye found due is = tt
 
-  request-due : (e : End) (own : EndReading) (m : Message) (row : MessageRow) (vs : Values) → m.body ≡ Request vs → message_of schema m.number ≡ Some row → IsDue schema e own (message m) → m.seq ≡ expected_seq e
+  pub request-due : (e : End) (own : EndReading) (m : Message) (row : MessageRow) (vs : Values) → m.body ≡ Request vs → message_of schema m.number ≡ Some row → IsDue schema e own (message m) → m.seq ≡ expected_seq e
   request-due e own m row vs body found due = due-row e own m row (Request vs) found (subst (IsDueMessage schema e own m) body due) body
 
   reply-due : (e : End) (own : EndReading) (m : Message) (row : MessageRow) (a : Answer) → m.body ≡ body_of a → message_of schema m.number ≡ Some row → IsDue schema e own (message m) → is_sync_request own m.seq ≡ is_sync_row row
@@ -255,7 +255,7 @@ module _ (schema : Schema) where
       by Goodbye is = tt
   farewell-async mark is = tt
 
-  farewell-other : (packet : Packet) → is_farewell (farewell_item packet) ≡ true → (n : ℤ) → same_packet (item_kind (farewell_item packet)) (kind.Request n) ≡ false
+  pub farewell-other : (packet : Packet) → is_farewell (farewell_item packet) ≡ true → (n : ℤ) → same_packet (item_kind (farewell_item packet)) (kind.Request n) ≡ false
   farewell-other (message m) is n = by m.body is
     where
       by : (body : Body) → is_goodbye body ≡ true → same_packet (body_kind m.seq body) (kind.Request n) ≡ false
@@ -266,7 +266,7 @@ module _ (schema : Schema) where
   farewell-other mark is n = refl
 
   -- a request that replaces none lets all stay
-  staying-all : (row : MessageRow) (new : Item) (items : List Item) (old : Option Item) → replaced row.compress new items ≡ old → IsNoMessage old → staying row.compress new items ≡ items
+  pub staying-all : (row : MessageRow) (new : Item) (items : List Item) (old : Option Item) → replaced row.compress new items ≡ old → IsNoMessage old → staying row.compress new items ≡ items
   staying-all row new items None is none = none-replaced row.compress new items is
   staying-all row new items (Some item.Broken) is none = let r = replaced-taken row.compress new items item.Broken is in absurd (no-mark (alike-request new item.Broken r.alike))
     where
@@ -274,7 +274,7 @@ module _ (schema : Schema) where
       no-mark e = cc
   staying-all row new items (Some (item.Message m sync level)) is none = absurd none
 
-  request-shown : (seq : ℤ) (body : Body) → is_request body ≡ true → body_kind seq body ≡ kind.Request seq
+  pub request-shown : (seq : ℤ) (body : Body) → is_request body ≡ true → body_kind seq body ≡ kind.Request seq
   request-shown seq (Request vs) is = refl
   request-shown seq (Reply vs) is = cc
   request-shown seq (Fault reason) is = cc

@@ -103,7 +103,7 @@ nothing-arrived side items count a h = record {
 
 -- Leaving
 
-leaves-count : (test : PacketKind → Bool) (items rest : List Item) (x : Item) → TakenFrom items rest x → how_many test (map item_kind items) ≡ one_if (test (item_kind x)) + how_many test (map item_kind rest)
+pub leaves-count : (test : PacketKind → Bool) (items rest : List Item) (x : Item) → TakenFrom items rest x → how_many test (map item_kind items) ≡ one_if (test (item_kind x)) + how_many test (map item_kind rest)
 leaves-count test items rest x t =
     ap (λ (xs : List Item). how_many test (map item_kind xs)) t.whole
     ∙ (ap (how_many test) (map-append item_kind t.front (x ∷ t.back))
@@ -129,7 +129,7 @@ module _ (side : Side) (items rest : List Item) (count : ℕ) (a : ArrivalReadin
       ap (reads.without_first p) h.arrived
       ∙ (ap (λ (q : PacketKind). reads.without_first q (map item_kind items)) (sym l.shows) ∙ leaves-alike items rest x l.taken l.others)
 
-  left-count : (p : PacketKind) (test : PacketKind → Bool) → HasArrivals side items count a → Leaves items rest x p → how_many test a.arrived ≡ one_if (test p) + how_many test (reads.without_first p a.arrived)
+  pub left-count : (p : PacketKind) (test : PacketKind → Bool) → HasArrivals side items count a → Leaves items rest x p → how_many test a.arrived ≡ one_if (test p) + how_many test (reads.without_first p a.arrived)
   left-count p test h l =
       ap (how_many test) h.arrived
       ∙ (leaves-count test items rest x l.taken
@@ -188,7 +188,6 @@ module _ (side : Side) (items rest : List Item) (count : ℕ) (a : ArrivalReadin
       subst (λ (p : PacketKind). AllByRecursion (λ q. same_packet q p ≡ false) (map item_kind t.front)) (sym shows) (none-passes (is_packet (kind.Request n)) (map item_kind t.front) (omega arith))
 
 -- no reply before the first that is free shows the same: it would be as free
-
 
 -- No reply before the first that is free shows the same, since that would be as free.
 

@@ -127,10 +127,12 @@ IsAmong test numbers entry = has numbers (promise_seq entry) ≡ test entry
 
 among-later : (test : PromiseEntry → Bool) (entry : PromiseEntry) (all some : List PromiseEntry) → AllByRecursion (λ later. promise_seq entry ≢ later) (map promise_seq some) → AllByRecursion (IsAmong test (numbers_passing test all)) some → AllByRecursion (IsAmong test (numbers_passing test (entry ∷ all))) some
 among-later test entry all [] h k = tt
-among-later test entry all (x ∷ some) h k =
-    (filtered test (test entry) entry all (promise_seq x)
-    ∙ (ap (λ (b : Bool). (test entry && b) || has (numbers_passing test all) (promise_seq x)) (int-apart (promise_seq entry) (promise_seq x) h.0)
-    ∙ (by (test entry) ∙ k.0)), among-later test entry all some h.1 k.1)
+among-later test entry all (x ∷ some) h k = (
+  filtered test (test entry) entry all (promise_seq x)
+      ∙ (ap (λ (b : Bool). (test entry && b) || has (numbers_passing test all) (promise_seq x)) (int-apart (promise_seq entry) (promise_seq x) h.0)
+      ∙ (by (test entry) ∙ k.0)),
+  among-later test entry all some h.1 k.1,
+)
   where
     by : (b : Bool) → (b && false) || has (numbers_passing test all) (promise_seq x) ≡ has (numbers_passing test all) (promise_seq x)
     by true = refl
@@ -138,10 +140,12 @@ among-later test entry all (x ∷ some) h k =
 
 pub among-passing : (test : PromiseEntry → Bool) (promises : List PromiseEntry) → AreDistinct (map promise_seq promises) → AllByRecursion (IsAmong test (numbers_passing test promises)) promises
 among-passing test [] d = tt
-among-passing test (entry ∷ promises) d =
-    (filtered test (test entry) entry promises (promise_seq entry)
-    ∙ (ap (λ (b : Bool). (test entry && b) || has (numbers_passing test promises) (promise_seq entry)) (int-same (promise_seq entry))
-    ∙ (ap (λ (b : Bool). (test entry && true) || b) (elsewhere test promises (promise_seq entry) d.0) ∙ by (test entry))), among-later test entry promises promises d.0 (among-passing test promises d.1))
+among-passing test (entry ∷ promises) d = (
+  filtered test (test entry) entry promises (promise_seq entry)
+      ∙ (ap (λ (b : Bool). (test entry && b) || has (numbers_passing test promises) (promise_seq entry)) (int-same (promise_seq entry))
+      ∙ (ap (λ (b : Bool). (test entry && true) || b) (elsewhere test promises (promise_seq entry) d.0) ∙ by (test entry))),
+  among-later test entry promises promises d.0 (among-passing test promises d.1),
+)
   where
     by : (b : Bool) → (b && true) || false ≡ b
     by true = refl
@@ -306,12 +310,14 @@ none-falling (entry ∷ promises) = (by (is_pending entry.promise), none-falling
 
 more-falling : (a : Actor) (fs : List Actor) (all some : List PromiseEntry) → AllByRecursion (IsAmong (passes (is_pending_of a.id)) (numbers_passing (passes (is_pending_of a.id)) all)) some → AllByRecursion (IsAmong (passes (is_falling fs)) (numbers_falling all fs)) some → AllByRecursion (IsAmong (passes (is_falling (a ∷ fs))) (numbers_falling all (a ∷ fs))) some
 more-falling a fs all [] one rest = tt
-more-falling a fs all (entry ∷ some) one rest =
-    (has-append (numbers_passing (passes (is_pending_of a.id)) all) (numbers_falling all fs) (promise_seq entry)
-    ∙ (ap (λ (b : Bool). b || has (numbers_falling all fs) (promise_seq entry)) one.0
-    ∙ (ap (λ (b : Bool). passes (is_pending_of a.id) entry || b) rest.0
-    ∙ (falling-bools (is_pending entry.promise) (int_eq entry.promise.actor a.id) (int_eq a.id entry.promise.actor) (is_falling fs entry.promise) (int-flip entry.promise.actor a.id)
-    ∙ ap (λ (b : Bool). is_pending entry.promise && b) (sym (lives-more (int_eq a.id entry.promise.actor) a (find (λ (x : Actor). int_eq x.id entry.promise.actor) fs)))))), more-falling a fs all some one.1 rest.1)
+more-falling a fs all (entry ∷ some) one rest = (
+  has-append (numbers_passing (passes (is_pending_of a.id)) all) (numbers_falling all fs) (promise_seq entry)
+      ∙ (ap (λ (b : Bool). b || has (numbers_falling all fs) (promise_seq entry)) one.0
+      ∙ (ap (λ (b : Bool). passes (is_pending_of a.id) entry || b) rest.0
+      ∙ (falling-bools (is_pending entry.promise) (int_eq entry.promise.actor a.id) (int_eq a.id entry.promise.actor) (is_falling fs entry.promise) (int-flip entry.promise.actor a.id)
+      ∙ ap (λ (b : Bool). is_pending entry.promise && b) (sym (lives-more (int_eq a.id entry.promise.actor) a (find (λ (x : Actor). int_eq x.id entry.promise.actor) fs)))))),
+  more-falling a fs all some one.1 rest.1,
+)
 
 among-falling : (promises : List PromiseEntry) (fs : List Actor) → AreDistinct (map promise_seq promises) → AllByRecursion (IsAmong (passes (is_falling fs)) (numbers_falling promises fs)) promises
 among-falling promises [] d = none-falling promises

@@ -148,13 +148,13 @@ flip {side} h = record {
   goes = h.comes;
 }
 
-open-is : (state : EndState) → is_open state ≡ true → state ≡ Open
+pub open-is : (state : EndState) → is_open state ≡ true → state ≡ Open
 open-is Open e = refl
 open-is Draining e = cc
 open-is Closed e = cc
 open-is Dead e = cc
 
-first-is : (link : List Packet) (packet : Packet) → first_packet link ≡ Some packet → link ≡ packet ∷ drop 1 link
+pub first-is : (link : List Packet) (packet : Packet) → first_packet link ≡ Some packet → link ≡ packet ∷ drop 1 link
 first-is [] packet e = cc
 first-is (p ∷ rest) packet e = ap (λ (x : Packet). x ∷ rest) (same_Some p packet e)
 
@@ -245,20 +245,20 @@ module _ (schema : Schema) (sound : IsSound schema) (top : ℕ) (side : Side) wh
 -- Worlds
 
 module _ (schema : Schema) (sound : IsSound schema) (top : ℕ) where
-  behind : (side : Side) (ev : Event) (w : World) (found : Option Output) → output_of schema w (record { side = side; event = ev }) ≡ found → IsNestedWorld schema w → WorldHasProtocols schema top w → WorldHasProtocols schema top (passed_by found (record { side = side; event = ev }) w).world
-  behind side ev w None is n h = h
-  behind Parent ev w (Some o) is n h = moved schema sound top Parent ev w.parent w.child w.to_parent w.to_child o n.parent (from-side schema Parent w n) h (steps_are_chains schema w.parent w.to_parent ev o is)
-  behind Child ev w (Some o) is n h = flip (moved schema sound top Child ev w.child w.parent w.to_child w.to_parent o n.child (from-side schema Child w n) (flip h) (steps_are_chains schema w.child w.to_child ev o is))
+  pub protocols-behind : (side : Side) (ev : Event) (w : World) (found : Option Output) → output_of schema w (record { side = side; event = ev }) ≡ found → IsNestedWorld schema w → WorldHasProtocols schema top w → WorldHasProtocols schema top (passed_by found (record { side = side; event = ev }) w).world
+  protocols-behind side ev w None is n h = h
+  protocols-behind Parent ev w (Some o) is n h = moved schema sound top Parent ev w.parent w.child w.to_parent w.to_child o n.parent (from-side schema Parent w n) h (steps_are_chains schema w.parent w.to_parent ev o is)
+  protocols-behind Child ev w (Some o) is n h = flip (moved schema sound top Child ev w.child w.parent w.to_child w.to_parent o n.child (from-side schema Child w n) (flip h) (steps_are_chains schema w.child w.to_child ev o is))
 
   runs-right : (moves : List Move) (w : World) → IsNestedWorld schema w → WorldHasProtocols schema top w → WorldHasProtocols schema top (run schema moves w).world
   runs-right [] w n h = h
   runs-right (move ∷ moves) w n h =
-      runs-right moves (happens schema w move).world (move-waits schema (sound_schemas_have_sound_rows schema sound) move w n) (behind move.side move.event w (output_of schema w move) refl n h)
+      runs-right moves (happens schema w move).world (move-waits schema (sound_schemas_have_sound_rows schema sound) move w n) (protocols-behind move.side move.event w (output_of schema w move) refl n h)
 
   first-protocols : (side : Side) → HasProtocols schema (record { top = top; parent = []; child = [] }) (opening_end top side)
   first-protocols side = record { actors = (inl (refl, refl), tt); entries = tt; names = tt; arrived = tt; outbox = tt }
 
-  opening-right : WorldHasProtocols schema top (opening top)
+  pub opening-right : WorldHasProtocols schema top (opening top)
   opening-right = record {
     made = record { top = top; parent = []; child = [] };
     top_is = refl;

@@ -230,7 +230,7 @@ module _ (schema : Schema) where
   abbrev pub counted_end : End → End → End
   counted_end e f = record e { delivered = f.delivered; constructors_delivered = f.constructors_delivered }
 
-  delivery-posts : {packet : Packet} {q : Phase} {e f : End} {ws : List What} {ps : List Packet} → DeliveryPart schema packet e ws ps f q → (is_last_packet packet ≡ false) → Posts schema (counted_end e f) ps f
+  pub delivery-posts : {packet : Packet} {q : Phase} {e f : End} {ws : List What} {ps : List Packet} → DeliveryPart schema packet e ws ps f q → (is_last_packet packet ≡ false) → Posts schema (counted_end e f) ps f
   delivery-posts {e} (Parts.gets_request m row vs body found none) l = posts-none (counted_end e (delivery.counted row (delivery.item_of row m) e)) (delivery.counted row (delivery.item_of row m) e) refl (record { side_is = refl; sent_is = refl; made_is = refl; delivered_is = refl; constructors_is = refl; opened = λ o. o })
   delivery-posts {e} (Parts.replaces m row vs old sync level replies body found rep is) l = by replies
     where

@@ -1,5 +1,5 @@
 -- An id stands for one protocol, and goes on to; who lives as one of its protocol is who lives.
-use Rattle.std.proofs.Common.{◌≡◌, ◌≢◌, ◌⊎◌, inl, inr, ℕ, zero, suc, ◌+◌, ◌*◌, ◌==◌, ℤ, pos, Bool, true, false, not, ◌&&◌, ◌||◌, int_eq, List, [], ◌∷◌, ◌++◌, length, Option, Some, None, is_some, refl, sym, ap, subst, ◌∙◌, append_assoc, arith}
+use Rattle.std.proofs.Common.{◌≡◌, ◌≢◌, ◌⊎◌, inl, inr, ℕ, zero, suc, ◌+◌, ◌*◌, ◌==◌, ℤ, pos, Bool, true, false, not, ◌&&◌, ◌||◌, int_eq, List, [], ◌∷◌, ◌++◌, cond, find, length, Option, Some, None, is_some, refl, sym, ap, subst, ◌∙◌, append_assoc, arith}
 use Rattle.std.specs.List.{AllByRecursion, list_any}
 use Rattle.std.specs.Option.{option_map_or}
 use Rattle.std.proofs.lemmas.Bool.{eqb-true, eq-eqb}
@@ -10,6 +10,7 @@ use Rattle.actor_tree.specs.Tree.{actor_of, lives}
 use Rattle.ipdl_base.specs.declared.kinds.Side.{Side}
 use Rattle.ipdl_base.specs.declared.kinds.Side.TheVariants.{Parent, Child}
 use Rattle.channel_model.specs.Numbers.{id_of, top_id}
+use Rattle.channel_model.specs.Refusals.{lives_otherwise}
 use Rattle.channel_model.specs.ValueActors.{ActorValue, lives_as, is_dead}
 use Rattle.channel_laws.specs.Protocols.{Protocols, constructed_count, IsConstructed, StandsFor, HasItsProtocol, HaveTheirProtocols, ActorHasProtocol}
 use Rattle.channel_laws.proofs.Takes.{found-passes}
@@ -128,3 +129,19 @@ module _ (made : Protocols) (actors : List Actor) (known : AllByRecursion (Actor
       by true c d null alive e rec = (inl ((Decides-int_eq a.id (pos 0)).0 null), rec e)
       by false true d null alive e rec = (inr (lives-stands a.protocol a.id alive), rec e)
       by false false d null alive e rec = cc
+
+  -- an actor with its protocol does not live as one of another
+  lives-right : (a : ActorValue) → HasItsProtocol made a → lives_otherwise actors a.protocol a.id ≡ false
+  lives-right a h = by (actor_of a.id actors) refl
+    where
+      same : (b : Actor) → StandsFor made a.id b.protocol → HasItsProtocol made a → (b.protocol == a.protocol) ≡ true
+      same b s (inl null) = stands-not_null made a.id b.protocol s null
+      same b s (inr t) = eq-eqb b.protocol a.protocol (one_protocol made a.id b.protocol a.protocol s t)
+
+      by : (found : Option Actor) → actor_of a.id actors ≡ found → option_map_or (λ (b : Actor). not (b.protocol == a.protocol)) (actor_of a.id actors) false ≡ false
+      by None is = ap (λ (f : Option Actor). option_map_or (λ (b : Actor). not (b.protocol == a.protocol)) f false) is
+      by (Some b) is = ap (λ (f : Option Actor). option_map_or (λ (b : Actor). not (b.protocol == a.protocol)) f false) is ∙ ap not (same b (found-stands a.id b is) h)
+
+  pub none-otherwise : (few : List ActorValue) → HaveTheirProtocols made few → find (λ (a : ActorValue). lives_otherwise actors a.protocol a.id) few ≡ None
+  none-otherwise [] h = refl
+  none-otherwise (a ∷ few) h = ap (λ (b : Bool). cond b (Some a) (find (λ (x : ActorValue). lives_otherwise actors x.protocol x.id) few)) (lives-right a h.0) ∙ none-otherwise few h.1

@@ -3,6 +3,7 @@ use Rattle.std.specs.Prelude.{◌≡◌, ◌≢◌, ℤ, pos, Bool, true, false,
 use Rattle.std.specs.List.{AllByRecursion}
 use Rattle.actor_tree.specs.declared.actor.Actor.{Actor}
 use Rattle.actor_tree.specs.Tree.{lives, IsTree}
+use Rattle.ipdl_base.specs.declared.line.What.{What}
 use Rattle.ipdl_base.specs.declared.message.Body.TheVariants.{Request}
 use Rattle.ipdl_base.specs.declared.schema.MessageRow.{MessageRow}
 use Rattle.ipdl_base.specs.declared.schema.Schema.{Schema}
@@ -19,11 +20,13 @@ use Rattle.history_reading.specs.declared.parts.EventKind.{EventKind}
 use Rattle.history_reading.specs.declared.parts.EventKind.TheVariants as read_event
 use Rattle.history_reading.specs.declared.parts.HandledRequest.{HandledRequest}
 use Rattle.history_reading.specs.EndReading.{EndReading, was_built}
+use Rattle.history_reading.specs.Fallen.{fallen_line}
 use Rattle.history_reading.specs.Numbers.{has}
 use Rattle.channel_model.specs.Actors.{Ids, IsTaken, AreKnown, new_ids}
 use Rattle.channel_model.specs.Ends.{End, Packet, message, mark, StackEntry}
 use Rattle.channel_model.specs.Numbers.{top_id, is_constructor}
 use Rattle.channel_model.specs.Outputs.{is_closed}
+use Rattle.channel_model.specs.States.{IsInState}
 use Rattle.channel_model.specs.Refusals.{expected_id}
 use Rattle.channel_model.specs.Phases.{EventStart, sends, takes, ends, closes, other, FallCause, nobody, deletion, closing, Phase}
 
@@ -129,3 +132,15 @@ pub record KeepsActors (schema : Schema) (p : Phase) (e : End) (read : ActorRead
 abbrev pub HasNextId : Schema → End → Packet → Type 0
 HasNextId schema e mark = Unit {0}
 HasNextId schema e (message m) = (row : MessageRow) (vs : Values) → m.body ≡ Request vs → message_of schema m.number ≡ Some row → is_constructor row.kind ≡ true → m.made ≡ expected_id e
+
+-- a line of an end is as the law of falls demands
+abbrev pub IsFallenLine : EndReading → What → Type 0
+IsFallenLine own said = fallen_line own said ≡ true
+
+-- What an end keeps of its actors with its own lines, between its steps.
+pub record ReadsActors (schema : Schema) (e : End) (own : EndReading) : Type 0 where
+  pub living : ShowsLiving e.actors own.built own.fallen
+  pub handled : map handled_frame own.stack ≡ map handled_entry e.stack
+  pub over : own.over ≡ true → e.actors ≡ []
+  pub ids : HasIds schema [] e own.built
+  pub state : IsInState e

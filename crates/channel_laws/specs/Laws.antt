@@ -33,6 +33,7 @@ use Rattle.channel_model.specs.Steps.{step}
 use Rattle.channel_model.specs.ValueActors.{ActorValue, lives_as}
 use Rattle.channel_laws.specs.NestedWorlds.{is_last_packet, HasNoLastPacket, EndsInLastPacket, IsNestedWorld}
 use Rattle.channel_laws.specs.Protocols.{Protocols, HasItsProtocol, HasProtocols, WorldHasProtocols}
+use Rattle.channel_laws.specs.RequestOrder.{WorldInOrder}
 use Rattle.channel_laws.specs.Rows.{HasSoundRows}
 use Rattle.channel_laws.specs.SyncCalls.{is_sync_number, reply_head}
 
@@ -134,3 +135,8 @@ ProtocolsInEveryRun = (schema : Schema) → IsSound schema → (top : ℕ) (move
 abbrev pub TypesTellWhoLives : Type 0
 TypesTellWhoLives =
     (schema : Schema) (made : Protocols) (e : End) → HasProtocols schema made e → (a : ActorValue) → HasItsProtocol made a → lives_as e.actors a.protocol a.id ≡ lives a.id e.actors
+
+-- In every run the requests that come to an open end have the next numbers of the other end, those that come and those
+-- that still wait there, up to all that it has sent; and so it is with the ids of constructors.
+abbrev pub RequestsComeInOrder : Type 0
+RequestsComeInOrder = (schema : Schema) → IsSound schema → (top : ℕ) (moves : List Move) → WorldInOrder schema (world_of schema top moves)

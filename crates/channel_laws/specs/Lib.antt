@@ -9,6 +9,7 @@ pub mod RequestOrder
 pub mod Laws
 pub mod Tested
 pub mod EndActors
+pub mod ActorLaws
 pub mod Outlines
 pub mod Notes
 pub mod Origins
@@ -21,4 +22,7 @@ pub mod ReadingLaws
 pub mod Counts
 pub mod Arrivals
 pub mod Promised
+pub mod AnswersOnce
+pub mod NotedArrivals
 pub mod GivenAnswers
+pub mod Exchanges

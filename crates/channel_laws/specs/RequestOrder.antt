@@ -1,6 +1,7 @@
 -- The requests that come from an end have its next numbers, and the constructors among them its next ids.
 use Rattle.std.specs.Prelude.{◌≡◌, ℕ, ◌+◌, true, List, [], ◌∷◌, ◌++◌, map, Some}
 use Rattle.ipdl_base.specs.declared.kinds.Side.{Side}
+use Rattle.ipdl_base.specs.declared.kinds.Side.TheVariants.{Parent, Child}
 use Rattle.ipdl_base.specs.declared.message.Body.{Body}
 use Rattle.ipdl_base.specs.declared.message.Body.TheVariants.{Request, Reply, Fault, Goodbye}
 use Rattle.ipdl_base.specs.declared.message.Message.{Message}
@@ -44,3 +45,7 @@ ComesInOrder schema side receiver sender link = is_open receiver.state ≡ true 
 pub record EndsInOrder (schema : Schema) (side their_side : Side) (mine theirs : End) (to_me to_them : List Packet) : Type 0 where
   pub comes : ComesInOrder schema their_side mine theirs to_me
   pub goes : ComesInOrder schema side theirs mine to_them
+
+-- Both ways of a world.
+abbrev pub WorldInOrder : Schema → World → Type 0
+WorldInOrder schema w = EndsInOrder schema Parent Child w.parent w.child w.to_parent w.to_child

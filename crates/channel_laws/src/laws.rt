@@ -1,5 +1,5 @@
 ghost use Rattle.channel_laws.specs.Laws.{EndsAreToldInRuns, LastPacketsFailAllWaits, NestedWorldsStay, NestingInEveryRun, RepliesFindTheirWaits, SoundSchemasHaveSoundRows, StillEndsWaitForNothing, StillHistoriesLeaveNoEndWaiting, SyncRepliesAreNotStray, WaitsGiveWay};
-ghost use Rattle.channel_laws.specs.Laws.{ProtocolsInEveryRun, TypesTellWhoLives};
+ghost use Rattle.channel_laws.specs.Laws.{ProtocolsInEveryRun, RequestsComeInOrder, TypesTellWhoLives};
 ghost use Rattle.channel_laws.specs.ValueReadings.{ValuesAreReadAlike};
 
 /// The law of rows: what a sound schema says of the row of each request.
@@ -65,4 +65,10 @@ pub fn types_tell_who_lives()
 /// The law of values: then lines, by ids alone, and ends put null in the place of the same actors, and miss the same.
 pub fn values_are_read_alike()
     ensures { ValuesAreReadAlike }
+{}
+
+/// The law of numbers: in every run the requests that come to an open end have the other end's next numbers, and the
+/// constructors among them its next ids.
+pub fn requests_come_in_order()
+    ensures { RequestsComeInOrder }
 {}

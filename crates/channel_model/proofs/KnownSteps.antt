@@ -109,7 +109,7 @@ second_passes a true x y rest e = refl
 second_passes true false x y rest e = cc
 second_passes false false x y rest e = cc
 
-third_passes : {A : Type 0} (a b c d : Bool) (x y z : A) (rest : Option A) → cond (not a) (Some x) (cond (not b) (Some y) (cond (c && not d) (Some z) rest)) ≡ None → c ≡ true → d ≡ true
+pub third_passes : {A : Type 0} (a b c d : Bool) (x y z : A) (rest : Option A) → cond (not a) (Some x) (cond (not b) (Some y) (cond (c && not d) (Some z) rest)) ≡ None → c ≡ true → d ≡ true
 third_passes a b c true x y z rest e h = refl
 third_passes true true true false x y z rest e h = cc
 third_passes true true false false x y z rest e h = cc
