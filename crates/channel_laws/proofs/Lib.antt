@@ -67,3 +67,4 @@ pub mod NotedArrivals
 pub mod ComingRequests
 pub mod HonestPackets
 pub mod Exchanges
+pub mod Taken

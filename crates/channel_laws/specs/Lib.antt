@@ -26,3 +26,4 @@ pub mod AnswersOnce
 pub mod NotedArrivals
 pub mod GivenAnswers
 pub mod Exchanges
+pub mod Taken
