@@ -63,3 +63,5 @@ pub mod GivenAnswers
 pub mod Holding
 pub mod FallenRuns
 pub mod Exchanges
+pub mod Reached
+pub mod NulledLive
