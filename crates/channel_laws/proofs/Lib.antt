@@ -68,3 +68,5 @@ pub mod ComingRequests
 pub mod HonestPackets
 pub mod Exchanges
 pub mod Taken
+pub mod Reached
+pub mod NulledLive
