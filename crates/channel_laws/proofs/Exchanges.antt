@@ -136,9 +136,9 @@ replies-once schema theirs others own link account h n =
     let test : PacketKind → Bool = is_packet (kind.Reply n) in
     let behind : List Note = notes schema link ++ (notes schema (map message theirs.outbox) ++ account.sent.lost) in
     let whole : sent_kinds others ≡ own.delivered ++ map note_kind behind =
-        sym (told-kinds theirs.side others.sent)
-        ∙ (ap (map note_kind) (account.sent.whole ∙ append_assoc account.got (notes schema link) (notes schema (map message theirs.outbox) ++ account.sent.lost))
-        ∙ (map-append note_kind account.got behind ∙ ap (λ (ks : List PacketKind). ks ++ map note_kind behind) account.kinds)) in
+    sym (told-kinds theirs.side others.sent)
+    ∙ (ap (map note_kind) (account.sent.whole ∙ append_assoc account.got (notes schema link) (notes schema (map message theirs.outbox) ++ account.sent.lost))
+    ∙ (map-append note_kind account.got behind ∙ ap (λ (ks : List PacketKind). ks ++ map note_kind behind) account.kinds)) in
     let count = ap (how_many test) whole ∙ many-append test own.delivered (map note_kind behind) in
     let once = h.numbered.once n in
     omega arith

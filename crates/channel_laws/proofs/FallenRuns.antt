@@ -99,7 +99,7 @@ settled-reads schema e link ev output place ws own q is k b =
       state = state;
     }
 
-opening-reads : (schema : Schema) (protocol : ℕ) (side : Side) → ReadsActors schema (opening_end protocol side) end_reading.opening
+pub opening-reads : (schema : Schema) (protocol : ℕ) (side : Side) → ReadsActors schema (opening_end protocol side) end_reading.opening
 opening-reads schema protocol side = record {
   living = record { living = refl; fell = tt };
   handled = refl;
@@ -188,11 +188,11 @@ module _ (schema : Schema) (sound : IsSound schema) where
       both false y e f = cc
 
   -- moments and lines pass the law of falls
-  abbrev fallen_test : Reading → Line → List Line → Bool
+  abbrev pub fallen_test : Reading → Line → List Line → Bool
   fallen_test r l b = moment_at (moment_test law.Fallen schema) r l b && test_at fallen_at r l b
 
-  move-keeps : EveryMoveKeeps schema (AtEnds schema (ReadsActors schema)) fallen_test
-  move-keeps move w r output m k =
+  pub fallen-keeps_moves : EveryMoveKeeps schema (AtEnds schema (ReadsActors schema)) fallen_test
+  fallen-keeps_moves move w r output m k =
       let side : Side = move.side in
       let ends = at-ends schema (ReadsActors schema) side w r k in
       let is : (end_of side w).side ≡ side = end-side schema side w m.nested in
@@ -208,5 +208,5 @@ module _ (schema : Schema) (sound : IsSound schema) where
 
 pub histories_obey_fallen : HistoriesObeyFallen
 histories_obey_fallen schema sound top moves =
-    let run_keeps = every-run schema sound (AtEnds schema (ReadsActors schema)) (fallen_test schema sound) (move-keeps schema sound) top moves (opening-reads schema top Parent, opening-reads schema top Child) in
+    let run_keeps = every-run schema sound (AtEnds schema (ReadsActors schema)) (fallen_test schema sound) (fallen-keeps_moves schema sound) top moves (opening-reads schema top Parent, opening-reads schema top Child) in
     holds-in-runs law.Fallen schema sound top moves (run_keeps.passes []) (moment-is schema sound (run schema moves (opening top)).world (read schema (history_of schema top moves)) run_keeps.kept)

@@ -59,6 +59,9 @@ pub mod Holding
 pub mod FallenRuns
 pub mod GivenAnswers
 pub mod WaitLines
+pub mod SameValues
+pub mod Said
+pub mod Resumes
 pub mod AnswerParts
 pub mod NotedArrivals
 pub mod ComingRequests
@@ -66,3 +69,5 @@ pub mod HonestPackets
 pub mod Exchanges
 pub mod Taken
 pub mod Settling
+pub mod Reached
+pub mod NulledLive
