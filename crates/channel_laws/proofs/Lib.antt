@@ -71,3 +71,5 @@ pub mod Taken
 pub mod Settling
 pub mod Reached
 pub mod NulledLive
+pub mod TakingLines
+pub mod SentRequests
