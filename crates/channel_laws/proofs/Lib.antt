@@ -73,3 +73,4 @@ pub mod Reached
 pub mod NulledLive
 pub mod TakingLines
 pub mod SentRequests
+pub mod PrefixRuns

@@ -4,6 +4,7 @@
 
 mod actor_laws;
 mod laws;
+mod prefix_laws;
 mod reading_laws;
 
 pub use actor_laws::{ends_obey_fallen, histories_obey_fallen};
@@ -14,4 +15,5 @@ pub use laws::{
     still_histories_leave_no_end_waiting, sync_replies_are_not_stray, types_tell_who_lives,
     values_are_read_alike, waits_give_way,
 };
+pub use prefix_laws::histories_obey_prefix;
 pub use reading_laws::{histories_are_readable, reading_is_world};
