@@ -73,7 +73,7 @@ id-not_zero : (side : Side) (k : ℕ) → 1 ≤ k → pos 0 ≢ id_of side k
 id-not_zero Parent k one e = let f : 0 ≡ 4 * k + 2 = cc in absurd (omega arith)
 id-not_zero Child k one e = let f : 0 ≡ 4 * k = cc in absurd (omega arith)
 
-zero-free : (ids : Ids) → IsTaken ids (pos 0) → ⊥
+pub zero-free : (ids : Ids) → IsTaken ids (pos 0) → ⊥
 zero-free ids (inl e) = let f : ◌≡◌ {A = ℕ} 0 2147483647 = cc in absurd (omega arith)
 zero-free ids (inr (inl (k, one, low, e))) = id-not_zero _ k one e
 zero-free ids (inr (inr (k, one, low, e))) = id-not_zero _ k one e
@@ -234,7 +234,7 @@ falls-kept schema place p e own why id is allowed k = record {
 quiet-kept : (schema : Schema) (place : ℕ) (ws : List What) (own : EndReading) (q : Phase) (f : End) → AllByRecursion SaysNoActor ws → KeepsActors schema q f (actor_reading own) → KeptBy schema place ws own q f
 quiet-kept schema place ws own q f l k = record { pass = no_actor-pass schema place ws own l; kept = subst (KeepsActors schema q f) (sym (no_actor-read schema place ws own l)) k }
 
-later-kept : (schema : Schema) (place : ℕ) (own : EndReading) {p q : Phase} {e f : End} {ws : List What} {ps : List Packet} → LaterPart p e ws ps f q → KeepsActors schema p e (actor_reading own) → KeptBy schema place ws own q f
+pub later-kept : (schema : Schema) (place : ℕ) (own : EndReading) {p q : Phase} {e f : End} {ws : List What} {ps : List Packet} → LaterPart p e ws ps f q → KeepsActors schema p e (actor_reading own) → KeptBy schema place ws own q f
 later-kept schema place own {p} {q} {e} {f} (part.unnames name may silent) k = quiet-kept schema place [] own q f tt (left-keeps schema p false e (actor_reading own) e.stack (without_name name e.names) e.outbox e.promises refl k)
 later-kept schema place own {p} {q} {e} {f} (part.lets_go name r may held o) k =
     quiet-kept schema place (what.AnswerFault r.seq ResolverDestroyed ∷ []) own q f (says_fault r.seq ResolverDestroyed, tt) (left-keeps schema p false e (actor_reading own) e.stack (without_name name e.names) [] e.promises refl k)
@@ -271,7 +271,7 @@ later-parts-kept schema place own (part.then {p} {q} {r} {e} {f} {g} {ws} {vs} o
 -- What begins an event
 
 -- behind its first part an end is in a phase
-begun-keeps : (schema : Schema) (e f : End) (own : EndReading) (p : Phase) (after : ActorReading) → ReadsActors schema e own → Begins e f p.start p.cause (actor_reading own) after → HasIds schema p.fresh f own.built → KeepsActors schema p f after
+pub begun-keeps : (schema : Schema) (e f : End) (own : EndReading) (p : Phase) (after : ActorReading) → ReadsActors schema e own → Begins e f p.start p.cause (actor_reading own) after → HasIds schema p.fresh f own.built → KeepsActors schema p f after
 begun-keeps schema e f own p after k b ids = record {
   living = record {
     living = ap (λ (x : List ℤ). standing x after.built) b.fallen ∙ (ap (standing own.fallen) b.built ∙ (k.living.living ∙ sym (ap (map shown_actor) b.actors)));

@@ -65,3 +65,5 @@ pub mod FallenRuns
 pub mod Exchanges
 pub mod Reached
 pub mod NulledLive
+pub mod MadeByEvents
+pub mod LivingParts
