@@ -67,3 +67,4 @@ pub mod Reached
 pub mod NulledLive
 pub mod MadeByEvents
 pub mod LivingParts
+pub mod LivingRuns

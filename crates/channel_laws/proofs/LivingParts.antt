@@ -242,9 +242,11 @@ module _ (schema : Schema) (sound : IsSound schema) (side : Side) (others : EndR
     first-lives place theirs left (part.shuts last next is) s k n rowed = (shut-lives last own, tt)
     first-lives place theirs left (part.returns entry row vs told lost is t l) s k n rowed =
         let ls : List What = reply_lines told (return.dispatch_answered entry) (return.return_answer schema e row entry vs) in
-        let ms : List What = reply_lines lost (resolver_answered (answering.resolver_in entry)) (answer.Fault ResolverDestroyed) in
-        (refl, free-lines (place + 1) (ls ++ ms) (after_what schema place (what.Return (head_of entry.frame).seq) own)
-        (all-append SaysNoActor ls ms (no_actor-reply told (return.dispatch_answered entry) (return.return_answer schema e row entry vs)) (no_actor-reply lost (resolver_answered (answering.resolver_in entry)) (answer.Fault ResolverDestroyed))))
+        let ms : List What = reply_lines lost (resolver_answered (answering.resolver_in entry)) (answer.Fault ResolverDestroyed) in (
+          refl,
+          free-lines (place + 1) (ls ++ ms) (after_what schema place (what.Return (head_of entry.frame).seq) own)
+              (all-append SaysNoActor ls ms (no_actor-reply told (return.dispatch_answered entry) (return.return_answer schema e row entry vs)) (no_actor-reply lost (resolver_answered (answering.resolver_in entry)) (answer.Fault ResolverDestroyed))),
+        )
     first-lives place theirs left (part.resumes wait row on_top found) s k n rowed = (resume-lives wait.seq (received schema e.actors row wait.given) own, tt)
 
   -- Actors that are built
