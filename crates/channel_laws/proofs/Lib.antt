@@ -70,3 +70,4 @@ pub mod Exchanges
 pub mod Taken
 pub mod Reached
 pub mod NulledLive
+pub mod PrefixRuns
