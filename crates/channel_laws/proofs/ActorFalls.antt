@@ -1,8 +1,7 @@
 -- The lines by which actors fall are as the law of falls demands, whatever the end may have been sent.
-use Rattle.std.proofs.Common.{◌≡◌, ◌≢◌, ◌⊎◌, inl, inr, ℕ, ◌+◌, ◌≤◌, nat_lt, ℤ, pos, Bool, true, false, not, ◌&&◌, ◌||◌, cond, if◌then◌else◌, int_eq, List, [], ◌∷◌, ◌++◌, filter, find, length, map, position, reverse, unwrap_or, Option, Some, None, option_map, refl, sym, ap, subst, ◌∙◌, append_assoc, arith}
+use Rattle.std.proofs.Common.{◌≡◌, ◌≢◌, inl, inr, ℕ, ◌+◌, ◌≤◌, nat_lt, ℤ, pos, Bool, true, false, not, ◌&&◌, ◌||◌, cond, if◌then◌else◌, int_eq, List, [], ◌∷◌, ◌++◌, find, length, map, reverse, unwrap_or, Option, Some, None, option_map, refl, sym, ap, subst, ◌∙◌, append_assoc, arith}
 use Rattle.std.specs.List.{AllByRecursion, list_any, flat_map, position_or_len}
 use Rattle.std.proofs.lemmas.Bool.{cases_Bool, le-ltb, ltb-false}
-use Rattle.std.proofs.lemmas.Bool.Decides.{Decides-int_eq}
 use Rattle.std.proofs.lemmas.List.{append-nil, map-append, reverse-append}
 use Rattle.std.proofs.lemmas.List.Elements.{filter-append}
 use Rattle.std.proofs.lemmas.List.Sums.{prefix_len-le-length}
@@ -10,7 +9,7 @@ use Rattle.actor_tree.specs.declared.actor.Actor.{Actor}
 use Rattle.actor_tree.specs.Fall.{post_order, others}
 use Rattle.actor_tree.specs.Laws.{EachOnce}
 use Rattle.actor_tree.specs.Tree.{lives, IsTree}
-use Rattle.actor_tree.proofs.Ids.{same, other, same_or_other, lives-true, lives-false, has, has_not, Has, Has-append}
+use Rattle.actor_tree.proofs.Ids.{same, other, same_or_other, lives-true, lives-false, has, has_not, Has}
 use Rattle.actor_tree.proofs.Order.{falls_once}
 use Rattle.ipdl_base.specs.declared.kinds.Destroy.{Destroy}
 use Rattle.ipdl_base.specs.declared.kinds.Destroy.TheVariants as destroy
@@ -22,22 +21,20 @@ use Rattle.history_reading.specs.declared.parts.ActorPlace.{ActorPlace}
 use Rattle.history_reading.specs.declared.parts.BuiltActor.{BuiltActor}
 use Rattle.history_reading.specs.declared.parts.Cause.{Cause}
 use Rattle.history_reading.specs.declared.parts.Cause.TheVariants as cause
-use Rattle.history_reading.specs.EndReading as read
 use Rattle.history_reading.specs.EndReading.{EndReading, was_built}
-use Rattle.history_reading.specs.Fallen.{fallen_line, may_fall, is_next, lets_fall, is_deleted, is_below, is_younger, younger_fell_of, manages_living_of, climbs, same_destroy}
+use Rattle.history_reading.specs.Fallen.{fallen_line, may_fall, is_next, lets_fall, is_deleted, is_younger, younger_fell_of, manages_living_of, climbs}
 use Rattle.history_reading.specs.Numbers.{has as has_number}
 use Rattle.history_reading.specs.Reading.{actor_place, manager_of, after_what}
 use Rattle.promise_table.specs.Promises.{is_pending_of}
 use Rattle.channel_model.specs.Ends.{PromiseEntry}
 use Rattle.channel_model.specs.Falls as fall
-use Rattle.channel_model.proofs.Known.{all-append}
 use Rattle.channel_laws.specs.EndActors.{ActorReading, actor_reading, shown_actor, is_standing, standing}
 use Rattle.channel_laws.specs.Notes.{In, here, there}
 use Rattle.channel_laws.specs.Tested.{after_whats, EndLinesPass}
 use Rattle.channel_laws.proofs.ActorLines.{SaysNoActor, no_actor-read, no_actor-rejections, no_actor-pass}
-use Rattle.channel_laws.proofs.FallOrder.{precedes, precedes-past, ids_in, in-right, in-order, has-in, managed-fell, older-fell, same-actor, falls-below}
+use Rattle.channel_laws.proofs.FallOrder.{precedes, precedes-past, in-right, in-order, has-in, managed-fell, older-fell, same-actor, falls-below}
 use Rattle.channel_laws.proofs.Growing.{whats-append}
-use Rattle.channel_laws.proofs.Standing.{standing-falls, lives-read, alive-unfallen, under-standing}
+use Rattle.channel_laws.proofs.Standing.{ids_in, standing-falls, lives-read, alive-unfallen, under-standing}
 use Rattle.channel_laws.proofs.Testing.{tested-append}
 
 -- Places
@@ -141,9 +138,6 @@ may_fall-is : (own : EndReading) (id : ℤ) (reason : Destroy) → MayFall own.b
 unfolding is_next
 may_fall-is own id reason m = four (was_built own.built id && not (has_number own.fallen id)) (manages_living_of own.fallen own.built id) (younger_fell_of own.falls (actor_place own.built id)) (lets_fall own.built own.cause id reason) m.alive m.alone m.oldest m.allowed
 
-abbrev pub fallen_ids : List Actor → List ℤ
-fallen_ids xs = map (λ (a : Actor). a.id) xs
-
 abbrev pub places_of : List BuiltActor → List Actor → List ActorPlace
 places_of built xs = map (λ (a : Actor). actor_place built a.id) xs
 
@@ -213,15 +207,15 @@ module _ (built : List BuiltActor) (fallen : List ℤ) (actors : List Actor) (sh
   oldest-all front a back (b ∷ some) order all = (oldest-one front a back b order (all b here).0 (all b here).1, oldest-all front a back some order (λ x i. all x (there i)))
 
   pub one-may_fall : (why : Cause) (reason : Destroy) (front : List Actor) (a : Actor) (back : List Actor) → post_order root actors ≡ front ++ a ∷ back → lets_fall built why a.id reason ≡ true
-      → MayFall built (fallen ++ fallen_ids front) (places_of built front) why a.id reason
+      → MayFall built (fallen ++ ids_in front) (places_of built front) why a.id reason
   one-may_fall why reason front a back order allowed =
       let in_a : In a actors = falls-alive front a back order in
       let alive : lives a.id actors ≡ true = lives-true a.id actors (has-in actors a in_a) in
-      let gone : standing (fallen ++ fallen_ids front) built ≡ map shown_actor (others front actors) = standing-falls built fallen front actors shows in
+      let gone : standing (fallen ++ ids_in front) built ≡ map shown_actor (others front actors) = standing-falls built fallen front actors shows in
       let still : lives a.id front ≡ false = once-before front a back (subst EachOnce order (falls_once root actors tree)) in
       record {
-        alive = lives-read built (fallen ++ fallen_ids front) (others front actors) a.id gone ∙ others-lives a.id front actors alive still;
-        alone = under-standing (fallen ++ fallen_ids front) a.id built ∙ (ap (list_any (λ (b : BuiltActor). int_eq b.manager a.id)) gone
+        alive = lives-read built (fallen ++ ids_in front) (others front actors) a.id gone ∙ others-lives a.id front actors alive still;
+        alone = under-standing (fallen ++ ids_in front) a.id built ∙ (ap (list_any (λ (b : BuiltActor). int_eq b.manager a.id)) gone
             ∙ others-alone front actors a.id (λ x i e. managed-fell root actors front a back x tree order (λ z. has_not (pos 0) actors zero (subst (λ (j : ℤ). Has j actors) z (has-in actors a in_a))) i e));
         oldest = any-none (is_younger (actor_place built a.id)) (places_of built front) (oldest-all front a back front order (λ x i. (i, in-order root actors x (subst (In x) (sym order) (in-front front x i)))));
         allowed = allowed;
@@ -291,15 +285,15 @@ closing-allowed built destroy.AbnormalShutdown id = refl
 
 -- what is read behind the fall of some actors
 abbrev pub fallen_reading : ActorReading → List Actor → ActorReading
-fallen_reading read front = record read { fallen = read.fallen ++ fallen_ids front; falls = read.falls ++ places_of read.built front }
+fallen_reading read front = record read { fallen = read.fallen ++ ids_in front; falls = read.falls ++ places_of read.built front }
 
 pub none-fallen : (read : ActorReading) → fallen_reading read [] ≡ read
 none-fallen read = ap (λ (f : List ℤ). record read { fallen = f; falls = read.falls ++ [] }) (append-nil read.fallen) ∙ ap (λ (f : List ActorPlace). record read { falls = f }) (append-nil read.falls)
 
 more-fallen : (read : ActorReading) (xs ys : List Actor) → fallen_reading (fallen_reading read xs) ys ≡ fallen_reading read (xs ++ ys)
 more-fallen read xs ys =
-    ap (λ (f : List ℤ). record read { fallen = f; falls = (read.falls ++ places_of read.built xs) ++ places_of read.built ys }) (append_assoc read.fallen (fallen_ids xs) (fallen_ids ys) ∙ ap (λ (l : List ℤ). read.fallen ++ l) (sym (map-append (λ (a : Actor). a.id) xs ys)))
-    ∙ ap (λ (f : List ActorPlace). record read { fallen = read.fallen ++ fallen_ids (xs ++ ys); falls = f }) (append_assoc read.falls (places_of read.built xs) (places_of read.built ys) ∙ ap (λ (l : List ActorPlace). read.falls ++ l) (sym (map-append (λ (a : Actor). actor_place read.built a.id) xs ys)))
+    ap (λ (f : List ℤ). record read { fallen = f; falls = (read.falls ++ places_of read.built xs) ++ places_of read.built ys }) (append_assoc read.fallen (ids_in xs) (ids_in ys) ∙ ap (λ (l : List ℤ). read.fallen ++ l) (sym (map-append (λ (a : Actor). a.id) xs ys)))
+    ∙ ap (λ (f : List ActorPlace). record read { fallen = read.fallen ++ ids_in (xs ++ ys); falls = f }) (append_assoc read.falls (places_of read.built xs) (places_of read.built ys) ∙ ap (λ (l : List ActorPlace). read.falls ++ l) (sym (map-append (λ (a : Actor). actor_place read.built a.id) xs ys)))
 
 module _ (schema : Schema) (why : ℤ → Destroy) (promises : List PromiseEntry) where
   -- the line of one that falls, behind those by which its promises are rejected
@@ -319,7 +313,7 @@ module _ (schema : Schema) (why : ℤ → Destroy) (promises : List PromiseEntry
 
   -- Where each may fall behind those before it, all their lines pass the law.
   pub falls-pass : (start : ActorReading) (whole : List Actor) → start.falls ≡ []
-      → ((front : List Actor) (a : Actor) (back : List Actor) → whole ≡ front ++ a ∷ back → MayFall start.built (start.fallen ++ fallen_ids front) (places_of start.built front) start.cause a.id (why a.id))
+      → ((front : List Actor) (a : Actor) (back : List Actor) → whole ≡ front ++ a ∷ back → MayFall start.built (start.fallen ++ ids_in front) (places_of start.built front) start.cause a.id (why a.id))
       → (place : ℕ) (front fs : List Actor) (own : EndReading) → whole ≡ front ++ fs → actor_reading own ≡ fallen_reading start front → EndLinesPass schema (λ h w. fallen_line h w ≡ true) place (flat_map (fall.fall_lines why promises) fs) own
   falls-pass start whole none may place front [] own is at = tt
   falls-pass start whole none may place front (a ∷ fs) own is at =
@@ -332,7 +326,7 @@ module _ (schema : Schema) (why : ℤ → Destroy) (promises : List PromiseEntry
       (λ next. (
         may_fall-is (after_whats schema place ls own) a.id (why a.id)
             (subst (λ (r : ActorReading). MayFall r.built r.fallen r.falls r.cause a.id (why a.id)) (sym (no_actor-read schema place ls own quiet ∙ at))
-            (subst (λ (f : List ActorPlace). MayFall start.built (start.fallen ++ fallen_ids front) (f ++ places_of start.built front) start.cause a.id (why a.id)) (sym none) (may front a fs is))),
+            (subst (λ (f : List ActorPlace). MayFall start.built (start.fallen ++ ids_in front) (f ++ places_of start.built front) start.cause a.id (why a.id)) (sym none) (may front a fs is))),
         tt,
       )))
       (λ next. falls-pass start whole none may next (front ++ a ∷ []) fs (after_whats schema place (ls ++ what.Fall a.id (why a.id) ∷ []) own) (is ∙ sym (append_assoc front (a ∷ []) fs))

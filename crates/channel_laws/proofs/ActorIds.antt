@@ -1,10 +1,9 @@
 -- Each part keeps the ids of actors known.
-use Rattle.std.proofs.Common.{◌≡◌, ◌≢◌, ◌⊎◌, inl, inr, ℕ, ◌+◌, ℤ, Bool, true, false, cond, List, [], ◌∷◌, ◌++◌, map, drop, ◌&&◌, Option, Some, None, refl, sym, ap, subst, ◌∙◌, arith}
+use Rattle.std.proofs.Common.{◌≡◌, ◌≢◌, inl, inr, ℕ, ◌+◌, ℤ, Bool, true, false, cond, List, [], ◌∷◌, ◌++◌, drop, ◌&&◌, Some, refl, sym, ap, subst, ◌∙◌, arith}
 use Rattle.std.specs.List.{AllByRecursion}
 use Rattle.std.proofs.lemmas.List.{append-nil}
 use Rattle.actor_tree.specs.declared.actor.Actor.{Actor}
-use Rattle.actor_tree.specs.Fall.{post_order}
-use Rattle.actor_tree.specs.Tree.{lives, IsTree}
+use Rattle.actor_tree.specs.Tree.{lives}
 use Rattle.actor_tree.proofs.Ids.{lives-true, lives-false}
 use Rattle.actor_tree.proofs.Kept.{IsTree-append}
 use Rattle.ipdl_base.specs.declared.line.What.{What}
@@ -21,17 +20,15 @@ use Rattle.ipdl_base.specs.declared.value.Values.{Values}
 use Rattle.ipdl_base.specs.Sound.{message_of}
 use Rattle.nesting_core.specs.declared.frame.Answer.{Answer}
 use Rattle.nesting_core.specs.declared.frame.Answer.TheVariants as answer
-use Rattle.nesting_core.specs.Top.{top_of}
 use Rattle.pending_queue.specs.declared.item.Item.{Item}
 use Rattle.pending_queue.specs.declared.item.Item.TheVariants as item
 use Rattle.pending_queue.specs.Compression.{is_request, staying}
 use Rattle.pending_queue.specs.Holding.{is_free, without_first}
 use Rattle.history_reading.specs.declared.parts.BuiltActor.{BuiltActor}
-use Rattle.channel_model.specs.Actors.{Ids, IsTaken, IsIdOf, AreKnown, IsNew, IsTopOf, AreDistinct, new_ids, new_ids_in, constructs_by}
-use Rattle.channel_model.specs.Answers as answering
+use Rattle.channel_model.specs.Actors.{Ids, IsTaken, AreKnown, IsNew, IsTopOf, AreDistinct, new_ids, new_ids_in, constructs_by}
 use Rattle.channel_model.specs.Deliveries as delivery
 use Rattle.channel_model.specs.Ends.{End, Packet, message, mark}
-use Rattle.channel_model.specs.Events.{Answering, handled, kept}
+use Rattle.channel_model.specs.Events.{handled, kept}
 use Rattle.channel_model.specs.Numbers.{other, id_of, counting, is_constructor, is_sync_row}
 use Rattle.channel_model.specs.Outputs.{body_of}
 use Rattle.channel_model.specs.Parts as part
@@ -41,10 +38,10 @@ use Rattle.channel_model.specs.Refusals.{expected_id}
 use Rattle.channel_model.specs.Sends as send
 use Rattle.channel_model.specs.States.{is_farewell, is_goodbye}
 use Rattle.channel_model.specs.Takes as take
-use Rattle.channel_model.proofs.Known.{own_is_free, ids_apart, all-map, all-append, all-both, all-before, all-behind, distinct-from, distinct-without, dead-append, living-append, known-counted, known-fewer, known-arrives, not_top}
+use Rattle.channel_model.proofs.Known.{own_is_free, ids_apart, all-map, all-append, all-both, all-before, all-behind, distinct-from, distinct-without, dead-append, living-append, known-counted, known-fewer, known-arrives}
 use Rattle.channel_model.proofs.KnownSteps.{new_ids-last, not_request, constructs_by-row, taken_next-found, next_made-is}
 use Rattle.channel_model.proofs.Sublists.{Sublist, sublist-none, sublist-flat_map, without_first-sublist, staying-sublist, TakenOut, taken_out}
-use Rattle.channel_laws.specs.EndActors.{built_ids, built_actor, IsPending, HasIds, HasNextId}
+use Rattle.channel_laws.specs.EndActors.{built_ids, IsPending, HasIds, HasNextId}
 
 -- An actor is built
 

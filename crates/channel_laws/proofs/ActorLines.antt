@@ -1,6 +1,6 @@
 -- What the lines of a part say of actors.
-use Rattle.std.proofs.Common.{◌≡◌, ℕ, ◌+◌, ℤ, Bool, true, false, cond, if◌then◌else◌, List, [], ◌∷◌, ◌++◌, map, filter, Option, Some, None, refl, sym, ap, ◌∙◌}
-use Rattle.std.specs.List.{AllByRecursion, flat_map}
+use Rattle.std.proofs.Common.{◌≡◌, ℕ, ◌+◌, ℤ, Bool, true, false, if◌then◌else◌, List, [], ◌∷◌, map, filter, Option, refl, ap, ◌∙◌}
+use Rattle.std.specs.List.{AllByRecursion}
 use Rattle.ipdl_base.specs.declared.kinds.Reason.{Reason}
 use Rattle.ipdl_base.specs.declared.line.What.{What}
 use Rattle.ipdl_base.specs.declared.line.What.TheVariants as what
@@ -22,8 +22,9 @@ use Rattle.channel_model.specs.Falls as fall
 use Rattle.channel_model.specs.Outputs.{AnsweredRequest}
 use Rattle.channel_model.specs.Parts.{reply_lines}
 use Rattle.channel_model.specs.Takes.{settle_line}
-use Rattle.channel_laws.specs.EndActors.{ActorReading, actor_reading, handled_frame}
+use Rattle.channel_laws.specs.EndActors.{actor_reading, handled_frame}
 use Rattle.channel_laws.specs.Tested.{after_whats, EndLinesPass}
+use Rattle.channel_laws.proofs.Outlines.{leaves-map}
 use Rattle.channel_laws.proofs.Testing.{tested-free}
 
 -- Effects that say nothing of actors
@@ -63,10 +64,6 @@ no_actor-read schema place [] own l = refl
 no_actor-read schema place (w ∷ ws) own l = no_actor-read schema (place + 1) ws (after_what schema place w own) l.1 ∙ no_actor-one schema place w own l.0
 
 -- Which effects these are
-
-leaves-map : {A : Type 0} (P : What → Type 0) (f : A → What) (xs : List A) → ((x : A) → P (f x)) → AllByRecursion P (map f xs)
-leaves-map P f [] h = tt
-leaves-map P f (x ∷ xs) h = (h x, leaves-map P f xs h)
 
 pub no_actor-reply : (b : Bool) (q : AnsweredRequest) (a : Answer) → AllByRecursion SaysNoActor (reply_lines b q a)
 no_actor-reply true q (answer.Ok vs) = (says_ok q.seq vs, tt)

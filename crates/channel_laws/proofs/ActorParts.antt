@@ -3,7 +3,6 @@ use Rattle.std.proofs.Common.{◌≡◌, ◌⊎◌, inl, inr, ℕ, ◌+◌, ℤ,
 use Rattle.std.specs.List.{AllByRecursion}
 use Rattle.std.specs.Option.{option_map_or}
 use Rattle.std.proofs.lemmas.Option.{same_Some}
-use Rattle.actor_tree.specs.declared.actor.Actor.{Actor}
 use Rattle.ipdl_base.specs.declared.kinds.EndState.TheVariants.{Dead}
 use Rattle.ipdl_base.specs.declared.kinds.Reason.TheVariants.{ActorDestroyed, ResolverDestroyed}
 use Rattle.ipdl_base.specs.declared.line.What.{What}
@@ -38,21 +37,22 @@ use Rattle.history_reading.specs.Rows as rows
 use Rattle.channel_model.specs.Answers as answering
 use Rattle.channel_model.specs.Deliveries as delivery
 use Rattle.channel_model.specs.Ends.{End, Packet, message, mark, StackEntry}
-use Rattle.channel_model.specs.Events.{Answering, handled, kept}
-use Rattle.channel_model.specs.Numbers.{is_sync_row, request_row}
+use Rattle.channel_model.specs.Events.{handled, kept}
+use Rattle.channel_model.specs.Numbers.{is_sync_row}
 use Rattle.channel_model.specs.Outputs.{is_closed, request_answered, resolver_answered}
 use Rattle.channel_model.specs.Parts as part
 use Rattle.channel_model.specs.Parts.{FirstPart, DeliveryPart, IsRefusal, IsRenaming, reply_lines, end_behind, farewell_item, farewell_line}
 use Rattle.channel_model.specs.Phases.{EventStart, sends, ends, closes, other, FallCause, nobody, closing, kind_cause, Phase}
 use Rattle.channel_model.specs.Returns as return
 use Rattle.channel_model.specs.Sends as send
-use Rattle.channel_model.specs.States.{is_farewell, is_goodbye}
+use Rattle.channel_model.specs.States.{is_goodbye}
 use Rattle.channel_model.specs.Takes as take
 use Rattle.channel_model.specs.ValueActors.{received}
 use Rattle.channel_laws.specs.EndActors.{ActorReading, actor_reading, handled_frame, handled_entry, shown_event, shown_cause}
 use Rattle.channel_laws.specs.Rows.{HasSoundRows}
 use Rattle.channel_laws.specs.Tested.{after_whats}
 use Rattle.channel_laws.proofs.ActorLines.{SaysNoActor, replaced, no_actor-read, answered-handled, no_actor-reply, no_actor-fails, no_actor-settles}
+use Rattle.channel_laws.proofs.Outlines.{cons-head}
 use Rattle.channel_laws.proofs.Rows.{request-message}
 use Rattle.channel_model.proofs.Known.{all-append}
 
@@ -123,9 +123,6 @@ sync-cause : (kind : Kind) (route : ℤ) (sync : Bool) → (kind ≡ Delete → 
 sync-cause Normal route sync async is = refl
 sync-cause (Constructor protocol) route sync async is = refl
 sync-cause Delete route sync async is = let k : true ≡ false = sym is ∙ async refl in cc
-
-cons-head : {A : Type 0} {x y : A} {xs ys : List A} → x ∷ xs ≡ y ∷ ys → x ≡ y
-cons-head {A} {x} {y} {xs} {ys} e = cc
 
 -- by a return actors fall for the request of the dispatch on top
 return-cause : (schema : Schema) (hs : List CallFrame) (es : List StackEntry) (entry : StackEntry) (row : MessageRow) → map handled_frame hs ≡ map handled_entry es → return.dispatch_on_top es ≡ Some entry → message_of schema entry.number ≡ Some row

@@ -1,12 +1,12 @@
 -- Each part keeps what an end reads of its actors, and its lines pass the law of falls.
-use Rattle.std.proofs.Common.{◌≡◌, ◌≢◌, ◌⊎◌, inl, inr, ℕ, ◌+◌, ◌*◌, ◌≤◌, ℤ, pos, Bool, true, false, not, ◌||◌, cond, if◌then◌else◌, int_eq, List, [], ◌∷◌, ◌++◌, map, Option, Some, None, refl, sym, ap, subst, ◌∙◌, arith}
+use Rattle.std.proofs.Common.{◌≡◌, ◌≢◌, inl, inr, ℕ, ◌+◌, ◌*◌, ◌≤◌, ℤ, pos, Bool, true, false, not, ◌||◌, if◌then◌else◌, int_eq, List, [], ◌∷◌, ◌++◌, map, Option, Some, None, refl, sym, ap, subst, ◌∙◌, arith}
 use Rattle.std.specs.List.{AllByRecursion, flat_map}
 use Rattle.std.proofs.lemmas.Bool.{cases_Bool}
 use Rattle.std.proofs.lemmas.List.{append-nil, map-append}
 use Rattle.actor_tree.specs.declared.actor.Actor.{Actor}
 use Rattle.actor_tree.specs.Fall.{post_order, others}
 use Rattle.actor_tree.specs.Tree.{lives}
-use Rattle.actor_tree.proofs.Ids.{same_or_other, other as other-id, lives-same, lives-other, lives-true, lives-false}
+use Rattle.actor_tree.proofs.Ids.{same_or_other, other as other-id, lives-same, lives-other, lives-true}
 use Rattle.actor_tree.proofs.Below.{post_order-other}
 use Rattle.actor_tree.proofs.Order.{root_falls}
 use Rattle.actor_tree.proofs.Kept.{IsTree-append}
@@ -19,7 +19,6 @@ use Rattle.ipdl_base.specs.declared.line.What.TheVariants as what
 use Rattle.ipdl_base.specs.declared.message.Body.{Body}
 use Rattle.ipdl_base.specs.declared.message.Body.TheVariants.{Request, Reply, Fault, Goodbye}
 use Rattle.ipdl_base.specs.declared.message.Message.{Message}
-use Rattle.ipdl_base.specs.declared.schema.MessageRow.{MessageRow}
 use Rattle.ipdl_base.specs.declared.schema.Schema.{Schema}
 use Rattle.ipdl_base.specs.declared.value.Values.{Values}
 use Rattle.nesting_core.specs.declared.frame.Answer.{Answer}
@@ -27,12 +26,10 @@ use Rattle.nesting_core.specs.declared.frame.Answer.TheVariants as answer
 use Rattle.nesting_core.specs.Frames.{head_of}
 use Rattle.pending_queue.specs.declared.item.Item.{Item}
 use Rattle.pending_queue.specs.declared.item.Item.TheVariants as item
-use Rattle.promise_table.specs.declared.promise.Outcome.TheVariants as outcome
 use Rattle.history_reading.specs.declared.parts.ActorPlace.{ActorPlace}
 use Rattle.history_reading.specs.declared.parts.BuiltActor.{BuiltActor}
 use Rattle.history_reading.specs.declared.parts.Cause.{Cause}
 use Rattle.history_reading.specs.declared.parts.Cause.TheVariants as read_cause
-use Rattle.history_reading.specs.declared.parts.EventKind.{EventKind}
 use Rattle.history_reading.specs.EndReading.{EndReading, was_built}
 use Rattle.history_reading.specs.Fallen.{lets_fall}
 use Rattle.history_reading.specs.Numbers.{has}
@@ -44,27 +41,26 @@ use Rattle.channel_model.specs.Ends.{End, Packet, message, mark, StackEntry, Pro
 use Rattle.channel_model.specs.Falls as fall
 use Rattle.channel_model.specs.Names.{without_name}
 use Rattle.channel_model.specs.Numbers.{id_of, top_id, is_sync_row}
-use Rattle.channel_model.specs.Outputs.{is_closed, request_answered, resolver_answered}
+use Rattle.channel_model.specs.Outputs.{request_answered, resolver_answered}
 use Rattle.channel_model.specs.Parts as part
 use Rattle.channel_model.specs.Parts.{FirstPart, LaterPart, LaterParts, OwnParts, DeliveryPart, IsRefusal, IsRenaming, reply_lines, farewell_line}
-use Rattle.channel_model.specs.Phases.{EventStart, sends, takes, ends, closes, other, FallCause, nobody, deletion, closing, manager_of, Phase}
+use Rattle.channel_model.specs.Phases.{EventStart, sends, takes, ends, closes, other, manager_of, Phase}
 use Rattle.channel_model.specs.Returns as return
 use Rattle.channel_model.specs.Sends as send
 use Rattle.channel_model.specs.Takes as take
 use Rattle.channel_model.specs.ValueActors.{received}
 use Rattle.channel_model.proofs.Known.{all-append, all-map, tree-others}
-use Rattle.channel_laws.specs.EndActors
-use Rattle.channel_laws.specs.EndActors.{ActorReading, actor_reading, handled_frame, handled_entry, shown_actor, standing, shown_event, shown_cause, ShowsLiving, ShowsEvent, root_of, FallsAreWhole, built_actor, built_ids, IsPending, HasIds, HasNextId, KeepsActors, IsFallenLine, ReadsActors}
+use Rattle.channel_laws.specs.EndActors.{ActorReading, actor_reading, handled_entry, shown_actor, standing, shown_event, shown_cause, ShowsLiving, root_of, built_actor, built_ids, IsPending, HasIds, HasNextId, KeepsActors, IsFallenLine, ReadsActors}
 use Rattle.channel_laws.specs.Notes.{In, here, there}
 use Rattle.channel_laws.specs.Rows.{HasSoundRows}
 use Rattle.channel_laws.specs.Tested.{after_whats, EndLinesPass}
-use Rattle.channel_laws.proofs.ActorFalls.{one-may_fall, deleted-allowed, closing-allowed, fallen_ids, places_of, fallen_reading, none-fallen, falls-read, falls-pass}
+use Rattle.channel_laws.proofs.ActorFalls.{one-may_fall, deleted-allowed, closing-allowed, places_of, fallen_reading, none-fallen, falls-read, falls-pass}
 use Rattle.channel_laws.proofs.ActorIds.{known-built, first-ids, delivery-ids}
 use Rattle.channel_laws.proofs.ActorLines.{SaysNoActor, replaced, says_fault, no_actor-read, no_actor-reply, no_actor-rejections, no_actor-fails, no_actor-settles, no_actor-pass}
 use Rattle.channel_laws.proofs.ActorParts.{Begins, first-begins, delivery-begins, released-handled}
 use Rattle.channel_laws.proofs.FallOrder.{in-order, has-in}
 use Rattle.channel_laws.proofs.Growing.{whats-append}
-use Rattle.channel_laws.proofs.Standing.{standing-falls, standing-last, alive-unfallen, alive-built, fallen-dead, built-lives, built-more, lives-has}
+use Rattle.channel_laws.proofs.Standing.{ids_in, standing-falls, standing-last, alive-unfallen, alive-built, fallen-dead, built-lives, built-more, lives-has}
 use Rattle.channel_laws.proofs.Testing.{tested-append}
 
 -- Nobody has the id 0
@@ -112,6 +108,10 @@ route-shown ends = refl
 route-shown closes = refl
 route-shown other = refl
 
+-- one that is still to be built was not built before
+pub fresh-unbuilt : (schema : Schema) (p : Phase) (e : End) (read : ActorReading) (id : ℤ) (rest : List ℤ) → p.fresh ≡ id ∷ rest → KeepsActors schema p e read → was_built read.built id ≡ false
+fresh-unbuilt schema p e read id rest fresh k = let pending : IsPending (built_ids schema e read.built) (id ∷ rest) = subst (IsPending (built_ids schema e read.built)) fresh k.ids.pending in sym (built-lives read.built id) ∙ pending.1
+
 builds-keeps : (schema : Schema) (p : Phase) (e : End) (read : ActorReading) (id : ℤ) (protocol : ℕ) (rest : List ℤ) → p.fresh ≡ id ∷ rest → lives (manager_of p.start) e.actors ≡ true → KeepsActors schema p e read
     → KeepsActors schema (record p { fresh = rest }) (record e { actors = e.actors ++ record { id = id; protocol = protocol; manager = manager_of p.start } ∷ [] }) (record read { built = read.built ++ record { id = id; manager = route_of read.event } ∷ [] })
 builds-keeps schema p e read id protocol rest fresh alive k =
@@ -119,7 +119,7 @@ builds-keeps schema p e read id protocol rest fresh alive k =
     let manager : route_of read.event ≡ manager_of p.start = ap route_of k.event.event ∙ route-shown p.start in
     let one : BuiltActor = record { id = id; manager = route_of read.event } in
     let made : Actor = record { id = id; protocol = protocol; manager = manager_of p.start } in
-    let unbuilt : was_built read.built id ≡ false = sym (built-lives read.built id) ∙ pending.1 in
+    let unbuilt : was_built read.built id ≡ false = fresh-unbuilt schema p e read id rest fresh k in
     let dead : lives id e.actors ≡ false = unbuilt-dead id unbuilt in
     let shown : lives (manager_of p.start) (map built_actor read.built) ≡ true = built-lives read.built (manager_of p.start) ∙ alive-built read.built read.fallen e.actors (manager_of p.start) k.living.living alive in
     record {
@@ -164,7 +164,7 @@ none-falls id (x ∷ xs) h = elim (same_or_other x.id id) [
   | inr n ↦ post_order-other id x xs n ∙ none-falls id xs (sym (lives-other id x xs n) ∙ h)
 ]
 
-all-ids : (P : ℤ → Type 0) (xs : List Actor) → ((x : Actor) → In x xs → P x.id) → AllByRecursion P (fallen_ids xs)
+all-ids : (P : ℤ → Type 0) (xs : List Actor) → ((x : Actor) → In x xs → P x.id) → AllByRecursion P (ids_in xs)
 all-ids P [] h = tt
 all-ids P (x ∷ xs) h = (h x here, all-ids P xs (λ y i. h y (there i)))
 
@@ -183,19 +183,19 @@ fallen-keeps schema p e read id is k =
     record {
       living = record {
         living = standing-falls read.built read.fallen fs e.actors k.living.living;
-        fell = all-append (λ n. was_built read.built n ≡ true) read.fallen (fallen_ids fs) k.living.fell
+        fell = all-append (λ n. was_built read.built n ≡ true) read.fallen (ids_in fs) k.living.fell
             (all-ids (λ n. was_built read.built n ≡ true) fs (λ x i. alive-built read.built read.fallen e.actors x.id k.living.living (lives-true x.id e.actors (has-in e.actors x (in-order id e.actors x i)))));
       };
       event = record { event = k.event.event; cause = k.event.cause; handled = k.event.handled };
       falls = record {
         over = λ o. elim (k.falls.over o) [ inl c ↦ inl c | inr none ↦ inr (ap (others fs) none) ];
         root = elim (cases_Bool (lives id e.actors)) [
-          | inl alive ↦ inr (ap (has (read.fallen ++ fallen_ids fs)) is ∙ has-right read.fallen (fallen_ids fs) id (sym (lives-has fs id) ∙ (root_falls id e.actors k.ids.tree ∙ alive)))
+          | inl alive ↦ inr (ap (has (read.fallen ++ ids_in fs)) is ∙ has-right read.fallen (ids_in fs) id (sym (lives-has fs id) ∙ (root_falls id e.actors k.ids.tree ∙ alive)))
           | inr dead ↦ (
               let none : fs ≡ [] = none-falls id e.actors dead in
               elim k.falls.root [
                 | inl quiet ↦ inl (ap (λ (l : List ActorPlace). l ++ places_of read.built fs) quiet ∙ ap (places_of read.built) none)
-                | inr fell ↦ inr (ap (λ (l : List Actor). has (read.fallen ++ fallen_ids l) (root_of p.cause)) none ∙ (ap (λ (l : List ℤ). has l (root_of p.cause)) (append-nil read.fallen) ∙ fell))
+                | inr fell ↦ inr (ap (λ (l : List Actor). has (read.fallen ++ ids_in l) (root_of p.cause)) none ∙ (ap (λ (l : List ℤ). has l (root_of p.cause)) (append-nil read.fallen) ∙ fell))
               ])
         ];
       };
@@ -359,13 +359,16 @@ delivery-pass schema place own packet (part.passes_by m ordinary none) = (unknow
 
 -- Whole steps
 
+pub first-kept : (schema : Schema) → HasSoundRows schema → (place : ℕ) (own : EndReading) {e f : End} {ws : List What} {ps : List Packet} {p : Phase} → FirstPart schema e ws ps f p → ReadsActors schema e own → KeptBy schema place ws own p f
+first-kept schema rows place own {e} {f} {ws} {ps} {p} first k = record {
+  pass = first-pass schema place own first;
+  kept = begun-keeps schema e f own p (actor_reading (after_whats schema place ws own)) k (first-begins schema rows place own first k.handled) (first-ids schema [] own.built first k.ids);
+}
+
 pub own-kept : (schema : Schema) → HasSoundRows schema → (place : ℕ) (own : EndReading) {e g : End} {ws : List What} {ps : List Packet} {q : Phase} → OwnParts schema e ws ps g q → ReadsActors schema e own → KeptBy schema place ws own q g
 own-kept schema rows place own {e} (part.begun {p} {q} {f = f} {g = g} {ws} {vs} first more) k =
-    let first-kept : KeptBy schema place ws own p f = record {
-      pass = first-pass schema place own first;
-      kept = begun-keeps schema e f own p (actor_reading (after_whats schema place ws own)) k (first-begins schema rows place own first k.handled) (first-ids schema [] own.built first k.ids);
-    } in
-    then-kept schema place ws vs own p q f g first-kept (λ at. later-parts-kept schema at (after_whats schema place ws own) more first-kept.kept)
+    let begins : KeptBy schema place ws own p f = first-kept schema rows place own first k in
+    then-kept schema place ws vs own p q f g begins (λ at. later-parts-kept schema at (after_whats schema place ws own) more begins.kept)
 
 pub delivery-kept : (schema : Schema) (place : ℕ) (own : EndReading) (packet : Packet) {e f : End} {ws : List What} {ps : List Packet} {q : Phase} → DeliveryPart schema packet e ws ps f q → HasNextId schema e packet → ReadsActors schema e own → KeptBy schema place ws own q f
 delivery-kept schema place own packet {e} {f} {ws} {ps} {q} one next k = record {

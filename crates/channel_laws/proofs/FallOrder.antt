@@ -14,6 +14,7 @@ use Rattle.history_reading.specs.declared.parts.BuiltActor.{BuiltActor}
 use Rattle.history_reading.specs.Fallen.{climbs}
 use Rattle.channel_laws.specs.EndActors.{shown_actor}
 use Rattle.channel_laws.specs.Notes.{In, here, there}
+use Rattle.channel_laws.proofs.Standing.{ids_in}
 
 -- Lists
 
@@ -124,9 +125,6 @@ managed-fell id actors front a back x tree order n i e =
 abbrev pub precedes : List ℤ → ℤ → ℤ → Bool
 precedes [] b a = false
 precedes (x ∷ xs) b a = if int_eq x b then true else (if int_eq x a then false else precedes xs b a)
-
-abbrev pub ids_in : List Actor → List ℤ
-ids_in xs = map (λ (a : Actor). a.id) xs
 
 precedes-here : (x b a : ℤ) (xs : List ℤ) → x ≡ b → precedes (x ∷ xs) b a ≡ true
 precedes-here x b a xs e = ap (λ (t : Bool). if t then true else (if int_eq x a then false else precedes xs b a)) (same x b e)

@@ -1,25 +1,21 @@
 -- Each end obeys the law of falls, and so does every legal history.
-use Rattle.std.proofs.Common.{◌≡◌, ◌≢◌, ◌⊎◌, inl, inr, ℕ, ◌+◌, ℤ, pos, Bool, true, false, not, ◌&&◌, cond, if◌then◌else◌, int_eq, List, [], ◌∷◌, ◌++◌, map, Option, Some, None, refl, sym, ap, subst, ◌∙◌}
-use Rattle.std.specs.List.{AllByRecursion, list_all}
+use Rattle.std.proofs.Common.{◌≡◌, inl, inr, ℕ, ◌+◌, ℤ, Bool, true, false, not, ◌&&◌, cond, if◌then◌else◌, int_eq, List, [], ◌∷◌, ◌++◌, map, Option, Some, None, refl, sym, ap, subst, ◌∙◌}
+use Rattle.std.specs.List.{AllByRecursion}
 use Rattle.std.specs.Option.{option_map_or}
-use Rattle.std.proofs.lemmas.Bool.{cases_Bool}
 use Rattle.std.proofs.lemmas.Bool.Decides.{Decides-int_eq}
 use Rattle.std.proofs.lemmas.Option.{same_Some}
 use Rattle.actor_tree.specs.declared.actor.Actor.{Actor}
 use Rattle.actor_tree.specs.Tree.{lives, top, IsTree, AreMadeAfter}
-use Rattle.actor_tree.proofs.Ids.{Has, Has-left, has, has_not}
-use Rattle.ipdl_base.specs.declared.kinds.EndState.TheVariants.{Closed}
+use Rattle.actor_tree.proofs.Ids.{Has, Has-left, has_not}
 use Rattle.ipdl_base.specs.declared.kinds.Side.{Side}
 use Rattle.ipdl_base.specs.declared.kinds.Side.TheVariants.{Parent, Child}
 use Rattle.ipdl_base.specs.declared.line.Line.{Line}
 use Rattle.ipdl_base.specs.declared.line.What.{What}
 use Rattle.ipdl_base.specs.declared.message.Body.{Body}
-use Rattle.ipdl_base.specs.declared.message.Body.TheVariants.{Request, Reply, Fault, Goodbye}
-use Rattle.ipdl_base.specs.declared.message.Message.{Message}
+use Rattle.ipdl_base.specs.declared.message.Body.TheVariants.{Request}
 use Rattle.ipdl_base.specs.declared.schema.MessageRow.{MessageRow}
 use Rattle.ipdl_base.specs.declared.schema.Schema.{Schema}
-use Rattle.ipdl_base.specs.declared.value.Values.{Values}
-use Rattle.ipdl_base.specs.Sound.{IsSound, message_of}
+use Rattle.ipdl_base.specs.Sound.{IsSound}
 use Rattle.history_reading.specs.declared.law.Law.TheVariants as law
 use Rattle.history_reading.specs.declared.parts.BuiltActor.{BuiltActor}
 use Rattle.history_reading.specs.EndReading as end_reading
@@ -27,18 +23,18 @@ use Rattle.history_reading.specs.EndReading.{EndReading}
 use Rattle.history_reading.specs.Fallen.{fallen_line, fallen_moment, all_fallen}
 use Rattle.history_reading.specs.Holds.{moment_test}
 use Rattle.history_reading.specs.Numbers.{has as has_number}
-use Rattle.history_reading.specs.Reading.{Reading, end_reading_of, other_of, opening_reading, read}
-use Rattle.channel_model.specs.Actors.{Ids, ids_of, AreKnown, IsTopOf, IsNew}
+use Rattle.history_reading.specs.Reading.{Reading, end_reading_of, read}
+use Rattle.channel_model.specs.Actors.{ids_of, AreKnown, IsTopOf, IsNew}
 use Rattle.channel_model.specs.Ends.{End, World, Packet, message, mark, end_of, link_to, opening, opening_end}
 use Rattle.channel_model.specs.Events.{Event, Move}
 use Rattle.channel_model.specs.Events as event
 use Rattle.channel_model.specs.Numbers.{other, id_of, top_id, is_constructor}
-use Rattle.channel_model.specs.Outputs.{Output, is_open, line_at}
+use Rattle.channel_model.specs.Outputs.{Output, is_open}
 use Rattle.channel_model.specs.Phases.{Phase}
 use Rattle.channel_model.specs.Refusals.{packet_refusal, body_refusal, expected_id, wrong_direction, wrong_number, wrong_new_id, actor_refusal}
-use Rattle.channel_model.specs.Runs.{output_of, history_of, run}
+use Rattle.channel_model.specs.Runs.{history_of, run}
 use Rattle.channel_model.specs.StepLaws.{IsStepOfParts, IsMadeOf}
-use Rattle.channel_model.specs.Parts.{OwnParts, DeliveryPart}
+use Rattle.channel_model.specs.Parts.{OwnParts}
 use Rattle.channel_model.specs.States.{IsInState}
 use Rattle.channel_model.specs.Steps.{step, first_packet}
 use Rattle.channel_model.proofs.Known.{all-map}
@@ -46,10 +42,9 @@ use Rattle.channel_model.proofs.KnownSteps.{first_actors_are_known, third_passes
 use Rattle.channel_model.proofs.StateSteps.{states_stay, first_states}
 use Rattle.channel_model.proofs.StepParts.{steps_are_chains}
 use Rattle.channel_laws.specs.ActorLaws.{DeliversNextId, StepObeysFallen, EndsObeyFallen, HistoriesObeyFallen}
-use Rattle.channel_laws.specs.EndActors.{ActorReading, actor_reading, shown_actor, standing, ShowsLiving, built_ids, HasIds, HasNextId, KeepsActors, IsFallenLine, ReadsActors}
-use Rattle.channel_laws.specs.RequestOrder.{IsNextRequest, BodyInOrder, InOrder, on_way, ComesInOrder, WorldInOrder}
-use Rattle.channel_laws.specs.Rows.{HasSoundRows}
-use Rattle.channel_laws.specs.Tested.{after_whats, EndLinesPass, LinesPass, test_at}
+use Rattle.channel_laws.specs.EndActors.{shown_actor, standing, built_ids, HasNextId, ReadsActors}
+use Rattle.channel_laws.specs.RequestOrder.{BodyInOrder, InOrder, on_way, ComesInOrder, WorldInOrder}
+use Rattle.channel_laws.specs.Tested.{after_whats, test_at}
 use Rattle.channel_laws.proofs.ActorsKept.{KeptBy, own-kept, delivery-kept, lives-taken}
 use Rattle.channel_laws.proofs.EveryRun.{end-side}
 use Rattle.channel_laws.proofs.Holding.{holds-in-runs}

@@ -1,21 +1,22 @@
 -- Who was built and has not fallen.
-use Rattle.std.proofs.Common.{◌≡◌, inl, inr, ℤ, Bool, true, false, not, ◌&&◌, ◌||◌, cond, if◌then◌else◌, int_eq, List, [], ◌∷◌, ◌++◌, filter, find, map, Option, Some, None, is_some, option_map, refl, sym, ap, subst, ◌∙◌}
-use Rattle.std.specs.List.{AllByRecursion, list_any}
+use Rattle.std.proofs.Common.{◌≡◌, inl, inr, ℤ, Bool, true, false, not, ◌&&◌, ◌||◌, cond, if◌then◌else◌, int_eq, List, [], ◌∷◌, ◌++◌, find, map, Option, Some, is_some, refl, sym, ap, ◌∙◌}
+use Rattle.std.specs.List.{list_any}
 use Rattle.std.proofs.lemmas.Bool.{cases_Bool}
 use Rattle.std.proofs.lemmas.Bool.Decides.{Decides-int_eq}
 use Rattle.actor_tree.specs.declared.actor.Actor.{Actor}
 use Rattle.actor_tree.specs.Fall.{others}
-use Rattle.actor_tree.specs.Tree.{actor_of, lives}
+use Rattle.actor_tree.specs.Tree.{lives}
 use Rattle.history_reading.specs.declared.parts.BuiltActor.{BuiltActor}
 use Rattle.history_reading.specs.EndReading.{was_built}
 use Rattle.history_reading.specs.Fallen.{is_living_under}
 use Rattle.history_reading.specs.Numbers.{has}
 use Rattle.channel_laws.specs.EndActors.{shown_actor, is_standing, standing, built_actor}
 
-abbrev pub ids_of : List Actor → List ℤ
-ids_of fs = map (λ (a : Actor). a.id) fs
+-- the ids of actors
+abbrev pub ids_in : List Actor → List ℤ
+ids_in fs = map (λ (a : Actor). a.id) fs
 
-has-append : (f g : List ℤ) (n : ℤ) → has (f ++ g) n ≡ has f n || has g n
+pub has-append : (f g : List ℤ) (n : ℤ) → has (f ++ g) n ≡ has f n || has g n
 has-append [] g n = refl
 has-append (x ∷ f) g n = by (int_eq x n) (has-append f g n)
   where
@@ -44,23 +45,23 @@ some-or : (b : Bool) (x : Actor) (rest : Option Actor) (c : Bool) → is_some re
 some-or true x rest c e = refl
 some-or false x rest c e = e
 
-pub lives-has : (fs : List Actor) (n : ℤ) → lives n fs ≡ has (ids_of fs) n
+pub lives-has : (fs : List Actor) (n : ℤ) → lives n fs ≡ has (ids_in fs) n
 lives-has [] n = refl
-lives-has (x ∷ fs) n = some-or (int_eq x.id n) x (find (λ (a : Actor). int_eq a.id n) fs) (has (ids_of fs) n) (lives-has fs n)
+lives-has (x ∷ fs) n = some-or (int_eq x.id n) x (find (λ (a : Actor). int_eq a.id n) fs) (has (ids_in fs) n) (lives-has fs n)
 
 map-if : (b : Bool) (x : Actor) (xs : List Actor) → map shown_actor (cond b (x ∷ xs) xs) ≡ cond b (shown_actor x ∷ map shown_actor xs) (map shown_actor xs)
 map-if true x xs = refl
 map-if false x xs = refl
 
-others-shown : (fs xs : List Actor) → standing (ids_of fs) (map shown_actor xs) ≡ map shown_actor (others fs xs)
+others-shown : (fs xs : List Actor) → standing (ids_in fs) (map shown_actor xs) ≡ map shown_actor (others fs xs)
 others-shown fs [] = refl
 others-shown fs (x ∷ xs) =
-    ap (λ (b : Bool). cond (not b) (shown_actor x ∷ standing (ids_of fs) (map shown_actor xs)) (standing (ids_of fs) (map shown_actor xs))) (sym (lives-has fs x.id))
+    ap (λ (b : Bool). cond (not b) (shown_actor x ∷ standing (ids_in fs) (map shown_actor xs)) (standing (ids_in fs) (map shown_actor xs))) (sym (lives-has fs x.id))
     ∙ (ap (λ (ys : List BuiltActor). cond (not (lives x.id fs)) (shown_actor x ∷ ys) ys) (others-shown fs xs) ∙ sym (map-if (not (lives x.id fs)) x (others fs xs)))
 
 -- behind falls the others stand
-pub standing-falls : (built : List BuiltActor) (fallen : List ℤ) (fs actors : List Actor) → standing fallen built ≡ map shown_actor actors → standing (fallen ++ ids_of fs) built ≡ map shown_actor (others fs actors)
-standing-falls built fallen fs actors e = standing-more fallen (ids_of fs) built ∙ (ap (standing (ids_of fs)) e ∙ others-shown fs actors)
+pub standing-falls : (built : List BuiltActor) (fallen : List ℤ) (fs actors : List Actor) → standing fallen built ≡ map shown_actor actors → standing (fallen ++ ids_in fs) built ≡ map shown_actor (others fs actors)
+standing-falls built fallen fs actors e = standing-more fallen (ids_in fs) built ∙ (ap (standing (ids_in fs)) e ∙ others-shown fs actors)
 
 -- one who is built stands last
 pub standing-last : (f : List ℤ) (xs : List BuiltActor) (x : BuiltActor) → has f x.id ≡ false → standing f (xs ++ x ∷ []) ≡ standing f xs ++ x ∷ []

@@ -26,3 +26,5 @@ pub mod AnswersOnce
 pub mod NotedArrivals
 pub mod GivenAnswers
 pub mod Exchanges
+pub mod Taken
+pub mod PrefixLaws
