@@ -71,3 +71,4 @@ pub mod Taken
 pub mod Settling
 pub mod Reached
 pub mod NulledLive
+pub mod SettledLines
