@@ -72,3 +72,4 @@ pub mod Settling
 pub mod Reached
 pub mod NulledLive
 pub mod SettledLines
+pub mod PrefixRuns

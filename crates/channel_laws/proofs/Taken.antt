@@ -152,7 +152,7 @@ module _ (schema : Schema) (others : EndReading) where
   later-effects {e = e} (Parts.abandons why is) = rejection-effects (λ p. true) ChannelClosed e.promises
   later-effects {e = e} (Parts.falls why is) = fall-effects top_id (λ id. why) e
 
-  laters-effects : {p q : Phase} {e f : End} {ws : List What} {ps : List Packet} → LaterParts p e ws ps f q → AreEffectLines ws
+  pub laters-effects : {p q : Phase} {e f : End} {ws : List What} {ps : List Packet} → LaterParts p e ws ps f q → AreEffectLines ws
   laters-effects Parts.done = tt
   laters-effects (Parts.then {ws} {vs} part rest) = all-append IsEffectLine ws vs (later-effects part) (laters-effects rest)
 

@@ -27,3 +27,4 @@ pub mod NotedArrivals
 pub mod GivenAnswers
 pub mod Exchanges
 pub mod Taken
+pub mod PrefixLaws
