@@ -73,3 +73,5 @@ pub mod Reached
 pub mod NulledLive
 pub mod SettledLines
 pub mod PrefixRuns
+pub mod MadeByEvents
+pub mod LivingParts
