@@ -68,9 +68,14 @@ pub mod ComingRequests
 pub mod HonestPackets
 pub mod Exchanges
 pub mod Taken
+pub mod Settling
 pub mod Reached
 pub mod NulledLive
 pub mod MadeByEvents
 pub mod LivingParts
 pub mod LivingRuns
 pub mod PrefixRuns
+pub mod SettledLines
+pub mod PrefixRuns
+pub mod MadeByEvents
+pub mod LivingParts

@@ -141,7 +141,7 @@ module _ (schema : Schema) (others : EndReading) where
   first-there {e} place own (Parts.resumes wait row on_top found) h once = (resume-there wait.seq (received schema e.actors row wait.given) own others, tt)
 
   -- later parts print effects alone
-  later-effects : {p q : Phase} {e f : End} {ws : List What} {ps : List Packet} → LaterPart p e ws ps f q → AreEffectLines ws
+  pub later-effects : {p q : Phase} {e f : End} {ws : List What} {ps : List Packet} → LaterPart p e ws ps f q → AreEffectLines ws
   later-effects (Parts.unnames name may silent) = tt
   later-effects (Parts.lets_go name r may held o) = (answers_fault r.seq ResolverDestroyed, tt)
   later-effects (Parts.names more holds) = tt
