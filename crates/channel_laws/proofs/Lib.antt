@@ -76,6 +76,3 @@ pub mod LivingParts
 pub mod LivingRuns
 pub mod PrefixRuns
 pub mod SettledLines
-pub mod PrefixRuns
-pub mod MadeByEvents
-pub mod LivingParts
