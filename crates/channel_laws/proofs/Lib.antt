@@ -71,6 +71,9 @@ pub mod Taken
 pub mod Settling
 pub mod Reached
 pub mod NulledLive
-pub mod TakingLines
-pub mod SentRequests
+pub mod MadeByEvents
+pub mod LivingParts
+pub mod LivingRuns
 pub mod PrefixRuns
+pub mod SettledLines
+pub mod TakingLines

@@ -296,7 +296,7 @@ module _ (schema : Schema) (sound : IsSound schema) (made : Protocols) where
       by true is = all-found (ItemHasProtocols schema made) (is_free (take.holding_of e)) e.arrived x k.arrived is
       by false is = cc
 
-  taken-request : (e : End) (m : Message) (sync : Bool) (level : Level) (row : MessageRow) (vs : Values) → HasProtocols schema made e → take.taken_next e ≡ Some (item.Message m sync level) → m.body ≡ Request vs → message_of schema m.number ≡ Some row → IsRightMessage schema made m row (Request vs)
+  pub taken-request : (e : End) (m : Message) (sync : Bool) (level : Level) (row : MessageRow) (vs : Values) → HasProtocols schema made e → take.taken_next e ≡ Some (item.Message m sync level) → m.body ≡ Request vs → message_of schema m.number ≡ Some row → IsRightMessage schema made m row (Request vs)
   taken-request e m sync level row vs k next body found = subst (IsRightMessage schema made m row) body (taken-right e (item.Message m sync level) k next row found)
 
   left-right : (e : End) → HasProtocols schema made e → HasProtocols schema made (left_end e)

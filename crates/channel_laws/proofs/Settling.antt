@@ -116,7 +116,7 @@ all-passing P test (entry ∷ promises) h = by (test entry) refl (all-passing P 
     by true is rest = (h.0 is, rest)
     by false is rest = rest
 
-passing-distinct : (test : PromiseEntry → Bool) (promises : List PromiseEntry) → AreDistinct (map promise_seq promises) → AreDistinct (numbers_passing test promises)
+pub passing-distinct : (test : PromiseEntry → Bool) (promises : List PromiseEntry) → AreDistinct (map promise_seq promises) → AreDistinct (numbers_passing test promises)
 passing-distinct test [] d = tt
 passing-distinct test (entry ∷ promises) d = by (test entry) (passing-distinct test promises d.1)
   where

@@ -33,7 +33,7 @@ use Rattle.channel_model.proofs.Known.{all-append, all-map}
 use Rattle.history_reading.specs.EndReading.{EndReading}
 use Rattle.history_reading.specs.Reading.{after_what}
 use Rattle.channel_laws.specs.Tested.{after_whats, EndLinesPass}
-use Rattle.channel_laws.proofs.EffectLines.{IsEffectLine, AreEffectLines, built, answers_ok, answers_fault, fails, resolved, rejected, fell, reply-effects, rejection-effects, fall-effects, fail-effects, settle-effect}
+use Rattle.channel_laws.proofs.EffectLines.{IsEffectLine, AreEffectLines, built, answers_ok, answers_fault, fails, resolved, rejected, fell, reply-effects, fail-effects, settle-effect, laters-effects}
 use Rattle.channel_laws.proofs.Testing.{tested-append, tested-free}
 
 -- whether a line takes nothing out of what has arrived: it is no take, no drop and no take of a reply
@@ -125,22 +125,6 @@ module _ (schema : Schema) (Test : EndReading → What → Type 0) (free : (own 
       let ms : List What = reply_lines lost (resolver_answered (answering.resolver_in entry)) (answer.Fault ResolverDestroyed) in
       (free own _ refl, effects-pass (place + 1) (ls ++ ms) _ (all-append IsEffectLine ls ms (reply-effects told (return.dispatch_answered entry) (return.return_answer schema e row entry vs)) (reply-effects lost (resolver_answered (answering.resolver_in entry)) (answer.Fault ResolverDestroyed))))
   first-pass {e} place own (Parts.resumes wait row on_top found) t = (free own _ (resume-takes_nothing wait.seq (received schema e.actors row wait.given)), tt)
-
-  -- later parts print effects alone
-  later-effects : {p q : Phase} {e f : End} {ws : List What} {ps : List Packet} → LaterPart p e ws ps f q → AreEffectLines ws
-  later-effects (Parts.unnames name may silent) = tt
-  later-effects (Parts.lets_go name r may held o) = (answers_fault r.seq ResolverDestroyed, tt)
-  later-effects (Parts.names more holds) = tt
-  later-effects (Parts.releases seq is) = tt
-  later-effects (Parts.keeps seq name r is o) = tt
-  later-effects (Parts.builds id protocol rest fresh alive) = (built id protocol, tt)
-  later-effects {e = e} (Parts.deletes id is) = fall-effects id (fall.why_deleted id) e
-  later-effects {e = e} (Parts.abandons why is) = rejection-effects (λ p. true) ChannelClosed e.promises
-  later-effects {e = e} (Parts.falls why is) = fall-effects top_id (λ id. why) e
-
-  laters-effects : {p q : Phase} {e f : End} {ws : List What} {ps : List Packet} → LaterParts p e ws ps f q → AreEffectLines ws
-  laters-effects Parts.done = tt
-  laters-effects (Parts.then {ws} {vs} part rest) = all-append IsEffectLine ws vs (later-effects part) (laters-effects rest)
 
   -- the lines of an end's own step pass, where those of what it takes do
   pub own-pass : {q : Phase} {e f : End} {ws : List What} {ps : List Packet} (place : ℕ) (own : EndReading) → OwnParts schema e ws ps f q → TakesPass schema Test e own → Pass place ws own

@@ -26,7 +26,9 @@ use Rattle.channel_model.specs.Events as event
 use Rattle.channel_model.specs.Numbers.{other}
 use Rattle.channel_model.specs.Outputs.{Output, is_open, line_at}
 use Rattle.channel_model.specs.Refusals.{is_waited_for}
-use Rattle.channel_model.specs.Runs.{happens, run, is_still}
+use Rattle.channel_model.specs.Runs.{happens, run, history_of, is_still}
+use Rattle.history_reading.specs.declared.law.Law.TheVariants as law
+use Rattle.history_reading.specs.Holds.{Holds}
 use Rattle.channel_model.specs.Sends.{frames_of}
 use Rattle.channel_model.specs.States.{IsAnswered}
 use Rattle.channel_model.specs.Steps.{step}
@@ -140,3 +142,7 @@ TypesTellWhoLives =
 -- that still wait there, up to all that it has sent; and so it is with the ids of constructors.
 abbrev pub RequestsComeInOrder : Type 0
 RequestsComeInOrder = (schema : Schema) → IsSound schema → (top : ℕ) (moves : List Move) → WorldInOrder schema (world_of schema top moves)
+
+-- Every legal history obeys the law of the living.
+abbrev pub HistoriesObeyLiving : Type 0
+HistoriesObeyLiving = (schema : Schema) → IsSound schema → (top : ℕ) (moves : List Move) → Holds law.Living schema (history_of schema top moves)

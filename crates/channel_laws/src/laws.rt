@@ -1,5 +1,5 @@
 ghost use Rattle.channel_laws.specs.Laws.{EndsAreToldInRuns, LastPacketsFailAllWaits, NestedWorldsStay, NestingInEveryRun, RepliesFindTheirWaits, SoundSchemasHaveSoundRows, StillEndsWaitForNothing, StillHistoriesLeaveNoEndWaiting, SyncRepliesAreNotStray, WaitsGiveWay};
-ghost use Rattle.channel_laws.specs.Laws.{ProtocolsInEveryRun, RequestsComeInOrder, TypesTellWhoLives};
+ghost use Rattle.channel_laws.specs.Laws.{HistoriesObeyLiving, ProtocolsInEveryRun, RequestsComeInOrder, TypesTellWhoLives};
 ghost use Rattle.channel_laws.specs.ValueReadings.{ValuesAreReadAlike};
 
 /// The law of rows: what a sound schema says of the row of each request.
@@ -71,4 +71,9 @@ pub fn values_are_read_alike()
 /// constructors among them its next ids.
 pub fn requests_come_in_order()
     ensures { RequestsComeInOrder }
+{}
+
+/// The law of the living: every legal history obeys it.
+pub fn histories_obey_living()
+    ensures { HistoriesObeyLiving }
 {}
