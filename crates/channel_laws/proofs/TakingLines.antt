@@ -1,8 +1,7 @@
 -- A test that all lines pass but those that take or drop what has arrived: the lines of a step pass it where those do.
 use Rattle.std.proofs.Common.{◌≡◌, ℕ, ◌+◌, ℤ, Bool, true, false, if◌then◌else◌, List, [], ◌∷◌, ◌++◌, map, Option, Some, None, refl}
-use Rattle.std.specs.List.{AllByRecursion}
 use Rattle.ipdl_base.specs.declared.kinds.Level.{Level}
-use Rattle.ipdl_base.specs.declared.kinds.Reason.TheVariants.{ActorDestroyed, ChannelClosed, ResolverDestroyed}
+use Rattle.ipdl_base.specs.declared.kinds.Reason.TheVariants.{ActorDestroyed, ResolverDestroyed}
 use Rattle.ipdl_base.specs.declared.line.What.{What}
 use Rattle.ipdl_base.specs.declared.line.What.TheVariants as what
 use Rattle.ipdl_base.specs.declared.message.Body.{Body}
@@ -19,8 +18,7 @@ use Rattle.pending_queue.specs.declared.item.Item.TheVariants as item
 use Rattle.channel_model.specs.Answers as answering
 use Rattle.channel_model.specs.Deliveries as delivery
 use Rattle.channel_model.specs.Ends.{End, Packet, message, mark}
-use Rattle.channel_model.specs.Falls as fall
-use Rattle.channel_model.specs.Numbers.{is_sync_row, top_id}
+use Rattle.channel_model.specs.Numbers.{is_sync_row}
 use Rattle.channel_model.specs.Outputs.{request_answered, resolver_answered, body_of}
 use Rattle.channel_model.specs.Parts
 use Rattle.channel_model.specs.Parts.{OwnParts, FirstPart, LaterPart, LaterParts, DeliveryPart, IsRefusal, IsRenaming, reply_lines, farewell_line, shut_line, reply_outcome}
