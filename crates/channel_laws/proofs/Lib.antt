@@ -71,3 +71,5 @@ pub mod Taken
 pub mod Reached
 pub mod NulledLive
 pub mod PrefixRuns
+pub mod ReadAlike
+pub mod WaitRuns
