@@ -73,3 +73,4 @@ pub mod NulledLive
 pub mod PrefixRuns
 pub mod ReadAlike
 pub mod WaitRuns
+pub mod EndEvents
