@@ -74,3 +74,4 @@ pub mod PrefixRuns
 pub mod ReadAlike
 pub mod WaitRuns
 pub mod EndEvents
+pub mod HeadParts

@@ -210,7 +210,7 @@ module _ (schema : Schema) (others : EndReading) where
 
 -- What is taken is as it was sent
 
-all-taken : (P : Item → Type 0) (e : End) (x : Item) → taken_next e ≡ Some x → AllByRecursion P e.arrived → P x
+pub all-taken : (P : Item → Type 0) (e : End) (x : Item) → taken_next e ≡ Some x → AllByRecursion P e.arrived → P x
 all-taken P e x next h = by (take.takes_in_state e.state && take.takes_under (top_of (send.frames_of e))) next
   where
     by : (b : Bool) → cond b (take.first_free e) None ≡ Some x → P x
