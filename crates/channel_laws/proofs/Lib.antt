@@ -75,3 +75,4 @@ pub mod ReadAlike
 pub mod WaitRuns
 pub mod EndEvents
 pub mod HeadParts
+pub mod HeadsAlike
