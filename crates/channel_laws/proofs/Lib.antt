@@ -77,3 +77,8 @@ pub mod LivingRuns
 pub mod PrefixRuns
 pub mod SettledLines
 pub mod TakingLines
+pub mod ReadAlike
+pub mod WaitRuns
+pub mod EndEvents
+pub mod HeadParts
+pub mod HeadsAlike
