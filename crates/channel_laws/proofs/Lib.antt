@@ -75,3 +75,4 @@ pub mod SettledLines
 pub mod PrefixRuns
 pub mod MadeByEvents
 pub mod LivingParts
+pub mod SettledCauses

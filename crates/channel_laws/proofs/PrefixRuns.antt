@@ -211,12 +211,12 @@ module _ (schema : Schema) (others : EndReading) where
 
 -- Who lives in values is read alike
 
-alike : (schema : Schema) (made : Protocols) (e : End) (own : EndReading) → HasProtocols schema made e → ReadsActors schema e own → (few : List ActorValue) → HaveTheirProtocols made few → AllByRecursion (LivesAlike e.actors (lives own)) few
+pub alike : (schema : Schema) (made : Protocols) (e : End) (own : EndReading) → HasProtocols schema made e → ReadsActors schema e own → (few : List ActorValue) → HaveTheirProtocols made few → AllByRecursion (LivesAlike e.actors (lives own)) few
 alike schema made e own p k few h = all-map (HasItsProtocol made) (LivesAlike e.actors (lives own)) few (λ a has. types_tell_who_lives schema made e p a has ∙ sym (lives-read own.built own.fallen e.actors a.id k.living.living)) h
 
 -- What is taken is as it was sent
 
-all-taken : (P : Item → Type 0) (e : End) (x : Item) → taken_next e ≡ Some x → AllByRecursion P e.arrived → P x
+pub all-taken : (P : Item → Type 0) (e : End) (x : Item) → taken_next e ≡ Some x → AllByRecursion P e.arrived → P x
 all-taken P e x next h = by (take.takes_in_state e.state && take.takes_under (top_of (send.frames_of e))) next
   where
     by : (b : Bool) → cond b (take.first_free e) None ≡ Some x → P x
