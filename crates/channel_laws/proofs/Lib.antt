@@ -76,3 +76,4 @@ pub mod PrefixRuns
 pub mod MadeByEvents
 pub mod LivingParts
 pub mod SettledCauses
+pub mod RepliesKept
