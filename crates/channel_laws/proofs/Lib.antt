@@ -82,3 +82,5 @@ pub mod WaitRuns
 pub mod EndEvents
 pub mod HeadParts
 pub mod HeadsAlike
+pub mod SettledCauses
+pub mod RepliesKept
