@@ -76,3 +76,4 @@ pub mod LivingParts
 pub mod LivingRuns
 pub mod PrefixRuns
 pub mod SettledLines
+pub mod HonestRuns
