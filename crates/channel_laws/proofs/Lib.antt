@@ -84,3 +84,4 @@ pub mod HeadParts
 pub mod HeadsAlike
 pub mod SettledCauses
 pub mod RepliesKept
+pub mod HonestRuns

@@ -105,9 +105,10 @@ module _ (schema : Schema) (side : Side) (others : EndReading) where
 
   pass-append : (place : ℕ) (ws vs : List What) (own : EndReading) → Pass place ws own → ((at : ℕ) → Pass at vs (after_whats schema place ws own)) → Pass place (ws ++ vs) own
   pass-append place [] vs own a b = b place
-  pass-append place (w ∷ ws) vs own a b =
-      ((λ more. ap (λ (ls : List Line). settled_line schema side own others w ls) (ap (λ (ls : List Line). ls ++ more) (map-append (line_at side) ws vs) ∙ append_assoc (map (line_at side) ws) (map (line_at side) vs) more) ∙ a.0 (map (line_at side) vs ++ more)),
-      pass-append (place + 1) ws vs (after_what schema place w own) a.1 b)
+  pass-append place (w ∷ ws) vs own a b = (
+    (λ more. ap (λ (ls : List Line). settled_line schema side own others w ls) (ap (λ (ls : List Line). ls ++ more) (map-append (line_at side) ws vs) ∙ append_assoc (map (line_at side) ws) (map (line_at side) vs) more) ∙ a.0 (map (line_at side) vs ++ more)),
+    pass-append (place + 1) ws vs (after_what schema place w own) a.1 b,
+  )
 
   -- Rejections
 
@@ -118,9 +119,10 @@ module _ (schema : Schema) (side : Side) (others : EndReading) where
   -- what was settled leaves the others unsettled
   later-unsettled : (read : PromiseReading) (n : ℤ) (ns : List ℤ) → AllByRecursion (λ m. n ≢ m) ns → AllByRecursion (IsUnsettled read) ns → AllByRecursion (IsUnsettled (record read { settled = read.settled ++ n ∷ [] })) ns
   later-unsettled read n [] d h = tt
-  later-unsettled read n (m ∷ ns) d h =
-      (ap (λ (b : Bool). option_map_or (λ (r : Request). r.wants) (find (λ r. int_eq r.seq m) read.requests) false && not b) (has-append read.settled (n ∷ []) m ∙ (ap (λ (b : Bool). has read.settled m || (b || false)) (int-apart n m d.0) ∙ or-none (has read.settled m))) ∙ h.0,
-      later-unsettled read n ns d.1 h.1)
+  later-unsettled read n (m ∷ ns) d h = (
+    ap (λ (b : Bool). option_map_or (λ (r : Request). r.wants) (find (λ r. int_eq r.seq m) read.requests) false && not b) (has-append read.settled (n ∷ []) m ∙ (ap (λ (b : Bool). has read.settled m || (b || false)) (int-apart n m d.0) ∙ or-none (has read.settled m))) ∙ h.0,
+    later-unsettled read n ns d.1 h.1,
+  )
     where
       or-none : (b : Bool) → b || false ≡ b
       or-none true = refl
@@ -166,9 +168,10 @@ module _ (schema : Schema) (side : Side) (others : EndReading) where
 
   falling-pass : (place : ℕ) (ns : List ℤ) (id : ℤ) (why : Destroy) (own : EndReading) → AreDistinct ns → AllByRecursion (IsUnsettled (promise_reading own)) ns → AllByRecursion (GoesTo (promise_reading own) id) ns → Pass place (rejecting ActorDestroyed ns ++ what.Fall id why ∷ []) own
   falling-pass place [] id why own d h goes = ((λ more. refl), tt)
-  falling-pass place (n ∷ ns) id why own d h goes =
-      ((λ more. and-true (is_unsettled own n) (is_destroyed schema side own others n (map (line_at side) (rejecting ActorDestroyed ns ++ what.Fall id why ∷ []) ++ more)) h.0 (destroyed-next own n id (map (line_at side) (rejecting ActorDestroyed ns ++ what.Fall id why ∷ []) ++ more) goes.0 (fall-next ns id why [] more))),
-      falling-pass (place + 1) ns id why (settling n own) d.1 (later-unsettled (promise_reading own) n ns d.0 h.1) goes.1)
+  falling-pass place (n ∷ ns) id why own d h goes = (
+    (λ more. and-true (is_unsettled own n) (is_destroyed schema side own others n (map (line_at side) (rejecting ActorDestroyed ns ++ what.Fall id why ∷ []) ++ more)) h.0 (destroyed-next own n id (map (line_at side) (rejecting ActorDestroyed ns ++ what.Fall id why ∷ []) ++ more) goes.0 (fall-next ns id why [] more))),
+    falling-pass (place + 1) ns id why (settling n own) d.1 (later-unsettled (promise_reading own) n ns d.0 h.1) goes.1,
+  )
 
   -- what is unsettled behind others that were settled
   others-unsettled : (read : PromiseReading) (ns ms : List ℤ) → AreDistinct (ns ++ ms) → AllByRecursion (IsUnsettled read) ms → AllByRecursion (IsUnsettled (record read { settled = read.settled ++ ns })) ms
@@ -211,9 +214,9 @@ module _ (schema : Schema) (side : Side) (others : EndReading) where
       let all = all-both (IsUnsettled (promise_reading own)) mine (numbers_falling promises fs) h in
       let next : EndReading = after_whats schema place ws own in
       let read_next : promise_reading next ≡ record (promise_reading own) { settled = own.settled ++ mine } =
-          effects-read schema place ws own (all-append IsEffectLine (fall.rejections (is_pending_of a.id) ActorDestroyed promises) (what.Fall a.id (why a.id) ∷ []) (rejection-effects (is_pending_of a.id) ActorDestroyed promises) (fell a.id (why a.id), tt))
-          ∙ ap (λ (ns : List ℤ). record (promise_reading own) { settled = own.settled ++ ns })
-          (settled-append (fall.rejections (is_pending_of a.id) ActorDestroyed promises) (what.Fall a.id (why a.id) ∷ []) ∙ (append-nil (settled_by_lines (fall.rejections (is_pending_of a.id) ActorDestroyed promises)) ∙ rejections-settle (is_pending_of a.id) ActorDestroyed promises)) in
+      effects-read schema place ws own (all-append IsEffectLine (fall.rejections (is_pending_of a.id) ActorDestroyed promises) (what.Fall a.id (why a.id) ∷ []) (rejection-effects (is_pending_of a.id) ActorDestroyed promises) (fell a.id (why a.id), tt))
+      ∙ ap (λ (ns : List ℤ). record (promise_reading own) { settled = own.settled ++ ns })
+      (settled-append (fall.rejections (is_pending_of a.id) ActorDestroyed promises) (what.Fall a.id (why a.id) ∷ []) ∙ (append-nil (settled_by_lines (fall.rejections (is_pending_of a.id) ActorDestroyed promises)) ∙ rejections-settle (is_pending_of a.id) ActorDestroyed promises)) in
       pass-append place ws vs own
       (subst (λ (rs : List What). Pass place (rs ++ what.Fall a.id (why a.id) ∷ []) own) (sym (rejections-are (is_pending_of a.id) ActorDestroyed promises)) (falling-pass place mine a.id (why a.id) own two.0 all.0 goes.0))
       (λ at. subtree-pass at why promises fs next two.1

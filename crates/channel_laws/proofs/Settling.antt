@@ -93,10 +93,12 @@ module _ (side : Side) (promises : List PromiseEntry) (count : ℕ) (read : Prom
     where
       both-entries : (some : List PromiseEntry) → AllByRecursion (λ entry. IsOwn read.requests (promised_entry entry)) some → AllByRecursion (IsReadPromise read.settled) some → AllByRecursion (λ entry. is_pending entry.promise ≡ true → IsUnsettled read (promise_seq entry)) some
       both-entries [] o r = tt
-      both-entries (entry ∷ some) o r =
-          (λ pending.
-              ap (λ (x : Option Request). option_map_or (λ (y : Request). y.wants) x false && not (has read.settled (promise_seq entry))) o.0.1
-              ∙ (ap (λ (b : Bool). b && not (has read.settled (promise_seq entry))) o.0.2 ∙ (sym r.0 ∙ pending)), both-entries some o.1 r.1)
+      both-entries (entry ∷ some) o r = (
+        λ pending.
+            ap (λ (x : Option Request). option_map_or (λ (y : Request). y.wants) x false && not (has read.settled (promise_seq entry))) o.0.1
+            ∙ (ap (λ (b : Bool). b && not (has read.settled (promise_seq entry))) o.0.2 ∙ (sym r.0 ∙ pending)),
+        both-entries some o.1 r.1,
+      )
 
   -- and goes to its actor
   pub entries-go : AllByRecursion (λ entry. GoesTo read entry.promise.actor (promise_seq entry)) promises

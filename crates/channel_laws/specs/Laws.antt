@@ -25,7 +25,7 @@ use Rattle.channel_model.specs.Events.{Move}
 use Rattle.channel_model.specs.Events as event
 use Rattle.channel_model.specs.Numbers.{other}
 use Rattle.channel_model.specs.Outputs.{Output, is_open, line_at}
-use Rattle.channel_model.specs.Refusals.{is_waited_for}
+use Rattle.channel_model.specs.Refusals.{is_waited_for, packet_refusal}
 use Rattle.channel_model.specs.Runs.{happens, run, history_of, is_still}
 use Rattle.history_reading.specs.declared.law.Law.TheVariants as law
 use Rattle.history_reading.specs.Holds.{Holds}
@@ -146,3 +146,10 @@ RequestsComeInOrder = (schema : Schema) → IsSound schema → (top : ℕ) (move
 -- Every legal history obeys the law of the living.
 abbrev pub HistoriesObeyLiving : Type 0
 HistoriesObeyLiving = (schema : Schema) → IsSound schema → (top : ℕ) (moves : List Move) → Holds law.Living schema (history_of schema top moves)
+
+-- What one end of a channel sends, the other does not refuse: an open end accepts the first packet that comes to it, in
+-- every run.
+abbrev pub HonestPacketsAreAccepted : Type 0
+HonestPacketsAreAccepted =
+    (schema : Schema) → IsSound schema → (top : ℕ) (moves : List Move) (side : Side) (packet : Packet) (rest : List Packet)
+    → (end_of side (world_of schema top moves)).state ≡ Open → link_to side (world_of schema top moves) ≡ packet ∷ rest → packet_refusal schema (end_of side (world_of schema top moves)) packet ≡ None

@@ -1,5 +1,5 @@
 ghost use Rattle.channel_laws.specs.Laws.{EndsAreToldInRuns, LastPacketsFailAllWaits, NestedWorldsStay, NestingInEveryRun, RepliesFindTheirWaits, SoundSchemasHaveSoundRows, StillEndsWaitForNothing, StillHistoriesLeaveNoEndWaiting, SyncRepliesAreNotStray, WaitsGiveWay};
-ghost use Rattle.channel_laws.specs.Laws.{HistoriesObeyLiving, ProtocolsInEveryRun, RequestsComeInOrder, TypesTellWhoLives};
+ghost use Rattle.channel_laws.specs.Laws.{HistoriesObeyLiving, HonestPacketsAreAccepted, ProtocolsInEveryRun, RequestsComeInOrder, TypesTellWhoLives};
 ghost use Rattle.channel_laws.specs.ValueReadings.{ValuesAreReadAlike};
 
 /// The law of rows: what a sound schema says of the row of each request.
@@ -76,4 +76,10 @@ pub fn requests_come_in_order()
 /// The law of the living: every legal history obeys it.
 pub fn histories_obey_living()
     ensures { HistoriesObeyLiving }
+{}
+
+/// The law of honest packets: in every run an open end accepts what comes to it, so that what an end refuses, no end of a
+/// channel has sent.
+pub fn honest_packets_are_accepted()
+    ensures { HonestPacketsAreAccepted }
 {}
