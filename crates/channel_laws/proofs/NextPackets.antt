@@ -27,6 +27,7 @@ use Rattle.channel_model.specs.Phases.{Phase}
 use Rattle.channel_laws.proofs.Delivered.{own-delivers-none, delivery-delivers}
 use Rattle.channel_laws.proofs.Moves.{EndMove, StepParts, acts, delivers}
 use Rattle.channel_laws.proofs.Growing.{delivered-one}
+use Rattle.channel_laws.proofs.Leaving.{same_packet-refl}
 use Rattle.channel_laws.proofs.Outlines.{cons-head, cons-tail}
 use Rattle.channel_laws.proofs.TwoEnds.{note-shows}
 
@@ -70,13 +71,7 @@ module _ (schema : Schema) (others : EndReading) where
 
 -- The next packet
 
-pub same_packet-refl : (x : PacketKind) → same_packet x x ≡ true
-same_packet-refl (seen.Request n) = (Decides-int_eq n n).1 refl
-same_packet-refl (seen.Reply n) = (Decides-int_eq n n).1 refl
-same_packet-refl seen.Goodbye = refl
-same_packet-refl seen.Broken = refl
-
-told-shows : (side : Side) (t : SentPacket) → note_kind (told_note side t) ≡ packet_kind t
+pub told-shows : (side : Side) (t : SentPacket) → note_kind (told_note side t) ≡ packet_kind t
 told-shows side (told.request r) = refl
 told-shows side (told.said n w) = refl
 told-shows side told.goodbye = refl
