@@ -39,8 +39,7 @@ use Rattle.channel_model.specs.Takes.{taken_next}
 use Rattle.channel_model.specs.Takes as take
 use Rattle.channel_model.specs.Refusals.{actors_of}
 use Rattle.channel_model.specs.Runs.{history_of}
-use Rattle.channel_model.specs.ValueActors.{ActorValue, actors_in_parts, nulled}
-use Rattle.channel_model.proofs.Known.{all-map}
+use Rattle.channel_model.specs.ValueActors.{actors_in_parts, nulled}
 use Rattle.channel_laws.specs.NestedWorlds.{IsNestedWorld}
 use Rattle.channel_laws.specs.Notes.{told_notes, Note, RequestNote, body_note, message_note, In}
 use Rattle.channel_laws.specs.Taken.{there_line}
@@ -48,10 +47,9 @@ use Rattle.channel_laws.specs.Tested.{EndLinesPass, test_at, LinesPass}
 use Rattle.channel_laws.specs.EndActors.{ReadsActors}
 use Rattle.channel_laws.specs.NextPackets.{next_line}
 use Rattle.channel_laws.specs.NotedArrivals.{ItemIsNoted, ArrivalsAreNoted}
-use Rattle.channel_laws.specs.Protocols.{Protocols, HasProtocols, HasItsProtocol, HaveTheirProtocols, ItemHasProtocols, WorldHasProtocols}
+use Rattle.channel_laws.specs.Protocols.{Protocols, HasProtocols, HaveTheirProtocols, ItemHasProtocols, WorldHasProtocols}
 use Rattle.channel_laws.specs.PrefixLaws.{HistoriesObeyPrefix}
 use Rattle.channel_laws.specs.SentAccounts.{SentAccount}
-use Rattle.channel_laws.specs.ValueReadings.{LivesAlike}
 use Rattle.channel_laws.proofs.Exchanges.{opening-exchanges}
 use Rattle.channel_laws.proofs.Moves.{StepParts, acts, delivers, SideMove}
 use Rattle.channel_laws.proofs.Runs.{IsReached, EveryMoveKeeps, ends-pass, every-run}

@@ -1,7 +1,6 @@
 -- In every run what is taken is there, and ends keep what they read of requests and replies.
 use Rattle.std.proofs.Common.{◌≡◌, ℕ, ◌+◌, ◌≤◌, ℤ, true, List, ◌∷◌, ◌++◌, drop, map, Some, refl, sym, ap, subst, ◌∙◌}
 use Rattle.ipdl_base.specs.declared.kinds.Side.{Side}
-use Rattle.ipdl_base.specs.declared.kinds.Side.TheVariants.{Parent, Child}
 use Rattle.ipdl_base.specs.declared.line.What.{What}
 use Rattle.ipdl_base.specs.declared.line.What.TheVariants as what
 use Rattle.ipdl_base.specs.declared.message.Body.{Body}
@@ -23,14 +22,13 @@ use Rattle.channel_laws.specs.Exchanges.{ReadsExchanges}
 use Rattle.channel_laws.specs.NestedWorlds.{IsNestedWorld}
 use Rattle.channel_laws.specs.Notes.{told_notes}
 use Rattle.channel_laws.specs.Origins.{BodyOrigin}
-use Rattle.channel_laws.specs.RequestOrder.{InOrder, BodyInOrder, IsNextRequest, ComesInOrder, WorldInOrder, on_way}
+use Rattle.channel_laws.specs.RequestOrder.{InOrder, BodyInOrder, IsNextRequest, on_way}
 use Rattle.channel_laws.specs.Taken.{there_line}
 use Rattle.channel_laws.specs.Tested.{after_whats, EndLinesPass, test_at}
 use Rattle.channel_laws.proofs.ComingRequests.{comes-at, reached-in-order}
 use Rattle.channel_laws.proofs.EveryRun.{end-side}
 use Rattle.channel_laws.proofs.Exchanges.{own-exchanges, delivery-exchanges, request-there, reply-there, replies-once}
 use Rattle.channel_laws.proofs.Moves.{StepParts, acts, delivers}
-use Rattle.channel_laws.proofs.OrderRuns.{requests_come_in_order}
 use Rattle.channel_laws.proofs.Outlines.{RepliesFit}
 use Rattle.channel_laws.proofs.Runs.{IsReached, EveryMoveKeeps, AtEnds, at-ends, ends-keep, ends-pass}
 use Rattle.channel_laws.proofs.TakingLines.{takes_nothing, TakesPass, own-pass, delivery-pass}
