@@ -1,5 +1,6 @@
 pub mod Rows
 pub mod Track
+pub mod ListedItems
 pub mod LastPackets
 pub mod SyncSteps
 pub mod Sends
