@@ -76,3 +76,4 @@ pub mod WaitRuns
 pub mod EndEvents
 pub mod HeadParts
 pub mod HeadsAlike
+pub mod WaitMoments
