@@ -78,3 +78,9 @@ pub mod LivingRuns
 pub mod PrefixRuns
 pub mod SettledLines
 pub mod HonestRuns
+pub mod ReadAlike
+pub mod WaitRuns
+pub mod EndEvents
+pub mod HeadParts
+pub mod HeadsAlike
+pub mod WaitMoments

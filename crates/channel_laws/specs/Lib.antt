@@ -28,3 +28,4 @@ pub mod GivenAnswers
 pub mod Exchanges
 pub mod Taken
 pub mod PrefixLaws
+pub mod Heads
