@@ -77,3 +77,4 @@ pub mod MadeByEvents
 pub mod LivingParts
 pub mod SettledCauses
 pub mod RepliesKept
+pub mod SettledMoments
