@@ -139,15 +139,15 @@ module _ (P : StackEntry → StackFrame → Type 0) (unresolved : (x : StackEntr
   released-one true x h = unresolved x x.frame h
   released-one false x h = h
 
-  released-all : (seq : ℤ) (es : List StackEntry) → AllByRecursion (λ x. P x x.frame) es → AllByRecursion (λ x. P x x.frame) (answering.released seq es)
+  pub released-all : (seq : ℤ) (es : List StackEntry) → AllByRecursion (λ x. P x x.frame) es → AllByRecursion (λ x. P x x.frame) (answering.released seq es)
   released-all seq [] h = tt
   released-all seq (x ∷ xs) h = (released-one (answering.has_resolver seq x) x h.0, released-all seq xs h.1)
 
-drop-all : {A : Type 0} (P : A → Type 0) (xs : List A) → AllByRecursion P xs → AllByRecursion P (drop 1 xs)
+pub drop-all : {A : Type 0} (P : A → Type 0) (xs : List A) → AllByRecursion P xs → AllByRecursion P (drop 1 xs)
 drop-all P [] h = tt
 drop-all P (x ∷ xs) h = h.1
 
-same-all : (P : StackEntry → Type 0) (es : List StackEntry) → AllByRecursion P es → AllByRecursion P (delivery.with_frames (map (λ (x : StackEntry). x.frame) es) es)
+pub same-all : (P : StackEntry → Type 0) (es : List StackEntry) → AllByRecursion P es → AllByRecursion P (delivery.with_frames (map (λ (x : StackEntry). x.frame) es) es)
 same-all P [] h = tt
 same-all P (x ∷ xs) h = (h.0, same-all P xs h.1)
 

@@ -78,3 +78,9 @@ pub mod LivingParts
 pub mod SettledCauses
 pub mod RepliesKept
 pub mod SettledMoments
+pub mod ReadAlike
+pub mod WaitRuns
+pub mod EndEvents
+pub mod HeadParts
+pub mod HeadsAlike
+pub mod SettledRuns

@@ -93,11 +93,10 @@ use Rattle.channel_laws.proofs.Holding.{law_at, holds-in-runs}
 use Rattle.channel_laws.proofs.MissingAlike.{values_are_read_alike}
 use Rattle.channel_laws.proofs.NextPackets.{move-next}
 use Rattle.channel_laws.proofs.Origins.{all-found}
-use Rattle.channel_laws.proofs.ProtocolRuns.{types_tell_who_lives}
+use Rattle.channel_laws.proofs.ReadAlike.{alike}
 use Rattle.channel_laws.proofs.Reached.{actors-reached, noted-reached, protocols-reached}
 use Rattle.channel_laws.proofs.Runs.{every-run}
 use Rattle.channel_laws.proofs.SameValues.{values-same}
-use Rattle.channel_laws.proofs.Standing.{lives-read}
 
 -- What is taken was sent, as far as lines tell.
 
@@ -208,11 +207,6 @@ module _ (schema : Schema) (others : EndReading) where
   delivery-sent place own (Parts.gets_reply m row a body found is) = (refl, tt)
   delivery-sent {e = e} place own (Parts.drains packet is) = (farewell-sent schema packet own others, effects-sent schema (place + 1) (map what.Fails (delivery.unanswered e)) _ others (fail-effects (delivery.unanswered e)))
   delivery-sent place own (Parts.passes_by m is found) = (unknown-sent schema m.seq m.body own others, tt)
-
--- Who lives in values is read alike
-
-pub alike : (schema : Schema) (made : Protocols) (e : End) (own : EndReading) → HasProtocols schema made e → ReadsActors schema e own → (few : List ActorValue) → HaveTheirProtocols made few → AllByRecursion (LivesAlike e.actors (lives own)) few
-alike schema made e own p k few h = all-map (HasItsProtocol made) (LivesAlike e.actors (lives own)) few (λ a has. types_tell_who_lives schema made e p a has ∙ sym (lives-read own.built own.fallen e.actors a.id k.living.living)) h
 
 -- What is taken is as it was sent
 

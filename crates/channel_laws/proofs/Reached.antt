@@ -22,7 +22,7 @@ pub reached-has : (schema : Schema) (Holds : World → Reading → Type 0) → (
     → (w : World) (r : Reading) → IsReached schema w r → Holds w r
 reached-has schema Holds all w r h = subst (λ (x : Reading). Holds w x) h.reading (subst (λ (v : World). Holds v (read_from schema opening_reading (history_of schema h.top h.front))) h.world (all h.top h.front))
 
-all-pass : (schema : Schema) (r : Reading) (lines behind : List Line) → LinesPass schema (λ r l b. true) r lines behind
+pub all-pass : (schema : Schema) (r : Reading) (lines behind : List Line) → LinesPass schema (λ r l b. true) r lines behind
 all-pass schema r [] behind = tt
 all-pass schema r (l ∷ ls) behind = (refl, all-pass schema (after schema r l) ls behind)
 

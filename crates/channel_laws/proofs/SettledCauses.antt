@@ -50,7 +50,8 @@ use Rattle.channel_laws.specs.SentAccounts.{SentAccount}
 use Rattle.channel_laws.specs.ValueReadings.{LivesAlike}
 use Rattle.channel_laws.proofs.Growing.{own-request, in-all}
 use Rattle.channel_laws.proofs.MissingAlike.{values_are_read_alike}
-use Rattle.channel_laws.proofs.PrefixRuns.{all-taken, alike}
+use Rattle.channel_laws.proofs.PrefixRuns.{all-taken}
+use Rattle.channel_laws.proofs.ReadAlike.{alike}
 use Rattle.channel_laws.proofs.PromiseParts.{message-row}
 use Rattle.channel_laws.proofs.Resumes.{returns-are, reason-same}
 use Rattle.channel_laws.proofs.Said.{says-passes}

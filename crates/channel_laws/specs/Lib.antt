@@ -29,3 +29,5 @@ pub mod Exchanges
 pub mod Taken
 pub mod PrefixLaws
 pub mod Replies
+pub mod Heads
+pub mod SettledLaws
