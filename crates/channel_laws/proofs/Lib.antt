@@ -78,9 +78,17 @@ pub mod LivingRuns
 pub mod PrefixRuns
 pub mod SettledLines
 pub mod HonestRuns
+pub mod SettledLines
+pub mod PrefixRuns
+pub mod MadeByEvents
+pub mod LivingParts
+pub mod SettledCauses
+pub mod RepliesKept
+pub mod SettledMoments
 pub mod ReadAlike
 pub mod WaitRuns
 pub mod EndEvents
 pub mod HeadParts
 pub mod HeadsAlike
 pub mod WaitMoments
+pub mod SettledRuns

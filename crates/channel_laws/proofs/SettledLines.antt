@@ -321,7 +321,7 @@ module _ (schema : Schema) (side : Side) (others : EndReading) where
   outcome-pass own n (Resolved vs) behind first cause = and-true (is_unsettled own n) (is_resolved schema own others n vs) first cause
   outcome-pass own n (Rejected reason) behind first cause = and-true (is_unsettled own n) (is_cause schema side own others n behind reason) first cause
 
-  awaited-unsettled : (read : PromiseReading) (n : ℤ) (promises : List PromiseEntry) → AllByRecursion (λ entry. is_pending entry.promise ≡ true → IsUnsettled read (promise_seq entry)) promises → take.is_awaited n promises ≡ true → IsUnsettled read n
+  pub awaited-unsettled : (read : PromiseReading) (n : ℤ) (promises : List PromiseEntry) → AllByRecursion (λ entry. is_pending entry.promise ≡ true → IsUnsettled read (promise_seq entry)) promises → take.is_awaited n promises ≡ true → IsUnsettled read n
   awaited-unsettled read n [] h e = cc
   awaited-unsettled read n (entry ∷ promises) h e = by (int_eq entry.promise.seq n) refl e (awaited-unsettled read n promises h.1)
     where

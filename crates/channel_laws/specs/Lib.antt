@@ -28,4 +28,6 @@ pub mod GivenAnswers
 pub mod Exchanges
 pub mod Taken
 pub mod PrefixLaws
+pub mod Replies
 pub mod Heads
+pub mod SettledLaws
