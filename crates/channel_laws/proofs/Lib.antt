@@ -78,10 +78,6 @@ pub mod LivingRuns
 pub mod PrefixRuns
 pub mod SettledLines
 pub mod HonestRuns
-pub mod SettledLines
-pub mod PrefixRuns
-pub mod MadeByEvents
-pub mod LivingParts
 pub mod SettledCauses
 pub mod RepliesKept
 pub mod SettledMoments
