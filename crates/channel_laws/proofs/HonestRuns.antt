@@ -1,24 +1,17 @@
 -- In every run an open end does not refuse what comes to it.
-use Rattle.std.proofs.Common.{◌≡◌, ℕ, true, List, [], ◌∷◌, drop, Some, None, refl, sym, ap, subst, ◌∙◌}
+use Rattle.std.proofs.Common.{◌≡◌, ℕ, List, ◌∷◌, Some, refl, sym, ap, subst, ◌∙◌}
 use Rattle.std.specs.List.{AllByRecursion}
-use Rattle.ipdl_base.specs.declared.kinds.EndState.TheVariants.{Open}
 use Rattle.ipdl_base.specs.declared.kinds.Side.{Side}
 use Rattle.ipdl_base.specs.declared.kinds.Side.TheVariants.{Parent, Child}
-use Rattle.ipdl_base.specs.declared.message.Body.TheVariants.{Request}
-use Rattle.ipdl_base.specs.declared.message.Message.{Message}
 use Rattle.ipdl_base.specs.declared.schema.Schema.{Schema}
-use Rattle.ipdl_base.specs.declared.value.Values.{Values}
-use Rattle.ipdl_base.specs.Sound.{IsSound}
-use Rattle.history_reading.specs.Reading.{Reading, end_reading_of, other_of, opening_reading, read}
-use Rattle.channel_model.specs.Ends.{End, World, Packet, message, end_of, link_to, opening}
-use Rattle.channel_model.specs.Events.{Move}
+use Rattle.history_reading.specs.Reading.{Reading, end_reading_of, other_of, read}
+use Rattle.channel_model.specs.Ends.{End, World, Packet, end_of, link_to}
 use Rattle.channel_model.specs.Numbers.{other}
 use Rattle.channel_model.specs.Outputs.{is_open}
-use Rattle.channel_model.specs.Refusals.{packet_refusal}
 use Rattle.channel_model.specs.Runs.{history_of}
 use Rattle.channel_model.specs.Steps.{first_packet}
 use Rattle.channel_laws.specs.Exchanges.{ReadsExchanges}
-use Rattle.channel_laws.specs.Laws.{IsReply, world_of, HonestPacketsAreAccepted}
+use Rattle.channel_laws.specs.Laws.{world_of, HonestPacketsAreAccepted}
 use Rattle.channel_laws.specs.NestedWorlds.{IsNestedWorld}
 use Rattle.channel_laws.specs.NotedArrivals.{IsNoted}
 use Rattle.channel_laws.specs.Notes.{told_notes}
@@ -29,13 +22,13 @@ use Rattle.channel_laws.specs.TwoEnds.{TwoEnds, ReadingIs}
 use Rattle.channel_laws.proofs.ComingRequests.{coming-request}
 use Rattle.channel_laws.proofs.EveryRun.{end-side, nesting_in_every_run}
 use Rattle.channel_laws.proofs.Exchanges.{opening-exchanges}
-use Rattle.channel_laws.proofs.HonestPackets.{Comes, comes-accepted}
+use Rattle.channel_laws.proofs.HonestPackets.{comes-accepted}
 use Rattle.channel_laws.proofs.Moves.{flip}
 use Rattle.channel_laws.proofs.OrderRuns.{requests_come_in_order}
 use Rattle.channel_laws.proofs.ProtocolRuns.{protocols_in_every_run}
 use Rattle.channel_laws.proofs.Reached.{noted-reached}
 use Rattle.channel_laws.proofs.Replies.{sync_replies_are_not_stray}
-use Rattle.channel_laws.proofs.Runs.{IsReached, AtEnds, at-ends, AcrossEnds, across-ends, every-run}
+use Rattle.channel_laws.proofs.Runs.{IsReached, at-ends, across-ends, every-run}
 use Rattle.channel_laws.proofs.Taken.{ReadExchanges, exchanges-keep}
 use Rattle.channel_laws.specs.Taken.{there_line}
 use Rattle.channel_laws.specs.Tested.{test_at}

@@ -1,5 +1,6 @@
 pub mod Rows
 pub mod Track
+pub mod ListedItems
 pub mod LastPackets
 pub mod SyncSteps
 pub mod Sends
@@ -77,11 +78,14 @@ pub mod LivingRuns
 pub mod PrefixRuns
 pub mod SettledLines
 pub mod TakingLines
+pub mod HonestRuns
+pub mod SettledCauses
+pub mod RepliesKept
+pub mod SettledMoments
 pub mod ReadAlike
 pub mod WaitRuns
 pub mod EndEvents
 pub mod HeadParts
 pub mod HeadsAlike
-pub mod SettledCauses
-pub mod RepliesKept
-pub mod HonestRuns
+pub mod WaitMoments
+pub mod SettledRuns

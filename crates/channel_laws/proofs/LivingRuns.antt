@@ -1,29 +1,25 @@
 -- Every legal history obeys the law of the living.
-use Rattle.std.proofs.Common.{◌≡◌, ℕ, ◌+◌, ℤ, Bool, ◌&&◌, true, false, if◌then◌else◌, List, [], ◌∷◌, ◌++◌, drop, map, Option, Some, None, refl, sym, ap, subst, ◌∙◌}
-use Rattle.std.specs.List.{AllByRecursion}
+use Rattle.std.proofs.Common.{◌≡◌, ℕ, Bool, ◌&&◌, true, false, if◌then◌else◌, List, [], ◌∷◌, ◌++◌, map, Some, None, refl, sym, subst, ◌∙◌}
 use Rattle.ipdl_base.specs.declared.kinds.Side.{Side}
 use Rattle.ipdl_base.specs.declared.kinds.Side.TheVariants.{Parent, Child}
 use Rattle.ipdl_base.specs.declared.line.Line.{Line}
 use Rattle.ipdl_base.specs.declared.line.What.{What}
-use Rattle.ipdl_base.specs.declared.message.Body.{Body}
 use Rattle.ipdl_base.specs.declared.message.Body.TheVariants.{Request}
 use Rattle.ipdl_base.specs.declared.message.Message.{Message}
-use Rattle.ipdl_base.specs.declared.schema.MessageRow.{MessageRow}
 use Rattle.ipdl_base.specs.declared.schema.Schema.{Schema}
 use Rattle.ipdl_base.specs.declared.value.Values.{Values}
 use Rattle.ipdl_base.specs.Lines.{is_effect}
 use Rattle.ipdl_base.specs.Sound.{IsSound, message_of}
-use Rattle.pending_queue.specs.declared.item.Item.{Item}
 use Rattle.pending_queue.specs.declared.item.Item.TheVariants as item
 use Rattle.history_reading.specs.declared.law.Law.TheVariants as law
 use Rattle.history_reading.specs.EndReading.{EndReading}
 use Rattle.history_reading.specs.Holds.{moment_test}
 use Rattle.history_reading.specs.Living.{living_line}
-use Rattle.history_reading.specs.Reading.{Reading, after_what, after_at, end_reading_of, other_of, opening_reading}
+use Rattle.history_reading.specs.Reading.{Reading, after_at, end_reading_of, other_of}
 use Rattle.channel_model.specs.Ends.{End, World, Packet, end_of, link_to}
-use Rattle.channel_model.specs.Events.{Event, Move}
+use Rattle.channel_model.specs.Events.{Event}
 use Rattle.channel_model.specs.Numbers.{other}
-use Rattle.channel_model.specs.Outputs.{Output, is_open, line_at}
+use Rattle.channel_model.specs.Outputs.{line_at}
 use Rattle.channel_model.specs.Parts as part
 use Rattle.channel_model.specs.Parts.{LaterParts, OwnParts, DeliveryPart}
 use Rattle.channel_model.specs.Phases.{Phase}
@@ -32,17 +28,16 @@ use Rattle.channel_laws.specs.Laws.{HistoriesObeyLiving}
 use Rattle.channel_laws.specs.EndActors.{actor_reading, KeepsActors, ReadsActors}
 use Rattle.channel_laws.specs.NotedArrivals.{ArrivalsAreNoted, IsNoted}
 use Rattle.channel_laws.specs.Notes.{Note, told_notes, notes}
-use Rattle.channel_laws.specs.Origins.{BodyOrigin, ItemOrigin, HasOrigins}
+use Rattle.channel_laws.specs.Origins.{BodyOrigin}
 use Rattle.channel_laws.specs.Protocols.{Protocols, HasProtocols, WorldHasProtocols}
 use Rattle.channel_laws.specs.Rows.{HasSoundRows}
 use Rattle.channel_laws.specs.SentAccounts.{EndAccount}
-use Rattle.channel_laws.specs.Tested.{after_whats, read_from, EndLinesPass, LinesPass}
+use Rattle.channel_laws.specs.Tested.{after_whats, EndLinesPass, LinesPass}
 use Rattle.channel_laws.specs.TwoEnds.{TwoEnds}
 use Rattle.channel_laws.proofs.ActorIds.{first-ids}
 use Rattle.channel_laws.proofs.ActorParts.{first-begins}
 use Rattle.channel_laws.proofs.ActorsKept.{begun-keeps, later-kept}
 use Rattle.channel_laws.proofs.EveryRun.{end-side}
-use Rattle.channel_laws.proofs.Growing.{whats-append}
 use Rattle.channel_laws.proofs.Holding.{holds-in-runs, law_at}
 use Rattle.channel_laws.proofs.LivingParts.{IsLivingLine, first-lives, later-lives, delivery-lives}
 use Rattle.channel_laws.proofs.MadeByEvents.{FreshIsMade, first-made, later-made}
@@ -51,7 +46,7 @@ use Rattle.channel_laws.proofs.Origins.{taken-origin}
 use Rattle.channel_laws.proofs.Reached.{actors-reached, noted-reached, protocols-reached}
 use Rattle.channel_laws.proofs.RequestOrder.{first-posts}
 use Rattle.channel_laws.proofs.Rows.{request-message, sound_schemas_have_sound_rows}
-use Rattle.channel_laws.proofs.Runs.{RunMove, AtEnds, at-ends, AcrossEnds, across-ends, EveryMoveKeeps, every-run, side-lines}
+use Rattle.channel_laws.proofs.Runs.{at-ends, across-ends, EveryMoveKeeps, every-run, side-lines}
 use Rattle.channel_laws.proofs.Testing.{tested-append}
 use Rattle.channel_laws.proofs.TwoEnds.{EndKeeps, keeps-of, first-keeps}
 

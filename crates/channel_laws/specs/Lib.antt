@@ -30,3 +30,4 @@ pub mod Taken
 pub mod PrefixLaws
 pub mod Heads
 pub mod Replies
+pub mod SettledLaws
