@@ -10,8 +10,9 @@ use Rattle.channel_model.specs.Numbers.{other}
 use Rattle.channel_model.specs.Outputs.{is_open}
 use Rattle.channel_model.specs.Runs.{history_of}
 use Rattle.channel_model.specs.Steps.{first_packet}
+use Rattle.channel_laws.specs.TwoEndLaws.{HonestPacketsAreAccepted}
 use Rattle.channel_laws.specs.Exchanges.{ReadsExchanges}
-use Rattle.channel_laws.specs.Laws.{world_of, HonestPacketsAreAccepted}
+use Rattle.channel_laws.specs.Laws.{world_of}
 use Rattle.channel_laws.specs.NestedWorlds.{IsNestedWorld}
 use Rattle.channel_laws.specs.NotedArrivals.{IsNoted}
 use Rattle.channel_laws.specs.Notes.{told_notes}

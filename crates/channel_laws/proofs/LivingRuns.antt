@@ -24,7 +24,7 @@ use Rattle.channel_model.specs.Parts as part
 use Rattle.channel_model.specs.Parts.{LaterParts, OwnParts, DeliveryPart}
 use Rattle.channel_model.specs.Phases.{Phase}
 use Rattle.channel_model.specs.Takes as take
-use Rattle.channel_laws.specs.Laws.{HistoriesObeyLiving}
+use Rattle.channel_laws.specs.TwoEndLaws.{HistoriesObeyLiving}
 use Rattle.channel_laws.specs.EndActors.{actor_reading, KeepsActors, ReadsActors}
 use Rattle.channel_laws.specs.NotedArrivals.{ArrivalsAreNoted, IsNoted}
 use Rattle.channel_laws.specs.Notes.{Note, told_notes, notes}

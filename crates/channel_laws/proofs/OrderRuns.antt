@@ -27,7 +27,7 @@ use Rattle.channel_model.specs.Runs.{after_event, output_of, passed_by, happens,
 use Rattle.channel_model.specs.StepLaws.{IsStepOfParts}
 use Rattle.channel_model.specs.Steps.{first_packet}
 use Rattle.channel_model.proofs.StepParts.{steps_are_chains}
-use Rattle.channel_laws.specs.Laws.{RequestsComeInOrder}
+use Rattle.channel_laws.specs.TwoEndLaws.{RequestsComeInOrder}
 use Rattle.channel_laws.specs.NestedWorlds.{is_last_packet, IsNestedWorld, EndsAreNested}
 use Rattle.channel_laws.specs.RequestOrder.{BodyInOrder, InOrder, on_way, EndsInOrder, WorldInOrder}
 use Rattle.channel_laws.proofs.EndsTold.{told-at}

@@ -24,7 +24,7 @@ use Rattle.channel_model.specs.StepLaws.{IsStepOfParts}
 use Rattle.channel_model.specs.Steps.{first_packet}
 use Rattle.channel_model.proofs.Known.{all-append}
 use Rattle.channel_model.proofs.StepParts.{steps_are_chains}
-use Rattle.channel_laws.specs.Laws.{ProtocolsInEveryRun, TypesTellWhoLives}
+use Rattle.channel_laws.specs.TwoEndLaws.{ProtocolsInEveryRun, TypesTellWhoLives}
 use Rattle.channel_laws.specs.NestedWorlds.{IsNestedWorld, EndsAreNested}
 use Rattle.channel_laws.specs.Protocols.{Protocols, StandsFor, MakesItsProtocol, PacketHasProtocols, HasProtocols, constructed_count, EndsHaveProtocols, WorldHasProtocols}
 use Rattle.channel_laws.proofs.Moves.{other-other}

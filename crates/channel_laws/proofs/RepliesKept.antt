@@ -188,9 +188,11 @@ module _ (schema : Schema) where
   first-allowed (Parts.takes_reply m sync level a next body late) = (tt, tt)
   first-allowed {e} (Parts.settles m sync level row a next body found awaited) = (tt, (settle-allowed m.seq (reply_outcome schema e row a), tt))
   first-allowed (Parts.shuts last next is) = (shut-allowed last, tt)
-  first-allowed {e} (Parts.returns entry row vs told_it lost may t l) =
-      (tt, all-append IsAllowed (reply_lines told_it (return.dispatch_answered entry) (return.return_answer schema e row entry vs)) (reply_lines lost (resolver_answered (answering.resolver_in entry)) (answer.Fault ResolverDestroyed))
-      (replies-allowed told_it (return.dispatch_answered entry) (return.return_answer schema e row entry vs) (return-allowed schema e row entry vs)) (replies-allowed lost (resolver_answered (answering.resolver_in entry)) (answer.Fault ResolverDestroyed) tt))
+  first-allowed {e} (Parts.returns entry row vs told_it lost may t l) = (
+    tt,
+    all-append IsAllowed (reply_lines told_it (return.dispatch_answered entry) (return.return_answer schema e row entry vs)) (reply_lines lost (resolver_answered (answering.resolver_in entry)) (answer.Fault ResolverDestroyed))
+        (replies-allowed told_it (return.dispatch_answered entry) (return.return_answer schema e row entry vs) (return-allowed schema e row entry vs)) (replies-allowed lost (resolver_answered (answering.resolver_in entry)) (answer.Fault ResolverDestroyed) tt),
+  )
   first-allowed {e} (Parts.resumes wait row on_top found) = (resume-allowed wait.seq (received schema e.actors row wait.given), tt)
 
   later-allowed : {p q : Phase} {e f : End} {ws : List What} {ps : List Packet} → LaterPart p e ws ps f q → AllByRecursion IsAllowed ws

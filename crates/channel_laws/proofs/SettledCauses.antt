@@ -149,10 +149,11 @@ module _ (schema : Schema) (rows : HasSoundRows schema) (side their_side : Side)
       let wants : t.wants ≡ true = sym (ap (λ (o : Option told.Request). option_map_or (λ (x : told.Request). x.wants) o false) there) ∙ wanted in
       let by_row : t.wants ≡ rows_read.wants_number schema t.number = all-found (HasWantsOfRow schema) (λ x. int_eq x.seq m.seq) (requests_of own.sent) t k.wants there in
       let wants_row : rows_read.wants_row r.origin.row ≡ true =
-          sym (ap (λ (o : Option MessageRow). option_map_or rows_read.wants_row o false) (ap (message_of schema) number ∙ message-row schema r.number r.origin.row r.origin.found)) ∙ (sym by_row ∙ wants) in
-      let async : is_sync_row row ≡ false = ap is_sync_row (sym same) ∙ and-not (is_sync_row r.origin.row) (is_some r.origin.row.returns) wants_row in
-      (ap (λ (o : Option MessageRow). option_map_or is_sync_row o false) found ∙ async,
-      returns-are schema e.side own k.open_end e.outbox e.sent k.left m.seq m.route r.number row k.account r.origin.requested (ap (λ (x : MessageRow). request_row schema r.number) (sym same) ∙ (r.origin.found ∙ ap (λ (x : MessageRow). Some x) same)))
+      sym (ap (λ (o : Option MessageRow). option_map_or rows_read.wants_row o false) (ap (message_of schema) number ∙ message-row schema r.number r.origin.row r.origin.found)) ∙ (sym by_row ∙ wants) in
+      let async : is_sync_row row ≡ false = ap is_sync_row (sym same) ∙ and-not (is_sync_row r.origin.row) (is_some r.origin.row.returns) wants_row in (
+        ap (λ (o : Option MessageRow). option_map_or is_sync_row o false) found ∙ async,
+        returns-are schema e.side own k.open_end e.outbox e.sent k.left m.seq m.route r.number row k.account r.origin.requested (ap (λ (x : MessageRow). request_row schema r.number) (sym same) ∙ (r.origin.found ∙ ap (λ (x : MessageRow). Some x) same)),
+      )
 
   pub replies-have-causes : RepliesHaveCauses schema side others e own
   replies-have-causes m sync level row a next body found awaited place behind = by a body

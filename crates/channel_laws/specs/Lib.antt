@@ -31,3 +31,4 @@ pub mod PrefixLaws
 pub mod Heads
 pub mod Replies
 pub mod SettledLaws
+pub mod TwoEndLaws
