@@ -31,3 +31,4 @@ pub mod PrefixLaws
 pub mod Replies
 pub mod Heads
 pub mod SettledLaws
+pub mod ExchangeLaws
