@@ -1,22 +1,17 @@
 -- What an end keeps of requests and replies, in its steps and in runs.
-use Rattle.std.proofs.Common.{◌≡◌, ℕ, suc, ◌+◌, ◌≤◌, ℤ, pos, Bool, true, false, not, ◌&&◌, int_eq, List, [], ◌∷◌, ◌++◌, drop, map, Option, Some, None, refl, sym, ap, subst, append_assoc, ◌∙◌, arith}
-use Rattle.std.specs.List.{AllByRecursion, list_any}
+use Rattle.std.proofs.Common.{◌≡◌, ℕ, ◌≤◌, ℤ, Bool, true, false, not, ◌&&◌, List, [], ◌∷◌, ◌++◌, map, Some, refl, sym, ap, subst, append_assoc, ◌∙◌, arith}
 use Rattle.std.proofs.lemmas.List.{map-append}
 use Rattle.ipdl_base.specs.declared.kinds.Level.{Level}
 use Rattle.ipdl_base.specs.declared.kinds.Side.{Side}
 use Rattle.ipdl_base.specs.declared.line.What.{What}
-use Rattle.ipdl_base.specs.declared.message.Body.{Body}
-use Rattle.ipdl_base.specs.declared.message.Body.TheVariants.{Request, Reply, Fault, Goodbye}
+use Rattle.ipdl_base.specs.declared.message.Body.TheVariants.{Request}
 use Rattle.ipdl_base.specs.declared.message.Message.{Message}
 use Rattle.ipdl_base.specs.declared.schema.Schema.{Schema}
 use Rattle.ipdl_base.specs.declared.value.Values.{Values}
 use Rattle.nesting_core.specs.declared.frame.Answer.{Answer}
-use Rattle.nesting_core.specs.declared.frame.Answer.TheVariants as answer
-use Rattle.pending_queue.specs.declared.item.Item.{Item}
 use Rattle.pending_queue.specs.declared.item.Item.TheVariants as item
-use Rattle.channel_model.specs.Ends.{End, Packet, message, mark, opening_end}
-use Rattle.channel_model.specs.Numbers.{other}
-use Rattle.channel_model.specs.Outputs.{body_of, is_open}
+use Rattle.channel_model.specs.Ends.{End, Packet, message, opening_end}
+use Rattle.channel_model.specs.Outputs.{body_of}
 use Rattle.channel_model.specs.Parts as parts
 use Rattle.channel_model.specs.Parts.{OwnParts, FirstPart, LaterPart, LaterParts, DeliveryPart, left_end}
 use Rattle.channel_model.specs.Phases.{Phase}
@@ -29,7 +24,7 @@ use Rattle.history_reading.specs.Prefix.{is_there, is_reply_there}
 use Rattle.history_reading.specs.SentPacket.{SentPacket, packet_kind}
 use Rattle.history_reading.specs.SentPacket as told
 use Rattle.channel_laws.specs.AnswersOnce.{AnswersOnce, sent_kinds}
-use Rattle.channel_laws.specs.Arrivals.{item_kind, arrival_reading, requests_delivered, replies_delivered, ArrivalsAreRead, IsDue, IsDueMessage}
+use Rattle.channel_laws.specs.Arrivals.{arrival_reading, replies_delivered, ArrivalsAreRead, IsDue}
 use Rattle.channel_laws.specs.Counts.{one_if, how_many, is_number, is_packet}
 use Rattle.channel_laws.specs.ExchangeLaws.{EndsReadExchanges, EndsTakeOnce}
 use Rattle.channel_laws.specs.Exchanges.{ReadsExchanges}

@@ -1,6 +1,6 @@
 -- Every step of an end keeps what it reads of replies.
-use Rattle.std.proofs.Common.{◌≡◌, ℕ, ◌+◌, ℤ, Bool, true, false, if◌then◌else◌, List, [], ◌∷◌, ◌++◌, filter, map, Option, Some, None, is_none, refl, sym, ap, subst, ◌∙◌}
-use Rattle.std.specs.List.{AllByRecursion, flat_map}
+use Rattle.std.proofs.Common.{◌≡◌, ℕ, ◌+◌, ℤ, Bool, true, false, if◌then◌else◌, List, [], ◌∷◌, ◌++◌, filter, Option, Some, None, is_none, sym, ap, subst, ◌∙◌}
+use Rattle.std.specs.List.{AllByRecursion}
 use Rattle.actor_tree.specs.declared.actor.Actor.{Actor}
 use Rattle.ipdl_base.specs.declared.kinds.Destroy.{Destroy}
 use Rattle.ipdl_base.specs.declared.kinds.Reason.{Reason}
@@ -17,7 +17,6 @@ use Rattle.ipdl_base.specs.declared.value.Values.{Values}
 use Rattle.ipdl_base.specs.declared.value.Values.TheVariants.{Nothing}
 use Rattle.nesting_core.specs.declared.frame.Answer.{Answer}
 use Rattle.nesting_core.specs.declared.frame.Answer.TheVariants as answer
-use Rattle.nesting_core.specs.Frames.{head_of}
 use Rattle.pending_queue.specs.declared.item.Item.{Item}
 use Rattle.pending_queue.specs.declared.item.Item.TheVariants as item
 use Rattle.promise_table.specs.declared.promise.Outcome.{Outcome}
@@ -47,7 +46,7 @@ use Rattle.history_reading.specs.Reading.{after_what}
 use Rattle.history_reading.specs.SentPacket as told
 use Rattle.history_reading.specs.SentPacket.{SentPacket}
 use Rattle.channel_laws.specs.Notes.{Note, told_note, told_notes}
-use Rattle.channel_laws.specs.Origins.{BodyReplies, PacketReplies}
+use Rattle.channel_laws.specs.Origins.{PacketReplies}
 use Rattle.channel_laws.specs.Replies.{ItemReplies, IsNoClosedFault, SaysNoClosedFault, ReadsReplies}
 use Rattle.channel_laws.specs.Tested.{after_whats}
 use Rattle.channel_laws.proofs.Growing.{grows, replies-grow}
@@ -188,9 +187,11 @@ module _ (schema : Schema) where
   first-allowed (Parts.takes_reply m sync level a next body late) = (tt, tt)
   first-allowed {e} (Parts.settles m sync level row a next body found awaited) = (tt, (settle-allowed m.seq (reply_outcome schema e row a), tt))
   first-allowed (Parts.shuts last next is) = (shut-allowed last, tt)
-  first-allowed {e} (Parts.returns entry row vs told_it lost may t l) =
-      (tt, all-append IsAllowed (reply_lines told_it (return.dispatch_answered entry) (return.return_answer schema e row entry vs)) (reply_lines lost (resolver_answered (answering.resolver_in entry)) (answer.Fault ResolverDestroyed))
-      (replies-allowed told_it (return.dispatch_answered entry) (return.return_answer schema e row entry vs) (return-allowed schema e row entry vs)) (replies-allowed lost (resolver_answered (answering.resolver_in entry)) (answer.Fault ResolverDestroyed) tt))
+  first-allowed {e} (Parts.returns entry row vs told_it lost may t l) = (
+    tt,
+    all-append IsAllowed (reply_lines told_it (return.dispatch_answered entry) (return.return_answer schema e row entry vs)) (reply_lines lost (resolver_answered (answering.resolver_in entry)) (answer.Fault ResolverDestroyed))
+        (replies-allowed told_it (return.dispatch_answered entry) (return.return_answer schema e row entry vs) (return-allowed schema e row entry vs)) (replies-allowed lost (resolver_answered (answering.resolver_in entry)) (answer.Fault ResolverDestroyed) tt),
+  )
   first-allowed {e} (Parts.resumes wait row on_top found) = (resume-allowed wait.seq (received schema e.actors row wait.given), tt)
 
   later-allowed : {p q : Phase} {e f : End} {ws : List What} {ps : List Packet} → LaterPart p e ws ps f q → AllByRecursion IsAllowed ws

@@ -1,16 +1,15 @@
 -- A reply that settles its promise was said by the other end, and so the settling has its cause.
-use Rattle.std.proofs.Common.{◌≡◌, ℕ, ◌+◌, ℤ, Bool, true, false, not, ◌&&◌, if◌then◌else◌, int_eq, find, List, [], ◌∷◌, ◌++◌, Option, Some, None, is_some, refl, sym, ap, subst, ◌∙◌}
+use Rattle.std.proofs.Common.{◌≡◌, ℤ, Bool, true, false, not, ◌&&◌, if◌then◌else◌, int_eq, List, [], ◌∷◌, Option, Some, is_some, refl, sym, ap, subst, ◌∙◌}
 use Rattle.std.specs.List.{AllByRecursion}
 use Rattle.std.specs.Option.{option_map_or}
 use Rattle.std.proofs.lemmas.Option.{same_Some}
-use Rattle.ipdl_base.specs.declared.kinds.Level.{Level}
 use Rattle.ipdl_base.specs.declared.kinds.Reason.{Reason}
 use Rattle.ipdl_base.specs.declared.kinds.Reason.TheVariants.{ActorDestroyed, ChannelClosed, HandlerRejected, ResolverDestroyed}
 use Rattle.ipdl_base.specs.declared.kinds.Side.{Side}
 use Rattle.ipdl_base.specs.declared.line.Line.{Line}
 use Rattle.ipdl_base.specs.declared.line.What.TheVariants as what
 use Rattle.ipdl_base.specs.declared.message.Body.{Body}
-use Rattle.ipdl_base.specs.declared.message.Body.TheVariants.{Request, Reply, Fault}
+use Rattle.ipdl_base.specs.declared.message.Body.TheVariants.{Reply}
 use Rattle.ipdl_base.specs.declared.message.Message.{Message}
 use Rattle.ipdl_base.specs.declared.schema.MessageRow.{MessageRow}
 use Rattle.ipdl_base.specs.declared.schema.ParamRow.{ParamRow}
@@ -35,7 +34,7 @@ use Rattle.history_reading.specs.Reading.{after_what}
 use Rattle.history_reading.specs.Rows as rows_read
 use Rattle.history_reading.specs.SentPacket as told
 use Rattle.history_reading.specs.SentPacket.{requests_of, request_of}
-use Rattle.history_reading.specs.Settled.{is_destroyed, says_fallen, resolves_missing, says_destroyed, promise_falls_next, is_resolved_with, is_resolved_missing, is_rejected}
+use Rattle.history_reading.specs.Settled.{is_destroyed, says_fallen, resolves_missing, promise_falls_next, is_resolved_with, is_resolved_missing, is_rejected}
 use Rattle.history_reading.specs.Waits.{own_returns, is_fault}
 use Rattle.channel_laws.specs.EndActors.{ReadsActors}
 use Rattle.channel_laws.specs.NotedArrivals.{ItemIsNoted, ArrivalsAreNoted, HasWantsOfRow, HaveWantsOfRows}
@@ -44,7 +43,7 @@ use Rattle.channel_laws.specs.Notes as note
 use Rattle.channel_laws.specs.Origins.{RepliesTo, BodyReplies}
 use Rattle.channel_laws.specs.Promised.{PromisesAreRead, promise_reading}
 use Rattle.channel_laws.specs.Protocols.{Protocols, HasProtocols, ItemHasProtocols, HaveTheirProtocols}
-use Rattle.channel_laws.specs.Replies.{ItemReplies, IsNoClosedFault, SaysNoClosedFault, ReadsReplies}
+use Rattle.channel_laws.specs.Replies.{ItemReplies, IsNoClosedFault, SaysNoClosedFault}
 use Rattle.channel_laws.specs.Rows.{HasSoundRows}
 use Rattle.channel_laws.specs.SentAccounts.{SentAccount}
 use Rattle.channel_laws.specs.ValueReadings.{LivesAlike}
@@ -149,10 +148,11 @@ module _ (schema : Schema) (rows : HasSoundRows schema) (side their_side : Side)
       let wants : t.wants ≡ true = sym (ap (λ (o : Option told.Request). option_map_or (λ (x : told.Request). x.wants) o false) there) ∙ wanted in
       let by_row : t.wants ≡ rows_read.wants_number schema t.number = all-found (HasWantsOfRow schema) (λ x. int_eq x.seq m.seq) (requests_of own.sent) t k.wants there in
       let wants_row : rows_read.wants_row r.origin.row ≡ true =
-          sym (ap (λ (o : Option MessageRow). option_map_or rows_read.wants_row o false) (ap (message_of schema) number ∙ message-row schema r.number r.origin.row r.origin.found)) ∙ (sym by_row ∙ wants) in
-      let async : is_sync_row row ≡ false = ap is_sync_row (sym same) ∙ and-not (is_sync_row r.origin.row) (is_some r.origin.row.returns) wants_row in
-      (ap (λ (o : Option MessageRow). option_map_or is_sync_row o false) found ∙ async,
-      returns-are schema e.side own k.open_end e.outbox e.sent k.left m.seq m.route r.number row k.account r.origin.requested (ap (λ (x : MessageRow). request_row schema r.number) (sym same) ∙ (r.origin.found ∙ ap (λ (x : MessageRow). Some x) same)))
+      sym (ap (λ (o : Option MessageRow). option_map_or rows_read.wants_row o false) (ap (message_of schema) number ∙ message-row schema r.number r.origin.row r.origin.found)) ∙ (sym by_row ∙ wants) in
+      let async : is_sync_row row ≡ false = ap is_sync_row (sym same) ∙ and-not (is_sync_row r.origin.row) (is_some r.origin.row.returns) wants_row in (
+        ap (λ (o : Option MessageRow). option_map_or is_sync_row o false) found ∙ async,
+        returns-are schema e.side own k.open_end e.outbox e.sent k.left m.seq m.route r.number row k.account r.origin.requested (ap (λ (x : MessageRow). request_row schema r.number) (sym same) ∙ (r.origin.found ∙ ap (λ (x : MessageRow). Some x) same)),
+      )
 
   pub replies-have-causes : RepliesHaveCauses schema side others e own
   replies-have-causes m sync level row a next body found awaited place behind = by a body

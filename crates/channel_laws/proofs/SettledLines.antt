@@ -1,12 +1,11 @@
 -- The lines of each part of a step pass the law of settlings.
-use Rattle.std.proofs.Common.{◌≡◌, ◌≢◌, ℕ, ◌+◌, ℤ, Bool, true, false, not, ◌&&◌, ◌||◌, cond, if◌then◌else◌, int_eq, find, filter, List, [], ◌∷◌, ◌++◌, drop, map, Option, Some, None, option_map, refl, sym, ap, subst, append_assoc, ◌∙◌}
+use Rattle.std.proofs.Common.{◌≡◌, ◌≢◌, ℕ, ◌+◌, ℤ, Bool, true, false, not, ◌&&◌, ◌||◌, cond, if◌then◌else◌, int_eq, find, filter, List, [], ◌∷◌, ◌++◌, map, Option, Some, None, option_map, refl, sym, ap, subst, append_assoc, ◌∙◌}
 use Rattle.std.specs.List.{AllByRecursion, flat_map}
 use Rattle.std.specs.Option.{option_map_or}
 use Rattle.std.proofs.lemmas.List.{map-append, append-nil}
 use Rattle.std.proofs.lemmas.Bool.Decides.{Decides-int_eq}
 use Rattle.std.proofs.lemmas.Option.{same_Some}
 use Rattle.actor_tree.specs.declared.actor.Actor.{Actor}
-use Rattle.actor_tree.specs.Laws.{EachOnce}
 use Rattle.actor_tree.specs.Tree.{IsTree}
 use Rattle.actor_tree.proofs.Order.{falls_once}
 use Rattle.ipdl_base.specs.declared.kinds.Destroy.{Destroy}
@@ -47,13 +46,13 @@ use Rattle.channel_model.specs.Numbers.{is_sync_row, top_id}
 use Rattle.channel_model.specs.Outputs.{AnsweredRequest, line_at, request_answered, resolver_answered, body_of}
 use Rattle.channel_model.specs.Parts
 use Rattle.channel_model.specs.Parts.{OwnParts, FirstPart, LaterPart, LaterParts, DeliveryPart, IsRefusal, IsRenaming, reply_lines, fall_lines, falling, farewell_line, shut_line, left_end, reply_outcome}
-use Rattle.channel_model.specs.Phases.{Phase, FallCause, closing, kind_cause}
+use Rattle.channel_model.specs.Phases.{Phase, closing, kind_cause}
 use Rattle.channel_model.specs.Requests.{promise_seq}
 use Rattle.channel_model.specs.Returns as return
 use Rattle.channel_model.specs.Sends as send
 use Rattle.channel_model.specs.Takes as take
 use Rattle.channel_model.specs.ValueActors.{received}
-use Rattle.channel_model.proofs.Known.{all-append, all-map}
+use Rattle.channel_model.proofs.Known.{all-append}
 use Rattle.history_reading.specs.EndReading.{EndReading}
 use Rattle.history_reading.specs.Numbers.{has}
 use Rattle.history_reading.specs.Reading.{Reading, end_reading_of, other_of, after_what, after_at, settling}
@@ -61,15 +60,15 @@ use Rattle.history_reading.specs.SentPacket.{Request, requests_of}
 use Rattle.history_reading.specs.Settled.{settled_line, is_unsettled, is_resolved, is_cause, is_destroyed, promise_falls_next, says_destroyed, falls_next, is_close_event}
 use Rattle.channel_laws.specs.EndActors.{KeepsActors, ReadsActors, actor_reading}
 use Rattle.channel_laws.specs.Rows.{HasSoundRows}
-use Rattle.channel_laws.specs.Promised.{PromiseReading, promise_reading, HasPromises, PromisesAreRead}
+use Rattle.channel_laws.specs.Promised.{PromiseReading, promise_reading, PromisesAreRead}
 use Rattle.channel_laws.specs.Tested.{after_whats, LinesPass}
-use Rattle.channel_laws.proofs.EffectLines.{IsEffectLine, AreEffectLines, built, answers_ok, answers_fault, fails, resolved, rejected, fell, reply-effects, rejection-effects, fall-effects, fail-effects, effects-leave}
+use Rattle.channel_laws.proofs.EffectLines.{IsEffectLine, built, answers_ok, answers_fault, fails, resolved, rejected, fell, rejection-effects, effects-leave}
 use Rattle.channel_laws.proofs.ActorsKept.{first-kept, later-kept}
 use Rattle.channel_laws.proofs.Taken.{later-effects}
 use Rattle.channel_laws.proofs.PromiseParts.{first-keeps-promises, later-keeps-promises, effects-read, settled_by_lines, settled-append, rejections-settle}
 use Rattle.channel_laws.proofs.Promising.{int-apart, has-append, promises-distinct, numbers_passing, numbers_falling}
 use Rattle.channel_laws.proofs.Counting.{int-same}
-use Rattle.channel_laws.proofs.Settling.{unsettled_in, IsUnsettled, GoesTo, pending-unsettled, passing-unsettled, passing-go, falling-distinct, falling-unsettled, passing-distinct}
+use Rattle.channel_laws.proofs.Settling.{IsUnsettled, GoesTo, pending-unsettled, passing-unsettled, passing-go, falling-distinct, falling-unsettled, passing-distinct}
 
 -- Lines of one end pass the law of settlings, whatever lines stand behind them.
 abbrev pub SettledPass : Schema → Side → EndReading → ℕ → List What → EndReading → Type 0
@@ -106,9 +105,10 @@ module _ (schema : Schema) (side : Side) (others : EndReading) where
 
   pass-append : (place : ℕ) (ws vs : List What) (own : EndReading) → Pass place ws own → ((at : ℕ) → Pass at vs (after_whats schema place ws own)) → Pass place (ws ++ vs) own
   pass-append place [] vs own a b = b place
-  pass-append place (w ∷ ws) vs own a b =
-      ((λ more. ap (λ (ls : List Line). settled_line schema side own others w ls) (ap (λ (ls : List Line). ls ++ more) (map-append (line_at side) ws vs) ∙ append_assoc (map (line_at side) ws) (map (line_at side) vs) more) ∙ a.0 (map (line_at side) vs ++ more)),
-      pass-append (place + 1) ws vs (after_what schema place w own) a.1 b)
+  pass-append place (w ∷ ws) vs own a b = (
+    (λ more. ap (λ (ls : List Line). settled_line schema side own others w ls) (ap (λ (ls : List Line). ls ++ more) (map-append (line_at side) ws vs) ∙ append_assoc (map (line_at side) ws) (map (line_at side) vs) more) ∙ a.0 (map (line_at side) vs ++ more)),
+    pass-append (place + 1) ws vs (after_what schema place w own) a.1 b,
+  )
 
   -- Rejections
 
@@ -119,9 +119,10 @@ module _ (schema : Schema) (side : Side) (others : EndReading) where
   -- what was settled leaves the others unsettled
   later-unsettled : (read : PromiseReading) (n : ℤ) (ns : List ℤ) → AllByRecursion (λ m. n ≢ m) ns → AllByRecursion (IsUnsettled read) ns → AllByRecursion (IsUnsettled (record read { settled = read.settled ++ n ∷ [] })) ns
   later-unsettled read n [] d h = tt
-  later-unsettled read n (m ∷ ns) d h =
-      (ap (λ (b : Bool). option_map_or (λ (r : Request). r.wants) (find (λ r. int_eq r.seq m) read.requests) false && not b) (has-append read.settled (n ∷ []) m ∙ (ap (λ (b : Bool). has read.settled m || (b || false)) (int-apart n m d.0) ∙ or-none (has read.settled m))) ∙ h.0,
-      later-unsettled read n ns d.1 h.1)
+  later-unsettled read n (m ∷ ns) d h = (
+    ap (λ (b : Bool). option_map_or (λ (r : Request). r.wants) (find (λ r. int_eq r.seq m) read.requests) false && not b) (has-append read.settled (n ∷ []) m ∙ (ap (λ (b : Bool). has read.settled m || (b || false)) (int-apart n m d.0) ∙ or-none (has read.settled m))) ∙ h.0,
+    later-unsettled read n ns d.1 h.1,
+  )
     where
       or-none : (b : Bool) → b || false ≡ b
       or-none true = refl
@@ -167,9 +168,10 @@ module _ (schema : Schema) (side : Side) (others : EndReading) where
 
   falling-pass : (place : ℕ) (ns : List ℤ) (id : ℤ) (why : Destroy) (own : EndReading) → AreDistinct ns → AllByRecursion (IsUnsettled (promise_reading own)) ns → AllByRecursion (GoesTo (promise_reading own) id) ns → Pass place (rejecting ActorDestroyed ns ++ what.Fall id why ∷ []) own
   falling-pass place [] id why own d h goes = ((λ more. refl), tt)
-  falling-pass place (n ∷ ns) id why own d h goes =
-      ((λ more. and-true (is_unsettled own n) (is_destroyed schema side own others n (map (line_at side) (rejecting ActorDestroyed ns ++ what.Fall id why ∷ []) ++ more)) h.0 (destroyed-next own n id (map (line_at side) (rejecting ActorDestroyed ns ++ what.Fall id why ∷ []) ++ more) goes.0 (fall-next ns id why [] more))),
-      falling-pass (place + 1) ns id why (settling n own) d.1 (later-unsettled (promise_reading own) n ns d.0 h.1) goes.1)
+  falling-pass place (n ∷ ns) id why own d h goes = (
+    (λ more. and-true (is_unsettled own n) (is_destroyed schema side own others n (map (line_at side) (rejecting ActorDestroyed ns ++ what.Fall id why ∷ []) ++ more)) h.0 (destroyed-next own n id (map (line_at side) (rejecting ActorDestroyed ns ++ what.Fall id why ∷ []) ++ more) goes.0 (fall-next ns id why [] more))),
+    falling-pass (place + 1) ns id why (settling n own) d.1 (later-unsettled (promise_reading own) n ns d.0 h.1) goes.1,
+  )
 
   -- what is unsettled behind others that were settled
   others-unsettled : (read : PromiseReading) (ns ms : List ℤ) → AreDistinct (ns ++ ms) → AllByRecursion (IsUnsettled read) ms → AllByRecursion (IsUnsettled (record read { settled = read.settled ++ ns })) ms
@@ -212,9 +214,9 @@ module _ (schema : Schema) (side : Side) (others : EndReading) where
       let all = all-both (IsUnsettled (promise_reading own)) mine (numbers_falling promises fs) h in
       let next : EndReading = after_whats schema place ws own in
       let read_next : promise_reading next ≡ record (promise_reading own) { settled = own.settled ++ mine } =
-          effects-read schema place ws own (all-append IsEffectLine (fall.rejections (is_pending_of a.id) ActorDestroyed promises) (what.Fall a.id (why a.id) ∷ []) (rejection-effects (is_pending_of a.id) ActorDestroyed promises) (fell a.id (why a.id), tt))
-          ∙ ap (λ (ns : List ℤ). record (promise_reading own) { settled = own.settled ++ ns })
-          (settled-append (fall.rejections (is_pending_of a.id) ActorDestroyed promises) (what.Fall a.id (why a.id) ∷ []) ∙ (append-nil (settled_by_lines (fall.rejections (is_pending_of a.id) ActorDestroyed promises)) ∙ rejections-settle (is_pending_of a.id) ActorDestroyed promises)) in
+      effects-read schema place ws own (all-append IsEffectLine (fall.rejections (is_pending_of a.id) ActorDestroyed promises) (what.Fall a.id (why a.id) ∷ []) (rejection-effects (is_pending_of a.id) ActorDestroyed promises) (fell a.id (why a.id), tt))
+      ∙ ap (λ (ns : List ℤ). record (promise_reading own) { settled = own.settled ++ ns })
+      (settled-append (fall.rejections (is_pending_of a.id) ActorDestroyed promises) (what.Fall a.id (why a.id) ∷ []) ∙ (append-nil (settled_by_lines (fall.rejections (is_pending_of a.id) ActorDestroyed promises)) ∙ rejections-settle (is_pending_of a.id) ActorDestroyed promises)) in
       pass-append place ws vs own
       (subst (λ (rs : List What). Pass place (rs ++ what.Fall a.id (why a.id) ∷ []) own) (sym (rejections-are (is_pending_of a.id) ActorDestroyed promises)) (falling-pass place mine a.id (why a.id) own two.0 all.0 goes.0))
       (λ at. subtree-pass at why promises fs next two.1
