@@ -25,6 +25,7 @@ use Rattle.history_reading.specs.SentPacket.{SentPacket, packet_kind}
 use Rattle.channel_laws.specs.AnswersOnce.{AnswersOnce, sent_kinds}
 use Rattle.channel_laws.specs.Arrivals.{arrival_reading, replies_delivered, ArrivalsAreRead, IsDue}
 use Rattle.channel_laws.specs.Counts.{one_if, how_many, is_number, is_packet}
+use Rattle.channel_laws.specs.ExchangeLaws.{EndsReadExchanges, EndsTakeOnce}
 use Rattle.channel_laws.specs.Exchanges.{ReadsExchanges}
 use Rattle.channel_laws.specs.Notes.{Note, note_kind, told_notes, notes}
 use Rattle.channel_laws.specs.Tested.{after_whats}
@@ -131,3 +132,14 @@ replies-once schema theirs others own link account h n =
     let count = ap (how_many test) whole ∙ many-append test own.delivered (map note_kind behind) in
     let once = h.numbered.once n in
     omega arith
+
+-- The laws
+
+pub ends_read_exchanges : EndsReadExchanges
+ends_read_exchanges = record { begins = opening-exchanges; acts = own-exchanges; delivers = delivery-exchanges }
+
+pub ends_take_once : EndsTakeOnce
+ends_take_once = record {
+  request = λ schema e own m sync level vs h next body. request-there e own m sync level vs h.arrivals next body;
+  reply = λ schema e own m sync level a h next body once. reply-there e own m sync level a h.arrivals next body once;
+}

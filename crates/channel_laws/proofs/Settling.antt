@@ -1,44 +1,26 @@
 -- What an end settles is a promise of its own that was not settled, and one that is rejected in a fall or a closing has
 -- its cause.
-use Rattle.std.proofs.Common.{◌≡◌, ◌≢◌, ℕ, ◌+◌, ℤ, Bool, true, false, not, ◌&&◌, ◌||◌, cond, if◌then◌else◌, int_eq, find, filter, List, [], ◌∷◌, ◌++◌, map, Option, Some, None, option_map, is_some, refl, sym, ap, subst, append_assoc, ◌∙◌}
-use Rattle.std.specs.List.{AllByRecursion, flat_map}
+use Rattle.std.proofs.Common.{◌≡◌, ◌≢◌, ℕ, ℤ, Bool, true, false, not, ◌&&◌, ◌||◌, cond, int_eq, find, filter, List, [], ◌∷◌, ◌++◌, map, Option, Some, option_map, refl, sym, ap, subst, ◌∙◌}
+use Rattle.std.specs.List.{AllByRecursion}
 use Rattle.std.specs.Option.{option_map_or}
 use Rattle.std.proofs.lemmas.Bool.{false≢true}
 use Rattle.std.proofs.lemmas.Bool.Decides.{Decides-int_eq}
-use Rattle.std.proofs.lemmas.List.{map-append}
 use Rattle.actor_tree.specs.declared.actor.Actor.{Actor}
 use Rattle.actor_tree.specs.Laws.{EachOnce}
 use Rattle.actor_tree.specs.Tree.{lives}
-use Rattle.ipdl_base.specs.declared.kinds.Destroy.{Destroy}
-use Rattle.ipdl_base.specs.declared.kinds.Reason.{Reason}
-use Rattle.ipdl_base.specs.declared.kinds.Reason.TheVariants.{ActorDestroyed, ChannelClosed}
 use Rattle.ipdl_base.specs.declared.kinds.Side.{Side}
-use Rattle.ipdl_base.specs.declared.kinds.Side.TheVariants.{Parent, Child}
-use Rattle.ipdl_base.specs.declared.line.Line.{Line}
-use Rattle.ipdl_base.specs.declared.line.What.{What}
-use Rattle.ipdl_base.specs.declared.line.What.TheVariants as what
-use Rattle.ipdl_base.specs.declared.schema.Schema.{Schema}
-use Rattle.ipdl_base.specs.Lines.{same_side}
 use Rattle.promise_table.specs.declared.promise.Promise.{Promise}
 use Rattle.promise_table.specs.Promises.{is_pending, is_pending_of}
 use Rattle.channel_model.specs.Actors.{AreDistinct}
 use Rattle.channel_model.specs.Ends.{PromiseEntry}
-use Rattle.channel_model.specs.Falls as fall
 use Rattle.channel_model.specs.Falls.{passes}
-use Rattle.channel_model.specs.Outputs.{line_at}
 use Rattle.channel_model.specs.Requests.{promise_seq}
 use Rattle.channel_model.proofs.Known.{all-append, all-map}
-use Rattle.history_reading.specs.EndReading.{EndReading}
 use Rattle.history_reading.specs.Numbers.{has}
-use Rattle.history_reading.specs.Reading.{Reading, end_reading_of, other_of, after_what, after_at, settling}
-use Rattle.history_reading.specs.SentPacket.{Request, requests_of}
-use Rattle.history_reading.specs.Settled.{settled_line, is_unsettled, is_destroyed, promise_falls_next, says_destroyed, falls_next, is_close_event}
-use Rattle.channel_laws.specs.Promised.{Promised, promised_by, promised_in, promised_entry, PromiseReading, promise_reading, IsReadPromise, HasPromises}
+use Rattle.history_reading.specs.SentPacket.{Request}
+use Rattle.channel_laws.specs.Promised.{Promised, promised_in, promised_entry, PromiseReading, IsReadPromise, HasPromises}
 use Rattle.channel_laws.specs.SentAccounts.{request_seq}
-use Rattle.channel_laws.specs.Tested.{after_whats, LinesPass}
-use Rattle.channel_laws.proofs.EffectLines.{rejection-effects, fell}
-use Rattle.channel_laws.proofs.PromiseParts.{effects-read, settled_by_lines, settled-append, rejections-settle}
-use Rattle.channel_laws.proofs.Promising.{int-apart, int-flip, has-append, once-distinct, promises-distinct, numbers_passing, numbers_falling, is_falling, IsAmong, among-falling}
+use Rattle.channel_laws.proofs.Promising.{int-apart, once-distinct, numbers_passing, numbers_falling, is_falling, IsAmong, among-falling}
 use Rattle.channel_laws.proofs.Counting.{int-same}
 
 -- The own requests of promises

@@ -1,9 +1,6 @@
 -- What an end keeps of requests and replies with its own lines alone, whatever the other end sends.
-use Rattle.std.specs.Prelude.{List}
 use Rattle.ipdl_base.specs.declared.schema.Schema.{Schema}
-use Rattle.channel_model.specs.Ends.{End, Packet}
-use Rattle.channel_model.specs.Parts.{OwnParts, DeliveryPart}
-use Rattle.channel_model.specs.Phases.{Phase}
+use Rattle.channel_model.specs.Ends.{End}
 use Rattle.history_reading.specs.EndReading.{EndReading}
 use Rattle.channel_laws.specs.AnswersOnce.{AnswersOnce}
 use Rattle.channel_laws.specs.Arrivals.{ArrivalsAreRead}

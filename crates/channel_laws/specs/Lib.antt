@@ -32,3 +32,4 @@ pub mod Heads
 pub mod Replies
 pub mod SettledLaws
 pub mod TwoEndLaws
+pub mod ExchangeLaws
