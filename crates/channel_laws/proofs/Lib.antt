@@ -77,3 +77,4 @@ pub mod EndEvents
 pub mod HeadParts
 pub mod HeadsAlike
 pub mod WaitMoments
+pub mod StillReads
