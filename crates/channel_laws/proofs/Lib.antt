@@ -89,3 +89,4 @@ pub mod HeadParts
 pub mod HeadsAlike
 pub mod WaitMoments
 pub mod SettledRuns
+pub mod StillReads
