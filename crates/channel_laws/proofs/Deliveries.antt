@@ -1,5 +1,5 @@
 -- Deliveries to an open end.
-use Rattle.channel_laws.proofs.Tests.{and-left, and-right}
+use Rattle.channel_model.proofs.Tests.{and-left, and-right}
 use Rattle.std.proofs.Common.{◌≡◌, ℕ, zero, suc, ◌+◌, ◌-◌, Bool, true, false, not, ◌&&◌, ◌==◌, cond, if◌then◌else◌, int_eq, List, [], ◌∷◌, ◌++◌, map, length, take, ◌⊎◌, Option, Some, None, option_and_then, is_some, refl, sym, ap, subst, ◌∙◌}
 use Rattle.std.proofs.Math.Numerals.{sub-one}
 use Rattle.std.proofs.lemmas.List.{append-nil}
@@ -186,7 +186,7 @@ replaced-last_at : (b : Bool) (old x : Item) → cond b (Some old) None ≡ Some
 replaced-last_at true old x e = (refl, same_Some old x e)
 replaced-last_at false old x e = cc
 
-replaced-last : (new : Item) (found : Option Item) (x : Item) → option_and_then (λ old. if are_alike new old then Some old else None) found ≡ Some x → (found ≡ Some x) × (are_alike new x ≡ true)
+pub replaced-last : (new : Item) (found : Option Item) (x : Item) → option_and_then (λ old. if are_alike new old then Some old else None) found ≡ Some x → (found ≡ Some x) × (are_alike new x ≡ true)
 replaced-last new None x e = cc
 replaced-last new (Some old) x e =
     let r = replaced-last_at (are_alike new old) old x e in

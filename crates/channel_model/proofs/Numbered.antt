@@ -133,7 +133,7 @@ later-numbered (Parts.lets_go name r may held open_is) h = h
 later-numbered (Parts.names more actors) h = h
 later-numbered (Parts.releases seq closed) h = h
 later-numbered (Parts.keeps seq name r held closed) h = h
-later-numbered (Parts.builds id protocol rest fresh alive) h = h
+later-numbered (Parts.builds id protocol rest fresh built) h = h
 later-numbered {e} (Parts.deletes id cause) h = fallen-numbered id e h
 later-numbered {e} (Parts.falls why cause) h = fallen-numbered _ (Parts.abandoned_end e) (same-promised e _ (rejected-seqs (λ p. true) reason.ChannelClosed e.promises) h)
 
