@@ -78,3 +78,4 @@ pub mod HeadParts
 pub mod HeadsAlike
 pub mod WaitMoments
 pub mod StillReads
+pub mod StillEnds

@@ -170,7 +170,7 @@ module _ (schema : Schema) (side their_side : Side) (open_end : Bool) (outbox : 
       by Goodbye h i = goodbye-same d.level
 
   -- so where one is free by itself, one is by the lines
-  some-free : (items : List Item) (x : Item) → AllByRecursion (ItemHead schema) items → AllByRecursion (ItemIsNoted schema (told_notes their_side others.sent)) items → find (λ (y : Item). not (Deferred (arrival_of y))) items ≡ Some x → lines.some_is_free schema others d (map item_kind items) ≡ true
+  pub some-free : (items : List Item) (x : Item) → AllByRecursion (ItemHead schema) items → AllByRecursion (ItemIsNoted schema (told_notes their_side others.sent)) items → find (λ (y : Item). not (Deferred (arrival_of y))) items ≡ Some x → lines.some_is_free schema others d (map item_kind items) ≡ true
   some-free [] x h i e = cc
   some-free (y ∷ ys) x h i e = by (Deferred (arrival_of y)) (lines.defers_packet schema others d (item_kind y)) (item-same y h.0 i.0) e (some-free ys x h.1 i.1)
     where
