@@ -79,3 +79,4 @@ pub mod HeadsAlike
 pub mod WaitMoments
 pub mod StillReads
 pub mod StillEnds
+pub mod WaitLaw

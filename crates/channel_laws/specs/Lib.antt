@@ -29,3 +29,4 @@ pub mod Exchanges
 pub mod Taken
 pub mod PrefixLaws
 pub mod Heads
+pub mod WaitLaws

@@ -8,7 +8,7 @@ mod laws;
 mod reading_laws;
 
 pub use actor_laws::{ends_obey_fallen, histories_obey_fallen};
-pub use history_laws::histories_obey_prefix;
+pub use history_laws::{histories_obey_prefix, histories_obey_waits};
 pub use laws::{
     ends_are_told_in_runs, last_packets_fail_all_waits, nested_worlds_stay, nesting_in_every_run,
     protocols_in_every_run, replies_find_their_waits, requests_come_in_order,
