@@ -124,7 +124,7 @@ module _ (schema : Schema) (sound : IsSound schema) where
 
 pub histories_obey_waits : HistoriesObeyWaits
 histories_obey_waits schema sound top moves =
-    let none : AnswersKept schema sound (opening top) opening_reading = (record { given = tt; waits = tt; arrived = tt }, record { given = tt; waits = tt; arrived = tt }) in
+    let none : AnswersKept schema sound (opening top) opening_reading = (record { given = tt; waits = tt }, record { given = tt; waits = tt }) in
     let runs = every-run schema sound (AnswersKept schema sound) (waits_test schema sound) (waits-moves schema sound) top moves none in
     let w : World = (run schema moves (opening top)).world in
     holds-in-runs law.Waits schema sound top moves (runs.passes [])

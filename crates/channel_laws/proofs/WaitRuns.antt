@@ -41,12 +41,12 @@ answers-alike schema made e own p k wait row vs on_top found given =
     alike schema made e own p k (actors_in_parts schema (returns_of_row row) vs) (has row found)
 
 -- notes are those of the ends' own sides
-sides-are : (schema : Schema) (others own : EndReading) (failed : List ℤ) (e : End) (a b c d : Side) → a ≡ c → b ≡ d → HasAnswers schema (told_notes a others.sent) (told_notes b own.sent) failed e → HasAnswers schema (told_notes c others.sent) (told_notes d own.sent) failed e
-sides-are schema others own failed e a b c d x y k = subst (λ (s : Side). HasAnswers schema (told_notes s others.sent) (told_notes d own.sent) failed e) x (subst (λ (s : Side). HasAnswers schema (told_notes a others.sent) (told_notes s own.sent) failed e) y k)
+sides-are : (schema : Schema) (others own : EndReading) (failed : List ℤ) (e : End) (a b c d : Side) → a ≡ c → b ≡ d → HasAnswers (told_notes a others.sent) (told_notes b own.sent) failed e → HasAnswers (told_notes c others.sent) (told_notes d own.sent) failed e
+sides-are schema others own failed e a b c d x y k = subst (λ (s : Side). HasAnswers (told_notes s others.sent) (told_notes d own.sent) failed e) x (subst (λ (s : Side). HasAnswers (told_notes a others.sent) (told_notes s own.sent) failed e) y k)
 
 module _ (schema : Schema) (sound : IsSound schema) where
   abbrev pub AnswersKept : World → Reading → Type 0
-  AnswersKept w r = AcrossEnds schema (KeepsAnswers schema) w r
+  AnswersKept w r = AcrossEnds schema KeepsAnswers w r
 
   pub waits-keep : EveryMoveKeeps schema AnswersKept (test_at (waits_line schema))
   waits-keep move w r output m k =
@@ -55,16 +55,16 @@ module _ (schema : Schema) (sound : IsSound schema) where
       let theirs : End = end_of (other side) w in
       let own : EndReading = end_reading_of side r in
       let others : EndReading = other_of side r in
-      let both = across-ends schema (KeepsAnswers schema) side w r k in
+      let both = across-ends schema KeepsAnswers side w r k in
       let their_side : theirs.side ≡ other side = end-side schema (other side) w m.nested in
       let my_side : mine.side ≡ other (other side) = end-side schema side w m.nested ∙ sym (other-other side) in
-      let before : HasAnswers schema (told_notes theirs.side others.sent) (told_notes mine.side own.sent) own.failed mine = sides-are schema others own own.failed mine (other side) (other (other side)) theirs.side mine.side (sym their_side) (sym my_side) both.0 in
+      let before : HasAnswers (told_notes theirs.side others.sent) (told_notes mine.side own.sent) own.failed mine = sides-are schema others own own.failed mine (other side) (other (other side)) theirs.side mine.side (sym their_side) (sym my_side) both.0 in
       let behind = move-answers schema mine.side r.lines mine theirs own others (link_to side w) (link_to (other side) w) move.event output m.ends before in
       let next : EndReading = after_whats schema r.lines m.ends.whats own in
       let p : WorldHasProtocols schema m.reached.top w = protocols-reached schema sound w r m.reached in
       let actors = at-ends schema (ReadsActors schema) side w r (actors-reached schema sound w r m.reached) in
       record {
-        kept = across-keep schema (KeepsAnswers schema) side move.event w r output m.nested m.ends
+        kept = across-keep schema KeepsAnswers side move.event w r output m.nested m.ends
             (sides-are schema others next next.failed output.end theirs.side mine.side (other side) (other (other side)) their_side my_side behind)
             (other-answers schema side r.lines m.ends.whats own others (told_notes (other side) others.sent) theirs both.1);
         passes = λ rest. ends-pass schema (waits_line schema) side move.event w r output rest m.nested m.ends

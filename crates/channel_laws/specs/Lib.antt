@@ -17,7 +17,6 @@ pub mod SentAccounts
 pub mod Delivered
 pub mod TwoEnds
 pub mod NextPackets
-pub mod WaitOrder
 pub mod ReadingLaws
 pub mod Counts
 pub mod Arrivals
