@@ -69,7 +69,7 @@ id-not_zero : (side : Side) (k : ℕ) → 1 ≤ k → pos 0 ≢ id_of side k
 id-not_zero Parent k one e = let f : 0 ≡ 4 * k + 2 = cc in absurd (omega arith)
 id-not_zero Child k one e = let f : 0 ≡ 4 * k = cc in absurd (omega arith)
 
-zero-free : (ids : Ids) → IsTaken ids (pos 0) → ⊥
+pub zero-free : (ids : Ids) → IsTaken ids (pos 0) → ⊥
 zero-free ids (inl e) = let f : ◌≡◌ {A = ℕ} 0 2147483647 = cc in absurd (omega arith)
 zero-free ids (inr (inl (k, one, low, e))) = id-not_zero _ k one e
 zero-free ids (inr (inr (k, one, low, e))) = id-not_zero _ k one e
@@ -271,7 +271,7 @@ later-parts-kept schema place own (part.then {p} {q} {r} {e} {f} {g} {ws} {vs} o
 -- What begins an event
 
 -- behind its first part an end is in a phase
-begun-keeps : (schema : Schema) (e f : End) (own : EndReading) (p : Phase) (after : ActorReading) → ReadsActors schema e own → Begins e f p.start p.cause (actor_reading own) after → HasIds schema p.fresh f own.built → KeepsActors schema p f after
+pub begun-keeps : (schema : Schema) (e f : End) (own : EndReading) (p : Phase) (after : ActorReading) → ReadsActors schema e own → Begins e f p.start p.cause (actor_reading own) after → HasIds schema p.fresh f own.built → KeepsActors schema p f after
 begun-keeps schema e f own p after k b ids = record {
   living = record {
     living = ap (λ (x : List ℤ). standing x after.built) b.fallen ∙ (ap (standing own.fallen) b.built ∙ (k.living.living ∙ sym (ap (map shown_actor) b.actors)));

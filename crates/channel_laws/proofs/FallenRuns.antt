@@ -43,13 +43,13 @@ use Rattle.channel_model.proofs.StateSteps.{states_stay, first_states}
 use Rattle.channel_model.proofs.StepParts.{steps_are_chains}
 use Rattle.channel_laws.specs.ActorLaws.{DeliversNextId, StepObeysFallen, EndsObeyFallen, HistoriesObeyFallen}
 use Rattle.channel_laws.specs.EndActors.{shown_actor, standing, built_ids, HasNextId, ReadsActors}
-use Rattle.channel_laws.specs.RequestOrder.{BodyInOrder, InOrder, on_way, ComesInOrder, WorldInOrder}
+use Rattle.channel_laws.specs.RequestOrder.{IsNextRequest, WorldInOrder}
 use Rattle.channel_laws.specs.Tested.{after_whats, test_at}
 use Rattle.channel_laws.proofs.ActorsKept.{KeptBy, own-kept, delivery-kept, lives-taken}
+use Rattle.channel_laws.proofs.ComingRequests.{coming-request, reached-in-order}
 use Rattle.channel_laws.proofs.EveryRun.{end-side}
 use Rattle.channel_laws.proofs.Holding.{holds-in-runs}
 use Rattle.channel_laws.proofs.Moves.{StepParts, acts, delivers}
-use Rattle.channel_laws.proofs.OrderRuns.{requests_come_in_order}
 use Rattle.channel_laws.proofs.Rows.{sound_schemas_have_sound_rows}
 use Rattle.channel_laws.proofs.Runs.{EveryMoveKeeps, AtEnds, at-ends, ends-keep, ends-pass, every-run, moment_at, moments-pass}
 use Rattle.channel_laws.proofs.Standing.{alive-built, built-lives}
@@ -162,23 +162,13 @@ ends_obey_fallen = record { opening = opening-reads; step = step-obeys; moment =
 
 -- Runs
 
--- requests come in order to each side
-comes-at : (schema : Schema) (side : Side) (w : World) → WorldInOrder schema w → ComesInOrder schema (other side) (end_of side w) (end_of (other side) w) (link_to side w)
-comes-at schema Parent w h = h.comes
-comes-at schema Child w h = h.goes
-
--- so the constructor that is delivered has the next id
-order-next : (schema : Schema) (side : Side) (e sender : End) (packet : Packet) (link : List Packet) → e.side ≡ side → first_packet link ≡ Some packet → is_open e.state ≡ true → ComesInOrder schema (other side) e sender link → HasNextId schema e packet
-order-next schema side e sender packet [] is first opened h = cc
-order-next schema side e sender packet (p ∷ rest) is first opened h = subst (HasNextId schema e) (same_Some p packet first) (next p (h opened))
-  where
-    next : (p : Packet) → InOrder schema (other side) (on_way sender (p ∷ rest)) sender.sent sender.constructors_sent e.delivered e.constructors_delivered → HasNextId schema e p
-    next mark o = tt
-    next (message m) o = λ row vs body found constructor.
-        let k : BodyInOrder schema (other side) m (Request vs) (InOrder schema (other side) (on_way sender rest) sender.sent sender.constructors_sent) e.delivered e.constructors_delivered =
-        subst (λ (b : Body). BodyInOrder schema (other side) m b (InOrder schema (other side) (on_way sender rest) sender.sent sender.constructors_sent) e.delivered e.constructors_delivered) body o in
-        let row_is : k.0.row ≡ row = same_Some k.0.row row (sym k.0.found ∙ found) in
-        k.0.made_is (ap (λ (r : MessageRow). is_constructor r.kind) row_is ∙ constructor) ∙ ap (λ (s : Side). id_of (other s) (e.constructors_delivered + 1)) (sym is)
+-- a constructor that is delivered has the next id
+next-id : (schema : Schema) (side : Side) (w : World) (packet : Packet) → WorldInOrder schema w → (end_of side w).side ≡ side → first_packet (link_to side w) ≡ Some packet → is_open (end_of side w).state ≡ true → HasNextId schema (end_of side w) packet
+next-id schema side w mark order is first opened = tt
+next-id schema side w (message m) order is first opened = λ row vs body found constructor.
+    let next : IsNextRequest schema (other side) m (end_of side w).delivered (end_of side w).constructors_delivered = coming-request schema side w order m vs first body opened in
+    let row_is : next.row ≡ row = same_Some next.row row (sym next.found ∙ found) in
+    next.made_is (ap (λ (r : MessageRow). is_constructor r.kind) row_is ∙ constructor) ∙ ap (λ (s : Side). id_of (other s) ((end_of side w).constructors_delivered + 1)) (sym is)
 
 module _ (schema : Schema) (sound : IsSound schema) where
   abbrev fallen_at : EndReading → EndReading → What → Bool
@@ -187,7 +177,7 @@ module _ (schema : Schema) (sound : IsSound schema) where
   parts-keep : (side : Side) (w : World) (own : EndReading) (place : ℕ) (ev : Event) {ws : List What} {ps : List Packet} {f : End} {q : Phase} → (end_of side w).side ≡ side → WorldInOrder schema w → StepParts schema (end_of side w) (link_to side w) ev ws ps f q → ReadsActors schema (end_of side w) own → KeptBy schema place ws own q f
   parts-keep side w own place ev is order (acts link parts) k = own-kept schema (sound_schemas_have_sound_rows schema sound) place own parts k
   parts-keep side w own place ev is order (delivers packet first opened one) k =
-      delivery-kept schema place own packet one (order-next schema side (end_of side w) (end_of (other side) w) packet (link_to side w) is first opened (comes-at schema side w order)) k
+      delivery-kept schema place own packet one (next-id schema side w packet order is first opened) k
 
   moment-is : (w : World) (r : Reading) → AtEnds schema (ReadsActors schema) w r → moment_test law.Fallen schema r ≡ true
   unfolding moment_test
@@ -206,7 +196,7 @@ module _ (schema : Schema) (sound : IsSound schema) where
       let side : Side = move.side in
       let ends = at-ends schema (ReadsActors schema) side w r k in
       let is : (end_of side w).side ≡ side = end-side schema side w m.nested in
-      let order : WorldInOrder schema w = subst (WorldInOrder schema) m.reached.world (requests_come_in_order schema sound m.reached.top m.reached.front) in
+      let order : WorldInOrder schema w = reached-in-order schema sound w r m.reached in
       let b : KeptBy schema r.lines m.ends.whats (end_reading_of side r) m.ends.phase output.end = parts-keep side w (end_reading_of side r) r.lines move.event is order m.ends.parts ends.0 in
       record {
         kept = ends-keep schema (ReadsActors schema) side move.event w r output m.nested m.ends

@@ -1,5 +1,6 @@
 pub mod Rows
 pub mod Track
+pub mod ListedItems
 pub mod LastPackets
 pub mod SyncSteps
 pub mod Sends
@@ -68,9 +69,18 @@ pub mod ComingRequests
 pub mod HonestPackets
 pub mod Exchanges
 pub mod Taken
+pub mod Settling
 pub mod Reached
 pub mod NulledLive
+pub mod MadeByEvents
+pub mod LivingParts
+pub mod LivingRuns
 pub mod PrefixRuns
+pub mod SettledLines
+pub mod HonestRuns
+pub mod SettledCauses
+pub mod RepliesKept
+pub mod SettledMoments
 pub mod ReadAlike
 pub mod WaitRuns
 pub mod EndEvents
@@ -80,3 +90,4 @@ pub mod WaitMoments
 pub mod StillReads
 pub mod StillEnds
 pub mod WaitLaw
+pub mod SettledRuns

@@ -67,12 +67,12 @@ other-sent sent p none = filter_map-append request_in sent (p ∷ []) ∙ (ap (�
 -- Lines
 
 -- the promises that a line settles
-abbrev settled_by : What → List ℤ
+abbrev pub settled_by : What → List ℤ
 settled_by (what.Resolved n vs) = n ∷ []
 settled_by (what.Rejected n reason) = n ∷ []
 settled_by _ = []
 
-abbrev settled_by_lines : List What → List ℤ
+abbrev pub settled_by_lines : List What → List ℤ
 settled_by_lines ws = flat_map settled_by ws
 
 same-requests : (read : PromiseReading) (requests : List Request) → requests ≡ read.requests → record read { requests = requests } ≡ record read { settled = read.settled ++ [] }
@@ -88,13 +88,13 @@ one-read schema place w own (rejected n reason) = refl
 one-read schema place w own (fell id why) = same-requests (promise_reading own) (requests_of own.sent) refl
 
 -- effects settle what their lines say, and leave the requests
-effects-read : (schema : Schema) (place : ℕ) (ws : List What) (own : EndReading) → AreEffectLines ws → promise_reading (after_whats schema place ws own) ≡ record (promise_reading own) { settled = own.settled ++ settled_by_lines ws }
+pub effects-read : (schema : Schema) (place : ℕ) (ws : List What) (own : EndReading) → AreEffectLines ws → promise_reading (after_whats schema place ws own) ≡ record (promise_reading own) { settled = own.settled ++ settled_by_lines ws }
 effects-read schema place [] own effects = same-requests (promise_reading own) (requests_of own.sent) refl
 effects-read schema place (w ∷ ws) own effects =
     effects-read schema (place + 1) ws (after_what schema place w own) effects.1
     ∙ (ap (λ (read : PromiseReading). record read { settled = read.settled ++ settled_by_lines ws }) (one-read schema place w own effects.0) ∙ ap (λ (ns : List ℤ). record (promise_reading own) { settled = ns }) (append_assoc own.settled (settled_by w) (settled_by_lines ws)))
 
-settled-append : (xs ys : List What) → settled_by_lines (xs ++ ys) ≡ settled_by_lines xs ++ settled_by_lines ys
+pub settled-append : (xs ys : List What) → settled_by_lines (xs ++ ys) ≡ settled_by_lines xs ++ settled_by_lines ys
 settled-append [] ys = refl
 settled-append (x ∷ xs) ys = ap (λ (l : List ℤ). settled_by x ++ l) (settled-append xs ys) ∙ sym (append_assoc (settled_by x) (settled_by_lines xs) (settled_by_lines ys))
 
@@ -115,7 +115,7 @@ lines-settle : (why : Reason) (entries : List PromiseEntry) → settled_by_lines
 lines-settle why [] = refl
 lines-settle why (entry ∷ entries) = ap (λ (ns : List ℤ). promise_seq entry ∷ ns) (lines-settle why entries)
 
-rejections-settle : (test : Promise → Bool) (why : Reason) (promises : List PromiseEntry) → settled_by_lines (fall.rejections test why promises) ≡ numbers_passing (fall.passes test) promises
+pub rejections-settle : (test : Promise → Bool) (why : Reason) (promises : List PromiseEntry) → settled_by_lines (fall.rejections test why promises) ≡ numbers_passing (fall.passes test) promises
 rejections-settle test why promises = lines-settle why (filter (fall.passes test) promises)
 
 falls-settle : (why : ℤ → Destroy) (promises : List PromiseEntry) (fs : List Actor) → settled_by_lines (flat_map (fall.fall_lines why promises) fs) ≡ numbers_falling promises fs

@@ -122,7 +122,7 @@ elsewhere test (entry ∷ promises) n h =
     and-false false = refl
 
 -- the number of a promise is among those of promises that pass just where it passes
-abbrev IsAmong : (PromiseEntry → Bool) → List ℤ → PromiseEntry → Type 0
+abbrev pub IsAmong : (PromiseEntry → Bool) → List ℤ → PromiseEntry → Type 0
 IsAmong test numbers entry = has numbers (promise_seq entry) ≡ test entry
 
 among-later : (test : PromiseEntry → Bool) (entry : PromiseEntry) (all some : List PromiseEntry) → AllByRecursion (λ later. promise_seq entry ≢ later) (map promise_seq some) → AllByRecursion (IsAmong test (numbers_passing test all)) some → AllByRecursion (IsAmong test (numbers_passing test (entry ∷ all))) some
@@ -319,7 +319,7 @@ more-falling a fs all (entry ∷ some) one rest = (
   more-falling a fs all some one.1 rest.1,
 )
 
-among-falling : (promises : List PromiseEntry) (fs : List Actor) → AreDistinct (map promise_seq promises) → AllByRecursion (IsAmong (passes (is_falling fs)) (numbers_falling promises fs)) promises
+pub among-falling : (promises : List PromiseEntry) (fs : List Actor) → AreDistinct (map promise_seq promises) → AllByRecursion (IsAmong (passes (is_falling fs)) (numbers_falling promises fs)) promises
 among-falling promises [] d = none-falling promises
 among-falling promises (a ∷ fs) d = more-falling a fs promises promises (among-passing (passes (is_pending_of a.id)) promises d) (among-falling promises fs d)
 

@@ -55,7 +55,7 @@ top-wait sent own failed (x ∷ xs) wait e g o = by x.frame e g.0 o.0
     by (Wait head (Some a)) e g o = subst (TopWait sent own failed) (same_Some (record { seq = head.seq; number = x.number; given = a }) wait e) (record { given = g; route = x.route; requested = o })
 
 -- the returns of the request are those of its row
-returns-are : (schema : Schema) (side : Side) (h : EndReading) (open_end : Bool) (outbox : List Message) (count : ℕ) (left : List Note) (n route : ℤ) (number : ℕ) (row : MessageRow) → SentAccount schema side open_end outbox count h.sent left → IsRequested (told_notes side h.sent) n route number → request_row schema number ≡ Some row → own_returns schema h n ≡ returns_of_row row
+pub returns-are : (schema : Schema) (side : Side) (h : EndReading) (open_end : Bool) (outbox : List Message) (count : ℕ) (left : List Note) (n route : ℤ) (number : ℕ) (row : MessageRow) → SentAccount schema side open_end outbox count h.sent left → IsRequested (told_notes side h.sent) n route number → request_row schema number ≡ Some row → own_returns schema h n ≡ returns_of_row row
 returns-are schema side h open_end outbox count left n route number row s r found =
     let k = own-request schema side open_end outbox count h.sent left r.request s r.sent_it in
     let request : told.Request = k.0 in
@@ -66,7 +66,7 @@ returns-are schema side h open_end outbox count left n route number row s r foun
 
 -- Lines
 
-reason-same : (r : Reason) → same_reason r r ≡ true
+pub reason-same : (r : Reason) → same_reason r r ≡ true
 reason-same ActorDestroyed = refl
 reason-same ChannelClosed = refl
 reason-same HandlerRejected = refl

@@ -1,60 +1,53 @@
 -- In every run what is taken is there, and ends keep what they read of requests and replies.
 use Rattle.std.proofs.Common.{◌≡◌, ℕ, ◌+◌, ◌≤◌, ℤ, Bool, true, false, if◌then◌else◌, List, [], ◌∷◌, ◌++◌, drop, map, Option, Some, None, refl, sym, ap, subst, ◌∙◌}
-use Rattle.std.specs.List.{AllByRecursion}
 use Rattle.ipdl_base.specs.declared.kinds.Reason.TheVariants.{ActorDestroyed, ChannelClosed, ResolverDestroyed}
 use Rattle.ipdl_base.specs.declared.kinds.Side.{Side}
-use Rattle.ipdl_base.specs.declared.kinds.Side.TheVariants.{Parent, Child}
-use Rattle.ipdl_base.specs.declared.line.Line.{Line}
 use Rattle.ipdl_base.specs.declared.line.What.{What}
 use Rattle.ipdl_base.specs.declared.line.What.TheVariants as what
 use Rattle.ipdl_base.specs.declared.message.Body.{Body}
 use Rattle.ipdl_base.specs.declared.message.Body.TheVariants.{Request, Reply, Fault, Goodbye}
 use Rattle.ipdl_base.specs.declared.message.Message.{Message}
-use Rattle.ipdl_base.specs.declared.schema.MessageRow.{MessageRow}
 use Rattle.ipdl_base.specs.declared.schema.Schema.{Schema}
 use Rattle.ipdl_base.specs.declared.value.Values.{Values}
 use Rattle.ipdl_base.specs.Sound.{IsSound}
 use Rattle.nesting_core.specs.declared.frame.Answer.{Answer}
 use Rattle.nesting_core.specs.declared.frame.Answer.TheVariants as answer
-use Rattle.nesting_core.specs.Frames.{head_of}
 use Rattle.pending_queue.specs.declared.item.Item.{Item}
 use Rattle.pending_queue.specs.declared.item.Item.TheVariants as item
 use Rattle.channel_model.specs.Answers as answering
 use Rattle.channel_model.specs.Deliveries as delivery
-use Rattle.channel_model.specs.Ends.{End, World, Packet, message, mark, end_of, link_to, opening}
-use Rattle.channel_model.specs.Events.{Event, Move}
+use Rattle.channel_model.specs.Ends.{End, World, Packet, message, mark, end_of, link_to}
+use Rattle.channel_model.specs.Events.{Event}
 use Rattle.channel_model.specs.Steps.{first_packet}
 use Rattle.channel_model.specs.Falls as fall
 use Rattle.channel_model.specs.Numbers.{other, seq_of, is_sync_row, top_id}
-use Rattle.channel_model.specs.Outputs.{Output, request_answered, resolver_answered, is_open, body_of}
+use Rattle.channel_model.specs.Outputs.{request_answered, resolver_answered, is_open}
 use Rattle.channel_model.specs.Parts
 use Rattle.channel_model.specs.Parts.{OwnParts, FirstPart, LaterPart, LaterParts, DeliveryPart, IsRefusal, IsRenaming, reply_lines, fall_lines, farewell_line, shut_line, reply_outcome}
 use Rattle.channel_model.specs.Phases.{Phase}
 use Rattle.channel_model.specs.Returns as return
-use Rattle.channel_model.specs.Runs.{run, happens}
 use Rattle.channel_model.specs.Sends as send
 use Rattle.channel_model.specs.Takes as take
 use Rattle.channel_model.specs.ValueActors.{received}
 use Rattle.channel_model.proofs.Known.{all-append, all-map}
 use Rattle.history_reading.specs.EndReading.{EndReading}
 use Rattle.history_reading.specs.Reading.{Reading, end_reading_of, other_of, after_what}
-use Rattle.channel_laws.specs.AnswersOnce.{AnswersOnce}
-use Rattle.channel_laws.specs.Arrivals.{arrival_reading, replies_delivered, ArrivalsAreRead, HasDueRow, IsDueBody, IsDueMessage, IsDue}
+use Rattle.channel_laws.specs.Arrivals.{arrival_reading, replies_delivered, ArrivalsAreRead, IsDueBody, IsDueMessage, IsDue}
 use Rattle.channel_laws.specs.Exchanges.{ReadsExchanges}
 use Rattle.channel_laws.specs.NestedWorlds.{IsNestedWorld}
 use Rattle.channel_laws.specs.Notes.{told_notes}
 use Rattle.channel_laws.specs.Origins.{BodyOrigin}
-use Rattle.channel_laws.specs.RequestOrder.{InOrder, BodyInOrder, IsNextRequest, ComesInOrder, WorldInOrder, on_way}
+use Rattle.channel_laws.specs.RequestOrder.{InOrder, BodyInOrder, IsNextRequest, WorldInOrder, on_way}
 use Rattle.channel_laws.specs.Taken.{there_line}
 use Rattle.channel_laws.specs.Tested.{after_whats, EndLinesPass, test_at}
-use Rattle.channel_laws.specs.TwoEnds.{TwoEnds}
+use Rattle.channel_laws.proofs.ComingRequests.{comes-at}
 use Rattle.channel_laws.proofs.EffectLines.{IsEffectLine, AreEffectLines, built, answers_ok, answers_fault, fails, resolved, rejected, fell, reply-effects, rejection-effects, fall-effects, fail-effects, settle-effect}
 use Rattle.channel_laws.proofs.EveryRun.{end-side}
-use Rattle.channel_laws.proofs.Exchanges.{own-exchanges, delivery-exchanges, opening-exchanges, request-there, reply-there, replies-once}
-use Rattle.channel_laws.proofs.Moves.{StepParts, acts, delivers, SideMove}
+use Rattle.channel_laws.proofs.Exchanges.{own-exchanges, delivery-exchanges, request-there, reply-there, replies-once}
+use Rattle.channel_laws.proofs.Moves.{StepParts, acts, delivers}
 use Rattle.channel_laws.proofs.OrderRuns.{requests_come_in_order}
 use Rattle.channel_laws.proofs.Outlines.{RepliesFit}
-use Rattle.channel_laws.proofs.Runs.{RunMove, IsReached, MoveKeeps, EveryMoveKeeps, AtEnds, at-ends, ends-keep, ends-pass}
+use Rattle.channel_laws.proofs.Runs.{IsReached, EveryMoveKeeps, AtEnds, at-ends, ends-keep, ends-pass}
 use Rattle.channel_laws.proofs.Testing.{tested-append, tested-free}
 use Rattle.channel_laws.proofs.TwoEnds.{Arrival}
 
@@ -141,7 +134,7 @@ module _ (schema : Schema) (others : EndReading) where
   first-there {e} place own (Parts.resumes wait row on_top found) h once = (resume-there wait.seq (received schema e.actors row wait.given) own others, tt)
 
   -- later parts print effects alone
-  later-effects : {p q : Phase} {e f : End} {ws : List What} {ps : List Packet} → LaterPart p e ws ps f q → AreEffectLines ws
+  pub later-effects : {p q : Phase} {e f : End} {ws : List What} {ps : List Packet} → LaterPart p e ws ps f q → AreEffectLines ws
   later-effects (Parts.unnames name may silent) = tt
   later-effects (Parts.lets_go name r may held o) = (answers_fault r.seq ResolverDestroyed, tt)
   later-effects (Parts.names more holds) = tt
@@ -171,10 +164,6 @@ module _ (schema : Schema) (others : EndReading) where
   delivery-there place own (Parts.passes_by m is found) = (unknown-there m.seq m.body own others, tt)
 
 -- What comes is due
-
-comes-at : (schema : Schema) (side : Side) (w : World) → WorldInOrder schema w → ComesInOrder schema (other side) (end_of side w) (end_of (other side) w) (link_to side w)
-comes-at schema Parent w h = h.comes
-comes-at schema Child w h = h.goes
 
 due-message : (schema : Schema) (mine : End) (own : EndReading) (side : Side) (sent : _) (m : Message) (goes_on : ℕ → ℕ → Type 0) (b : Body) → mine.side ≡ side → RepliesFit schema (message m) mine own → m.body ≡ b → BodyOrigin schema sent m b → BodyInOrder schema (other side) m b goes_on mine.delivered mine.constructors_delivered → IsDueMessage schema mine own m b
 due-message schema mine own side sent m goes_on (Request vs) at fit is origin order =

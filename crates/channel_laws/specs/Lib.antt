@@ -27,5 +27,8 @@ pub mod GivenAnswers
 pub mod Exchanges
 pub mod Taken
 pub mod PrefixLaws
+pub mod Replies
 pub mod Heads
 pub mod WaitLaws
+pub mod SettledLaws
+pub mod TwoEndLaws

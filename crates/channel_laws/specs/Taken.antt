@@ -1,5 +1,5 @@
 -- What is taken, by the lines of its end alone: it was delivered, and is taken for the first time.
-use Rattle.std.specs.Prelude.{ℤ, Bool, true}
+use Rattle.std.specs.Prelude.{Bool, true}
 use Rattle.ipdl_base.specs.declared.line.What.{What}
 use Rattle.ipdl_base.specs.declared.line.What.TheVariants as what
 use Rattle.history_reading.specs.EndReading.{EndReading}
