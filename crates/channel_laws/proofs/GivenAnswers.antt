@@ -5,15 +5,12 @@ use Rattle.std.specs.Option.{option_map_or}
 use Rattle.std.proofs.lemmas.Bool.Decides.{Decides-int_eq}
 use Rattle.std.proofs.lemmas.List.{append-nil, map-append}
 use Rattle.std.proofs.lemmas.Option.{same_Some}
-use Rattle.ipdl_base.specs.declared.kinds.Reason.TheVariants.{ChannelClosed}
 use Rattle.ipdl_base.specs.declared.kinds.Side.{Side}
 use Rattle.ipdl_base.specs.declared.line.What.{What}
 use Rattle.ipdl_base.specs.declared.line.What.TheVariants as what
-use Rattle.ipdl_base.specs.declared.message.Body.{Body}
 use Rattle.ipdl_base.specs.declared.message.Message.{Message}
 use Rattle.ipdl_base.specs.declared.schema.MessageRow.{MessageRow}
 use Rattle.ipdl_base.specs.declared.schema.Schema.{Schema}
-use Rattle.ipdl_base.specs.declared.value.Values.{Values}
 use Rattle.ipdl_base.specs.Sound.{message_of}
 use Rattle.nesting_core.specs.declared.frame.Answer.{Answer}
 use Rattle.nesting_core.specs.declared.frame.Answer.TheVariants as answer
@@ -21,10 +18,6 @@ use Rattle.nesting_core.specs.declared.frame.StackFrame.{StackFrame}
 use Rattle.nesting_core.specs.declared.frame.StackFrame.TheVariants.{Dispatch, Wait}
 use Rattle.nesting_core.specs.Answers.{awaited, with_answer}
 use Rattle.nesting_core.specs.Frames.{head_of, is_unanswered}
-use Rattle.pending_queue.specs.declared.item.Item.{Item}
-use Rattle.pending_queue.specs.declared.item.Item.TheVariants as item
-use Rattle.pending_queue.specs.Compression.{staying}
-use Rattle.pending_queue.specs.Holding.{is_free, without_first}
 use Rattle.history_reading.specs.EndReading.{EndReading, is_sync_request}
 use Rattle.history_reading.specs.Numbers.{has}
 use Rattle.history_reading.specs.Reading as reads
@@ -37,25 +30,21 @@ use Rattle.channel_model.specs.Answers as answering
 use Rattle.channel_model.specs.Deliveries as delivery
 use Rattle.channel_model.specs.Ends.{End, Packet, message, mark, StackEntry}
 use Rattle.channel_model.specs.Events.{Answering, Event, handled, kept}
-use Rattle.channel_model.specs.Numbers.{is_sync_row, makes_promise}
-use Rattle.channel_model.specs.Outputs.{Output, is_open, body_of}
+use Rattle.channel_model.specs.Numbers.{is_sync_row}
+use Rattle.channel_model.specs.Outputs.{Output, body_of}
 use Rattle.channel_model.specs.Parts as parts
 use Rattle.channel_model.specs.Parts.{FirstPart, LaterPart, LaterParts, OwnParts, DeliveryPart, end_behind, farewell_item, left_end}
 use Rattle.channel_model.specs.Phases.{Phase}
 use Rattle.channel_model.specs.Sends as send
-use Rattle.channel_model.specs.Takes as take
-use Rattle.channel_model.proofs.Known.{all-map, all-append}
-use Rattle.channel_model.proofs.Sublists.{all-sublist, without_first-sublist, staying-sublist}
-use Rattle.channel_laws.specs.GivenAnswers.{answer_content, IsGiven, was_said, has_failed, FrameIsGiven, FrameIsOwn, PacketIsSent, HasAnswers, KeepsAnswers}
+use Rattle.channel_model.proofs.Known.{all-map}
+use Rattle.channel_laws.specs.GivenAnswers.{answer_content, IsGiven, was_said, has_failed, FrameIsGiven, FrameIsOwn, PacketIsSent, HasAnswers}
 use Rattle.channel_laws.specs.Notes.{Note, says, asks, told_note, told_notes, request_note, body_note, packet_note, notes, In, here, there}
 use Rattle.channel_laws.specs.Notes as note
 use Rattle.channel_laws.specs.Origins.{IsRequested}
-use Rattle.channel_laws.specs.SentAccounts.{EndAccount}
 use Rattle.channel_laws.specs.Tested.{after_whats}
-use Rattle.channel_laws.specs.TwoEnds.{LinkAccount, TwoEnds}
 use Rattle.channel_laws.proofs.Growing.{whats-append, grows, in-before, in-behind}
 use Rattle.channel_laws.proofs.Moves.{EndMove, StepParts, acts, delivers}
-use Rattle.channel_laws.proofs.Outlines.{RepliesFit, cons-head}
+use Rattle.channel_laws.proofs.Outlines.{RepliesFit}
 use Rattle.channel_laws.proofs.TwoEnds.{Arrival}
 
 -- Which calls have failed

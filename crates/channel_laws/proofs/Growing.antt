@@ -30,7 +30,7 @@ use Rattle.channel_model.proofs.Known.{all-map, all-append, distinct-last}
 use Rattle.channel_laws.specs.Tested.{after_whats}
 use Rattle.channel_laws.specs.Notes
 use Rattle.channel_laws.specs.Notes.{RequestNote, Note, asks, told_note, told_notes, request_note, In, here, there}
-use Rattle.channel_laws.specs.Origins.{IsRequested, EntryOrigin, Origin, ResolverOrigin, ContentOrigin, NamingOrigin, BodyOrigin, ItemOrigin, RepliesTo, BodyReplies, PacketReplies, HasOrigins}
+use Rattle.channel_laws.specs.Origins.{IsRequested, EntryOrigin, Origin, ContentOrigin, NamingOrigin, BodyOrigin, ItemOrigin, BodyReplies, PacketReplies, HasOrigins}
 use Rattle.channel_laws.specs.SentAccounts.{seqs, request_seq, HasSyncOfRow, SentAccount}
 use Rattle.channel_laws.specs.Delivered.{delivered_by, delivered_by_lines}
 

@@ -48,7 +48,7 @@ use Rattle.ipdl_base.specs.declared.kinds.EndState.TheVariants.{Open, Draining, 
 use Rattle.channel_model.specs.Ends.{End, Packet, message, mark, PromiseEntry}
 use Rattle.channel_model.specs.Events.{Answering, handled, kept}
 use Rattle.channel_model.specs.Falls as fall
-use Rattle.channel_model.specs.Numbers.{top_id, id_of, seq_of, is_constructor, makes_promise, counting, is_sync_row, request_row}
+use Rattle.channel_model.specs.Numbers.{top_id, id_of, seq_of, is_constructor, counting, is_sync_row, request_row}
 use Rattle.channel_model.specs.Outputs.{is_open, is_dead_end, AnsweredRequest, answer_line, request_answered, resolver_answered, reply_to}
 use Rattle.channel_model.specs.Returns as return
 use Rattle.channel_model.specs.Sends as send

@@ -1,7 +1,6 @@
 -- An end whose lines tell that nothing but acts is possible has nothing to deliver, take, return, resume or flush.
-use Rattle.std.proofs.Common.{◌≡◌, ◌==◌, ℕ, ℤ, pos, Bool, true, false, not, ◌&&◌, if◌then◌else◌, List, [], ◌∷◌, cond, find, map, Option, Some, None, is_some, option_map, option_and_then, unwrap_or, refl, sym, ap, subst, ◌∙◌}
+use Rattle.std.proofs.Common.{◌≡◌, ◌==◌, ℤ, Bool, true, false, not, ◌&&◌, if◌then◌else◌, List, [], ◌∷◌, cond, find, map, Option, Some, None, is_some, option_map, option_and_then, refl, sym, ap, subst, ◌∙◌}
 use Rattle.std.specs.List.{AllByRecursion}
-use Rattle.std.proofs.lemmas.Bool.{eq-eqb}
 use Rattle.ipdl_base.specs.declared.kinds.EndState.{EndState}
 use Rattle.ipdl_base.specs.declared.kinds.EndState.TheVariants.{Open, Draining, Closed, Dead}
 use Rattle.ipdl_base.specs.declared.kinds.Level.{Level}
@@ -19,29 +18,27 @@ use Rattle.nesting_core.specs.Frames.{head_of, is_inside_sync}
 use Rattle.nesting_core.specs.Top.{top_of}
 use Rattle.nesting_laws.specs.Calls.{SyncFrame}
 use Rattle.pending_queue.specs.declared.item.Item.{Item}
-use Rattle.history_reading.specs.declared.parts.PacketKind.{PacketKind}
 use Rattle.history_reading.specs.EndReading.{EndReading}
 use Rattle.history_reading.specs.Still as lines
 use Rattle.channel_model.specs.Deliveries as delivery
 use Rattle.channel_model.specs.Ends.{End, Packet, StackEntry}
 use Rattle.channel_model.specs.Events as event
 use Rattle.channel_model.specs.Numbers.{request_row}
-use Rattle.channel_model.specs.Outputs.{Output, is_open}
+use Rattle.channel_model.specs.Outputs.{is_open}
 use Rattle.channel_model.specs.Returns as return
 use Rattle.channel_model.specs.Sends.{frames_of}
 use Rattle.channel_model.specs.States.{IsAnswered}
-use Rattle.channel_model.specs.Steps.{step, first_packet, provided}
+use Rattle.channel_model.specs.Steps.{step, provided}
 use Rattle.channel_model.specs.Takes as take
 use Rattle.channel_laws.specs.Arrivals.{item_kind}
-use Rattle.channel_laws.specs.Heads.{HasHeads, EntryHead}
-use Rattle.channel_laws.specs.NestedWorlds.{EndsAreNested, both_open, mine_open, theirs_open, both_over, EndsInLastPacket, last_alone, last_later}
+use Rattle.channel_laws.specs.Heads.{HasHeads}
+use Rattle.channel_laws.specs.NestedWorlds.{EndsAreNested, both_open, mine_open, theirs_open, both_over, EndsInLastPacket}
 use Rattle.channel_laws.specs.NotedArrivals.{ArrivalsAreNoted}
 use Rattle.channel_laws.specs.Notes.{told_notes}
-use Rattle.channel_laws.specs.SyncStack.{ShowsFrames, empty, async_base, waits, handles, ShowsUnderAnswer, no_answer, has_answer, Shows, no_cpow, cpow_on_top}
+use Rattle.channel_laws.specs.SyncStack.{empty, async_base, waits, handles, no_answer, has_answer, Shows, no_cpow, cpow_on_top}
 use Rattle.channel_laws.specs.TwoEnds.{TwoEnds}
 use Rattle.channel_laws.proofs.HeadsAlike.{inner-alike, awaited-level, takes-alike}
 use Rattle.channel_laws.proofs.StillReads.{StillEnd, none-comes, InnerIsClear, some-free}
-use Rattle.channel_laws.proofs.WaitMoments.{over-waits}
 
 -- The inner transaction of a parent that awaits something is there
 

@@ -1,5 +1,5 @@
 -- Every legal history obeys the law of waits.
-use Rattle.std.proofs.Common.{◌≡◌, ℕ, Bool, true, false, not, ◌&&◌, ◌||◌, if◌then◌else◌, List, [], None, refl, sym, ap, subst, ◌∙◌}
+use Rattle.std.proofs.Common.{◌≡◌, Bool, true, false, not, ◌&&◌, ◌||◌, if◌then◌else◌, List, [], None, refl, ap, subst, ◌∙◌}
 use Rattle.ipdl_base.specs.declared.kinds.Side.{Side}
 use Rattle.ipdl_base.specs.declared.kinds.Side.TheVariants.{Parent, Child}
 use Rattle.ipdl_base.specs.declared.line.Line.{Line}
@@ -11,14 +11,12 @@ use Rattle.history_reading.specs.EndReading.{has_unanswered}
 use Rattle.history_reading.specs.Holds.{moment_test}
 use Rattle.history_reading.specs.Reading.{Reading, opening_reading, read}
 use Rattle.history_reading.specs.Still as lines
-use Rattle.history_reading.specs.Waits.{waits_line, waits_moment, block_each_other, some_waits_behind_end, some_waits, waits_while_still}
-use Rattle.channel_model.specs.Ends.{World, Packet, end_of, opening}
-use Rattle.channel_model.specs.Events.{Move}
-use Rattle.channel_model.specs.Outputs.{Output, is_open}
+use Rattle.history_reading.specs.Waits.{waits_line, waits_moment, some_waits_behind_end, some_waits, waits_while_still}
+use Rattle.channel_model.specs.Ends.{World, end_of, opening}
 use Rattle.channel_model.specs.Runs.{run, history_of, is_still, is_still_at}
 use Rattle.channel_model.specs.Sends.{frames_of}
 use Rattle.channel_laws.specs.Exchanges.{ReadsExchanges}
-use Rattle.channel_laws.specs.NestedWorlds.{IsNestedWorld, EndsInLastPacket}
+use Rattle.channel_laws.specs.NestedWorlds.{IsNestedWorld}
 use Rattle.channel_laws.specs.NotedArrivals.{IsNoted}
 use Rattle.channel_laws.specs.Taken.{there_line}
 use Rattle.channel_laws.specs.Tested.{test_at}
@@ -33,8 +31,8 @@ use Rattle.channel_laws.proofs.Outlines.{open-is}
 use Rattle.channel_laws.proofs.PrefixRuns.{noted-at}
 use Rattle.channel_laws.proofs.Reached.{reached-has, noted-reached}
 use Rattle.channel_laws.proofs.Readable.{reading_is_world}
-use Rattle.channel_laws.proofs.Runs.{IsReached, RunMove, MoveKeeps, EveryMoveKeeps, AtEnds, AcrossEnds, every-run, moment_at, moments-pass}
-use Rattle.channel_laws.proofs.StillEnds.{NothingPossible, nothing-possible, parent-clear, child-clear}
+use Rattle.channel_laws.proofs.Runs.{IsReached, MoveKeeps, EveryMoveKeeps, AtEnds, AcrossEnds, every-run, moment_at, moments-pass}
+use Rattle.channel_laws.proofs.StillEnds.{nothing-possible, parent-clear, child-clear}
 use Rattle.channel_laws.proofs.StillReads.{StillEnd, still-end}
 use Rattle.channel_laws.proofs.StillWorlds.{still_ends_wait_for_nothing}
 use Rattle.channel_laws.proofs.Taken.{ReadExchanges, exchanges-keep}
@@ -73,13 +71,13 @@ module _ (schema : Schema) (sound : IsSound schema) where
         let x : AtEnds schema (ReadsExchanges schema) w r = exchanges-reached w r reached in
         let noted : AcrossEnds schema (IsNoted schema) w r = noted-reached schema sound w r reached in
         let a =
-            nothing-possible schema Parent w.parent w.child r.parent r.child w.to_parent w.to_child reads.ends nested.parent (parent-heads schema sound w r reached nested reads) x.0.arrivals.arrived (noted-at Child w.child.side w.parent r.child schema nested.child noted.0.arrived)
-            (parent-clear schema w.parent w.child w.to_parent w.to_child nested.parent (from-side schema Parent w nested)) Child p c
-            (λ o. (told-at schema Parent w.parent w.child w.to_parent w.to_child (open-is w.parent.state o) (from-side schema Parent w nested)).2) in
+        nothing-possible schema Parent w.parent w.child r.parent r.child w.to_parent w.to_child reads.ends nested.parent (parent-heads schema sound w r reached nested reads) x.0.arrivals.arrived (noted-at Child w.child.side w.parent r.child schema nested.child noted.0.arrived)
+        (parent-clear schema w.parent w.child w.to_parent w.to_child nested.parent (from-side schema Parent w nested)) Child p c
+        (λ o. (told-at schema Parent w.parent w.child w.to_parent w.to_child (open-is w.parent.state o) (from-side schema Parent w nested)).2) in
         let b =
-            nothing-possible schema Child w.child w.parent r.child r.parent w.to_child w.to_parent (flip reads.ends) nested.child (child-heads schema sound w r reached nested reads) x.1.arrivals.arrived (noted-at Parent w.parent.side w.child r.parent schema nested.parent noted.1.arrived)
-            (child-clear w.child nested.child) Parent c p
-            (λ o. (told-at schema Child w.child w.parent w.to_child w.to_parent (open-is w.child.state o) (from-side schema Child w nested)).2) in
+        nothing-possible schema Child w.child w.parent r.child r.parent w.to_child w.to_parent (flip reads.ends) nested.child (child-heads schema sound w r reached nested reads) x.1.arrivals.arrived (noted-at Parent w.parent.side w.child r.parent schema nested.parent noted.1.arrived)
+        (child-clear w.child nested.child) Parent c p
+        (λ o. (told-at schema Child w.child w.parent w.to_child w.to_parent (open-is w.child.state o) (from-side schema Child w nested)).2) in
         and-true (is_still_at schema w Parent) (is_still_at schema w Child) (all-five _ _ _ _ _ a.delivers a.takes a.returns a.resumes a.flushes) (all-five _ _ _ _ _ b.delivers b.takes b.returns b.resumes b.flushes)
 
     none-awaits : (side : Side) → is_still schema w ≡ true → awaited (frames_of (end_of side w)) ≡ None

@@ -1,37 +1,29 @@
 -- In every run waits end in order and by what was said.
-use Rattle.std.proofs.Common.{◌≡◌, ℕ, ℤ, Bool, true, false, List, [], ◌∷◌, ◌++◌, Option, Some, None, refl, sym, ap, subst, ◌∙◌}
-use Rattle.std.specs.List.{AllByRecursion}
+use Rattle.std.proofs.Common.{◌≡◌, ℤ, List, ◌++◌, sym, subst, ◌∙◌}
 use Rattle.ipdl_base.specs.declared.kinds.Side.{Side}
-use Rattle.ipdl_base.specs.declared.kinds.Side.TheVariants.{Parent, Child}
-use Rattle.ipdl_base.specs.declared.line.Line.{Line}
-use Rattle.ipdl_base.specs.declared.schema.MessageRow.{MessageRow}
 use Rattle.ipdl_base.specs.declared.schema.Schema.{Schema}
-use Rattle.ipdl_base.specs.declared.value.Values.{Values}
 use Rattle.ipdl_base.specs.Signatures.{returns_of_row}
 use Rattle.ipdl_base.specs.Sound.{IsSound}
-use Rattle.nesting_core.specs.declared.frame.Answer.{Answer}
 use Rattle.nesting_core.specs.declared.frame.Answer.TheVariants as answer
-use Rattle.history_reading.specs.EndReading.{EndReading, lives}
+use Rattle.history_reading.specs.EndReading.{EndReading}
 use Rattle.history_reading.specs.Reading.{Reading, end_reading_of, other_of}
 use Rattle.history_reading.specs.Waits.{waits_line}
-use Rattle.channel_model.specs.Ends.{End, World, Packet, end_of, link_to}
-use Rattle.channel_model.specs.Events.{Event, Move}
-use Rattle.channel_model.specs.Numbers.{other, request_row}
-use Rattle.channel_model.specs.Outputs.{Output, is_open}
-use Rattle.channel_model.specs.Returns as return
+use Rattle.channel_model.specs.Ends.{End, World, end_of, link_to}
+use Rattle.channel_model.specs.Numbers.{other}
+use Rattle.channel_model.specs.Outputs.{is_open}
 use Rattle.channel_model.specs.ValueActors.{actors_in_parts}
 use Rattle.channel_laws.specs.GivenAnswers.{HasAnswers, KeepsAnswers}
-use Rattle.channel_laws.specs.Notes.{Note, told_notes, notes}
-use Rattle.channel_laws.specs.Protocols.{Protocols, HasProtocols, HaveTheirProtocols, WorldHasProtocols, AnswerHasProtocols}
+use Rattle.channel_laws.specs.Notes.{told_notes, notes}
+use Rattle.channel_laws.specs.Protocols.{Protocols, HasProtocols, WorldHasProtocols, AnswerHasProtocols}
 use Rattle.channel_laws.specs.EndActors.{ReadsActors}
-use Rattle.channel_laws.specs.Tested.{after_whats, EndLinesPass, test_at}
+use Rattle.channel_laws.specs.Tested.{after_whats, test_at}
 use Rattle.channel_laws.proofs.EveryRun.{end-side}
 use Rattle.channel_laws.proofs.GivenAnswers.{move-answers, other-answers}
-use Rattle.channel_laws.proofs.Moves.{EndMove, SideMove, other-other}
+use Rattle.channel_laws.proofs.Moves.{other-other}
 use Rattle.channel_laws.proofs.ReadAlike.{alike, protocols-at, top-protocols}
 use Rattle.channel_laws.proofs.Reached.{actors-reached, protocols-reached}
 use Rattle.channel_laws.proofs.Resumes.{AnswersAreAlike, resumes-pass}
-use Rattle.channel_laws.proofs.Runs.{RunMove, MoveKeeps, EveryMoveKeeps, AcrossEnds, across-ends, across-keep, at-ends, ends-pass}
+use Rattle.channel_laws.proofs.Runs.{EveryMoveKeeps, AcrossEnds, across-ends, across-keep, at-ends, ends-pass}
 use Rattle.channel_laws.proofs.WaitLines.{move-waits}
 
 -- who lives in the answer of the wait on top is read alike

@@ -13,7 +13,7 @@ use Rattle.history_reading.specs.Numbers.{has}
 use Rattle.history_reading.specs.SentPacket.{ReplyContent, ok, fault}
 use Rattle.channel_model.specs.Ends.{End, Packet, message, mark, StackEntry}
 use Rattle.channel_model.specs.Numbers.{other}
-use Rattle.channel_laws.specs.Notes.{Note, says, broken, told_notes, body_note, In}
+use Rattle.channel_laws.specs.Notes.{Note, says, told_notes, body_note, In}
 use Rattle.channel_laws.specs.Origins.{IsRequested}
 
 -- what the reply to a sync request says
