@@ -36,9 +36,6 @@ use Rattle.channel_laws.specs.Delivered.{delivered_by, delivered_by_lines}
 
 -- Lines, one part after another
 
-next-place : (a b : ℕ) → a + 1 + b ≡ a + (b + 1)
-next-place a b = omega arith
-
 pub whats-append : (schema : Schema) (place : ℕ) (ws vs : List What) (h : EndReading) → (at : ℕ) × (after_whats schema place (ws ++ vs) h ≡ after_whats schema at vs (after_whats schema place ws h))
 whats-append schema place [] vs h = (place, refl)
 whats-append schema place (w ∷ ws) vs h = whats-append schema (place + 1) ws vs (after_what schema place w h)

@@ -143,10 +143,6 @@ released-stack seq (x ∷ xs) =
     ap (λ (f : CallFrame). f ∷ map shown_entry (answering.released seq xs)) (released-one (answering.has_resolver seq x) x)
     ∙ ap (λ (fs : List CallFrame). shown_entry x ∷ fs) (released-stack seq xs)
 
-without-stack : (by : Answering) (e : End) → map shown_entry (answering.without_resolver by e).stack ≡ map shown_entry e.stack
-without-stack (handled seq) e = released-stack seq e.stack
-without-stack (kept name number) e = refl
-
 -- an answer goes to the wait that is awaited
 
 same-frames : (es : List StackEntry) → delivery.with_frames (map (λ (x : StackEntry). x.frame) es) es ≡ es

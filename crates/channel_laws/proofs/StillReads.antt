@@ -104,9 +104,6 @@ InnerIsClear Parent None inner = Unit {0}
 InnerIsClear Parent (Some w) None = ⊥
 InnerIsClear Parent (Some w) (Some t) = Unit {0}
 
-child-sync : (w : Level) (i j : Option ℤ) (l : Level) (t : ℤ) → defers_sync Child w i l t ≡ defers_sync Child w j l t
-child-sync w i j l t = refl
-
 child-request : (w : Level) (i j : Option ℤ) (sync : Bool) (l : Level) (t : ℤ) → defers_request Child w i sync l t ≡ defers_request Child w j sync l t
 child-request w i j sync InsideCpow t = refl
 child-request w i j false Not t = refl

@@ -103,9 +103,6 @@ module _ (schema : Schema) (sound : IsSound schema) (w : World) (r : Reading) (r
   ends : TwoEnds schema w.parent w.child r.parent r.child w.to_parent w.to_child
   ends = reads.ends
 
-  child_side : w.child.side ≡ Child
-  child_side = nested.child
-
   -- the heads at each end, with what the lines of the other say, by the side that it keeps
   pub parent-heads : HasHeads schema (told_notes w.child.side r.child.sent) w.parent
   parent-heads = subst (λ (s : Side). HasHeads schema (told_notes s r.child.sent) w.parent) (sym nested.child) heads.0
