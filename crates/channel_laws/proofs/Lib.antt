@@ -91,3 +91,4 @@ pub mod StillReads
 pub mod StillEnds
 pub mod WaitLaw
 pub mod SettledRuns
+pub mod PartLines
