@@ -23,7 +23,7 @@ use Rattle.channel_laws.proofs.OrderRuns.{requests_come_in_order}
 use Rattle.channel_laws.proofs.ProtocolRuns.{first-is}
 use Rattle.channel_laws.proofs.Runs.{IsReached}
 
-comes-at : (schema : Schema) (side : Side) (w : World) → WorldInOrder schema w → ComesInOrder schema (other side) (end_of side w) (end_of (other side) w) (link_to side w)
+pub comes-at : (schema : Schema) (side : Side) (w : World) → WorldInOrder schema w → ComesInOrder schema (other side) (end_of side w) (end_of (other side) w) (link_to side w)
 comes-at schema Parent w h = h.comes
 comes-at schema Child w h = h.goes
 

@@ -20,6 +20,7 @@ use Rattle.history_reading.specs.Numbers.{has}
 use Rattle.history_reading.specs.SentPacket.{Request}
 use Rattle.channel_laws.specs.Promised.{Promised, promised_in, promised_entry, PromiseReading, IsReadPromise, HasPromises}
 use Rattle.channel_laws.specs.SentAccounts.{request_seq}
+use Rattle.channel_laws.proofs.Sends.{and-left, and-right}
 use Rattle.channel_laws.proofs.Promising.{int-apart, once-distinct, numbers_passing, numbers_falling, is_falling, IsAmong, among-falling}
 use Rattle.channel_laws.proofs.Counting.{int-same}
 
@@ -111,14 +112,6 @@ passing-distinct test (entry ∷ promises) d = by (test entry) (passing-distinct
     by : (b : Bool) → AreDistinct (numbers_passing test promises) → AreDistinct (map promise_seq (cond b (entry ∷ filter test promises) (filter test promises)))
     by true rest = (all-passing (λ later. promise_seq entry ≢ later) test promises (each promises d.0), rest)
     by false rest = rest
-
-and-left : (a b : Bool) → a && b ≡ true → a ≡ true
-and-left true b e = refl
-and-left false b e = cc
-
-and-right : (a b : Bool) → a && b ≡ true → b ≡ true
-and-right true b e = e
-and-right false b e = cc
 
 -- what passes is pending
 pub passing-unsettled : (side : Side) (promises : List PromiseEntry) (count : ℕ) (read : PromiseReading) (test : Promise → Bool) → HasPromises side promises count read → AllByRecursion (IsUnsettled read) (numbers_passing (passes test) promises)
