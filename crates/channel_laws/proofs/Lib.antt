@@ -84,3 +84,5 @@ pub mod EndEvents
 pub mod HeadParts
 pub mod HeadsAlike
 pub mod SettledRuns
+pub mod WaitMoments
+pub mod StillReads

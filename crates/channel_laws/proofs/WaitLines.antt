@@ -60,7 +60,7 @@ use Rattle.channel_laws.proofs.Moves.{EndMove, StepParts, acts, delivers}
 
 -- what is awaited is read alike
 
-awaited-alike : (hs : List CallFrame) (es : List StackEntry) → map placeless hs ≡ map shown_entry es → end_reading.awaited hs ≡ nesting.awaited (map (λ (x : StackEntry). x.frame) es)
+pub awaited-alike : (hs : List CallFrame) (es : List StackEntry) → map placeless hs ≡ map shown_entry es → end_reading.awaited hs ≡ nesting.awaited (map (λ (x : StackEntry). x.frame) es)
 awaited-alike [] [] k = refl
 awaited-alike [] (y ∷ es) k = cc
 awaited-alike (x ∷ hs) [] k = cc
