@@ -1,26 +1,21 @@
 -- The request that comes first to an open end is the next of the other end: so says every run.
-use Rattle.std.proofs.Common.{◌≡◌, ℕ, ◌+◌, true, List, [], ◌∷◌, ◌++◌, drop, Some, sym, ap, subst, ◌∙◌}
-use Rattle.std.proofs.lemmas.Option.{same_Some}
+use Rattle.std.proofs.Common.{◌≡◌, true, List, ◌∷◌, drop, Some, subst}
 use Rattle.ipdl_base.specs.declared.kinds.Side.{Side}
 use Rattle.ipdl_base.specs.declared.kinds.Side.TheVariants.{Parent, Child}
 use Rattle.ipdl_base.specs.declared.message.Body.{Body}
 use Rattle.ipdl_base.specs.declared.message.Body.TheVariants.{Request}
 use Rattle.ipdl_base.specs.declared.message.Message.{Message}
-use Rattle.ipdl_base.specs.declared.schema.MessageRow.{MessageRow}
 use Rattle.ipdl_base.specs.declared.schema.Schema.{Schema}
 use Rattle.ipdl_base.specs.declared.value.Values.{Values}
 use Rattle.ipdl_base.specs.Sound.{IsSound}
 use Rattle.history_reading.specs.Reading.{Reading}
-use Rattle.channel_model.specs.Ends.{End, World, Packet, message, mark, end_of, link_to}
-use Rattle.channel_model.specs.Numbers.{other, id_of, is_constructor}
+use Rattle.channel_model.specs.Ends.{End, World, Packet, message, end_of, link_to}
+use Rattle.channel_model.specs.Numbers.{other}
 use Rattle.channel_model.specs.Outputs.{is_open}
 use Rattle.channel_model.specs.Steps.{first_packet}
-use Rattle.channel_laws.specs.EndActors.{HasNextId}
-use Rattle.channel_laws.specs.NestedWorlds.{IsNestedWorld}
 use Rattle.channel_laws.specs.RequestOrder.{IsNextRequest, BodyInOrder, InOrder, on_way, ComesInOrder, WorldInOrder}
-use Rattle.channel_laws.proofs.EveryRun.{end-side}
 use Rattle.channel_laws.proofs.OrderRuns.{requests_come_in_order}
-use Rattle.channel_laws.proofs.ProtocolRuns.{first-is}
+use Rattle.channel_laws.proofs.TwoEnds.{first-is}
 use Rattle.channel_laws.proofs.Runs.{IsReached}
 
 pub comes-at : (schema : Schema) (side : Side) (w : World) → WorldInOrder schema w → ComesInOrder schema (other side) (end_of side w) (end_of (other side) w) (link_to side w)

@@ -1,36 +1,34 @@
 -- What one end of a channel sends, the other does not refuse.
-use Rattle.std.proofs.Common.{◌≡◌, ◌==◌, ℕ, ◌+◌, ℤ, Bool, true, false, not, ◌&&◌, ◌||◌, cond, if◌then◌else◌, int_eq, List, [], ◌∷◌, ◌++◌, drop, find, map, Option, Some, None, is_some, option_map, refl, sym, ap, subst, ◌∙◌}
-use Rattle.std.specs.List.{AllByRecursion, list_any}
+use Rattle.std.proofs.Common.{◌≡◌, ◌==◌, ℕ, ◌+◌, ℤ, Bool, true, false, not, ◌&&◌, ◌||◌, cond, if◌then◌else◌, int_eq, List, [], ◌∷◌, ◌++◌, map, Option, Some, None, is_some, option_map, refl, sym, ap, subst, ◌∙◌}
+use Rattle.std.specs.List.{list_any}
 use Rattle.std.specs.Option.{option_map_or}
 use Rattle.std.proofs.lemmas.Bool.{eq-eqb}
 use Rattle.std.proofs.lemmas.Bool.Decides.{Decides-int_eq}
 use Rattle.std.proofs.lemmas.Option.{same_Some}
-use Rattle.ipdl_base.specs.declared.kinds.Side.{Side}
-use Rattle.ipdl_base.specs.declared.kinds.Side.TheVariants.{Parent, Child}
 use Rattle.ipdl_base.specs.declared.message.Body.{Body}
 use Rattle.ipdl_base.specs.declared.message.Body.TheVariants.{Request, Reply, Fault, Goodbye}
 use Rattle.ipdl_base.specs.declared.message.Message.{Message}
 use Rattle.ipdl_base.specs.declared.schema.MessageRow.{MessageRow}
 use Rattle.ipdl_base.specs.declared.schema.Schema.{Schema}
 use Rattle.ipdl_base.specs.declared.value.Values.{Values}
-use Rattle.ipdl_base.specs.Sound.{IsSound, message_of, has_reply}
+use Rattle.ipdl_base.specs.Sound.{IsSound, message_of}
 use Rattle.history_reading.specs.EndReading.{EndReading}
 use Rattle.history_reading.specs.Rows.{wants_number, wants_row}
 use Rattle.history_reading.specs.SentPacket as told
 use Rattle.history_reading.specs.SentPacket.{requests_of}
-use Rattle.channel_model.specs.Ends.{End, Packet, message, mark, PromiseEntry}
-use Rattle.channel_model.specs.Numbers.{other, seq_of, id_of, sends, is_constructor, is_sync_row, makes_promise, request_row}
-use Rattle.channel_model.specs.Refusals.{DeliveryRefusal, wrong_direction, wrong_number, wrong_new_id, wrong_actor, stray, expected_seq, expected_id, is_replied_to, is_waited_for, is_promised, lives_otherwise, actors_of, actor_refusal, request_refusal, is_expected_reply, reply_refusal, body_refusal, packet_refusal}
+use Rattle.channel_model.specs.Ends.{End, Packet, message, mark}
+use Rattle.channel_model.specs.Numbers.{other, sends, is_constructor, is_sync_row}
+use Rattle.channel_model.specs.Refusals.{DeliveryRefusal, wrong_direction, wrong_number, wrong_new_id, wrong_actor, stray, expected_seq, expected_id, is_replied_to, is_waited_for, is_promised, actors_of, actor_refusal, request_refusal, is_expected_reply, reply_refusal, body_refusal, packet_refusal}
 use Rattle.channel_model.specs.ValueActors.{ActorValue}
 use Rattle.channel_laws.specs.Laws.{IsReply}
 use Rattle.channel_laws.specs.NotedArrivals.{HasWantsOfRow, HaveWantsOfRows}
-use Rattle.channel_laws.specs.Notes.{RequestNote, Note, told_notes, In, here, there}
+use Rattle.channel_laws.specs.Notes.{RequestNote, told_notes, In, here, there}
 use Rattle.channel_laws.specs.Origins.{RepliesTo, BodyReplies, PacketReplies}
 use Rattle.channel_laws.specs.Promised.{Promised, promised_by, promised_in, promised_entry, PromisesAreRead}
 use Rattle.channel_laws.specs.Protocols.{Protocols, HasProtocols, PacketHasProtocols}
 use Rattle.channel_laws.specs.RequestOrder.{IsNextRequest}
 use Rattle.channel_laws.specs.SyncCalls.{is_sync_number}
-use Rattle.channel_laws.proofs.Growing.{IsSentAs, sent-as, in-all, in-before, in-behind}
+use Rattle.channel_laws.proofs.Growing.{IsSentAs, sent-as, in-all, in-behind}
 use Rattle.channel_laws.proofs.ReplyRows.{reply_row-is}
 use Rattle.channel_laws.proofs.Rows.{request-message}
 use Rattle.channel_laws.proofs.StandsFor.{none-otherwise}

@@ -1,5 +1,6 @@
 pub mod Rows
 pub mod Track
+pub mod ListedItems
 pub mod LastPackets
 pub mod SyncSteps
 pub mod Sends
@@ -71,10 +72,12 @@ pub mod Taken
 pub mod Settling
 pub mod Reached
 pub mod NulledLive
-pub mod SettledLines
-pub mod PrefixRuns
 pub mod MadeByEvents
 pub mod LivingParts
+pub mod LivingRuns
+pub mod PrefixRuns
+pub mod SettledLines
+pub mod HonestRuns
 pub mod SettledCauses
 pub mod RepliesKept
 pub mod SettledMoments

@@ -1,5 +1,5 @@
 -- The lines of each part obey the law of the living.
-use Rattle.std.proofs.Common.{◌≡◌, ◌==◌, ℕ, ◌+◌, ℤ, pos, Bool, true, false, not, ◌&&◌, cond, if◌then◌else◌, int_eq, List, [], ◌∷◌, ◌++◌, filter, find, map, Option, Some, None, is_none, is_some, option_map, refl, sym, ap, subst, ◌∙◌, inl, inr}
+use Rattle.std.proofs.Common.{◌≡◌, ℕ, ◌+◌, ℤ, pos, Bool, true, false, not, ◌&&◌, cond, if◌then◌else◌, int_eq, List, [], ◌∷◌, ◌++◌, find, map, Option, Some, None, is_some, option_map, refl, sym, ap, subst, ◌∙◌}
 use Rattle.std.specs.List.{AllByRecursion, flat_map}
 use Rattle.std.specs.Option.{option_map_or}
 use Rattle.std.proofs.lemmas.Bool.Decides.{Decides-int_eq}
@@ -7,7 +7,6 @@ use Rattle.std.proofs.lemmas.Option.{same_Some}
 use Rattle.actor_tree.specs.declared.actor.Actor.{Actor}
 use Rattle.actor_tree.specs.Tree as tree
 use Rattle.ipdl_base.specs.declared.kinds.Destroy.{Destroy}
-use Rattle.ipdl_base.specs.declared.kinds.Reason.{Reason}
 use Rattle.ipdl_base.specs.declared.kinds.Reason.TheVariants.{ActorDestroyed, ResolverDestroyed, ChannelClosed}
 use Rattle.ipdl_base.specs.declared.kinds.SendRefusal.TheVariants as refusal
 use Rattle.ipdl_base.specs.declared.kinds.Side.{Side}
@@ -27,8 +26,8 @@ use Rattle.nesting_core.specs.declared.frame.Answer.TheVariants as answer
 use Rattle.nesting_core.specs.Frames.{head_of}
 use Rattle.pending_queue.specs.declared.item.Item.{Item}
 use Rattle.pending_queue.specs.declared.item.Item.TheVariants as item
-use Rattle.history_reading.specs.EndReading.{EndReading, lives, own_request, was_built}
-use Rattle.history_reading.specs.Living.{is_missing_in, is_first_missing, is_dropped_for, is_taken_alive, event_makes, is_made, is_built_right, living_line}
+use Rattle.history_reading.specs.EndReading.{EndReading, lives, was_built}
+use Rattle.history_reading.specs.Living.{is_missing_in, is_first_missing, is_dropped_for, event_makes, is_made, living_line}
 use Rattle.history_reading.specs.Nulled as lines
 use Rattle.history_reading.specs.Reading.{after_what}
 use Rattle.history_reading.specs.SentPacket as told
@@ -39,7 +38,7 @@ use Rattle.channel_model.specs.Ends.{End, Packet, message, mark, PromiseEntry}
 use Rattle.channel_model.specs.Falls as fall
 use Rattle.channel_model.specs.Numbers.{other, protocol_of, is_sync_row, top_id}
 use Rattle.channel_model.specs.Actors.{IsTaken}
-use Rattle.channel_model.specs.Outputs.{is_open, AnsweredRequest, request_answered, resolver_answered}
+use Rattle.channel_model.specs.Outputs.{is_open, request_answered, resolver_answered}
 use Rattle.channel_model.specs.Parts as part
 use Rattle.channel_model.specs.Parts.{FirstPart, LaterPart, LaterParts, OwnParts, DeliveryPart, reply_lines, IsRefusal, IsRenaming, left_end, farewell_line}
 use Rattle.channel_model.specs.Phases.{Phase}
@@ -52,21 +51,20 @@ use Rattle.channel_model.proofs.Known.{all-append, all-map}
 use Rattle.channel_model.proofs.SendParts.{passed-first, lives-as}
 use Rattle.channel_laws.specs.EndActors.{actor_reading, built_ids, IsPending, KeepsActors, ReadsActors}
 use Rattle.channel_laws.specs.NotedArrivals.{ArrivalsAreNoted}
-use Rattle.channel_laws.specs.Notes.{RequestNote, Note, message_note, told_notes, notes}
+use Rattle.channel_laws.specs.Notes.{RequestNote, Note, message_note, told_notes}
 use Rattle.channel_laws.specs.Protocols.{Protocols, HaveTheirProtocols, HasItsProtocol, IsRightMessage, HasProtocols}
 use Rattle.channel_laws.specs.SentAccounts.{EndAccount}
-use Rattle.channel_laws.specs.Tested.{after_whats, EndLinesPass}
+use Rattle.channel_laws.specs.Tested.{EndLinesPass}
 use Rattle.channel_laws.specs.ValueReadings.{LivesAlike}
 use Rattle.channel_laws.proofs.ActorLines.{SaysNoActor, replaced, says_ok, says_fault, fails, resolved, rejected, no_actor-reply, no_actor-rejections, no_actor-fails, no_actor-settles}
 use Rattle.channel_laws.proofs.ActorsKept.{zero-free}
-use Rattle.channel_laws.proofs.MadeByEvents.{IsAsked, FreshIsMade, EventMakes, event-makes, taken-asked}
+use Rattle.channel_laws.proofs.MadeByEvents.{IsAsked, FreshIsMade, event-makes, taken-asked}
 use Rattle.channel_laws.proofs.MissingAlike.{values_are_read_alike}
 use Rattle.channel_laws.proofs.NulledLive.{nulled-live}
 use Rattle.channel_laws.proofs.Outlines.{leaves-flat}
 use Rattle.channel_laws.proofs.ProtocolParts.{taken-request}
 use Rattle.channel_laws.proofs.Standing.{lives-read, built-lives}
 use Rattle.channel_laws.proofs.StandsFor.{lives-alike}
-use Rattle.channel_laws.proofs.Takes.{found-passes}
 use Rattle.channel_laws.proofs.Testing.{tested-free}
 
 both : (a b : Bool) → a ≡ true → b ≡ true → a && b ≡ true
@@ -242,9 +240,11 @@ module _ (schema : Schema) (sound : IsSound schema) (side : Side) (others : EndR
     first-lives place theirs left (part.shuts last next is) s k n rowed = (shut-lives last own, tt)
     first-lives place theirs left (part.returns entry row vs told lost is t l) s k n rowed =
         let ls : List What = reply_lines told (return.dispatch_answered entry) (return.return_answer schema e row entry vs) in
-        let ms : List What = reply_lines lost (resolver_answered (answering.resolver_in entry)) (answer.Fault ResolverDestroyed) in
-        (refl, free-lines (place + 1) (ls ++ ms) (after_what schema place (what.Return (head_of entry.frame).seq) own)
-        (all-append SaysNoActor ls ms (no_actor-reply told (return.dispatch_answered entry) (return.return_answer schema e row entry vs)) (no_actor-reply lost (resolver_answered (answering.resolver_in entry)) (answer.Fault ResolverDestroyed))))
+        let ms : List What = reply_lines lost (resolver_answered (answering.resolver_in entry)) (answer.Fault ResolverDestroyed) in (
+          refl,
+          free-lines (place + 1) (ls ++ ms) (after_what schema place (what.Return (head_of entry.frame).seq) own)
+              (all-append SaysNoActor ls ms (no_actor-reply told (return.dispatch_answered entry) (return.return_answer schema e row entry vs)) (no_actor-reply lost (resolver_answered (answering.resolver_in entry)) (answer.Fault ResolverDestroyed))),
+        )
     first-lives place theirs left (part.resumes wait row on_top found) s k n rowed = (resume-lives wait.seq (received schema e.actors row wait.given) own, tt)
 
   -- Actors that are built

@@ -1,6 +1,5 @@
 -- The id that an event may still build is the one that its request makes, as lines tell of that.
-use Rattle.std.proofs.Common.{◌≡◌, ◌==◌, ℕ, ◌+◌, ℤ, pos, Bool, true, false, ◌&&◌, cond, if◌then◌else◌, int_eq, List, [], ◌∷◌, ◌++◌, find, map, Option, Some, None, refl, sym, ap, subst, ◌∙◌}
-use Rattle.std.specs.List.{AllByRecursion}
+use Rattle.std.proofs.Common.{◌≡◌, ℕ, ℤ, pos, Bool, true, false, ◌&&◌, cond, if◌then◌else◌, int_eq, List, [], ◌∷◌, ◌++◌, find, map, Option, Some, None, refl, sym, ap, subst, ◌∙◌}
 use Rattle.std.specs.Option.{option_map_or}
 use Rattle.ipdl_base.specs.declared.kinds.Side.{Side}
 use Rattle.ipdl_base.specs.declared.kinds.Side.TheVariants.{Parent, Child}
@@ -8,10 +7,8 @@ use Rattle.ipdl_base.specs.declared.line.What.{What}
 use Rattle.ipdl_base.specs.declared.message.Body.{Body}
 use Rattle.ipdl_base.specs.declared.message.Body.TheVariants.{Request}
 use Rattle.ipdl_base.specs.declared.message.Message.{Message}
-use Rattle.ipdl_base.specs.declared.schema.MessageRow.{MessageRow}
 use Rattle.ipdl_base.specs.declared.schema.Schema.{Schema}
 use Rattle.ipdl_base.specs.declared.value.Values.{Values}
-use Rattle.pending_queue.specs.declared.item.Item.{Item}
 use Rattle.pending_queue.specs.declared.item.Item.TheVariants as item
 use Rattle.pending_queue.specs.Holding.{is_free}
 use Rattle.nesting_core.specs.Top.{top_of}
@@ -31,7 +28,7 @@ use Rattle.channel_model.specs.Takes as take
 use Rattle.channel_laws.specs.EndActors.{actor_reading, shown_event, built_ids, IsPending, KeepsActors}
 use Rattle.channel_laws.specs.NotedArrivals.{ItemIsNoted, ArrivalsAreNoted}
 use Rattle.channel_laws.specs.Notes.{RequestNote, Note, asks, body_note, packet_note, message_note, request_note, told_notes, notes, In, here, there}
-use Rattle.channel_laws.specs.SentAccounts.{SentAccount, EndAccount}
+use Rattle.channel_laws.specs.SentAccounts.{EndAccount}
 use Rattle.channel_laws.specs.Tested.{after_whats}
 use Rattle.channel_laws.proofs.Growing.{grows, in-before, in-behind, own-request}
 use Rattle.channel_laws.proofs.SentAccounts.{requests-append}

@@ -1,9 +1,8 @@
 -- What arrives is noted, and requests are read as their messages are, behind every step of one of two ends.
-use Rattle.std.proofs.Common.{◌≡◌, ℕ, ◌+◌, ℤ, pos, Bool, true, false, cond, if◌then◌else◌, List, [], ◌∷◌, ◌++◌, drop, map, Option, Some, None, refl, sym, ap, subst, ◌∙◌}
+use Rattle.std.proofs.Common.{◌≡◌, ℕ, ◌+◌, ℤ, pos, Bool, true, false, if◌then◌else◌, List, [], ◌∷◌, ◌++◌, drop, Some, None, refl, sym, ap, subst, ◌∙◌}
 use Rattle.std.specs.List.{AllByRecursion}
 use Rattle.std.proofs.lemmas.List.{map-append}
 use Rattle.ipdl_base.specs.declared.kinds.Side.{Side}
-use Rattle.ipdl_base.specs.declared.kinds.Side.TheVariants.{Parent, Child}
 use Rattle.ipdl_base.specs.declared.line.What.{What}
 use Rattle.ipdl_base.specs.declared.line.What.TheVariants as what
 use Rattle.ipdl_base.specs.declared.message.Message.{Message}
@@ -34,7 +33,7 @@ use Rattle.channel_model.specs.Takes as take
 use Rattle.channel_model.proofs.Known.{all-append, all-map}
 use Rattle.channel_model.proofs.Sublists.{all-sublist, without_first-sublist, staying-sublist}
 use Rattle.channel_laws.specs.NotedArrivals.{ItemIsNoted, ArrivalsAreNoted, HasWantsOfRow, HaveWantsOfRows, IsNoted}
-use Rattle.channel_laws.specs.Notes.{Note, body_note, packet_note, told_note, told_notes, notes, In, here}
+use Rattle.channel_laws.specs.Notes.{Note, packet_note, told_note, told_notes, In, here}
 use Rattle.channel_laws.specs.Tested.{after_whats, read_from}
 use Rattle.channel_laws.specs.TwoEnds.{LinkAccount}
 use Rattle.channel_laws.proofs.Growing.{grows, in-before, in-behind}

@@ -1,5 +1,5 @@
 -- In every run the requests that come to an open end are in order.
-use Rattle.std.proofs.Common.{◌≡◌, ℕ, ◌+◌, ℤ, Bool, true, false, List, [], ◌∷◌, ◌++◌, drop, map, Option, Some, None, refl, sym, ap, subst, ◌∙◌, append_assoc}
+use Rattle.std.proofs.Common.{◌≡◌, ℕ, ◌+◌, Bool, true, false, List, [], ◌∷◌, ◌++◌, drop, map, Option, Some, None, refl, sym, ap, subst, ◌∙◌, append_assoc}
 use Rattle.std.specs.List.{AllByRecursion}
 use Rattle.std.proofs.lemmas.Option.{same_Some}
 use Rattle.ipdl_base.specs.declared.kinds.Side.{Side}
@@ -15,7 +15,7 @@ use Rattle.ipdl_base.specs.Sound.{IsSound, message_of}
 use Rattle.nesting_core.specs.declared.frame.Answer.{Answer}
 use Rattle.nesting_core.specs.declared.frame.Answer.TheVariants as answer
 use Rattle.channel_model.specs.Deliveries as delivery
-use Rattle.channel_model.specs.Ends.{End, World, Packet, message, mark, opening}
+use Rattle.channel_model.specs.Ends.{End, World, Packet, message, opening}
 use Rattle.channel_model.specs.Events.{Event, Move}
 use Rattle.channel_model.specs.Events as event
 use Rattle.channel_model.specs.Numbers.{other, counting}
@@ -27,12 +27,13 @@ use Rattle.channel_model.specs.Runs.{after_event, output_of, passed_by, happens,
 use Rattle.channel_model.specs.StepLaws.{IsStepOfParts}
 use Rattle.channel_model.specs.Steps.{first_packet}
 use Rattle.channel_model.proofs.StepParts.{steps_are_chains}
-use Rattle.channel_laws.specs.Laws.{RequestsComeInOrder}
+use Rattle.channel_laws.specs.TwoEndLaws.{RequestsComeInOrder}
 use Rattle.channel_laws.specs.NestedWorlds.{is_last_packet, IsNestedWorld, EndsAreNested}
-use Rattle.channel_laws.specs.RequestOrder.{IsNextRequest, BodyInOrder, InOrder, on_way, ComesInOrder, EndsInOrder, WorldInOrder}
+use Rattle.channel_laws.specs.RequestOrder.{BodyInOrder, InOrder, on_way, EndsInOrder, WorldInOrder}
 use Rattle.channel_laws.proofs.EndsTold.{told-at}
 use Rattle.channel_laws.proofs.EveryRun.{from-side}
-use Rattle.channel_laws.proofs.ProtocolRuns.{open-is, first-is}
+use Rattle.channel_laws.proofs.Outlines.{open-is}
+use Rattle.channel_laws.proofs.TwoEnds.{first-is}
 use Rattle.channel_laws.proofs.RequestOrder.{Posts, order-append, own-posts, counted_end, delivery-posts}
 use Rattle.channel_laws.proofs.Rows.{sound_schemas_have_sound_rows}
 use Rattle.channel_laws.proofs.WorldSteps.{move-waits, opening-waits}

@@ -1,6 +1,6 @@
 -- Each part of a step keeps that all comes from what the other end has sent, and sends replies to that alone.
-use Rattle.std.proofs.Common.{◌≡◌, ◌==◌, ℕ, zero, suc, ◌+◌, ◌-◌, length, ℤ, Bool, true, false, not, ◌&&◌, ◌||◌, cond, if◌then◌else◌, int_eq, List, [], ◌∷◌, ◌++◌, drop, filter, find, map, Option, Some, None, is_some, option_map, option_and_then, refl, sym, ap, subst, ◌∙◌}
-use Rattle.std.specs.List.{AllByRecursion, list_any, slice_get}
+use Rattle.std.proofs.Common.{◌≡◌, ◌==◌, ℕ, ◌+◌, ℤ, Bool, true, false, not, ◌&&◌, ◌||◌, cond, int_eq, List, [], ◌∷◌, ◌++◌, drop, filter, find, map, Option, Some, None, is_some, option_map, option_and_then, refl, sym, ap, subst, ◌∙◌}
+use Rattle.std.specs.List.{AllByRecursion}
 use Rattle.std.proofs.lemmas.Option.{same_Some}
 use Rattle.std.proofs.lemmas.Bool.{eqb-true}
 use Rattle.ipdl_base.specs.declared.kinds.Reason.TheVariants.{ActorDestroyed, ResolverDestroyed}
@@ -19,10 +19,8 @@ use Rattle.nesting_core.specs.Answers.{with_answer}
 use Rattle.nesting_core.specs.Frames.{head_of, is_dispatch}
 use Rattle.pending_queue.specs.declared.item.Item.{Item}
 use Rattle.pending_queue.specs.declared.item.Item.TheVariants as item
-use Rattle.pending_queue.specs.Compression.{replaced, staying, latest, last_of, are_alike, is_request, is_request_of}
+use Rattle.pending_queue.specs.Compression.{replaced, staying, is_request, is_request_of}
 use Rattle.pending_queue.specs.Holding.{is_free, without_first}
-use Rattle.ipdl_base.specs.declared.kinds.Compress.{Compress}
-use Rattle.ipdl_base.specs.declared.kinds.Compress.TheVariants.{Plain, Last, All}
 use Rattle.nesting_core.specs.Top.{top_of}
 use Rattle.channel_model.specs.Acts.{goodbye}
 use Rattle.channel_model.specs.Answers as answering
@@ -31,7 +29,7 @@ use Rattle.channel_model.specs.Ends.{End, Packet, message, mark, StackEntry, Nam
 use Rattle.channel_model.specs.Events.{Answering, handled, kept}
 use Rattle.channel_model.specs.Names.{has_name, held_by_name, is_actor}
 use Rattle.channel_model.specs.Numbers.{makes_promise, counting, is_sync_row}
-use Rattle.channel_model.specs.Outputs.{is_open, body_of, AnsweredRequest, request_answered, resolver_answered, reply_to}
+use Rattle.channel_model.specs.Outputs.{is_open, AnsweredRequest, request_answered, resolver_answered, reply_to}
 use Rattle.channel_model.specs.Returns as return
 use Rattle.channel_model.specs.Sends as send
 use Rattle.channel_model.specs.Takes as take
@@ -44,6 +42,7 @@ use Rattle.channel_model.specs.Parts as parts
 use Rattle.channel_model.specs.Parts.{FirstPart, LaterPart, DeliveryPart, HoldsActor, IsRefusal, IsRenaming, behind_outbox, reply_packet, reply_packets, end_behind, left_end, outbox_after, request_packets, farewell_item}
 use Rattle.channel_laws.specs.Notes.{Note}
 use Rattle.channel_laws.specs.Origins.{IsRequested, EntryOrigin, Origin, ResolverOrigin, ContentOrigin, NamingOrigin, BodyOrigin, ItemOrigin, PacketOrigin, BodyReplies, PacketReplies, IsRequestBody, IsRequestMessage, HasOrigins}
+use Rattle.channel_laws.proofs.ListedItems.{drop-all, all-messages, replaced-is}
 use Rattle.channel_laws.proofs.Rows.{request-message}
 use Rattle.channel_model.proofs.TypedValues.{and-left, and-right}
 
@@ -71,14 +70,6 @@ found-passes test (y ∷ ys) x e = by (test y) refl e (found-passes test ys x)
     by : (b : Bool) → test y ≡ b → cond b (Some y) (find test ys) ≡ Some x → (find test ys ≡ Some x → test x ≡ true) → test x ≡ true
     by true is e rec = ap test (sym (same_Some y x e)) ∙ is
     by false is e rec = rec e
-
-drop-all : {A : Type 0} (P : A → Type 0) (xs : List A) → AllByRecursion P xs → AllByRecursion P (drop 1 xs)
-drop-all P [] h = tt
-drop-all P (x ∷ xs) h = h.1
-
-all-messages : (P : Packet → Type 0) (Q : Message → Type 0) (ms : List Message) → ((m : Message) → Q m → P (message m)) → AllByRecursion Q ms → AllByRecursion P (map message ms)
-all-messages P Q [] h k = tt
-all-messages P Q (m ∷ ms) h k = (h m k.0, all-messages P Q ms h k.1)
 
 -- Rows that have replies
 
@@ -218,33 +209,6 @@ module _ (schema : Schema) (theirs : List Note) where
 
   -- an item that is replaced or taken
 
-  all-get : {A : Type 0} (P : A → Type 0) (xs : List A) (i : ℕ) (x : A) → AllByRecursion P xs → slice_get xs i ≡ Some x → P x
-  all-get P [] i x h e = cc
-  all-get P (y ∷ ys) zero x h e = subst P (same_Some y x e) h.0
-  all-get P (y ∷ ys) (suc i) x h e = all-get P ys i x h.1 e
-
-  latest-origin : (P : Item → Type 0) (test : Item → Bool) (xs : List Item) (x : Item) → AllByRecursion P xs → latest test xs ≡ Some x → P x × (test x ≡ true)
-  latest-origin P test [] x h e = cc
-  latest-origin P test (y ∷ ys) x h e = by (list_any test ys) (test y) refl e (latest-origin P test ys x h.1)
-    where
-      by : (b c : Bool) → test y ≡ c → cond b (latest test ys) (cond c (Some y) None) ≡ Some x → (latest test ys ≡ Some x → P x × (test x ≡ true)) → P x × (test x ≡ true)
-      by true c is e rec = rec e
-      by false true is e rec = (subst P (same_Some y x e) h.0, ap test (sym (same_Some y x e)) ∙ is)
-      by false false is e rec = cc
-
-  last-origin : (P : Item → Type 0) (new : Item) (found : Option Item) (x : Item) → (found ≡ Some x → P x) → option_and_then (λ old. if are_alike new old then Some old else None) found ≡ Some x → P x × (are_alike new x ≡ true)
-  last-origin P new None x h e = cc
-  last-origin P new (Some y) x h e = by (are_alike new y) refl e
-    where
-      by : (b : Bool) → are_alike new y ≡ b → cond b (Some y) None ≡ Some x → P x × (are_alike new x ≡ true)
-      by true is e = (h e, ap (are_alike new) (sym (same_Some y x e)) ∙ is)
-      by false is e = cc
-
-  replaced-origin : (P : Item → Type 0) (compress : Compress) (new : Item) (xs : List Item) (x : Item) → AllByRecursion P xs → replaced compress new xs ≡ Some x → P x × (are_alike new x ≡ true)
-  replaced-origin P Plain new xs x h e = cc
-  replaced-origin P Last new xs x h e = last-origin P new (last_of xs) x (λ is. all-get P xs (length xs - 1) x h is) e
-  replaced-origin P All new xs x h e = latest-origin P (are_alike new) xs x h e
-
   pub request-origin : (m : Message) (body : Body) → is_request body ≡ true → BodyOrigin schema theirs m body → Origin schema theirs m.seq m.route m.number
   request-origin m (Request vs) is h = h
   request-origin m (Reply vs) is h = cc
@@ -253,13 +217,13 @@ module _ (schema : Schema) (theirs : List Note) where
 
   pub old-origin : (e : End) (row : MessageRow) (m old : Message) (sync : Bool) (level : _) → HasOrigins schema theirs e → replaced row.compress (delivery.item_of row m) e.arrived ≡ Some (item.Message old sync level) → Origin schema theirs old.seq old.route old.number
   old-origin e row m old sync level k is =
-      let r = replaced-origin (ItemOrigin schema theirs) row.compress (delivery.item_of row m) e.arrived (item.Message old sync level) k.arrived is in
+      let r = replaced-is (ItemOrigin schema theirs) row.compress (delivery.item_of row m) e.arrived (item.Message old sync level) k.arrived is in
       request-origin old old.body (and-left (is_request old.body) (old.number == m.number) (and-left (is_request old.body && old.number == m.number) (int_eq old.route m.route) (and-right (is_request m.body) (is_request_of m.number m.route (item.Message old sync level)) r.1))) r.0
 
   -- the row of a request that is replaced
   old-row : (e : End) (row : MessageRow) (m old : Message) (sync : Bool) (level : _) (k : HasOrigins schema theirs e) → message_of schema m.number ≡ Some row → (rep : replaced row.compress (delivery.item_of row m) e.arrived ≡ Some (item.Message old sync level)) → (old-origin e row m old sync level k rep).row ≡ row
   old-row e row m old sync level k found rep =
-      let r = replaced-origin (ItemOrigin schema theirs) row.compress (delivery.item_of row m) e.arrived (item.Message old sync level) k.arrived rep in
+      let r = replaced-is (ItemOrigin schema theirs) row.compress (delivery.item_of row m) e.arrived (item.Message old sync level) k.arrived rep in
       let o : Origin schema theirs old.seq old.route old.number = old-origin e row m old sync level k rep in
       let alike : is_request old.body && old.number == m.number ≡ true = and-left (is_request old.body && old.number == m.number) (int_eq old.route m.route) (and-right (is_request m.body) (is_request_of m.number m.route (item.Message old sync level)) r.1) in
       let number : old.number ≡ m.number = eqb-true old.number m.number (and-right (is_request old.body) (old.number == m.number) alike) in

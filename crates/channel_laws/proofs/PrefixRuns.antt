@@ -248,9 +248,9 @@ module _ (schema : Schema) (sound : IsSound schema) where
         let has : HaveTheirProtocols made (actors_of schema row m (Request vs)) = subst (λ (b : Body). HaveTheirProtocols made (actors_of schema row m b)) body (all-taken (ItemHasProtocols schema made) e (item.Message m sync level) next protocols.arrived row found).actors in
         let values : Values = nulled schema e.actors row.params vs in
         let same : is_nulled schema (lives own) (params_of schema m.number) r.request.values values ≡ true =
-            ap (λ (o : Option MessageRow). is_nulled schema (lives own) (option_map_or (λ (x : MessageRow). x.params) o []) r.request.values values) found
-            ∙ (ap (λ (us : Values). is_nulled schema (lives own) row.params us values) r.values
-            ∙ (ap (λ (us : Values). same_values us values) (values_are_read_alike.nulled schema e.actors (lives own) row.params vs (alike schema made e own protocols actors (actors_in_parts schema row.params vs) has.1)) ∙ values-same values)) in
+        ap (λ (o : Option MessageRow). is_nulled schema (lives own) (option_map_or (λ (x : MessageRow). x.params) o []) r.request.values values) found
+        ∙ (ap (λ (us : Values). is_nulled schema (lives own) row.params us values) r.values
+        ∙ (ap (λ (us : Values). same_values us values) (values_are_read_alike.nulled schema e.actors (lives own) row.params vs (alike schema made e own protocols actors (actors_in_parts schema row.params vs) has.1)) ∙ values-same values)) in
         ap (λ (o : Option told.Request). option_map_or (λ (x : told.Request). is_for m.route m.number x && is_nulled schema (lives own) (params_of schema m.number) x.values values) o false) r.found
         ∙ (ap (λ (b : Bool). b && is_nulled schema (lives own) (params_of schema m.number) r.request.values values) (for-same m.route m.number r.request r.route r.number) ∙ same);
     drop = λ m sync level vs id next body.

@@ -1,13 +1,10 @@
 -- Each part keeps that all that an end keeps and sends has the protocols that ids stand for.
-use Rattle.std.proofs.Common.{◌≡◌, ◌==◌, inl, inr, ℕ, zero, suc, ◌+◌, ◌-◌, ℤ, pos, Bool, true, false, not, ◌&&◌, ◌||◌, cond, if◌then◌else◌, int_eq, List, [], ◌∷◌, ◌++◌, drop, filter, find, length, map, Option, Some, None, is_none, is_some, option_and_then, option_map, refl, sym, ap, subst, ◌∙◌}
-use Rattle.std.specs.List.{AllByRecursion, list_any, slice_get}
+use Rattle.std.proofs.Common.{◌≡◌, ◌==◌, inr, ℕ, ◌+◌, ℤ, Bool, true, false, not, ◌&&◌, ◌||◌, cond, if◌then◌else◌, int_eq, List, [], ◌∷◌, ◌++◌, drop, find, map, Option, Some, None, is_none, is_some, option_and_then, option_map, refl, sym, ap, subst, ◌∙◌}
+use Rattle.std.specs.List.{AllByRecursion}
 use Rattle.std.specs.Option.{option_map_or}
 use Rattle.std.proofs.lemmas.Bool.{eqb-true}
 use Rattle.std.proofs.lemmas.Option.{same_Some}
-use Rattle.actor_tree.specs.declared.actor.Actor.{Actor}
 use Rattle.actor_tree.specs.Tree.{lives}
-use Rattle.ipdl_base.specs.declared.kinds.Compress.{Compress}
-use Rattle.ipdl_base.specs.declared.kinds.Compress.TheVariants.{Plain, Last, All}
 use Rattle.ipdl_base.specs.declared.kinds.Level.{Level}
 use Rattle.ipdl_base.specs.declared.kinds.Reason.TheVariants.{ActorDestroyed, ResolverDestroyed, HandlerRejected}
 use Rattle.ipdl_base.specs.declared.kinds.SendRefusal.{SendRefusal}
@@ -17,7 +14,6 @@ use Rattle.ipdl_base.specs.declared.message.Body.{Body}
 use Rattle.ipdl_base.specs.declared.message.Body.TheVariants.{Request, Reply, Fault, Goodbye}
 use Rattle.ipdl_base.specs.declared.message.Message.{Message}
 use Rattle.ipdl_base.specs.declared.schema.Kind.{Kind}
-use Rattle.ipdl_base.specs.declared.schema.Kind.TheVariants.{Normal, Constructor, Delete}
 use Rattle.ipdl_base.specs.declared.schema.MessageRow.{MessageRow}
 use Rattle.ipdl_base.specs.declared.schema.ParamRow.{ParamRow}
 use Rattle.ipdl_base.specs.declared.schema.Schema.{Schema}
@@ -35,7 +31,7 @@ use Rattle.nesting_core.specs.Top.{top_of}
 use Rattle.nesting_laws.specs.Calls.{ReplyHead}
 use Rattle.pending_queue.specs.declared.item.Item.{Item}
 use Rattle.pending_queue.specs.declared.item.Item.TheVariants as item
-use Rattle.pending_queue.specs.Compression.{is_request, is_request_of, are_alike, last_of, latest, replaced, staying}
+use Rattle.pending_queue.specs.Compression.{is_request, is_request_of, replaced, staying}
 use Rattle.pending_queue.specs.Holding.{is_free, without_first}
 use Rattle.channel_model.specs.Acts.{goodbye}
 use Rattle.channel_model.specs.Answers as answering
@@ -51,57 +47,19 @@ use Rattle.channel_model.specs.Phases.{Phase, manager_of, quiet, sending}
 use Rattle.channel_model.specs.Returns as return
 use Rattle.channel_model.specs.Sends as send
 use Rattle.channel_model.specs.Takes as take
-use Rattle.channel_model.specs.ValueActors.{ActorValue, actors_in_parts, lives_as, is_dead, has_dead}
+use Rattle.channel_model.specs.ValueActors.{actors_in_parts, lives_as, has_dead}
 use Rattle.channel_model.proofs.Known.{all-append}
-use Rattle.channel_model.proofs.SendParts.{passed-first, request-number}
+use Rattle.channel_model.proofs.SendParts.{passed-first}
 use Rattle.channel_model.proofs.Sublists.{all-sublist, without_first-sublist, staying-sublist}
 use Rattle.channel_laws.specs.Laws.{IsReply, awaited_reply}
-use Rattle.channel_laws.specs.Protocols.{Protocols, StandsFor, HasItsProtocol, HaveTheirProtocols, route_actor, MakesItsProtocol, IsRightRequest, IsRightMessage, MessageHasProtocols, KeptRequest, AnswerHasProtocols, FrameHasProtocols, EntryHasProtocols, ContentHasProtocols, NamingHasProtocols, ItemHasProtocols, PacketHasProtocols, ActorHasProtocol, HasProtocols}
+use Rattle.channel_laws.specs.Protocols.{Protocols, HasItsProtocol, HaveTheirProtocols, route_actor, MakesItsProtocol, IsRightMessage, MessageHasProtocols, KeptRequest, AnswerHasProtocols, FrameHasProtocols, EntryHasProtocols, ContentHasProtocols, NamingHasProtocols, ItemHasProtocols, PacketHasProtocols, ActorHasProtocol, HasProtocols}
 use Rattle.channel_laws.specs.SyncCalls.{is_sync_number, reply_head}
+use Rattle.channel_laws.proofs.ListedItems.{drop-all, all-messages, replaced-is}
 use Rattle.channel_laws.proofs.ReplyRows.{reply_protocol, reply_row-is}
 use Rattle.channel_laws.proofs.Rows.{request-message}
 use Rattle.channel_laws.proofs.Sends.{and-left, and-right}
 use Rattle.channel_laws.proofs.StandsFor.{lives-stands, none-dead}
 use Rattle.channel_laws.proofs.Track.{all-found, all-filter}
-
--- Lists and options
-
-drop-all : {A : Type 0} (P : A → Type 0) (xs : List A) → AllByRecursion P xs → AllByRecursion P (drop 1 xs)
-drop-all P [] h = tt
-drop-all P (x ∷ xs) h = h.1
-
-all-get : {A : Type 0} (P : A → Type 0) (xs : List A) (i : ℕ) (x : A) → AllByRecursion P xs → slice_get xs i ≡ Some x → P x
-all-get P [] i x h e = cc
-all-get P (y ∷ ys) zero x h e = subst P (same_Some y x e) h.0
-all-get P (y ∷ ys) (suc i) x h e = all-get P ys i x h.1 e
-
-all-messages : (P : Packet → Type 0) (Q : Message → Type 0) (ms : List Message) → ((m : Message) → Q m → P (message m)) → AllByRecursion Q ms → AllByRecursion P (map message ms)
-all-messages P Q [] h k = tt
-all-messages P Q (m ∷ ms) h k = (h m k.0, all-messages P Q ms h k.1)
-
--- the item that a new one replaces is one of those that have arrived, and like it
-
-latest-is : (P : Item → Type 0) (test : Item → Bool) (xs : List Item) (x : Item) → AllByRecursion P xs → latest test xs ≡ Some x → P x × (test x ≡ true)
-latest-is P test [] x h e = cc
-latest-is P test (y ∷ ys) x h e = by (list_any test ys) (test y) refl e (latest-is P test ys x h.1)
-  where
-    by : (b c : Bool) → test y ≡ c → cond b (latest test ys) (cond c (Some y) None) ≡ Some x → (latest test ys ≡ Some x → P x × (test x ≡ true)) → P x × (test x ≡ true)
-    by true c is e rec = rec e
-    by false true is e rec = (subst P (same_Some y x e) h.0, ap test (sym (same_Some y x e)) ∙ is)
-    by false false is e rec = cc
-
-last-is : (P : Item → Type 0) (new : Item) (found : Option Item) (x : Item) → (found ≡ Some x → P x) → option_and_then (λ old. if are_alike new old then Some old else None) found ≡ Some x → P x × (are_alike new x ≡ true)
-last-is P new None x h e = cc
-last-is P new (Some y) x h e = by (are_alike new y) refl e
-  where
-    by : (b : Bool) → are_alike new y ≡ b → cond b (Some y) None ≡ Some x → P x × (are_alike new x ≡ true)
-    by true is e = (h e, ap (are_alike new) (sym (same_Some y x e)) ∙ is)
-    by false is e = cc
-
-replaced-is : (P : Item → Type 0) (compress : Compress) (new : Item) (xs : List Item) (x : Item) → AllByRecursion P xs → replaced compress new xs ≡ Some x → P x × (are_alike new x ≡ true)
-replaced-is P Plain new xs x h e = cc
-replaced-is P Last new xs x h e = last-is P new (last_of xs) x (λ is. all-get P xs (length xs - 1) x h is) e
-replaced-is P All new xs x h e = latest-is P (are_alike new) xs x h e
 
 -- Refusals
 
@@ -220,9 +178,6 @@ module _ (schema : Schema) (sound : IsSound schema) (made : Protocols) where
     where
       frames : List StackFrame
       frames = map (λ (x : StackEntry). x.frame) xs
-
-      head_for : StackEntry → ReplyHead
-      head_for entry = record { seq = (head_of entry.frame).seq; route = entry.route; number = entry.number + 1 }
 
       by : (f : StackFrame) → x.frame ≡ f → option_map (λ (entry : StackEntry). record { seq = (head_of entry.frame).seq; route = entry.route; number = entry.number + 1 }) (cond (is_unanswered f) (Some x) (find (λ (entry : StackEntry). is_unanswered entry.frame) xs)) ≡ Some (reply_head m)
           → (awaited_reply xs ≡ Some (reply_head m) → AllByRecursion (EntryHasProtocols schema made) (delivery.with_frames (with_answer a frames) xs))

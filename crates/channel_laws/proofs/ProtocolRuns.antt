@@ -1,9 +1,6 @@
 -- In every run each id stands for one protocol.
 use Rattle.std.proofs.Common.{◌≡◌, inl, ℕ, ◌+◌, ℤ, Bool, true, false, List, [], ◌∷◌, ◌++◌, drop, length, Option, Some, None, refl, sym, ap, subst, ◌∙◌, arith}
 use Rattle.std.specs.List.{AllByRecursion}
-use Rattle.std.proofs.lemmas.Option.{same_Some}
-use Rattle.ipdl_base.specs.declared.kinds.EndState.{EndState}
-use Rattle.ipdl_base.specs.declared.kinds.EndState.TheVariants.{Open, Draining, Closed, Dead}
 use Rattle.ipdl_base.specs.declared.kinds.Side.{Side}
 use Rattle.ipdl_base.specs.declared.kinds.Side.TheVariants.{Parent, Child}
 use Rattle.ipdl_base.specs.declared.line.What.{What}
@@ -13,7 +10,7 @@ use Rattle.ipdl_base.specs.declared.schema.Schema.{Schema}
 use Rattle.ipdl_base.specs.Sound.{IsSound}
 use Rattle.channel_model.specs.Answers as answering
 use Rattle.channel_model.specs.Deliveries as delivery
-use Rattle.channel_model.specs.Ends.{End, World, Packet, end_of, link_to, opening, opening_end}
+use Rattle.channel_model.specs.Ends.{End, World, Packet, opening, opening_end}
 use Rattle.channel_model.specs.Events.{Event, Move, Answering, handled, kept}
 use Rattle.channel_model.specs.Events as event
 use Rattle.channel_model.specs.Numbers.{other, id_of, counting}
@@ -21,17 +18,19 @@ use Rattle.channel_model.specs.Outputs.{Output, is_open}
 use Rattle.channel_model.specs.Parts
 use Rattle.channel_model.specs.Parts.{FirstPart, LaterPart, LaterParts, OwnParts, DeliveryPart, end_behind}
 use Rattle.channel_model.specs.Phases.{Phase}
-use Rattle.channel_model.specs.Runs.{after_event, output_of, passed_by, happens, run, world_after}
+use Rattle.channel_model.specs.Runs.{after_event, output_of, passed_by, happens, run}
 use Rattle.channel_model.specs.Sends as send
-use Rattle.channel_model.specs.StepLaws.{IsMadeOf, IsDeliveryOfOnePart, IsStepOfParts}
-use Rattle.channel_model.specs.Steps.{step, first_packet}
+use Rattle.channel_model.specs.StepLaws.{IsStepOfParts}
+use Rattle.channel_model.specs.Steps.{first_packet}
 use Rattle.channel_model.proofs.Known.{all-append}
 use Rattle.channel_model.proofs.StepParts.{steps_are_chains}
-use Rattle.channel_laws.specs.Laws.{ProtocolsInEveryRun, TypesTellWhoLives}
+use Rattle.channel_laws.specs.TwoEndLaws.{ProtocolsInEveryRun, TypesTellWhoLives}
 use Rattle.channel_laws.specs.NestedWorlds.{IsNestedWorld, EndsAreNested}
 use Rattle.channel_laws.specs.Protocols.{Protocols, StandsFor, MakesItsProtocol, PacketHasProtocols, HasProtocols, constructed_count, EndsHaveProtocols, WorldHasProtocols}
-use Rattle.channel_laws.specs.Rows.{HasSoundRows}
-use Rattle.channel_laws.proofs.EveryRun.{from-side, end-side}
+use Rattle.channel_laws.proofs.Moves.{other-other}
+use Rattle.channel_laws.proofs.Outlines.{open-is}
+use Rattle.channel_laws.proofs.TwoEnds.{first-is}
+use Rattle.channel_laws.proofs.EveryRun.{from-side}
 use Rattle.channel_laws.proofs.ProtocolGrowth.{end-grows, packets-grow}
 use Rattle.channel_laws.proofs.ProtocolParts.{SendsRight, OwnSendsRight, Right, IsAwaited, own-right, delivery-right}
 use Rattle.channel_laws.proofs.Replies.{reply-waits}
@@ -132,10 +131,6 @@ top-constructed Child more made = refl
 
 -- Sides
 
-other-other : (side : Side) → other (other side) ≡ side
-other-other Parent = refl
-other-other Child = refl
-
 flip : {schema : Schema} {top : ℕ} {side : Side} {mine theirs : End} {to_me to_them : List Packet} → EndsHaveProtocols schema top side mine theirs to_me to_them → EndsHaveProtocols schema top (other side) theirs mine to_them to_me
 flip {side} h = record {
   made = h.made;
@@ -147,16 +142,6 @@ flip {side} h = record {
   comes = h.goes;
   goes = h.comes;
 }
-
-pub open-is : (state : EndState) → is_open state ≡ true → state ≡ Open
-open-is Open e = refl
-open-is Draining e = cc
-open-is Closed e = cc
-open-is Dead e = cc
-
-pub first-is : (link : List Packet) (packet : Packet) → first_packet link ≡ Some packet → link ≡ packet ∷ drop 1 link
-first-is [] packet e = cc
-first-is (p ∷ rest) packet e = ap (λ (x : Packet). x ∷ rest) (same_Some p packet e)
 
 -- Steps
 

@@ -1,5 +1,5 @@
 -- What is so in every run is so of each world that moves have led to.
-use Rattle.std.proofs.Common.{◌≡◌, true, List, [], ◌∷◌, refl, sym, ap, subst, ◌∙◌}
+use Rattle.std.proofs.Common.{true, List, [], ◌∷◌, refl, subst}
 use Rattle.ipdl_base.specs.declared.line.Line.{Line}
 use Rattle.ipdl_base.specs.declared.kinds.Side.TheVariants.{Parent, Child}
 use Rattle.ipdl_base.specs.declared.schema.Schema.{Schema}

@@ -1,33 +1,23 @@
 -- An id stands for one protocol, and goes on to; who lives as one of its protocol is who lives.
-use Rattle.std.proofs.Common.{◌≡◌, ◌≢◌, ◌⊎◌, inl, inr, ℕ, zero, suc, ◌+◌, ◌*◌, ◌==◌, ℤ, pos, Bool, true, false, not, ◌&&◌, ◌||◌, int_eq, List, [], ◌∷◌, ◌++◌, cond, find, length, Option, Some, None, is_some, refl, sym, ap, subst, ◌∙◌, append_assoc, arith}
+use Rattle.std.proofs.Common.{◌≡◌, inl, inr, ℕ, ◌+◌, ◌*◌, ◌==◌, ℤ, pos, Bool, true, false, not, ◌&&◌, ◌||◌, int_eq, List, [], ◌∷◌, ◌++◌, cond, find, length, Option, Some, None, is_some, refl, sym, ap, subst, ◌∙◌, append_assoc, arith}
 use Rattle.std.specs.List.{AllByRecursion, list_any}
 use Rattle.std.specs.Option.{option_map_or}
 use Rattle.std.proofs.lemmas.Bool.{eqb-true, eq-eqb}
 use Rattle.std.proofs.lemmas.Bool.Decides.{Decides-int_eq}
-use Rattle.std.proofs.lemmas.Option.{same_Some}
 use Rattle.actor_tree.specs.declared.actor.Actor.{Actor}
 use Rattle.actor_tree.specs.Tree.{actor_of, lives}
 use Rattle.ipdl_base.specs.declared.kinds.Side.{Side}
 use Rattle.ipdl_base.specs.declared.kinds.Side.TheVariants.{Parent, Child}
-use Rattle.channel_model.specs.Numbers.{id_of, top_id}
+use Rattle.channel_model.specs.Numbers.{id_of}
 use Rattle.channel_model.specs.Refusals.{lives_otherwise}
 use Rattle.channel_model.specs.ValueActors.{ActorValue, lives_as, is_dead}
+use Rattle.channel_model.proofs.Known.{same_id, ids_apart, not_top}
 use Rattle.channel_laws.specs.Protocols.{Protocols, constructed_count, IsConstructed, StandsFor, HasItsProtocol, HaveTheirProtocols, ActorHasProtocol}
+use Rattle.channel_laws.proofs.Outlines.{cons-head, cons-tail}
 use Rattle.channel_laws.proofs.Takes.{found-passes}
 use Rattle.channel_laws.proofs.Track.{all-found}
 
 -- Ids
-
-same_id : (side : Side) (j k : ℕ) → id_of side j ≡ id_of side k → j ≡ k
-same_id Parent j k e = let f : 4 * j + 2 ≡ 4 * k + 2 = cc in omega arith
-same_id Child j k e = let f : 4 * j ≡ 4 * k = cc in omega arith
-
-not_both : {A : Type 0} (j k : ℕ) → id_of Parent j ≡ id_of Child k → A
-not_both j k e = let f : 4 * j + 2 ≡ 4 * k = cc in absurd (omega arith)
-
-not_top : {A : Type 0} (side : Side) (k : ℕ) → id_of side k ≡ top_id → A
-not_top Parent k e = let f : 4 * k + 2 ≡ 2147483647 = cc in absurd (omega arith)
-not_top Child k e = let f : 4 * k ≡ 2147483647 = cc in absurd (omega arith)
 
 not_null : {A : Type 0} (side : Side) (k : ℕ) → id_of side (k + 1) ≡ pos 0 → A
 not_null Parent k e = let f : 4 * (k + 1) + 2 ≡ 0 = cc in absurd (omega arith)
@@ -35,17 +25,11 @@ not_null Child k e = let f : 4 * (k + 1) ≡ 0 = cc in absurd (omega arith)
 
 -- Lists
 
-same-head : {A : Type 0} {x y : A} {xs ys : List A} → x ∷ xs ≡ y ∷ ys → x ≡ y
-same-head e = cc
-
-same-tail : {A : Type 0} {x y : A} {xs ys : List A} → x ∷ xs ≡ y ∷ ys → xs ≡ ys
-same-tail e = cc
-
 same-place : (xs ys : List ℕ) (p q : ℕ) (cs ds : List ℕ) → xs ++ p ∷ cs ≡ ys ++ q ∷ ds → length xs ≡ length ys → p ≡ q
-same-place [] [] p q cs ds e l = same-head e
+same-place [] [] p q cs ds e l = cons-head e
 same-place [] (y ∷ ys) p q cs ds e l = absurd (omega arith)
 same-place (x ∷ xs) [] p q cs ds e l = absurd (omega arith)
-same-place (x ∷ xs) (y ∷ ys) p q cs ds e l = same-place xs ys p q cs ds (same-tail e) (omega arith)
+same-place (x ∷ xs) (y ∷ ys) p q cs ds e l = same-place xs ys p q cs ds (cons-tail e) (omega arith)
 
 -- An id stands for one protocol
 
@@ -56,14 +40,14 @@ same-constructed side protocols id p q a b =
 
 pub one_protocol : (made : Protocols) (id : ℤ) (p q : ℕ) → StandsFor made id p → StandsFor made id q → p ≡ q
 one_protocol made id p q (inl a) (inl b) = a.1 ∙ sym b.1
-one_protocol made id p q (inl a) (inr (inl b)) = not_top Parent (length b.before + 1) (sym b.id_is ∙ a.0)
-one_protocol made id p q (inl a) (inr (inr b)) = not_top Child (length b.before + 1) (sym b.id_is ∙ a.0)
-one_protocol made id p q (inr (inl a)) (inl b) = not_top Parent (length a.before + 1) (sym a.id_is ∙ b.0)
-one_protocol made id p q (inr (inr a)) (inl b) = not_top Child (length a.before + 1) (sym a.id_is ∙ b.0)
+one_protocol made id p q (inl a) (inr (inl b)) = absurd (not_top Parent (length b.before + 1) (sym b.id_is ∙ a.0))
+one_protocol made id p q (inl a) (inr (inr b)) = absurd (not_top Child (length b.before + 1) (sym b.id_is ∙ a.0))
+one_protocol made id p q (inr (inl a)) (inl b) = absurd (not_top Parent (length a.before + 1) (sym a.id_is ∙ b.0))
+one_protocol made id p q (inr (inr a)) (inl b) = absurd (not_top Child (length a.before + 1) (sym a.id_is ∙ b.0))
 one_protocol made id p q (inr (inl a)) (inr (inl b)) = same-constructed Parent made.parent id p q a b
 one_protocol made id p q (inr (inr a)) (inr (inr b)) = same-constructed Child made.child id p q a b
-one_protocol made id p q (inr (inl a)) (inr (inr b)) = not_both (length a.before + 1) (length b.before + 1) (sym a.id_is ∙ b.id_is)
-one_protocol made id p q (inr (inr a)) (inr (inl b)) = not_both (length b.before + 1) (length a.before + 1) (sym b.id_is ∙ a.id_is)
+one_protocol made id p q (inr (inl a)) (inr (inr b)) = absurd (ids_apart Parent (length a.before + 1) (length b.before + 1) (sym a.id_is ∙ b.id_is))
+one_protocol made id p q (inr (inr a)) (inr (inl b)) = absurd (ids_apart Parent (length b.before + 1) (length a.before + 1) (sym b.id_is ∙ a.id_is))
 
 pub stands-not_null : {A : Type 0} (made : Protocols) (id : ℤ) (p : ℕ) → StandsFor made id p → id ≡ pos 0 → A
 stands-not_null made id p (inl a) e = let f : pos 2147483647 ≡ pos 0 = sym a.0 ∙ e in cc

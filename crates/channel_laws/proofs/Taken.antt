@@ -2,7 +2,6 @@
 use Rattle.std.proofs.Common.{◌≡◌, ℕ, ◌+◌, ◌≤◌, ℤ, Bool, true, false, if◌then◌else◌, List, [], ◌∷◌, ◌++◌, drop, map, Option, Some, None, refl, sym, ap, subst, ◌∙◌}
 use Rattle.ipdl_base.specs.declared.kinds.Reason.TheVariants.{ActorDestroyed, ChannelClosed, ResolverDestroyed}
 use Rattle.ipdl_base.specs.declared.kinds.Side.{Side}
-use Rattle.ipdl_base.specs.declared.kinds.Side.TheVariants.{Parent, Child}
 use Rattle.ipdl_base.specs.declared.line.What.{What}
 use Rattle.ipdl_base.specs.declared.line.What.TheVariants as what
 use Rattle.ipdl_base.specs.declared.message.Body.{Body}
@@ -38,7 +37,7 @@ use Rattle.channel_laws.specs.Exchanges.{ReadsExchanges}
 use Rattle.channel_laws.specs.NestedWorlds.{IsNestedWorld}
 use Rattle.channel_laws.specs.Notes.{told_notes}
 use Rattle.channel_laws.specs.Origins.{BodyOrigin}
-use Rattle.channel_laws.specs.RequestOrder.{InOrder, BodyInOrder, IsNextRequest, ComesInOrder, WorldInOrder, on_way}
+use Rattle.channel_laws.specs.RequestOrder.{InOrder, BodyInOrder, IsNextRequest, WorldInOrder, on_way}
 use Rattle.channel_laws.specs.Taken.{there_line}
 use Rattle.channel_laws.specs.Tested.{after_whats, EndLinesPass, test_at}
 use Rattle.channel_laws.proofs.ComingRequests.{comes-at, reached-in-order}

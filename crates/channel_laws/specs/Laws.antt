@@ -1,7 +1,6 @@
 -- No end waits for ever: what follows for every sound schema, in every run.
 use Rattle.std.specs.Prelude.{◌≡◌, ℕ, ◌+◌, ℤ, true, false, List, ◌∷◌, map, find, Option, Some, None, option_map}
 use Rattle.std.specs.List.{AllByRecursion}
-use Rattle.actor_tree.specs.Tree.{lives}
 use Rattle.ipdl_base.specs.declared.kinds.EndState.TheVariants.{Open, Draining}
 use Rattle.ipdl_base.specs.declared.kinds.Side.{Side}
 use Rattle.ipdl_base.specs.declared.kinds.Side.TheVariants.{Parent, Child}
@@ -30,10 +29,7 @@ use Rattle.channel_model.specs.Runs.{happens, run, is_still}
 use Rattle.channel_model.specs.Sends.{frames_of}
 use Rattle.channel_model.specs.States.{IsAnswered}
 use Rattle.channel_model.specs.Steps.{step}
-use Rattle.channel_model.specs.ValueActors.{ActorValue, lives_as}
 use Rattle.channel_laws.specs.NestedWorlds.{is_last_packet, HasNoLastPacket, EndsInLastPacket, IsNestedWorld}
-use Rattle.channel_laws.specs.Protocols.{Protocols, HasItsProtocol, HasProtocols, WorldHasProtocols}
-use Rattle.channel_laws.specs.RequestOrder.{WorldInOrder}
 use Rattle.channel_laws.specs.Rows.{HasSoundRows}
 use Rattle.channel_laws.specs.SyncCalls.{is_sync_number, reply_head}
 
@@ -126,17 +122,3 @@ pub record EndsAreTold (w : World) (side : Side) : Type 0 where
 
 abbrev pub EndsAreToldInRuns : Type 0
 EndsAreToldInRuns = (schema : Schema) → IsSound schema → (top : ℕ) (moves : List Move) (side : Side) → (end_of side (world_of schema top moves)).state ≡ Open → EndsAreTold (world_of schema top moves) side
-
--- In every run each id stands for one protocol, by which all that the ends keep and send speaks of it.
-abbrev pub ProtocolsInEveryRun : Type 0
-ProtocolsInEveryRun = (schema : Schema) → IsSound schema → (top : ℕ) (moves : List Move) → WorldHasProtocols schema top (world_of schema top moves)
-
--- So an actor that has the protocol of its type lives as one of that protocol where it lives at all.
-abbrev pub TypesTellWhoLives : Type 0
-TypesTellWhoLives =
-    (schema : Schema) (made : Protocols) (e : End) → HasProtocols schema made e → (a : ActorValue) → HasItsProtocol made a → lives_as e.actors a.protocol a.id ≡ lives a.id e.actors
-
--- In every run the requests that come to an open end have the next numbers of the other end, those that come and those
--- that still wait there, up to all that it has sent; and so it is with the ids of constructors.
-abbrev pub RequestsComeInOrder : Type 0
-RequestsComeInOrder = (schema : Schema) → IsSound schema → (top : ℕ) (moves : List Move) → WorldInOrder schema (world_of schema top moves)

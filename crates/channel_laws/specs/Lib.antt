@@ -32,3 +32,4 @@ pub mod Replies
 pub mod Heads
 pub mod SettledLaws
 pub mod ExchangeLaws
+pub mod TwoEndLaws

@@ -1,6 +1,4 @@
 ghost use Rattle.channel_laws.specs.Laws.{EndsAreToldInRuns, LastPacketsFailAllWaits, NestedWorldsStay, NestingInEveryRun, RepliesFindTheirWaits, SoundSchemasHaveSoundRows, StillEndsWaitForNothing, StillHistoriesLeaveNoEndWaiting, SyncRepliesAreNotStray, WaitsGiveWay};
-ghost use Rattle.channel_laws.specs.Laws.{ProtocolsInEveryRun, RequestsComeInOrder, TypesTellWhoLives};
-ghost use Rattle.channel_laws.specs.ValueReadings.{ValuesAreReadAlike};
 
 /// The law of rows: what a sound schema says of the row of each request.
 pub fn sound_schemas_have_sound_rows()
@@ -50,25 +48,4 @@ pub fn still_histories_leave_no_end_waiting()
 /// The law of ends: while an end is open, what the other end's state says stands on the link toward it.
 pub fn ends_are_told_in_runs()
     ensures { EndsAreToldInRuns }
-{}
-
-/// The law of protocols: in every run each id stands for one protocol, by which both ends and all packets speak of it.
-pub fn protocols_in_every_run()
-    ensures { ProtocolsInEveryRun }
-{}
-
-/// The law of types: so an actor in a value lives as one of its type's protocol where it lives at all.
-pub fn types_tell_who_lives()
-    ensures { TypesTellWhoLives }
-{}
-
-/// The law of values: then lines, by ids alone, and ends put null in the place of the same actors, and miss the same.
-pub fn values_are_read_alike()
-    ensures { ValuesAreReadAlike }
-{}
-
-/// The law of numbers: in every run the requests that come to an open end have the other end's next numbers, and the
-/// constructors among them its next ids.
-pub fn requests_come_in_order()
-    ensures { RequestsComeInOrder }
 {}

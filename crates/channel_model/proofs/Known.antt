@@ -15,7 +15,7 @@ use Rattle.channel_model.proofs.Sublists.{Sublist, all-sublist, distinct-sublist
 
 -- Ids
 
-same_id : (side : Side) (j k : ℕ) → id_of side j ≡ id_of side k → j ≡ k
+pub same_id : (side : Side) (j k : ℕ) → id_of side j ≡ id_of side k → j ≡ k
 same_id Parent j k e = let f : 4 * j + 2 ≡ 4 * k + 2 = cc in omega arith
 same_id Child j k e = let f : 4 * j ≡ 4 * k = cc in omega arith
 
