@@ -67,6 +67,7 @@ pub mod AnswerParts
 pub mod NotedArrivals
 pub mod ComingRequests
 pub mod HonestPackets
+pub mod OwnWaits
 pub mod Exchanges
 pub mod Taken
 pub mod Settling

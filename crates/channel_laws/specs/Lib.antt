@@ -25,6 +25,7 @@ pub mod Promised
 pub mod AnswersOnce
 pub mod NotedArrivals
 pub mod GivenAnswers
+pub mod OwnWaits
 pub mod Exchanges
 pub mod Taken
 pub mod PrefixLaws
