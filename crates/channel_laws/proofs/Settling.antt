@@ -51,7 +51,7 @@ found-each (r ∷ requests) d =
     (ap (λ (b : Bool). cond b (Some r) (find (λ (y : Request). int_eq y.seq r.seq) requests)) (int-same r.seq), found-later r requests requests d.0 (found-each requests d.1))
 
 -- a promise's request is found by its number, wants a reply, and goes to the promise's actor
-abbrev IsOwn : List Request → Promised → Type 0
+abbrev pub IsOwn : List Request → Promised → Type 0
 IsOwn all p = (r : Request) × (find (λ x. int_eq x.seq p.seq) all ≡ Some r) × (r.wants ≡ true) × (r.route ≡ p.route)
 
 own-promised : (all some : List Request) → AllByRecursion (FoundIn all) some → AllByRecursion (IsOwn all) (promised_in some)
@@ -67,7 +67,7 @@ of-entries P [] h = tt
 of-entries P (entry ∷ promises) h = (h.0, of-entries P promises h.1)
 
 module _ (side : Side) (promises : List PromiseEntry) (count : ℕ) (read : PromiseReading) (h : HasPromises side promises count read) where
-  own-entries : AllByRecursion (λ entry. IsOwn read.requests (promised_entry entry)) promises
+  pub own-entries : AllByRecursion (λ entry. IsOwn read.requests (promised_entry entry)) promises
   own-entries = of-entries (IsOwn read.requests) promises (subst (AllByRecursion (IsOwn read.requests)) (sym h.promises_are) (own-promised read.requests read.requests (found-each read.requests (once-distinct (map request_seq read.requests) h.numbered.once))))
 
   -- a pending promise is unsettled
