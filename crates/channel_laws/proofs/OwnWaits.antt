@@ -1,9 +1,8 @@
 -- Each part of a step keeps the waits those for sync requests of the end.
-use Rattle.std.proofs.Common.{◌≡◌, ℕ, zero, suc, ◌+◌, ◌≤◌, ℤ, pos, Bool, true, false, not, ◌&&◌, cond, if◌then◌else◌, int_eq, find, List, [], ◌∷◌, ◌++◌, drop, map, Option, Some, None, is_some, refl, sym, ap, subst, ◌∙◌, arith}
+use Rattle.std.proofs.Common.{◌≡◌, ℕ, zero, suc, ◌+◌, ℤ, pos, Bool, true, false, not, ◌&&◌, cond, if◌then◌else◌, int_eq, find, List, [], ◌∷◌, ◌++◌, drop, map, Option, Some, None, is_some, refl, sym, ap, subst, ◌∙◌, arith}
 use Rattle.std.specs.List.{AllByRecursion}
 use Rattle.std.specs.Option.{option_map_or, option_or}
 use Rattle.std.proofs.lemmas.List.Folds.{find-append}
-use Rattle.ipdl_base.specs.declared.kinds.Side.{Side}
 use Rattle.ipdl_base.specs.declared.line.What.{What}
 use Rattle.ipdl_base.specs.declared.line.What.TheVariants as what
 use Rattle.ipdl_base.specs.declared.message.Message.{Message}
@@ -12,16 +11,15 @@ use Rattle.ipdl_base.specs.declared.schema.Schema.{Schema}
 use Rattle.ipdl_base.specs.declared.value.Values.{Values}
 use Rattle.ipdl_base.specs.Sound.{message_of}
 use Rattle.nesting_core.specs.declared.frame.Answer.{Answer}
-use Rattle.nesting_core.specs.declared.frame.Head.{Head}
 use Rattle.nesting_core.specs.declared.frame.StackFrame.{StackFrame}
 use Rattle.nesting_core.specs.declared.frame.StackFrame.TheVariants.{Dispatch, Wait}
 use Rattle.nesting_core.specs.Answers.{with_answer}
-use Rattle.nesting_core.specs.Frames.{head_of, is_dispatch}
+use Rattle.nesting_core.specs.Frames.{head_of}
 use Rattle.channel_model.specs.Answers as answering
 use Rattle.channel_model.specs.Deliveries as delivery
-use Rattle.channel_model.specs.Ends.{End, Packet, StackEntry, PromiseEntry}
+use Rattle.channel_model.specs.Ends.{End, Packet, StackEntry}
 use Rattle.channel_model.specs.Events.{Answering, handled, kept}
-use Rattle.channel_model.specs.Numbers.{seq_of, is_sync_row, request_row}
+use Rattle.channel_model.specs.Numbers.{is_sync_row, request_row}
 use Rattle.channel_model.specs.Parts
 use Rattle.channel_model.specs.Parts.{FirstPart, LaterPart, DeliveryPart, end_behind, left_end}
 use Rattle.channel_model.specs.Phases.{Phase}
@@ -36,7 +34,7 @@ use Rattle.history_reading.specs.SentPacket as told
 use Rattle.history_reading.specs.SentPacket.{SentPacket, Request, request_of, requests_of}
 use Rattle.channel_laws.specs.OwnWaits.{IsOwnWait, WaitsOneWay, WaitsAreOwn}
 use Rattle.channel_laws.specs.Promised.{PromisesAreRead, requests_numbered}
-use Rattle.channel_laws.specs.Counts.{how_many, is_number}
+use Rattle.channel_laws.specs.Counts.{is_number}
 use Rattle.channel_laws.specs.SentAccounts.{request_seq}
 use Rattle.channel_laws.specs.Tested.{after_whats}
 use Rattle.channel_laws.proofs.Counting.{int-same, next-is_free, none-passes}
@@ -126,9 +124,9 @@ call-found schema place e own row route vs found sync h m seq number =
     let r : Request = request_after schema m.seq m.transaction m.route m.number vs own in
     let none : request_of own.sent m.seq ≡ None = ap (request_of own.sent) seq ∙ found-none (requests_of own.sent) (send.next_seq e) (none-passes (is_number (send.next_seq e)) (map request_seq (requests_of own.sent)) (none-numbered e own h)) in
     let last : request_of (own.sent ++ told.request r ∷ []) m.seq ≡ Some r =
-        ap (find (λ x. int_eq x.seq m.seq)) (requests-append own.sent (told.request r ∷ []))
-        ∙ (find-append (λ x. int_eq x.seq m.seq) (requests_of own.sent) (r ∷ [])
-        ∙ (ap (λ (o : Option Request). option_or o (cond (int_eq m.seq m.seq) (Some r) None)) none ∙ ap (λ (b : Bool). cond b (Some r) None) (int-same m.seq))) in
+    ap (find (λ x. int_eq x.seq m.seq)) (requests-append own.sent (told.request r ∷ []))
+    ∙ (find-append (λ x. int_eq x.seq m.seq) (requests_of own.sent) (r ∷ [])
+    ∙ (ap (λ (o : Option Request). option_or o (cond (int_eq m.seq m.seq) (Some r) None)) none ∙ ap (λ (b : Bool). cond b (Some r) None) (int-same m.seq))) in
     ap (λ (o : Option Request). option_map_or (λ (x : Request). x.sync) o false) last
     ∙ (ap (λ (o : Option MessageRow). option_map_or rows_read.is_sync_row o false) (ap (message_of schema) number ∙ message-row schema row.number row found) ∙ sync)
 

@@ -21,7 +21,7 @@ use Rattle.history_reading.specs.Settled.{settled_moment}
 use Rattle.channel_laws.specs.EndActors.{ReadsActors}
 use Rattle.channel_laws.specs.Exchanges.{ReadsExchanges}
 use Rattle.channel_laws.specs.NotedArrivals.{IsNoted}
-use Rattle.channel_laws.specs.Protocols.{HasProtocols, WorldHasProtocols}
+use Rattle.channel_laws.specs.Protocols.{WorldHasProtocols}
 use Rattle.channel_laws.specs.Replies.{ReadsReplies}
 use Rattle.channel_laws.specs.Rows.{HasSoundRows}
 use Rattle.channel_laws.specs.SettledLaws.{HistoriesObeySettled}

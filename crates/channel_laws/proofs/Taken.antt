@@ -37,7 +37,7 @@ use Rattle.channel_laws.specs.Exchanges.{ReadsExchanges}
 use Rattle.channel_laws.specs.NestedWorlds.{IsNestedWorld}
 use Rattle.channel_laws.specs.Notes.{told_notes}
 use Rattle.channel_laws.specs.Origins.{BodyOrigin}
-use Rattle.channel_laws.specs.RequestOrder.{InOrder, BodyInOrder, IsNextRequest, WorldInOrder, on_way}
+use Rattle.channel_laws.specs.RequestOrder.{InOrder, BodyInOrder, IsNextRequest, on_way}
 use Rattle.channel_laws.specs.Taken.{there_line}
 use Rattle.channel_laws.specs.Tested.{after_whats, EndLinesPass, test_at}
 use Rattle.channel_laws.proofs.ComingRequests.{comes-at, reached-in-order}
