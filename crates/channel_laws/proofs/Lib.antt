@@ -90,3 +90,5 @@ pub mod HeadsAlike
 pub mod SettledRuns
 pub mod WaitMoments
 pub mod StillReads
+pub mod StillEnds
+pub mod WaitLaw

@@ -1,7 +1,7 @@
 -- Every legal history obeys the law of prefixes.
-use Rattle.std.proofs.Common.{◌≡◌, ℕ, ◌+◌, ◌≤◌, ℤ, Bool, true, false, if◌then◌else◌, List, [], ◌∷◌, ◌++◌, drop, map, Option, Some, None, refl, sym, ap, subst, ◌∙◌}
+use Rattle.std.proofs.Common.{◌≡◌, ℕ, ◌+◌, ℤ, Bool, true, false, if◌then◌else◌, List, [], ◌∷◌, ◌++◌, map, Option, Some, None, refl, sym, ap, subst, ◌∙◌}
 use Rattle.std.specs.List.{AllByRecursion}
-use Rattle.ipdl_base.specs.declared.kinds.Reason.TheVariants.{ActorDestroyed, ChannelClosed, ResolverDestroyed}
+use Rattle.ipdl_base.specs.declared.kinds.Reason.TheVariants.{ActorDestroyed, ResolverDestroyed}
 use Rattle.ipdl_base.specs.declared.kinds.Side.{Side}
 use Rattle.ipdl_base.specs.declared.kinds.Side.TheVariants.{Parent, Child}
 use Rattle.ipdl_base.specs.declared.line.Line.{Line}
@@ -16,47 +16,33 @@ use Rattle.ipdl_base.specs.declared.value.Values.{Values}
 use Rattle.ipdl_base.specs.Sound.{IsSound}
 use Rattle.nesting_core.specs.declared.frame.Answer.{Answer}
 use Rattle.nesting_core.specs.declared.frame.Answer.TheVariants as answer
-use Rattle.nesting_core.specs.Frames.{head_of}
 use Rattle.pending_queue.specs.declared.item.Item.{Item}
 use Rattle.pending_queue.specs.declared.item.Item.TheVariants as item
 use Rattle.channel_model.specs.Answers as answering
 use Rattle.channel_model.specs.Deliveries as delivery
-use Rattle.channel_model.specs.Ends.{End, World, Packet, message, mark, end_of, link_to, opening}
-use Rattle.channel_model.specs.Events.{Event, Move}
-use Rattle.channel_model.specs.Steps.{first_packet}
-use Rattle.channel_model.specs.Falls as fall
-use Rattle.channel_model.specs.Numbers.{other, seq_of, is_sync_row, top_id}
-use Rattle.channel_model.specs.Outputs.{Output, request_answered, resolver_answered, is_open, body_of}
+use Rattle.channel_model.specs.Ends.{End, World, Packet, message, mark, end_of, link_to}
+use Rattle.channel_model.specs.Events.{Event}
+use Rattle.channel_model.specs.Numbers.{other, is_sync_row}
+use Rattle.channel_model.specs.Outputs.{Output, request_answered, resolver_answered, is_open}
 use Rattle.channel_model.specs.Parts
 use Rattle.channel_model.specs.Parts.{OwnParts, FirstPart, LaterPart, LaterParts, DeliveryPart, IsRefusal, IsRenaming, reply_lines, fall_lines, farewell_line, shut_line, reply_outcome}
 use Rattle.channel_model.specs.Phases.{Phase}
 use Rattle.channel_model.specs.Returns as return
-use Rattle.channel_model.specs.Runs.{run, happens}
 use Rattle.channel_model.specs.Sends as send
 use Rattle.channel_model.specs.Takes as take
 use Rattle.channel_model.specs.ValueActors.{received}
 use Rattle.channel_model.proofs.Known.{all-append, all-map}
 use Rattle.history_reading.specs.EndReading.{EndReading}
 use Rattle.history_reading.specs.Reading.{Reading, end_reading_of, other_of, after_what}
-use Rattle.channel_laws.specs.AnswersOnce.{AnswersOnce}
-use Rattle.channel_laws.specs.Arrivals.{arrival_reading, replies_delivered, ArrivalsAreRead, HasDueRow, IsDueBody, IsDueMessage, IsDue}
-use Rattle.channel_laws.specs.Exchanges.{ReadsExchanges}
 use Rattle.channel_laws.specs.NestedWorlds.{IsNestedWorld}
 use Rattle.channel_laws.specs.Notes.{told_notes}
-use Rattle.channel_laws.specs.Origins.{BodyOrigin}
-use Rattle.channel_laws.specs.RequestOrder.{InOrder, BodyInOrder, IsNextRequest, ComesInOrder, WorldInOrder, on_way}
 use Rattle.channel_laws.specs.Taken.{there_line}
 use Rattle.channel_laws.specs.Tested.{after_whats, EndLinesPass, test_at}
-use Rattle.channel_laws.specs.TwoEnds.{TwoEnds}
-use Rattle.channel_laws.proofs.EffectLines.{IsEffectLine, AreEffectLines, built, answers_ok, answers_fault, fails, resolved, rejected, fell, reply-effects, rejection-effects, fall-effects, fail-effects, settle-effect}
-use Rattle.channel_laws.proofs.EveryRun.{end-side}
-use Rattle.channel_laws.proofs.Exchanges.{own-exchanges, delivery-exchanges, opening-exchanges, request-there, reply-there, replies-once}
+use Rattle.channel_laws.proofs.EffectLines.{IsEffectLine, AreEffectLines, built, answers_ok, answers_fault, fails, resolved, rejected, fell, reply-effects, fail-effects, settle-effect}
+use Rattle.channel_laws.proofs.Exchanges.{opening-exchanges}
 use Rattle.channel_laws.proofs.Moves.{StepParts, acts, delivers, SideMove}
-use Rattle.channel_laws.proofs.OrderRuns.{requests_come_in_order}
-use Rattle.channel_laws.proofs.Outlines.{RepliesFit}
-use Rattle.channel_laws.proofs.Runs.{RunMove, IsReached, MoveKeeps, EveryMoveKeeps, AtEnds, at-ends, ends-keep, ends-pass}
+use Rattle.channel_laws.proofs.Runs.{IsReached, EveryMoveKeeps, ends-pass}
 use Rattle.channel_laws.proofs.Testing.{tested-append, tested-free}
-use Rattle.channel_laws.proofs.TwoEnds.{Arrival}
 use Rattle.channel_laws.proofs.Taken.{ReadExchanges, exchanges-keep, laters-effects}
 use Rattle.std.proofs.Common.{◌&&◌, ◌==◌, cond, int_eq}
 use Rattle.std.specs.Option.{option_map_or}
@@ -73,21 +59,20 @@ use Rattle.history_reading.specs.EndReading.{lives, own_request}
 use Rattle.history_reading.specs.Holds.{moment_test, moment_before}
 use Rattle.history_reading.specs.Nulled.{is_nulled, same_values}
 use Rattle.history_reading.specs.Prefix.{prefix_line, was_sent, was_sent_with, is_for}
-use Rattle.history_reading.specs.Reading.{after, opening_reading, read}
+use Rattle.history_reading.specs.Reading.{after, read}
 use Rattle.history_reading.specs.SentPacket as told
 use Rattle.channel_model.specs.Takes.{taken_next}
 use Rattle.channel_model.specs.Refusals.{actors_of}
 use Rattle.channel_model.specs.Runs.{history_of}
-use Rattle.channel_model.specs.ValueActors.{ActorValue, actors_in_parts, nulled}
+use Rattle.channel_model.specs.ValueActors.{actors_in_parts, nulled}
 use Rattle.channel_laws.specs.EndActors.{ReadsActors}
 use Rattle.channel_laws.specs.NextPackets.{next_line}
 use Rattle.channel_laws.specs.NotedArrivals.{ItemIsNoted, ArrivalsAreNoted}
 use Rattle.channel_laws.specs.Notes.{Note, RequestNote, body_note, message_note, In}
-use Rattle.channel_laws.specs.Protocols.{Protocols, HasProtocols, HasItsProtocol, HaveTheirProtocols, ItemHasProtocols, WorldHasProtocols}
+use Rattle.channel_laws.specs.Protocols.{Protocols, HasProtocols, HaveTheirProtocols, ItemHasProtocols, WorldHasProtocols}
 use Rattle.channel_laws.specs.PrefixLaws.{HistoriesObeyPrefix}
 use Rattle.channel_laws.specs.SentAccounts.{SentAccount}
 use Rattle.channel_laws.specs.Tested.{LinesPass}
-use Rattle.channel_laws.specs.ValueReadings.{LivesAlike}
 use Rattle.channel_laws.proofs.Growing.{own-request}
 use Rattle.channel_laws.proofs.Holding.{law_at, holds-in-runs}
 use Rattle.channel_laws.proofs.MissingAlike.{values_are_read_alike}
@@ -237,7 +222,7 @@ sent-request schema side open_end outbox count left others m vs s body i =
     let k = own-request schema side open_end outbox count others.sent left (message_note schema m vs) s (subst (λ (b : Body). In (body_note schema m b) (told_notes side others.sent)) body i) in
     record { request = k.0; found = k.1.0; route = ap (λ (x : RequestNote). x.route) k.1.1.0; number = ap (λ (x : RequestNote). x.number) k.1.1.0; values = ap (λ (x : RequestNote). x.values) k.1.1.0 }
 
-noted-at : (side is : Side) (e : End) (others : EndReading) (schema : Schema) → is ≡ side → ArrivalsAreNoted schema (told_notes side others.sent) e → ArrivalsAreNoted schema (told_notes is others.sent) e
+pub noted-at : (side is : Side) (e : End) (others : EndReading) (schema : Schema) → is ≡ side → ArrivalsAreNoted schema (told_notes side others.sent) e → ArrivalsAreNoted schema (told_notes is others.sent) e
 noted-at side is e others schema same k = subst (λ (s : Side). ArrivalsAreNoted schema (told_notes s others.sent) e) (sym same) k
 
 module _ (schema : Schema) (sound : IsSound schema) where

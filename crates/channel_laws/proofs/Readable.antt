@@ -34,7 +34,7 @@ use Rattle.channel_model.specs.Answers as answering
 use Rattle.channel_model.specs.Deliveries as delivery
 use Rattle.channel_model.specs.Ends.{End, Packet, StackEntry, PromiseEntry}
 use Rattle.channel_model.specs.Falls as fall
-use Rattle.channel_model.specs.Numbers.{top_id, makes_promise, is_sync_row}
+use Rattle.channel_model.specs.Numbers.{top_id, is_sync_row}
 use Rattle.channel_model.specs.Outputs.{AnsweredRequest, request_answered, resolver_answered}
 use Rattle.channel_model.specs.Returns as return
 use Rattle.channel_model.specs.Sends as send

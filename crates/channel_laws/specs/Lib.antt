@@ -17,7 +17,6 @@ pub mod SentAccounts
 pub mod Delivered
 pub mod TwoEnds
 pub mod NextPackets
-pub mod WaitOrder
 pub mod ReadingLaws
 pub mod Counts
 pub mod Arrivals
@@ -31,6 +30,7 @@ pub mod Taken
 pub mod PrefixLaws
 pub mod Replies
 pub mod Heads
+pub mod WaitLaws
 pub mod SettledLaws
 pub mod ExchangeLaws
 pub mod TwoEndLaws
