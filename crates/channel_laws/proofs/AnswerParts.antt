@@ -1,5 +1,5 @@
 -- In each part of a step a request is answered at most once.
-use Rattle.std.proofs.Common.{◌≡◌, ℕ, ◌+◌, ◌≤◌, ℤ, pos, Bool, true, false, not, ◌&&◌, ◌||◌, cond, if◌then◌else◌, int_eq, find, List, [], ◌∷◌, ◌++◌, drop, filter, map, Option, Some, None, is_some, option_map, refl, sym, ap, subst, append_assoc, ◌∙◌, arith}
+use Rattle.std.proofs.Common.{◌≡◌, ℕ, ◌+◌, ◌≤◌, ℤ, Bool, true, false, not, ◌&&◌, ◌||◌, cond, if◌then◌else◌, int_eq, List, [], ◌∷◌, ◌++◌, drop, filter, map, Option, Some, None, refl, sym, ap, subst, append_assoc, ◌∙◌, arith}
 use Rattle.std.specs.List.{AllByRecursion, flat_map}
 use Rattle.std.proofs.lemmas.List.{map-append, append-nil}
 use Rattle.std.proofs.lemmas.Option.{same_Some}
@@ -17,7 +17,6 @@ use Rattle.ipdl_base.specs.declared.message.Message.{Message}
 use Rattle.ipdl_base.specs.declared.schema.MessageRow.{MessageRow}
 use Rattle.ipdl_base.specs.declared.schema.Schema.{Schema}
 use Rattle.ipdl_base.specs.declared.value.Values.{Values}
-use Rattle.ipdl_base.specs.Sound.{message_of}
 use Rattle.nesting_core.specs.declared.frame.Answer.{Answer}
 use Rattle.nesting_core.specs.declared.frame.Answer.TheVariants as answer
 use Rattle.nesting_core.specs.declared.frame.StackFrame.{StackFrame}
@@ -32,19 +31,18 @@ use Rattle.promise_table.specs.declared.promise.Promise.{Promise}
 use Rattle.promise_table.specs.Promises.{is_pending_of}
 use Rattle.channel_model.specs.Answers as answering
 use Rattle.channel_model.specs.Deliveries as delivery
-use Rattle.channel_model.specs.Ends.{End, Packet, message, mark, StackEntry, PromiseEntry, Naming, resolver, Resolver}
+use Rattle.channel_model.specs.Ends.{End, Packet, message, mark, StackEntry, PromiseEntry, resolver}
 use Rattle.channel_model.specs.Events.{Answering, handled, kept}
 use Rattle.channel_model.specs.Falls as fall
-use Rattle.channel_model.specs.Names.{without_name, has_name, held_by_name, without_resolvers, is_actor}
-use Rattle.channel_model.specs.Numbers.{other, top_id, is_sync_row, makes_promise, request_row}
-use Rattle.channel_model.specs.Outputs.{AnsweredRequest, request_answered, resolver_answered, body_of, is_open}
+use Rattle.channel_model.specs.Names.{has_name, held_by_name, is_actor}
+use Rattle.channel_model.specs.Numbers.{other, top_id, is_sync_row, makes_promise}
+use Rattle.channel_model.specs.Outputs.{AnsweredRequest, request_answered, resolver_answered, is_open}
 use Rattle.channel_model.specs.Parts
 use Rattle.channel_model.specs.Parts.{FirstPart, LaterPart, DeliveryPart, IsRefusal, IsRenaming, end_behind, reply_lines, fall_lines, falling, farewell_item, farewell_line, shut_line, left_end, reply_outcome}
 use Rattle.channel_model.specs.Phases.{Phase}
 use Rattle.channel_model.specs.Refusals.{expected_seq}
 use Rattle.channel_model.specs.Returns as return
 use Rattle.channel_model.specs.Sends as send
-use Rattle.channel_model.specs.States.{is_goodbye, is_farewell}
 use Rattle.channel_model.specs.Takes as take
 use Rattle.channel_model.specs.ValueActors.{received}
 use Rattle.channel_model.proofs.Known.{all-append}
@@ -56,19 +54,19 @@ use Rattle.history_reading.specs.Reading as reads
 use Rattle.history_reading.specs.Reading.{after_what}
 use Rattle.history_reading.specs.SentPacket as told
 use Rattle.history_reading.specs.SentPacket.{SentPacket, packet_kind}
-use Rattle.channel_laws.specs.AnswersOnce.{owes_answer, names_resolver, answers, AnswersOneWay, HasAnswers, sent_kinds, AnswersOnce}
+use Rattle.channel_laws.specs.AnswersOnce.{owes_answer, names_resolver, answers, AnswersOneWay, IsAnsweredOnce, sent_kinds, AnswersOnce}
 use Rattle.channel_laws.specs.Arrivals.{item_kind, IsDue}
-use Rattle.channel_laws.specs.Counts.{one_if, how_many, is_packet, AreNumberedOnce}
-use Rattle.channel_laws.specs.Delivered.{body_kind}
+use Rattle.channel_laws.specs.Counts.{one_if, how_many, is_packet}
 use Rattle.channel_laws.specs.Tested.{after_whats}
 use Rattle.channel_laws.proofs.Answering.{drop-fewer, drop-keeps, answered-owed, failed-owed, released-keeps, answered-keeps, failed-keeps, released-fewer, used-owed, filter-fewer, used-named, actors-named, used-held}
 use Rattle.channel_laws.proofs.ArrivalParts.{taken-first, request-due, staying-all, request-shown, farewell-other}
 use Rattle.channel_laws.proofs.Arriving.{request-kind, reply-kind, leaves-count}
 use Rattle.channel_laws.proofs.Counting.{many-append, many-last, next-once, fewer-once}
 use Rattle.channel_laws.proofs.EffectLines.{IsEffectLine, AreEffectLines, built, answers_ok, answers_fault, fails, resolved, rejected, fell, reply-effects, rejection-effects, fall-effects, fail-effects, settle-effect}
-use Rattle.channel_laws.proofs.Leaving.{TakenFrom, taken-before, FirstTaken}
+use Rattle.channel_laws.proofs.Leaving.{TakenFrom, taken-before}
+use Rattle.channel_laws.proofs.Origins.{promise-async}
 use Rattle.channel_laws.proofs.PromiseParts.{message-row}
-use Rattle.channel_laws.proofs.Replacing.{Replaces, replaced-taken, alike-request}
+use Rattle.channel_laws.proofs.Replacing.{replaced-taken, alike-request}
 
 -- Lines
 
@@ -151,17 +149,17 @@ same-replied ks p none n = let m = many-last (is_packet (kind.Reply n)) ks p in 
 
 module _ (schema : Schema) where
   -- an end that may answer no more than another
-  fewer : (e f : End) (ks more : List PacketKind) → HasAnswers schema e.side e.arrived e.stack e.names e.delivered ks → f.side ≡ e.side → f.delivered ≡ e.delivered → AllByRecursion (AnswersOneWay schema) f.stack
-      → ((n : ℤ) → answers f.arrived f.stack f.names more n ≤ answers e.arrived e.stack e.names ks n) → HasAnswers schema f.side f.arrived f.stack f.names f.delivered more
+  fewer : (e f : End) (ks more : List PacketKind) → IsAnsweredOnce schema e.side e.arrived e.stack e.names e.delivered ks → f.side ≡ e.side → f.delivered ≡ e.delivered → AllByRecursion (AnswersOneWay schema) f.stack
+      → ((n : ℤ) → answers f.arrived f.stack f.names more n ≤ answers e.arrived e.stack e.names ks n) → IsAnsweredOnce schema f.side f.arrived f.stack f.names f.delivered more
   fewer e f ks more h side count entries less =
-      subst (λ (s : Side). HasAnswers schema s f.arrived f.stack f.names f.delivered more) (sym side)
-      (subst (λ (c : ℕ). HasAnswers schema e.side f.arrived f.stack f.names c more) (sym count)
+      subst (λ (s : Side). IsAnsweredOnce schema s f.arrived f.stack f.names f.delivered more) (sym side)
+      (subst (λ (c : ℕ). IsAnsweredOnce schema e.side f.arrived f.stack f.names c more) (sym count)
       (record { numbered = fewer-once (other e.side) e.delivered (answers e.arrived e.stack e.names ks) (answers f.arrived f.stack f.names more) h.numbered less; entries = entries }))
 
   read-kept : (e : End) (own next : EndReading) → sent_kinds next ≡ sent_kinds own → AnswersOnce schema e own → AnswersOnce schema e next
-  read-kept e own next same h = subst (HasAnswers schema e.side e.arrived e.stack e.names e.delivered) (sym same) h
+  read-kept e own next same h = subst (IsAnsweredOnce schema e.side e.arrived e.stack e.names e.delivered) (sym same) h
 
-  behind-kept : (b : Bool) (e : End) (ks : List PacketKind) → HasAnswers schema e.side e.arrived e.stack e.names e.delivered ks → HasAnswers schema (end_behind b e).side (end_behind b e).arrived (end_behind b e).stack (end_behind b e).names (end_behind b e).delivered ks
+  behind-kept : (b : Bool) (e : End) (ks : List PacketKind) → IsAnsweredOnce schema e.side e.arrived e.stack e.names e.delivered ks → IsAnsweredOnce schema (end_behind b e).side (end_behind b e).arrived (end_behind b e).stack (end_behind b e).names (end_behind b e).delivered ks
   behind-kept true e ks h = h
   behind-kept false e ks h = h
 
@@ -255,13 +253,6 @@ module _ (schema : Schema) where
 
   left-fewer : (e : End) (x : Item) → take.taken_next e ≡ Some x → (n : ℤ) → waiting n (left_end e).arrived ≤ waiting n e.arrived
   left-fewer e x next n = let c = leaves-count (is_packet (kind.Request n)) e.arrived (left_end e).arrived x (taken-first e x next).taken in omega arith
-
-  promise-async : (row : MessageRow) → makes_promise row ≡ true → is_sync_row row ≡ false
-  promise-async row is = by (is_sync_row row) (is_some row.returns) is
-    where
-      by : (b c : Bool) → not b && c ≡ true → b ≡ false
-      by true c e = cc
-      by false c e = refl
 
   -- a dispatch on top
   top-entry : (stack : List StackEntry) (entry : StackEntry) → return.dispatch_on_top stack ≡ Some entry → (below : List StackEntry) × (stack ≡ entry ∷ below) × (is_dispatch entry.frame ≡ true)
@@ -420,7 +411,7 @@ module _ (schema : Schema) where
   later-answers-once {e = e} place own (Parts.falls why is) h = effects-kept place (fall_lines top_id (λ id. why) e) e own (fall-effects top_id (λ id. why) e) (falls-replied (λ id. why) e.promises (falling top_id e)) h
 
   -- one more request has arrived, behind those that were there
-  one-arrived : (e : End) (m : Message) (row : MessageRow) (vs : Values) (ks : List PacketKind) → m.body ≡ Request vs → m.seq ≡ expected_seq e → HasAnswers schema e.side e.arrived e.stack e.names e.delivered ks → HasAnswers schema e.side (e.arrived ++ delivery.item_of row m ∷ []) e.stack e.names (e.delivered + 1) ks
+  one-arrived : (e : End) (m : Message) (row : MessageRow) (vs : Values) (ks : List PacketKind) → m.body ≡ Request vs → m.seq ≡ expected_seq e → IsAnsweredOnce schema e.side e.arrived e.stack e.names e.delivered ks → IsAnsweredOnce schema e.side (e.arrived ++ delivery.item_of row m ∷ []) e.stack e.names (e.delivered + 1) ks
   one-arrived e m row vs ks body is h =
       let new : Item = delivery.item_of row m in
       record {
@@ -441,7 +432,7 @@ module _ (schema : Schema) where
   pub delivery-answers-once : {packet : Packet} {e f : End} {ws : List What} {ps : List Packet} {q : Phase} (place : ℕ) (own : EndReading) → DeliveryPart schema packet e ws ps f q → IsDue schema e own packet → AnswersOnce schema e own → AnswersOnce schema f (after_whats schema place ws own)
   delivery-answers-once {e = e} place own (Parts.gets_request m row vs body found none) due h =
       let new : Item = delivery.item_of row m in
-      subst (λ (items : List Item). HasAnswers schema e.side (items ++ new ∷ []) e.stack e.names (e.delivered + 1) (sent_kinds own)) (sym (staying-all schema row new e.arrived (replaced row.compress new e.arrived) refl none))
+      subst (λ (items : List Item). IsAnsweredOnce schema e.side (items ++ new ∷ []) e.stack e.names (e.delivered + 1) (sent_kinds own)) (sym (staying-all schema row new e.arrived (replaced row.compress new e.arrived) refl none))
       (one-arrived e m row vs (sent_kinds own) body (request-due schema e own m row vs body found due) h)
   delivery-answers-once {e = e} place own (Parts.replaces m row vs old sync level replies body found is told_it) due h =
       let new : Item = delivery.item_of row m in

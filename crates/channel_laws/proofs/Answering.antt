@@ -1,8 +1,7 @@
 -- How often a request may still be answered, as stacks, names and what was sent change.
-use Rattle.std.proofs.Common.{◌≡◌, ℕ, ◌+◌, ◌≤◌, ℤ, Bool, true, false, not, ◌&&◌, ◌||◌, cond, if◌then◌else◌, int_eq, List, [], ◌∷◌, ◌++◌, drop, filter, find, map, Option, Some, None, option_map, option_and_then, ◌==◌, refl, sym, ap, subst, ◌∙◌, arith}
+use Rattle.std.proofs.Common.{◌≡◌, ℕ, ◌+◌, ◌≤◌, ℤ, Bool, true, false, not, ◌&&◌, ◌||◌, cond, if◌then◌else◌, int_eq, List, [], ◌∷◌, drop, filter, find, map, Option, Some, None, option_map, option_and_then, ◌==◌, refl, sym, ap, subst, ◌∙◌, arith}
 use Rattle.std.specs.List.{AllByRecursion}
 use Rattle.std.proofs.lemmas.Option.{same_Some}
-use Rattle.ipdl_base.specs.declared.schema.MessageRow.{MessageRow}
 use Rattle.ipdl_base.specs.declared.schema.Schema.{Schema}
 use Rattle.nesting_core.specs.declared.frame.Answer.{Answer}
 use Rattle.nesting_core.specs.declared.frame.Head.{Head}
@@ -13,9 +12,8 @@ use Rattle.nesting_core.specs.Frames.{head_of, is_dispatch}
 use Rattle.channel_model.specs.Answers as answering
 use Rattle.channel_model.specs.Deliveries as delivery
 use Rattle.channel_model.specs.Ends.{StackEntry, Naming, NameContent, actor, resolver, Resolver}
-use Rattle.channel_model.specs.Names.{has_name, held_by_name, without_name, without_resolvers, is_actor}
+use Rattle.channel_model.specs.Names.{has_name, held_by_name, without_name}
 use Rattle.channel_model.specs.Parts.{HoldsActor}
-use Rattle.channel_model.specs.Returns as return
 use Rattle.channel_laws.specs.AnswersOnce.{owes_answer, holds_resolver_of, names_resolver, AnswersOneWay}
 use Rattle.channel_laws.specs.Counts.{one_if, how_many}
 

@@ -1,9 +1,7 @@
 -- Each part of a step keeps the reading of arrivals.
-use Rattle.std.proofs.Common.{◌≡◌, ℕ, ◌+◌, ℤ, Bool, true, false, ◌&&◌, cond, if◌then◌else◌, find, List, [], ◌∷◌, ◌++◌, drop, map, Option, Some, None, refl, sym, ap, subst, ◌∙◌}
-use Rattle.std.specs.List.{AllByRecursion}
+use Rattle.std.proofs.Common.{◌≡◌, ℕ, ◌+◌, ℤ, Bool, true, false, ◌&&◌, if◌then◌else◌, List, [], ◌∷◌, ◌++◌, drop, map, Option, Some, None, refl, sym, ap, subst, ◌∙◌}
 use Rattle.std.proofs.lemmas.Option.{same_Some}
 use Rattle.ipdl_base.specs.declared.kinds.Level.{Level}
-use Rattle.ipdl_base.specs.declared.kinds.Level.TheVariants.{Not}
 use Rattle.ipdl_base.specs.declared.kinds.Reason.TheVariants.{ActorDestroyed, ChannelClosed, ResolverDestroyed}
 use Rattle.ipdl_base.specs.declared.line.What.{What}
 use Rattle.ipdl_base.specs.declared.line.What.TheVariants as what
@@ -21,15 +19,15 @@ use Rattle.nesting_core.specs.Top.{top_of}
 use Rattle.pending_queue.specs.declared.item.Item.{Item}
 use Rattle.pending_queue.specs.declared.item.Item.TheVariants as item
 use Rattle.pending_queue.specs.Compression.{is_request, replaced, staying}
-use Rattle.pending_queue.specs.Holding.{is_free, without_first}
+use Rattle.pending_queue.specs.Holding.{is_free}
 use Rattle.promise_table.specs.declared.promise.Outcome.{Outcome}
 use Rattle.channel_model.specs.Answers as answering
 use Rattle.channel_model.specs.Deliveries as delivery
-use Rattle.channel_model.specs.Ends.{End, Packet, message, mark, StackEntry}
+use Rattle.channel_model.specs.Ends.{End, Packet, message, mark}
 use Rattle.channel_model.specs.Events.{Answering, handled, kept}
 use Rattle.channel_model.specs.Falls as fall
-use Rattle.channel_model.specs.Numbers.{other, top_id, is_sync_row}
-use Rattle.channel_model.specs.Outputs.{AnsweredRequest, request_answered, resolver_answered, body_of}
+use Rattle.channel_model.specs.Numbers.{top_id, is_sync_row}
+use Rattle.channel_model.specs.Outputs.{request_answered, resolver_answered, body_of}
 use Rattle.channel_model.specs.Parts
 use Rattle.channel_model.specs.Parts.{FirstPart, LaterPart, DeliveryPart, IsRefusal, IsRenaming, IsNoMessage, end_behind, reply_lines, fall_lines, farewell_item, farewell_line, shut_line, left_end, reply_outcome}
 use Rattle.channel_model.specs.Phases.{Phase}
@@ -46,13 +44,13 @@ use Rattle.history_reading.specs.EndReading.{EndReading, is_sync_request}
 use Rattle.history_reading.specs.Numbers.{same_packet}
 use Rattle.history_reading.specs.Reading as reads
 use Rattle.history_reading.specs.Reading.{after_what}
-use Rattle.channel_laws.specs.Arrivals.{item_kind, ArrivalReading, arrival_reading, IsAsyncReply, IsNoSyncReply, HasArrivals, ArrivalsAreRead, HasDueRow, IsDueBody, IsDueMessage, IsDue}
+use Rattle.channel_laws.specs.Arrivals.{item_kind, ArrivalReading, arrival_reading, IsAsyncReply, IsNoSyncReply, HasArrivals, ArrivalsAreRead, IsDueBody, IsDueMessage, IsDue}
 use Rattle.channel_laws.specs.Delivered.{body_kind}
 use Rattle.channel_laws.specs.Tested.{after_whats}
 use Rattle.channel_laws.proofs.Arriving.{arriving, delivering, request-arrives, other-arrives, reply-delivered, nothing-arrived, Leaves, request-goes, request-replaced, reply-leaves, request-alone, reply-alone, request-kind, reply-kind}
 use Rattle.channel_laws.proofs.EffectLines.{IsEffectLine, AreEffectLines, built, answers_ok, answers_fault, fails, resolved, rejected, fell, reply-effects, rejection-effects, fall-effects, fail-effects, settle-effect, effects-leave}
 use Rattle.channel_laws.proofs.Leaving.{TakenFrom, taken-before, FirstTaken, first-taken}
-use Rattle.channel_laws.proofs.Replacing.{Replaces, replaced-taken, none-replaced, is_request_item, alike-request}
+use Rattle.channel_laws.proofs.Replacing.{replaced-taken, none-replaced, alike-request}
 
 -- Lines
 

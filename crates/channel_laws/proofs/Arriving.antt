@@ -1,5 +1,5 @@
 -- What arrives and leaves keeps the reading of arrivals.
-use Rattle.std.proofs.Common.{◌≡◌, ℕ, suc, ◌+◌, ◌≤◌, ℤ, Bool, true, false, not, cond, int_eq, List, [], ◌∷◌, ◌++◌, map, Option, Some, None, refl, sym, ap, subst, ◌∙◌, arith}
+use Rattle.std.proofs.Common.{◌≡◌, ℕ, ◌+◌, ◌≤◌, ℤ, Bool, true, false, not, List, [], ◌∷◌, ◌++◌, map, Some, refl, sym, ap, subst, ◌∙◌, arith}
 use Rattle.std.specs.List.{AllByRecursion}
 use Rattle.std.proofs.lemmas.Bool.{false≢true}
 use Rattle.std.proofs.lemmas.List.{map-append}
@@ -25,7 +25,7 @@ use Rattle.history_reading.specs.Numbers.{same_packet}
 use Rattle.history_reading.specs.Reading as reads
 use Rattle.channel_laws.specs.Delivered.{body_kind}
 use Rattle.channel_laws.specs.Counts.{one_if, how_many, is_number, is_packet, AreNumberedOnce}
-use Rattle.channel_laws.specs.Arrivals.{item_kind, ArrivalReading, requests_in, requests_delivered, replies_in, replies_delivered, IsAsyncReply, IsNoSyncReply, HasArrivals}
+use Rattle.channel_laws.specs.Arrivals.{item_kind, ArrivalReading, requests_delivered, IsAsyncReply, IsNoSyncReply, HasArrivals}
 use Rattle.channel_laws.proofs.Counting.{many-append, many-middle, many-last, none-passes, next-once, fewer-once}
 use Rattle.channel_laws.proofs.Leaving.{TakenFrom, FirstTaken, ShowOthers, leaves-alike, same_packet-refl}
 

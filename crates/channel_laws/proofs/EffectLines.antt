@@ -1,5 +1,5 @@
 -- The lines of effects that stand behind the line of an event, and what a view of the reading keeps behind them.
-use Rattle.std.proofs.Common.{◌≡◌, ℕ, ◌+◌, ℤ, Bool, true, false, List, [], ◌∷◌, ◌++◌, filter, map, refl, ◌∙◌}
+use Rattle.std.proofs.Common.{◌≡◌, ℕ, ◌+◌, ℤ, Bool, true, false, List, [], ◌∷◌, filter, map, refl, ◌∙◌}
 use Rattle.std.specs.List.{AllByRecursion, flat_map}
 use Rattle.actor_tree.specs.declared.actor.Actor.{Actor}
 use Rattle.ipdl_base.specs.declared.kinds.Destroy.{Destroy}

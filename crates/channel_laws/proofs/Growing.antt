@@ -157,7 +157,7 @@ module _ (schema : Schema) (theirs more : List Note) where
 
 -- The request of a number is the only one
 
-same_seq : (side : Side) (j k : ℕ) → 1 ≤ j → 1 ≤ k → seq_of side j ≡ seq_of side k → j ≡ k
+pub same_seq : (side : Side) (j k : ℕ) → 1 ≤ j → 1 ≤ k → seq_of side j ≡ seq_of side k → j ≡ k
 same_seq Parent j k one two e = cc
 same_seq Child zero k one two e = absurd (omega arith)
 same_seq Child (suc j) zero one two e = absurd (omega arith)

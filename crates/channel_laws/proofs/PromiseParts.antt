@@ -1,5 +1,5 @@
 -- Each part of a step keeps the reading of promises.
-use Rattle.std.proofs.Common.{◌≡◌, ℕ, ◌+◌, ℤ, pos, Bool, true, false, not, ◌&&◌, ◌||◌, ◌==◌, cond, if◌then◌else◌, int_eq, find, List, [], ◌∷◌, ◌++◌, drop, filter, map, Option, Some, None, option_and_then, refl, sym, ap, subst, append_assoc, ◌∙◌}
+use Rattle.std.proofs.Common.{◌≡◌, ℕ, ◌+◌, ℤ, pos, Bool, true, false, not, ◌==◌, cond, if◌then◌else◌, int_eq, find, List, [], ◌∷◌, ◌++◌, drop, filter, map, Option, Some, None, option_and_then, refl, sym, ap, subst, append_assoc, ◌∙◌}
 use Rattle.std.specs.List.{AllByRecursion, filter_map, flat_map}
 use Rattle.std.specs.Option.{option_map_or}
 use Rattle.std.proofs.lemmas.Bool.Decides.{Decides-int_eq}
@@ -32,11 +32,11 @@ use Rattle.promise_table.specs.declared.promise.Promise.{Promise}
 use Rattle.promise_table.specs.Promises.{is_pending, is_pending_of, has_number}
 use Rattle.channel_model.specs.Answers as answering
 use Rattle.channel_model.specs.Deliveries as delivery
-use Rattle.channel_model.specs.Ends.{End, Packet, message, mark, StackEntry, PromiseEntry}
+use Rattle.channel_model.specs.Ends.{End, Packet, message, mark, PromiseEntry}
 use Rattle.channel_model.specs.Events.{Answering, handled, kept}
 use Rattle.channel_model.specs.Falls as fall
 use Rattle.channel_model.specs.Numbers.{top_id, is_sync_row, makes_promise, request_row}
-use Rattle.channel_model.specs.Outputs.{AnsweredRequest, request_answered, resolver_answered, body_of}
+use Rattle.channel_model.specs.Outputs.{AnsweredRequest, request_answered, resolver_answered}
 use Rattle.channel_model.specs.Parts
 use Rattle.channel_model.specs.Parts.{FirstPart, LaterPart, DeliveryPart, IsRefusal, IsRenaming, end_behind, reply_lines, fall_lines, falling, farewell_item, farewell_line, shut_line, left_end, promise_for, reply_outcome}
 use Rattle.channel_model.specs.Phases.{Phase}
@@ -54,7 +54,7 @@ use Rattle.history_reading.specs.Reading.{after_what, request_after}
 use Rattle.history_reading.specs.Rows.{wants_number, wants_row}
 use Rattle.history_reading.specs.SentPacket as told
 use Rattle.history_reading.specs.SentPacket.{SentPacket, Request, request_in, requests_of}
-use Rattle.channel_laws.specs.Promised.{Promised, promised_by, promised_entry, PromiseReading, promise_reading, IsReadPromise, HasPromises, PromisesAreRead}
+use Rattle.channel_laws.specs.Promised.{promised_by, promised_entry, PromiseReading, promise_reading, IsReadPromise, HasPromises, PromisesAreRead}
 use Rattle.channel_laws.specs.Tested.{after_whats}
 use Rattle.channel_laws.proofs.EffectLines.{IsEffectLine, AreEffectLines, built, answers_ok, answers_fault, fails, resolved, rejected, fell, reply-effects, rejection-effects, fall-effects, fail-effects, settle-effect}
 use Rattle.channel_laws.proofs.Promising.{numbers_passing, numbers_falling, promises-known, request-sent, next-unsettled, promise-settled, all-rejected, fallen-rejected}

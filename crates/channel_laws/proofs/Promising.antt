@@ -1,5 +1,5 @@
 -- Promises that are made, settled and rejected keep their reading.
-use Rattle.std.proofs.Common.{◌≡◌, ◌≢◌, ℕ, ◌+◌, ◌≤◌, ℤ, Bool, true, false, not, ◌&&◌, ◌||◌, cond, if◌then◌else◌, int_eq, List, [], ◌∷◌, ◌++◌, filter, find, map, Option, Some, None, is_none, is_some, refl, sym, ap, subst, ◌∙◌, arith}
+use Rattle.std.proofs.Common.{◌≡◌, ◌≢◌, ℕ, ◌+◌, ◌≤◌, ℤ, Bool, true, false, not, ◌&&◌, ◌||◌, cond, if◌then◌else◌, int_eq, List, [], ◌∷◌, ◌++◌, filter, find, map, Option, Some, is_some, refl, sym, ap, subst, ◌∙◌, arith}
 use Rattle.std.specs.List.{AllByRecursion, flat_map}
 use Rattle.std.proofs.lemmas.Bool.{false≢true}
 use Rattle.std.proofs.lemmas.Bool.Decides.{Decides-int_eq}
@@ -12,7 +12,7 @@ use Rattle.ipdl_base.specs.declared.kinds.Reason.TheVariants.{ActorDestroyed}
 use Rattle.ipdl_base.specs.declared.kinds.Side.{Side}
 use Rattle.promise_table.specs.declared.promise.Outcome.{Outcome}
 use Rattle.promise_table.specs.declared.promise.Promise.{Promise}
-use Rattle.promise_table.specs.Promises.{is_pending, is_pending_of, settled}
+use Rattle.promise_table.specs.Promises.{is_pending, is_pending_of}
 use Rattle.channel_model.specs.Actors.{AreDistinct}
 use Rattle.channel_model.specs.Ends.{PromiseEntry}
 use Rattle.channel_model.specs.Falls.{passes, rejected, rejected_entry}
@@ -22,10 +22,11 @@ use Rattle.channel_model.specs.Takes.{settled_entry}
 use Rattle.channel_model.proofs.Known.{all-map, all-append}
 use Rattle.history_reading.specs.Numbers.{has}
 use Rattle.history_reading.specs.SentPacket.{Request}
-use Rattle.channel_laws.specs.Counts.{one_if, how_many, is_number, AreNumberedOnce}
+use Rattle.channel_laws.specs.Counts.{one_if, how_many, is_number}
 use Rattle.channel_laws.specs.Promised.{Promised, promised_by, promised_in, promised_entry, PromiseReading, requests_numbered, IsReadPromise, HasPromises}
 use Rattle.channel_laws.specs.SentAccounts.{request_seq}
-use Rattle.channel_laws.proofs.Counting.{many-append, many-last, none-passes, int-same, more-seqs, next-is_free, next-once}
+use Rattle.channel_laws.proofs.Standing.{has-append}
+use Rattle.channel_laws.proofs.Counting.{many-last, none-passes, int-same, more-seqs, next-is_free, next-once}
 
 -- Numbers
 
@@ -45,14 +46,6 @@ int-flip m n = by (int_eq n m) refl
 
 not-same : (m n : ℤ) → int_eq m n ≡ false → n ≢ m
 not-same m n is e = false≢true (sym is ∙ (Decides-int_eq m n).1 (sym e))
-
-pub has-append : (f g : List ℤ) (n : ℤ) → has (f ++ g) n ≡ has f n || has g n
-has-append [] g n = refl
-has-append (x ∷ f) g n = by (int_eq x n) (has-append f g n)
-  where
-    by : (b : Bool) → has (f ++ g) n ≡ has f n || has g n → b || has (f ++ g) n ≡ (b || has f n) || has g n
-    by true e = refl
-    by false e = e
 
 -- numbers of which each is counted once are distinct
 pub once-distinct : (ns : List ℤ) → ((n : ℤ) → how_many (is_number n) ns ≤ 1) → AreDistinct ns

@@ -1,16 +1,15 @@
 -- A reply that settles its promise was said by the other end, and so the settling has its cause.
-use Rattle.std.proofs.Common.{◌≡◌, ℕ, ◌+◌, ℤ, Bool, true, false, not, ◌&&◌, if◌then◌else◌, int_eq, find, List, [], ◌∷◌, ◌++◌, Option, Some, None, is_some, refl, sym, ap, subst, ◌∙◌}
+use Rattle.std.proofs.Common.{◌≡◌, ℤ, Bool, true, false, not, ◌&&◌, if◌then◌else◌, int_eq, List, [], ◌∷◌, Option, Some, is_some, refl, sym, ap, subst, ◌∙◌}
 use Rattle.std.specs.List.{AllByRecursion}
 use Rattle.std.specs.Option.{option_map_or}
 use Rattle.std.proofs.lemmas.Option.{same_Some}
-use Rattle.ipdl_base.specs.declared.kinds.Level.{Level}
 use Rattle.ipdl_base.specs.declared.kinds.Reason.{Reason}
 use Rattle.ipdl_base.specs.declared.kinds.Reason.TheVariants.{ActorDestroyed, ChannelClosed, HandlerRejected, ResolverDestroyed}
 use Rattle.ipdl_base.specs.declared.kinds.Side.{Side}
 use Rattle.ipdl_base.specs.declared.line.Line.{Line}
 use Rattle.ipdl_base.specs.declared.line.What.TheVariants as what
 use Rattle.ipdl_base.specs.declared.message.Body.{Body}
-use Rattle.ipdl_base.specs.declared.message.Body.TheVariants.{Request, Reply, Fault}
+use Rattle.ipdl_base.specs.declared.message.Body.TheVariants.{Reply}
 use Rattle.ipdl_base.specs.declared.message.Message.{Message}
 use Rattle.ipdl_base.specs.declared.schema.MessageRow.{MessageRow}
 use Rattle.ipdl_base.specs.declared.schema.ParamRow.{ParamRow}
@@ -35,7 +34,7 @@ use Rattle.history_reading.specs.Reading.{after_what}
 use Rattle.history_reading.specs.Rows as rows_read
 use Rattle.history_reading.specs.SentPacket as told
 use Rattle.history_reading.specs.SentPacket.{requests_of, request_of}
-use Rattle.history_reading.specs.Settled.{is_destroyed, says_fallen, resolves_missing, says_destroyed, promise_falls_next, is_resolved_with, is_resolved_missing, is_rejected}
+use Rattle.history_reading.specs.Settled.{is_destroyed, says_fallen, resolves_missing, promise_falls_next, is_resolved_with, is_resolved_missing, is_rejected}
 use Rattle.history_reading.specs.Waits.{own_returns, is_fault}
 use Rattle.channel_laws.specs.EndActors.{ReadsActors}
 use Rattle.channel_laws.specs.NotedArrivals.{ItemIsNoted, ArrivalsAreNoted, HasWantsOfRow, HaveWantsOfRows}
@@ -44,7 +43,7 @@ use Rattle.channel_laws.specs.Notes as note
 use Rattle.channel_laws.specs.Origins.{RepliesTo, BodyReplies}
 use Rattle.channel_laws.specs.Promised.{PromisesAreRead, promise_reading}
 use Rattle.channel_laws.specs.Protocols.{Protocols, HasProtocols, ItemHasProtocols, HaveTheirProtocols}
-use Rattle.channel_laws.specs.Replies.{ItemReplies, IsNoClosedFault, SaysNoClosedFault, ReadsReplies}
+use Rattle.channel_laws.specs.Replies.{ItemReplies, IsNoClosedFault, SaysNoClosedFault}
 use Rattle.channel_laws.specs.Rows.{HasSoundRows}
 use Rattle.channel_laws.specs.SentAccounts.{SentAccount}
 use Rattle.channel_laws.specs.ValueReadings.{LivesAlike}

@@ -1,12 +1,11 @@
 -- The lines of each part of a step pass the law of settlings.
-use Rattle.std.proofs.Common.{◌≡◌, ◌≢◌, ℕ, ◌+◌, ℤ, Bool, true, false, not, ◌&&◌, ◌||◌, cond, if◌then◌else◌, int_eq, find, filter, List, [], ◌∷◌, ◌++◌, drop, map, Option, Some, None, option_map, refl, sym, ap, subst, append_assoc, ◌∙◌}
+use Rattle.std.proofs.Common.{◌≡◌, ◌≢◌, ℕ, ◌+◌, ℤ, Bool, true, false, not, ◌&&◌, ◌||◌, cond, if◌then◌else◌, int_eq, find, filter, List, [], ◌∷◌, ◌++◌, map, Option, Some, None, option_map, refl, sym, ap, subst, append_assoc, ◌∙◌}
 use Rattle.std.specs.List.{AllByRecursion, flat_map}
 use Rattle.std.specs.Option.{option_map_or}
 use Rattle.std.proofs.lemmas.List.{map-append, append-nil}
 use Rattle.std.proofs.lemmas.Bool.Decides.{Decides-int_eq}
 use Rattle.std.proofs.lemmas.Option.{same_Some}
 use Rattle.actor_tree.specs.declared.actor.Actor.{Actor}
-use Rattle.actor_tree.specs.Laws.{EachOnce}
 use Rattle.actor_tree.specs.Tree.{IsTree}
 use Rattle.actor_tree.proofs.Order.{falls_once}
 use Rattle.ipdl_base.specs.declared.kinds.Destroy.{Destroy}
@@ -47,13 +46,13 @@ use Rattle.channel_model.specs.Numbers.{is_sync_row, top_id}
 use Rattle.channel_model.specs.Outputs.{AnsweredRequest, line_at, request_answered, resolver_answered, body_of}
 use Rattle.channel_model.specs.Parts
 use Rattle.channel_model.specs.Parts.{OwnParts, FirstPart, LaterPart, LaterParts, DeliveryPart, IsRefusal, IsRenaming, reply_lines, fall_lines, falling, farewell_line, shut_line, left_end, reply_outcome}
-use Rattle.channel_model.specs.Phases.{Phase, FallCause, closing, kind_cause}
+use Rattle.channel_model.specs.Phases.{Phase, closing, kind_cause}
 use Rattle.channel_model.specs.Requests.{promise_seq}
 use Rattle.channel_model.specs.Returns as return
 use Rattle.channel_model.specs.Sends as send
 use Rattle.channel_model.specs.Takes as take
 use Rattle.channel_model.specs.ValueActors.{received}
-use Rattle.channel_model.proofs.Known.{all-append, all-map}
+use Rattle.channel_model.proofs.Known.{all-append}
 use Rattle.history_reading.specs.EndReading.{EndReading}
 use Rattle.history_reading.specs.Numbers.{has}
 use Rattle.history_reading.specs.Reading.{Reading, end_reading_of, other_of, after_what, after_at, settling}
@@ -61,15 +60,16 @@ use Rattle.history_reading.specs.SentPacket.{Request, requests_of}
 use Rattle.history_reading.specs.Settled.{settled_line, is_unsettled, is_resolved, is_cause, is_destroyed, promise_falls_next, says_destroyed, falls_next, is_close_event}
 use Rattle.channel_laws.specs.EndActors.{KeepsActors, ReadsActors, actor_reading}
 use Rattle.channel_laws.specs.Rows.{HasSoundRows}
-use Rattle.channel_laws.specs.Promised.{PromiseReading, promise_reading, HasPromises, PromisesAreRead}
+use Rattle.channel_laws.specs.Promised.{PromiseReading, promise_reading, PromisesAreRead}
 use Rattle.channel_laws.specs.Tested.{after_whats, LinesPass}
-use Rattle.channel_laws.proofs.EffectLines.{IsEffectLine, AreEffectLines, built, answers_ok, answers_fault, fails, resolved, rejected, fell, reply-effects, rejection-effects, fall-effects, fail-effects, effects-leave}
+use Rattle.channel_laws.proofs.EffectLines.{IsEffectLine, built, answers_ok, answers_fault, fails, resolved, rejected, fell, rejection-effects, effects-leave}
 use Rattle.channel_laws.proofs.ActorsKept.{first-kept, later-kept}
 use Rattle.channel_laws.proofs.Taken.{later-effects}
 use Rattle.channel_laws.proofs.PromiseParts.{first-keeps-promises, later-keeps-promises, effects-read, settled_by_lines, settled-append, rejections-settle}
-use Rattle.channel_laws.proofs.Promising.{int-apart, has-append, promises-distinct, numbers_passing, numbers_falling}
+use Rattle.channel_laws.proofs.Standing.{has-append}
+use Rattle.channel_laws.proofs.Promising.{int-apart, promises-distinct, numbers_passing, numbers_falling}
 use Rattle.channel_laws.proofs.Counting.{int-same}
-use Rattle.channel_laws.proofs.Settling.{unsettled_in, IsUnsettled, GoesTo, pending-unsettled, passing-unsettled, passing-go, falling-distinct, falling-unsettled, passing-distinct}
+use Rattle.channel_laws.proofs.Settling.{IsUnsettled, GoesTo, pending-unsettled, passing-unsettled, passing-go, falling-distinct, falling-unsettled, passing-distinct}
 
 -- Lines of one end pass the law of settlings, whatever lines stand behind them.
 abbrev pub SettledPass : Schema → Side → EndReading → ℕ → List What → EndReading → Type 0

@@ -1,6 +1,6 @@
 -- An end that has closed has settled each of its promises, also once it has died.
-use Rattle.std.proofs.Common.{◌≡◌, ℕ, ◌+◌, ℤ, Bool, true, false, not, ◌&&◌, ◌⊎◌, inl, inr, is_some, drop, cond, if◌then◌else◌, List, [], ◌∷◌, ◌++◌, map, Option, Some, None, refl, sym, ap, subst, ◌∙◌}
-use Rattle.std.specs.List.{AllByRecursion, list_all}
+use Rattle.std.proofs.Common.{◌≡◌, ℕ, ℤ, Bool, true, false, not, ◌&&◌, ◌⊎◌, inl, inr, is_some, drop, cond, if◌then◌else◌, List, [], ◌∷◌, ◌++◌, map, Option, Some, None, refl, sym, ap, subst, ◌∙◌}
+use Rattle.std.specs.List.{AllByRecursion}
 use Rattle.std.proofs.lemmas.Bool.{false≢true}
 use Rattle.ipdl_base.specs.declared.kinds.EndState.{EndState}
 use Rattle.ipdl_base.specs.declared.kinds.EndState.TheVariants.{Open, Draining, Closed, Dead}
@@ -45,7 +45,7 @@ use Rattle.channel_laws.proofs.Taken.{laters-effects}
 use Rattle.history_reading.specs.SentPacket as told
 use Rattle.history_reading.specs.SentPacket.{SentPacket, Request, requests_of}
 use Rattle.history_reading.specs.Settled.{all_settled, settled_moment}
-use Rattle.channel_laws.specs.Promised.{Promised, promised_by, promised_in, promised_entry, IsReadPromise, HasPromises, PromisesAreRead, promise_reading}
+use Rattle.channel_laws.specs.Promised.{Promised, promised_in, promised_entry, IsReadPromise, PromisesAreRead}
 
 abbrev AreSettled : List PromiseEntry → Type 0
 AreSettled promises = AllByRecursion IsSettled promises

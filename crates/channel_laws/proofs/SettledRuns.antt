@@ -1,6 +1,5 @@
 -- Every legal history obeys the law of settlings.
-use Rattle.std.proofs.Common.{◌≡◌, ℕ, Bool, true, false, ◌&&◌, List, [], ◌∷◌, map, Option, Some, refl, sym, ap, subst, ◌∙◌}
-use Rattle.std.specs.List.{AllByRecursion}
+use Rattle.std.proofs.Common.{◌≡◌, ℕ, Bool, true, false, ◌&&◌, List, [], sym, subst}
 use Rattle.ipdl_base.specs.declared.kinds.Side.{Side}
 use Rattle.ipdl_base.specs.declared.kinds.Side.TheVariants.{Parent, Child}
 use Rattle.ipdl_base.specs.declared.line.Line.{Line}
@@ -8,37 +7,35 @@ use Rattle.ipdl_base.specs.declared.line.What.{What}
 use Rattle.ipdl_base.specs.declared.schema.Schema.{Schema}
 use Rattle.ipdl_base.specs.Sound.{IsSound}
 use Rattle.channel_model.specs.Ends.{End, World, Packet, end_of, link_to, opening}
-use Rattle.channel_model.specs.Events.{Event, Move}
+use Rattle.channel_model.specs.Events.{Event}
 use Rattle.channel_model.specs.Numbers.{other}
-use Rattle.channel_model.specs.Outputs.{Output, line_at, is_open}
+use Rattle.channel_model.specs.Outputs.{Output, is_open}
 use Rattle.channel_model.specs.Phases.{Phase}
 use Rattle.channel_model.specs.Runs.{run, history_of, world_after}
 use Rattle.channel_model.specs.States.{IsInState}
-use Rattle.channel_model.specs.Steps.{first_packet}
 use Rattle.history_reading.specs.declared.law.Law.TheVariants as law
 use Rattle.history_reading.specs.EndReading.{EndReading}
-use Rattle.history_reading.specs.EndReading as end_reading
 use Rattle.history_reading.specs.Holds.{moment_test}
 use Rattle.history_reading.specs.Reading.{Reading, end_reading_of, other_of, opening_reading, read}
 use Rattle.history_reading.specs.Settled.{settled_moment}
 use Rattle.channel_laws.specs.EndActors.{ReadsActors}
 use Rattle.channel_laws.specs.Exchanges.{ReadsExchanges}
 use Rattle.channel_laws.specs.NotedArrivals.{IsNoted}
-use Rattle.channel_laws.specs.Outlines.{HasOutline, outline}
-use Rattle.channel_laws.specs.Protocols.{Protocols, HasProtocols, WorldHasProtocols}
+use Rattle.channel_laws.specs.Protocols.{WorldHasProtocols}
 use Rattle.channel_laws.specs.Replies.{ReadsReplies}
 use Rattle.channel_laws.specs.Rows.{HasSoundRows}
 use Rattle.channel_laws.specs.SettledLaws.{HistoriesObeySettled}
-use Rattle.channel_laws.specs.Tested.{after_whats, LinesPass, read_from}
+use Rattle.channel_laws.specs.Tested.{LinesPass, read_from}
 use Rattle.channel_laws.proofs.EveryRun.{end-side}
 use Rattle.channel_laws.proofs.Exchanges.{opening-exchanges}
 use Rattle.channel_laws.proofs.FallenRuns.{fallen-keeps_moves}
-use Rattle.channel_laws.proofs.Holding.{holds-in-runs, law_at}
-use Rattle.channel_laws.proofs.Moves.{StepParts, acts, delivers, SideMove}
+use Rattle.channel_laws.proofs.Holding.{holds-in-runs}
+use Rattle.channel_laws.proofs.Moves.{StepParts, acts, delivers}
+use Rattle.channel_laws.proofs.ReadAlike.{protocols-at}
 use Rattle.channel_laws.proofs.Reached.{actors-reached, noted-reached, protocols-reached}
 use Rattle.channel_laws.proofs.RepliesKept.{replies-step}
 use Rattle.channel_laws.proofs.Rows.{sound_schemas_have_sound_rows}
-use Rattle.channel_laws.proofs.Runs.{RunMove, IsReached, EveryMoveKeeps, AtEnds, at-ends, ends-keep, across-ends, side-lines, every-run, moment_at, moments-pass}
+use Rattle.channel_laws.proofs.Runs.{EveryMoveKeeps, AtEnds, at-ends, ends-keep, across-ends, side-lines, every-run, moment_at, moments-pass}
 use Rattle.channel_laws.proofs.SettledCauses.{KnowsReplies, replies-have-causes}
 use Rattle.channel_laws.proofs.SettledLines.{SettledPass, settled_test, settled-lines, RepliesHaveCauses, own-settles, delivery-settles}
 use Rattle.channel_laws.proofs.SettledMoments.{OverSettles, step-settles, moment-settled}
@@ -54,10 +51,6 @@ pub record SettlesPromises (schema : Schema) (e : End) (own : EndReading) : Type
 state-after : (schema : Schema) (side : Side) (ev : Event) (w : World) (r : Reading) (output : Output) → AtEnds schema (ReadsActors schema) (world_after (record { side = side; event = ev }) output w) r → IsInState output.end
 state-after schema Parent ev w r output k = k.0.state
 state-after schema Child ev w r output k = k.1.state
-
-protocols-at : (schema : Schema) (top : ℕ) (side : Side) (w : World) (p : WorldHasProtocols schema top w) → HasProtocols schema p.made (end_of side w)
-protocols-at schema top Parent w p = p.keeps
-protocols-at schema top Child w p = p.their_keeps
 
 module _ (schema : Schema) (sound : IsSound schema) where
   rows : HasSoundRows schema

@@ -1,44 +1,27 @@
 -- What an end settles is a promise of its own that was not settled, and one that is rejected in a fall or a closing has
 -- its cause.
-use Rattle.std.proofs.Common.{◌≡◌, ◌≢◌, ℕ, ◌+◌, ℤ, Bool, true, false, not, ◌&&◌, ◌||◌, cond, if◌then◌else◌, int_eq, find, filter, List, [], ◌∷◌, ◌++◌, map, Option, Some, None, option_map, is_some, refl, sym, ap, subst, append_assoc, ◌∙◌}
-use Rattle.std.specs.List.{AllByRecursion, flat_map}
+use Rattle.std.proofs.Common.{◌≡◌, ◌≢◌, ℕ, ℤ, Bool, true, false, not, ◌&&◌, ◌||◌, cond, int_eq, find, filter, List, [], ◌∷◌, ◌++◌, map, Option, Some, option_map, refl, sym, ap, subst, ◌∙◌}
+use Rattle.std.specs.List.{AllByRecursion}
 use Rattle.std.specs.Option.{option_map_or}
 use Rattle.std.proofs.lemmas.Bool.{false≢true}
 use Rattle.std.proofs.lemmas.Bool.Decides.{Decides-int_eq}
-use Rattle.std.proofs.lemmas.List.{map-append}
 use Rattle.actor_tree.specs.declared.actor.Actor.{Actor}
 use Rattle.actor_tree.specs.Laws.{EachOnce}
 use Rattle.actor_tree.specs.Tree.{lives}
-use Rattle.ipdl_base.specs.declared.kinds.Destroy.{Destroy}
-use Rattle.ipdl_base.specs.declared.kinds.Reason.{Reason}
-use Rattle.ipdl_base.specs.declared.kinds.Reason.TheVariants.{ActorDestroyed, ChannelClosed}
 use Rattle.ipdl_base.specs.declared.kinds.Side.{Side}
-use Rattle.ipdl_base.specs.declared.kinds.Side.TheVariants.{Parent, Child}
-use Rattle.ipdl_base.specs.declared.line.Line.{Line}
-use Rattle.ipdl_base.specs.declared.line.What.{What}
-use Rattle.ipdl_base.specs.declared.line.What.TheVariants as what
-use Rattle.ipdl_base.specs.declared.schema.Schema.{Schema}
-use Rattle.ipdl_base.specs.Lines.{same_side}
 use Rattle.promise_table.specs.declared.promise.Promise.{Promise}
 use Rattle.promise_table.specs.Promises.{is_pending, is_pending_of}
 use Rattle.channel_model.specs.Actors.{AreDistinct}
 use Rattle.channel_model.specs.Ends.{PromiseEntry}
-use Rattle.channel_model.specs.Falls as fall
 use Rattle.channel_model.specs.Falls.{passes}
-use Rattle.channel_model.specs.Outputs.{line_at}
 use Rattle.channel_model.specs.Requests.{promise_seq}
 use Rattle.channel_model.proofs.Known.{all-append, all-map}
-use Rattle.history_reading.specs.EndReading.{EndReading}
 use Rattle.history_reading.specs.Numbers.{has}
-use Rattle.history_reading.specs.Reading.{Reading, end_reading_of, other_of, after_what, after_at, settling}
-use Rattle.history_reading.specs.SentPacket.{Request, requests_of}
-use Rattle.history_reading.specs.Settled.{settled_line, is_unsettled, is_destroyed, promise_falls_next, says_destroyed, falls_next, is_close_event}
-use Rattle.channel_laws.specs.Promised.{Promised, promised_by, promised_in, promised_entry, PromiseReading, promise_reading, IsReadPromise, HasPromises}
+use Rattle.history_reading.specs.SentPacket.{Request}
+use Rattle.channel_laws.specs.Promised.{Promised, promised_in, promised_entry, PromiseReading, IsReadPromise, HasPromises}
 use Rattle.channel_laws.specs.SentAccounts.{request_seq}
-use Rattle.channel_laws.specs.Tested.{after_whats, LinesPass}
-use Rattle.channel_laws.proofs.EffectLines.{rejection-effects, fell}
-use Rattle.channel_laws.proofs.PromiseParts.{effects-read, settled_by_lines, settled-append, rejections-settle}
-use Rattle.channel_laws.proofs.Promising.{int-apart, int-flip, has-append, once-distinct, promises-distinct, numbers_passing, numbers_falling, is_falling, IsAmong, among-falling}
+use Rattle.channel_laws.proofs.Sends.{and-left, and-right}
+use Rattle.channel_laws.proofs.Promising.{int-apart, once-distinct, numbers_passing, numbers_falling, is_falling, IsAmong, among-falling}
 use Rattle.channel_laws.proofs.Counting.{int-same}
 
 -- The own requests of promises
@@ -68,7 +51,7 @@ found-each (r ∷ requests) d =
     (ap (λ (b : Bool). cond b (Some r) (find (λ (y : Request). int_eq y.seq r.seq) requests)) (int-same r.seq), found-later r requests requests d.0 (found-each requests d.1))
 
 -- a promise's request is found by its number, wants a reply, and goes to the promise's actor
-abbrev IsOwn : List Request → Promised → Type 0
+abbrev pub IsOwn : List Request → Promised → Type 0
 IsOwn all p = (r : Request) × (find (λ x. int_eq x.seq p.seq) all ≡ Some r) × (r.wants ≡ true) × (r.route ≡ p.route)
 
 own-promised : (all some : List Request) → AllByRecursion (FoundIn all) some → AllByRecursion (IsOwn all) (promised_in some)
@@ -84,7 +67,7 @@ of-entries P [] h = tt
 of-entries P (entry ∷ promises) h = (h.0, of-entries P promises h.1)
 
 module _ (side : Side) (promises : List PromiseEntry) (count : ℕ) (read : PromiseReading) (h : HasPromises side promises count read) where
-  own-entries : AllByRecursion (λ entry. IsOwn read.requests (promised_entry entry)) promises
+  pub own-entries : AllByRecursion (λ entry. IsOwn read.requests (promised_entry entry)) promises
   own-entries = of-entries (IsOwn read.requests) promises (subst (AllByRecursion (IsOwn read.requests)) (sym h.promises_are) (own-promised read.requests read.requests (found-each read.requests (once-distinct (map request_seq read.requests) h.numbered.once))))
 
   -- a pending promise is unsettled
@@ -129,14 +112,6 @@ passing-distinct test (entry ∷ promises) d = by (test entry) (passing-distinct
     by : (b : Bool) → AreDistinct (numbers_passing test promises) → AreDistinct (map promise_seq (cond b (entry ∷ filter test promises) (filter test promises)))
     by true rest = (all-passing (λ later. promise_seq entry ≢ later) test promises (each promises d.0), rest)
     by false rest = rest
-
-and-left : (a b : Bool) → a && b ≡ true → a ≡ true
-and-left true b e = refl
-and-left false b e = cc
-
-and-right : (a b : Bool) → a && b ≡ true → b ≡ true
-and-right true b e = e
-and-right false b e = cc
 
 -- what passes is pending
 pub passing-unsettled : (side : Side) (promises : List PromiseEntry) (count : ℕ) (read : PromiseReading) (test : Promise → Bool) → HasPromises side promises count read → AllByRecursion (IsUnsettled read) (numbers_passing (passes test) promises)

@@ -37,15 +37,14 @@ use Rattle.channel_laws.specs.Exchanges.{ReadsExchanges}
 use Rattle.channel_laws.specs.NestedWorlds.{IsNestedWorld}
 use Rattle.channel_laws.specs.Notes.{told_notes}
 use Rattle.channel_laws.specs.Origins.{BodyOrigin}
-use Rattle.channel_laws.specs.RequestOrder.{InOrder, BodyInOrder, IsNextRequest, WorldInOrder, on_way}
+use Rattle.channel_laws.specs.RequestOrder.{InOrder, BodyInOrder, IsNextRequest, on_way}
 use Rattle.channel_laws.specs.Taken.{there_line}
 use Rattle.channel_laws.specs.Tested.{after_whats, EndLinesPass, test_at}
-use Rattle.channel_laws.proofs.ComingRequests.{comes-at}
+use Rattle.channel_laws.proofs.ComingRequests.{comes-at, reached-in-order}
 use Rattle.channel_laws.proofs.EffectLines.{IsEffectLine, AreEffectLines, built, answers_ok, answers_fault, fails, resolved, rejected, fell, reply-effects, rejection-effects, fall-effects, fail-effects, settle-effect}
 use Rattle.channel_laws.proofs.EveryRun.{end-side}
 use Rattle.channel_laws.proofs.Exchanges.{own-exchanges, delivery-exchanges, request-there, reply-there, replies-once}
 use Rattle.channel_laws.proofs.Moves.{StepParts, acts, delivers}
-use Rattle.channel_laws.proofs.OrderRuns.{requests_come_in_order}
 use Rattle.channel_laws.proofs.Outlines.{RepliesFit}
 use Rattle.channel_laws.proofs.Runs.{IsReached, EveryMoveKeeps, AtEnds, at-ends, ends-keep, ends-pass}
 use Rattle.channel_laws.proofs.Testing.{tested-append, tested-free}
@@ -181,9 +180,6 @@ due-packet schema side mine theirs own others link mark at arrival order = tt
 -- Moves
 
 module _ (schema : Schema) (sound : IsSound schema) where
-  world-in-order : (w : World) (r : Reading) → IsReached schema w r → WorldInOrder schema w
-  world-in-order w r h = subst (WorldInOrder schema) h.world (requests_come_in_order schema sound h.top h.front)
-
   -- what both ends read of requests and replies
   abbrev pub ReadExchanges : World → Reading → Type 0
   ReadExchanges w r = AtEnds schema (ReadsExchanges schema) w r
@@ -192,7 +188,7 @@ module _ (schema : Schema) (sound : IsSound schema) where
   pub coming-due : (side : Side) (w : World) (r : Reading) (packet : Packet) → IsReached schema w r → IsNestedWorld schema w → is_open (end_of side w).state ≡ true → Arrival schema (end_of side w) (end_of (other side) w) (end_reading_of side r) (other_of side r) (link_to side w) packet → IsDue schema (end_of side w) (end_reading_of side r) packet
   coming-due side w r packet reached nested opened arrival =
       due-packet schema side (end_of side w) (end_of (other side) w) (end_reading_of side r) (other_of side r) (link_to side w) packet (end-side schema side w nested) arrival
-      (subst (λ (link : List Packet). InOrder schema (other side) (on_way (end_of (other side) w) link) (end_of (other side) w).sent (end_of (other side) w).constructors_sent (end_of side w).delivered (end_of side w).constructors_delivered) arrival.link (comes-at schema side w (world-in-order w r reached) opened))
+      (subst (λ (link : List Packet). InOrder schema (other side) (on_way (end_of (other side) w) link) (end_of (other side) w).sent (end_of (other side) w).constructors_sent (end_of side w).delivered (end_of side w).constructors_delivered) arrival.link (comes-at schema side w (reached-in-order schema sound w r reached) opened))
 
   parts-keep : (mine : End) (own others : EndReading) (place : ℕ) (link : List Packet) {ev : Event} {ws : List What} {ps : List Packet} {f : End} {q : Phase} → StepParts schema mine link ev ws ps f q → ((packet : Packet) → first_packet link ≡ Some packet → is_open mine.state ≡ true → IsDue schema mine own packet) → ((n : ℤ) → replies_delivered (arrival_reading own) n ≤ 1) → ReadsExchanges schema mine own
       → ReadsExchanges schema f (after_whats schema place ws own) × There schema place ws own others

@@ -39,7 +39,7 @@ pub record AnswersOneWay (schema : Schema) (entry : StackEntry) : Type 0 where
   pub resolves : entry.resolves ≡ true → (head_of entry.frame).sync ≡ false
 
 -- Each request of the other side is answered at most once.
-pub record HasAnswers (schema : Schema) (side : Side) (items : List Item) (stack : List StackEntry) (names : List Naming) (count : ℕ) (sent : List PacketKind) : Type 0 where
+pub record IsAnsweredOnce (schema : Schema) (side : Side) (items : List Item) (stack : List StackEntry) (names : List Naming) (count : ℕ) (sent : List PacketKind) : Type 0 where
   pub numbered : AreNumberedOnce (other side) count (answers items stack names sent)
   pub entries : AllByRecursion (AnswersOneWay schema) stack
 
@@ -48,4 +48,4 @@ abbrev pub sent_kinds : EndReading → List PacketKind
 sent_kinds own = map packet_kind own.sent
 
 abbrev pub AnswersOnce : Schema → End → EndReading → Type 0
-AnswersOnce schema e own = HasAnswers schema e.side e.arrived e.stack e.names e.delivered (sent_kinds own)
+AnswersOnce schema e own = IsAnsweredOnce schema e.side e.arrived e.stack e.names e.delivered (sent_kinds own)

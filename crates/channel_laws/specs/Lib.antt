@@ -24,6 +24,7 @@ pub mod Promised
 pub mod AnswersOnce
 pub mod NotedArrivals
 pub mod GivenAnswers
+pub mod OwnWaits
 pub mod Exchanges
 pub mod Taken
 pub mod PrefixLaws
@@ -31,4 +32,5 @@ pub mod Replies
 pub mod Heads
 pub mod WaitLaws
 pub mod SettledLaws
+pub mod ExchangeLaws
 pub mod TwoEndLaws

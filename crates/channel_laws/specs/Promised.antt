@@ -1,5 +1,5 @@
 -- What lines tell of an end's promises.
-use Rattle.std.specs.Prelude.{◌≡◌, ℕ, ℤ, Bool, true, not, cond, List, [], ◌∷◌, map}
+use Rattle.std.specs.Prelude.{◌≡◌, ℕ, ℤ, true, not, cond, List, [], ◌∷◌, map}
 use Rattle.std.specs.List.{AllByRecursion, flat_map}
 use Rattle.ipdl_base.specs.declared.kinds.Side.{Side}
 use Rattle.promise_table.specs.Promises.{is_pending}
