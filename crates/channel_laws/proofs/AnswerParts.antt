@@ -1,5 +1,5 @@
 -- In each part of a step a request is answered at most once.
-use Rattle.std.proofs.Common.{◌≡◌, ℕ, ◌+◌, ◌≤◌, ℤ, Bool, true, false, not, ◌&&◌, ◌||◌, cond, if◌then◌else◌, int_eq, List, [], ◌∷◌, ◌++◌, drop, filter, map, Option, Some, None, is_some, refl, sym, ap, subst, append_assoc, ◌∙◌, arith}
+use Rattle.std.proofs.Common.{◌≡◌, ℕ, ◌+◌, ◌≤◌, ℤ, Bool, true, false, not, ◌&&◌, ◌||◌, cond, if◌then◌else◌, int_eq, List, [], ◌∷◌, ◌++◌, drop, filter, map, Option, Some, None, refl, sym, ap, subst, append_assoc, ◌∙◌, arith}
 use Rattle.std.specs.List.{AllByRecursion, flat_map}
 use Rattle.std.proofs.lemmas.List.{map-append, append-nil}
 use Rattle.std.proofs.lemmas.Option.{same_Some}
@@ -64,6 +64,7 @@ use Rattle.channel_laws.proofs.Arriving.{request-kind, reply-kind, leaves-count}
 use Rattle.channel_laws.proofs.Counting.{many-append, many-last, next-once, fewer-once}
 use Rattle.channel_laws.proofs.EffectLines.{IsEffectLine, AreEffectLines, built, answers_ok, answers_fault, fails, resolved, rejected, fell, reply-effects, rejection-effects, fall-effects, closing-effects, fail-effects, settle-effect}
 use Rattle.channel_laws.proofs.Leaving.{TakenFrom, taken-before}
+use Rattle.channel_laws.proofs.Origins.{promise-async}
 use Rattle.channel_laws.proofs.PromiseParts.{message-row}
 use Rattle.channel_laws.proofs.Replacing.{replaced-taken, alike-request}
 
@@ -252,13 +253,6 @@ module _ (schema : Schema) where
 
   left-fewer : (e : End) (x : Item) → take.taken_next e ≡ Some x → (n : ℤ) → waiting n (left_end e).arrived ≤ waiting n e.arrived
   left-fewer e x next n = let c = leaves-count (is_packet (kind.Request n)) e.arrived (left_end e).arrived x (taken-first e x next).taken in omega arith
-
-  promise-async : (row : MessageRow) → makes_promise row ≡ true → is_sync_row row ≡ false
-  promise-async row is = by (is_sync_row row) (is_some row.returns) is
-    where
-      by : (b c : Bool) → not b && c ≡ true → b ≡ false
-      by true c e = cc
-      by false c e = refl
 
   -- a dispatch on top
   top-entry : (stack : List StackEntry) (entry : StackEntry) → return.dispatch_on_top stack ≡ Some entry → (below : List StackEntry) × (stack ≡ entry ∷ below) × (is_dispatch entry.frame ≡ true)

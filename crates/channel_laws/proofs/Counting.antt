@@ -3,10 +3,10 @@ use Rattle.std.proofs.Common.{◌≡◌, ◌≢◌, ℕ, zero, suc, ◌+◌, ◌
 use Rattle.std.specs.List.{AllByRecursion, list_any}
 use Rattle.std.proofs.lemmas.Bool.Decides.{Decides-int_eq}
 use Rattle.ipdl_base.specs.declared.kinds.Side.{Side}
-use Rattle.ipdl_base.specs.declared.kinds.Side.TheVariants.{Parent, Child}
 use Rattle.channel_model.specs.Numbers.{seq_of}
 use Rattle.channel_model.specs.Requests.{IsSeqOf}
 use Rattle.channel_laws.specs.Counts.{one_if, how_many, AreNumberedOnce}
+use Rattle.channel_laws.proofs.Growing.{same_seq}
 
 -- Lists
 
@@ -50,12 +50,6 @@ some-any test (x ∷ xs) h = any-case test (test x) xs (some-any test xs) h
 
 pub int-same : (n : ℤ) → int_eq n n ≡ true
 int-same n = (Decides-int_eq n n).1 refl
-
-same_seq : (side : Side) (j k : ℕ) → 1 ≤ j → 1 ≤ k → seq_of side j ≡ seq_of side k → j ≡ k
-same_seq Parent j k one another e = cc
-same_seq Child zero k one another e = absurd (omega arith)
-same_seq Child (suc j) zero one another e = absurd (omega arith)
-same_seq Child (suc j) (suc k) one another e = let f : j ≡ k = cc in ap suc f
 
 pub more-seqs : (side : Side) (count : ℕ) (n : ℤ) → IsSeqOf side count n → IsSeqOf side (count + 1) n
 more-seqs side count n (k, one, low, e) = (k, one, omega arith, e)

@@ -1,9 +1,7 @@
 -- An end whose last event is the delivery of the end of the other is not open any more, so none of its calls waits.
-use Rattle.std.proofs.Common.{◌≡◌, ℕ, ◌+◌, Bool, true, false, ◌&&◌, ◌||◌, List, [], ◌∷◌, ◌++◌, map, Option, Some, None, refl, sym, ap, subst, ◌∙◌}
+use Rattle.std.proofs.Common.{◌≡◌, ℕ, ◌+◌, Bool, true, false, List, [], ◌∷◌, ◌++◌, map, Some, refl, sym, ap, subst, ◌∙◌}
 use Rattle.std.specs.List.{AllByRecursion}
 use Rattle.ipdl_base.specs.declared.kinds.Side.{Side}
-use Rattle.ipdl_base.specs.declared.kinds.Side.TheVariants.{Parent, Child}
-use Rattle.ipdl_base.specs.declared.line.Line.{Line}
 use Rattle.ipdl_base.specs.declared.line.What.{What}
 use Rattle.ipdl_base.specs.declared.line.What.TheVariants as what
 use Rattle.ipdl_base.specs.declared.schema.Schema.{Schema}
@@ -13,27 +11,25 @@ use Rattle.nesting_core.specs.declared.frame.Answer.{Answer}
 use Rattle.nesting_core.specs.declared.frame.Answer.TheVariants as answer
 use Rattle.history_reading.specs.declared.parts.PacketKind.{PacketKind}
 use Rattle.history_reading.specs.EndReading.{EndReading}
-use Rattle.history_reading.specs.EndReading as end_reading
-use Rattle.history_reading.specs.Reading.{Reading, after_what, end_reading_of, other_of, opening_reading}
+use Rattle.history_reading.specs.Reading.{Reading, after_what, end_reading_of, other_of}
 use Rattle.history_reading.specs.Waits.{is_end_event}
-use Rattle.channel_model.specs.Ends.{End, World, Packet, end_of, link_to, opening}
+use Rattle.channel_model.specs.Ends.{End, World, Packet, end_of, link_to}
 use Rattle.channel_model.specs.EventLines.{IsEventWithEffects, IsEffectOf}
-use Rattle.channel_model.specs.Events.{Event, Move}
+use Rattle.channel_model.specs.Events.{Event}
 use Rattle.channel_model.specs.Numbers.{other}
 use Rattle.channel_model.specs.Outputs.{Output, AnsweredRequest, is_open, line_at}
 use Rattle.channel_model.specs.Parts as parts
 use Rattle.channel_model.specs.Parts.{DeliveryPart, reply_lines}
 use Rattle.channel_model.specs.Phases.{Phase}
-use Rattle.channel_model.specs.Runs.{run, history_of}
 use Rattle.channel_model.specs.Steps.{step}
 use Rattle.channel_model.proofs.Events.{events_have_their_lines}
 use Rattle.channel_laws.specs.Delivered.{delivered_by, delivered_by_lines}
-use Rattle.channel_laws.specs.Tested.{after_whats, read_from}
+use Rattle.channel_laws.specs.Tested.{after_whats}
 use Rattle.channel_laws.proofs.Delivered.{own-delivers-none}
-use Rattle.channel_laws.proofs.Moves.{EndMove, SideMove, StepParts, acts, delivers}
+use Rattle.channel_laws.proofs.Moves.{EndMove, StepParts, acts, delivers}
 use Rattle.channel_laws.proofs.Outlines.{RepliesFit}
 use Rattle.channel_laws.proofs.Reached.{reached-has, all-pass}
-use Rattle.channel_laws.proofs.Runs.{IsReached, RunMove, MoveKeeps, EveryMoveKeeps, AtEnds, at-ends, ends-keep, every-run}
+use Rattle.channel_laws.proofs.Runs.{IsReached, EveryMoveKeeps, AtEnds, at-ends, ends-keep, every-run}
 
 -- the last event of an end tells that it is not open
 abbrev pub EventTells : End → EndReading → Type 0

@@ -1,16 +1,17 @@
 -- What an end keeps of requests and replies, in its steps and in runs.
-use Rattle.std.proofs.Common.{◌≡◌, ℕ, ◌≤◌, ℤ, Bool, true, false, not, ◌&&◌, List, [], ◌∷◌, ◌++◌, map, Some, refl, sym, ap, subst, append_assoc, ◌∙◌, arith}
+use Rattle.std.proofs.Common.{◌≡◌, ℕ, ◌+◌, ◌≤◌, ℤ, Bool, true, false, not, ◌&&◌, ◌||◌, ◌==◌, if◌then◌else◌, int_eq, find, List, [], ◌∷◌, ◌++◌, map, Option, Some, None, refl, sym, ap, subst, append_assoc, ◌∙◌, arith}
 use Rattle.std.proofs.lemmas.List.{map-append}
 use Rattle.ipdl_base.specs.declared.kinds.Level.{Level}
 use Rattle.ipdl_base.specs.declared.kinds.Side.{Side}
 use Rattle.ipdl_base.specs.declared.line.What.{What}
-use Rattle.ipdl_base.specs.declared.message.Body.TheVariants.{Request}
+use Rattle.ipdl_base.specs.declared.message.Body.TheVariants.{Request, Reply, Fault, Goodbye}
+use Rattle.ipdl_base.specs.declared.message.Body.{Body}
 use Rattle.ipdl_base.specs.declared.message.Message.{Message}
 use Rattle.ipdl_base.specs.declared.schema.Schema.{Schema}
 use Rattle.ipdl_base.specs.declared.value.Values.{Values}
 use Rattle.nesting_core.specs.declared.frame.Answer.{Answer}
 use Rattle.pending_queue.specs.declared.item.Item.TheVariants as item
-use Rattle.channel_model.specs.Ends.{End, Packet, message, opening_end}
+use Rattle.channel_model.specs.Ends.{End, Packet, message, StackEntry, PromiseEntry, opening_end}
 use Rattle.channel_model.specs.Outputs.{body_of}
 use Rattle.channel_model.specs.Parts as parts
 use Rattle.channel_model.specs.Parts.{OwnParts, FirstPart, LaterPart, LaterParts, DeliveryPart, left_end}
@@ -18,12 +19,29 @@ use Rattle.channel_model.specs.Phases.{Phase}
 use Rattle.channel_model.specs.Takes.{taken_next}
 use Rattle.history_reading.specs.declared.parts.PacketKind.{PacketKind}
 use Rattle.history_reading.specs.declared.parts.PacketKind.TheVariants as kind
-use Rattle.history_reading.specs.EndReading.{EndReading, opening}
+use Rattle.history_reading.specs.EndReading.{EndReading, opening, is_sync_request}
 use Rattle.history_reading.specs.Numbers.{has, has_packet, same_packet}
 use Rattle.history_reading.specs.Prefix.{is_there, is_reply_there}
-use Rattle.history_reading.specs.SentPacket.{SentPacket, packet_kind}
+use Rattle.history_reading.specs.SentPacket.{SentPacket, Request as SentRequest, packet_kind, requests_of}
+use Rattle.history_reading.specs.SentPacket as told
 use Rattle.channel_laws.specs.AnswersOnce.{AnswersOnce, sent_kinds}
-use Rattle.channel_laws.specs.Arrivals.{arrival_reading, replies_delivered, ArrivalsAreRead, IsDue}
+use Rattle.channel_model.specs.Numbers.{other, sends, is_sync_row, is_constructor}
+use Rattle.channel_model.specs.Refusals.{DeliveryRefusal, wrong_direction, wrong_number, wrong_new_id, stray, expected_seq, expected_id, is_replied_to, is_waited_for, is_promised, is_expected_reply, actor_refusal, body_refusal, packet_refusal}
+use Rattle.ipdl_base.specs.declared.schema.MessageRow.{MessageRow}
+use Rattle.ipdl_base.specs.Sound.{message_of}
+use Rattle.nesting_core.specs.declared.frame.StackFrame.{StackFrame}
+use Rattle.nesting_core.specs.declared.frame.StackFrame.TheVariants.{Dispatch, Wait}
+use Rattle.nesting_core.specs.Frames.{head_of, is_dispatch, is_unanswered}
+use Rattle.channel_laws.specs.OwnWaits.{IsOwnWait, WaitsOneWay}
+use Rattle.channel_laws.specs.Promised.{promised_entry, promise_reading}
+use Rattle.channel_laws.proofs.Settling.{IsOwn, own-entries}
+use Rattle.channel_model.proofs.Tests.{and-left}
+use Rattle.channel_laws.proofs.Track.{all-found}
+use Rattle.channel_laws.proofs.Takes.{found-passes}
+use Rattle.std.proofs.lemmas.Bool.Decides.{Decides-int_eq}
+use Rattle.std.specs.List.{AllByRecursion, list_any}
+use Rattle.std.specs.Option.{option_map_or}
+use Rattle.channel_laws.specs.Arrivals.{arrival_reading, replies_delivered, ArrivalsAreRead, IsDueBody, IsDueMessage, IsDue}
 use Rattle.channel_laws.specs.Counts.{one_if, how_many, is_number, is_packet}
 use Rattle.channel_laws.specs.ExchangeLaws.{EndsReadExchanges, EndsTakeOnce}
 use Rattle.channel_laws.specs.Exchanges.{ReadsExchanges}
@@ -37,6 +55,7 @@ use Rattle.channel_laws.proofs.Counting.{many-append, some-any, none-any}
 use Rattle.channel_laws.proofs.Growing.{whats-append}
 use Rattle.channel_laws.proofs.Leaving.{same_packet-refl}
 use Rattle.channel_laws.proofs.NextPackets.{told-shows}
+use Rattle.channel_laws.proofs.OwnWaits.{first-waits, later-waits, delivery-waits}
 use Rattle.channel_laws.proofs.PromiseParts.{first-keeps-promises, later-keeps-promises, delivery-keeps-promises}
 
 -- Steps
@@ -47,6 +66,7 @@ module _ (schema : Schema) where
     arrivals = later-keeps-arrivals schema place own part h.arrivals;
     promises = later-keeps-promises schema place own part h.promises;
     answers = later-answers-once schema place own part h.answers;
+    waits = later-waits schema place own part h.waits;
   }
 
   laters-exchanges : {p q : Phase} {e f : End} {ws : List What} {ps : List Packet} (place : ℕ) (own : EndReading) → LaterParts p e ws ps f q → ReadsExchanges schema e own → ReadsExchanges schema f (after_whats schema place ws own)
@@ -64,6 +84,7 @@ module _ (schema : Schema) where
         arrivals = first-keeps-arrivals schema place own part h.arrivals;
         promises = first-keeps-promises schema place own part h.promises;
         answers = first-answers-once schema place own part h.answers;
+        waits = first-waits schema place own part h.promises h.waits;
       }))
 
   -- and so does the delivery of what is due
@@ -72,6 +93,7 @@ module _ (schema : Schema) where
     arrivals = delivery-keeps-arrivals schema place own part due h.arrivals;
     promises = delivery-keeps-promises schema place own part h.promises;
     answers = delivery-answers-once schema place own part due h.answers;
+    waits = delivery-waits schema place own part h.waits;
   }
 
   pub opening-exchanges : (top : ℕ) (side : Side) → ReadsExchanges schema (opening_end top side) opening
@@ -79,6 +101,7 @@ module _ (schema : Schema) where
     arrivals = record { arrived = refl; async = tt; requests = λ n. omega arith; replies = λ n. omega arith; numbered = record { once = λ n. omega arith; known = λ n low. absurd (omega arith) } };
     promises = record { promises_are = refl; outcomes = tt; numbered = record { once = λ n. omega arith; known = λ n low. absurd (omega arith) }; known = λ n e. cc };
     answers = record { numbered = record { once = λ n. omega arith; known = λ n low. absurd (omega arith) }; entries = tt };
+    waits = record { waits = tt; requests = tt };
   }
 
 -- What is taken is there
@@ -133,10 +156,75 @@ replies-once schema theirs others own link account h n =
     let once = h.numbered.once n in
     omega arith
 
+-- What an end does not refuse is due
+
+module _ (schema : Schema) (e : End) (own : EndReading) (h : ReadsExchanges schema e own) where
+  seq-is : (b c : Bool) (m : Message) (later : Option DeliveryRefusal) → int_eq m.seq (expected_seq e) ≡ c → (if b then Some wrong_direction else (if not c then Some wrong_number else later)) ≡ None → m.seq ≡ expected_seq e
+  seq-is true c m later is accepted = cc
+  seq-is false true m later is accepted = (Decides-int_eq m.seq (expected_seq e)).0 is
+  seq-is false false m later is accepted = cc
+
+  expected-is : (b : Bool) (n : ℤ) (later : Option DeliveryRefusal) → (if b then later else Some (stray n)) ≡ None → b ≡ true
+  expected-is true n later accepted = refl
+  expected-is false n later accepted = cc
+
+  same-number : (m : Message) (seq : ℤ) (number : ℕ) (route : ℤ) → is_replied_to m seq number route ≡ true → m.seq ≡ seq
+  same-number m seq number route is = (Decides-int_eq m.seq seq).0 (and-left (int_eq m.seq seq) ((m.number == number + 1) && int_eq m.route route) is)
+
+  -- the reply that a wait awaits is to a sync request
+  awaited-sync : (m : Message) → is_waited_for e m ≡ true → is_sync_request own m.seq ≡ true
+  awaited-sync m is = by (find (λ entry. is_unanswered entry.frame) e.stack) refl is
+    where
+      no-dispatch : (f : StackFrame) → is_unanswered f ≡ true → is_dispatch f ≡ false
+      no-dispatch (Dispatch head) e = cc
+      no-dispatch (Wait head None) e = refl
+      no-dispatch (Wait head (Some a)) e = refl
+
+      by : (found : Option StackEntry) → find (λ entry. is_unanswered entry.frame) e.stack ≡ found → option_map_or (λ (entry : StackEntry). is_replied_to m (head_of entry.frame).seq entry.number entry.route) found false ≡ true → is_sync_request own m.seq ≡ true
+      by None there is = cc
+      by (Some entry) there is =
+          ap (is_sync_request own) (same-number m (head_of entry.frame).seq entry.number entry.route is)
+          ∙ all-found (IsOwnWait own) (λ x. is_unanswered x.frame) e.stack entry h.waits.waits there (no-dispatch entry.frame (found-passes (λ x. is_unanswered x.frame) e.stack entry there))
+
+  -- and that for which a promise was made is to an async one
+  promised-async : (m : Message) → is_promised e m ≡ true → is_sync_request own m.seq ≡ false
+  promised-async m is = each e.promises (own-entries e.side e.promises e.sent (promise_reading own) h.promises) is
+    where
+      one : (entry : PromiseEntry) → IsOwn (requests_of own.sent) (promised_entry entry) → m.seq ≡ entry.promise.seq → is_sync_request own m.seq ≡ false
+      one entry k same =
+          ap (is_sync_request own) same
+          ∙ (ap (λ (o : Option SentRequest). option_map_or (λ (r : SentRequest). r.sync) o false) k.1
+          ∙ all-found WaitsOneWay (λ r. int_eq r.seq entry.promise.seq) (requests_of own.sent) k.0 h.waits.requests k.1 k.2)
+
+      each : (some : List PromiseEntry) → AllByRecursion (λ entry. IsOwn (requests_of own.sent) (promised_entry entry)) some → list_any (λ (entry : PromiseEntry). is_replied_to m entry.promise.seq entry.number entry.promise.actor) some ≡ true → is_sync_request own m.seq ≡ false
+      each [] k is = cc
+      each (entry ∷ some) k is = by (is_replied_to m entry.promise.seq entry.number entry.promise.actor) refl is (each some k.1)
+        where
+          by : (b : Bool) → is_replied_to m entry.promise.seq entry.number entry.promise.actor ≡ b → b || list_any (λ (x : PromiseEntry). is_replied_to m x.promise.seq x.number x.promise.actor) some ≡ true
+              → (list_any (λ (x : PromiseEntry). is_replied_to m x.promise.seq x.number x.promise.actor) some ≡ true → is_sync_request own m.seq ≡ false) → is_sync_request own m.seq ≡ false
+          by true here is rest = one entry k.0 (same-number m entry.promise.seq entry.number entry.promise.actor here)
+          by false here is rest = rest is
+
+  reply-due : (m : Message) (row : MessageRow) → is_expected_reply e m row ≡ true → is_sync_request own m.seq ≡ is_sync_row row
+  reply-due m row = by (is_sync_row row)
+    where
+      by : (b : Bool) → (if b then is_waited_for e m else is_promised e m) ≡ true → is_sync_request own m.seq ≡ b
+      by true is = awaited-sync m is
+      by false is = promised-async m is
+
+  body-due : (m : Message) (row : MessageRow) (b : Body) → m.body ≡ b → message_of schema m.number ≡ Some row → body_refusal schema e m b row ≡ None → IsDueMessage schema e own m b
+  body-due m row (Request vs) is found accepted = (row, found, subst (IsDueBody e own m (is_sync_row row)) (sym is) (seq-is (not (sends (other e.side) row.direction)) (int_eq m.seq (expected_seq e)) m (if is_constructor row.kind && not (int_eq m.made (expected_id e)) then Some wrong_new_id else actor_refusal schema e row m) refl accepted))
+  body-due m row (Reply vs) is found accepted = (row, found, subst (IsDueBody e own m (is_sync_row row)) (sym is) (reply-due m row (expected-is (is_expected_reply e m row) m.seq (actor_refusal schema e row m) accepted)))
+  body-due m row (Fault reason) is found accepted = (row, found, subst (IsDueBody e own m (is_sync_row row)) (sym is) (reply-due m row (expected-is (is_expected_reply e m row) m.seq (actor_refusal schema e row m) accepted)))
+  body-due m row Goodbye is found accepted = tt
+
+  pub accepted-due : (m : Message) (row : MessageRow) → message_of schema m.number ≡ Some row → packet_refusal schema e (message m) ≡ None → IsDue schema e own (message m)
+  accepted-due m row found accepted = body-due m row m.body refl found (sym (ap (λ (o : Option MessageRow). option_map_or (body_refusal schema e m m.body) o None) found) ∙ accepted)
+
 -- The laws
 
 pub ends_read_exchanges : EndsReadExchanges
-ends_read_exchanges = record { begins = opening-exchanges; acts = own-exchanges; delivers = delivery-exchanges }
+ends_read_exchanges = record { begins = opening-exchanges; acts = own-exchanges; delivers = delivery-exchanges; accepts = accepted-due }
 
 pub ends_take_once : EndsTakeOnce
 ends_take_once = record {

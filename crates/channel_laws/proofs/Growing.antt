@@ -30,14 +30,11 @@ use Rattle.channel_model.proofs.Known.{all-map, all-append, distinct-last}
 use Rattle.channel_laws.specs.Tested.{after_whats}
 use Rattle.channel_laws.specs.Notes
 use Rattle.channel_laws.specs.Notes.{RequestNote, Note, asks, told_note, told_notes, request_note, In, here, there}
-use Rattle.channel_laws.specs.Origins.{IsRequested, EntryOrigin, Origin, ResolverOrigin, ContentOrigin, NamingOrigin, BodyOrigin, ItemOrigin, RepliesTo, BodyReplies, PacketReplies, HasOrigins}
+use Rattle.channel_laws.specs.Origins.{IsRequested, EntryOrigin, Origin, ContentOrigin, NamingOrigin, BodyOrigin, ItemOrigin, BodyReplies, PacketReplies, HasOrigins}
 use Rattle.channel_laws.specs.SentAccounts.{seqs, request_seq, HasSyncOfRow, SentAccount}
 use Rattle.channel_laws.specs.Delivered.{delivered_by, delivered_by_lines}
 
 -- Lines, one part after another
-
-next-place : (a b : ℕ) → a + 1 + b ≡ a + (b + 1)
-next-place a b = omega arith
 
 pub whats-append : (schema : Schema) (place : ℕ) (ws vs : List What) (h : EndReading) → (at : ℕ) × (after_whats schema place (ws ++ vs) h ≡ after_whats schema at vs (after_whats schema place ws h))
 whats-append schema place [] vs h = (place, refl)
@@ -160,7 +157,7 @@ module _ (schema : Schema) (theirs more : List Note) where
 
 -- The request of a number is the only one
 
-same_seq : (side : Side) (j k : ℕ) → 1 ≤ j → 1 ≤ k → seq_of side j ≡ seq_of side k → j ≡ k
+pub same_seq : (side : Side) (j k : ℕ) → 1 ≤ j → 1 ≤ k → seq_of side j ≡ seq_of side k → j ≡ k
 same_seq Parent j k one two e = cc
 same_seq Child zero k one two e = absurd (omega arith)
 same_seq Child (suc j) zero one two e = absurd (omega arith)

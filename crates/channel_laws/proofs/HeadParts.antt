@@ -1,8 +1,7 @@
 -- Each step keeps the heads of frames and of what has arrived.
-use Rattle.std.proofs.Common.{◌≡◌, ℕ, ◌+◌, ℤ, Bool, true, false, cond, List, [], ◌∷◌, ◌++◌, drop, map, Option, Some, None, refl, sym, ap, subst, ◌∙◌}
+use Rattle.std.proofs.Common.{◌≡◌, ℕ, ℤ, Bool, true, false, cond, List, [], ◌∷◌, ◌++◌, drop, map, Some, None, refl, sym, ap, subst, ◌∙◌}
 use Rattle.std.specs.List.{AllByRecursion}
-use Rattle.std.proofs.lemmas.List.{append-nil, map-append}
-use Rattle.ipdl_base.specs.declared.kinds.Level.{Level}
+use Rattle.std.proofs.lemmas.List.{map-append}
 use Rattle.ipdl_base.specs.declared.kinds.Level.TheVariants.{Not}
 use Rattle.ipdl_base.specs.declared.kinds.Side.{Side}
 use Rattle.ipdl_base.specs.declared.line.What.{What}
@@ -18,7 +17,6 @@ use Rattle.nesting_core.specs.declared.frame.Answer.TheVariants as answer
 use Rattle.nesting_core.specs.declared.frame.StackFrame.{StackFrame}
 use Rattle.nesting_core.specs.declared.frame.StackFrame.TheVariants.{Dispatch, Wait}
 use Rattle.nesting_core.specs.Answers.{with_answer}
-use Rattle.pending_queue.specs.declared.item.Item.{Item}
 use Rattle.pending_queue.specs.declared.item.Item.TheVariants as item
 use Rattle.pending_queue.specs.Compression.{staying}
 use Rattle.pending_queue.specs.Holding.{is_free, without_first}
@@ -26,32 +24,29 @@ use Rattle.history_reading.specs.EndReading.{EndReading}
 use Rattle.history_reading.specs.Reading.{Reading, end_reading_of, other_of}
 use Rattle.channel_model.specs.Answers as answering
 use Rattle.channel_model.specs.Deliveries as delivery
-use Rattle.channel_model.specs.Ends.{End, World, Packet, message, mark, StackEntry, end_of, link_to}
-use Rattle.channel_model.specs.Events.{Answering, Event, Move, handled, kept}
+use Rattle.channel_model.specs.Ends.{End, World, Packet, message, mark, StackEntry, end_of}
+use Rattle.channel_model.specs.Events.{Answering, Event, handled, kept}
 use Rattle.channel_model.specs.Numbers.{other, is_sync_row}
-use Rattle.channel_model.specs.Outputs.{Output, body_of}
+use Rattle.channel_model.specs.Outputs.{body_of}
 use Rattle.channel_model.specs.Parts as parts
 use Rattle.channel_model.specs.Parts.{FirstPart, LaterPart, LaterParts, OwnParts, DeliveryPart, end_behind, farewell_item, left_end}
 use Rattle.channel_model.specs.Phases.{Phase}
-use Rattle.channel_model.specs.Runs.{run}
 use Rattle.channel_model.specs.Sends as send
 use Rattle.channel_model.specs.States.{is_farewell, is_goodbye}
 use Rattle.channel_model.specs.Takes as take
 use Rattle.channel_model.proofs.Known.{all-map, all-append}
 use Rattle.channel_model.proofs.Sublists.{all-sublist, without_first-sublist, staying-sublist}
-use Rattle.channel_laws.specs.Heads.{IsOfRow, IsSentHead, FrameHead, EntryHead, BodyHead, ItemHead, HasHeads}
+use Rattle.channel_laws.specs.Heads.{FrameHead, EntryHead, BodyHead, ItemHead, HasHeads}
 use Rattle.channel_laws.specs.NotedArrivals.{IsNoted, ItemIsNoted, ArrivalsAreNoted}
 use Rattle.channel_laws.specs.Notes.{Note, told_note, told_notes, body_note, message_note, In}
 use Rattle.channel_laws.specs.Tested.{after_whats}
-use Rattle.channel_laws.proofs.EveryRun.{end-side}
 use Rattle.channel_laws.proofs.GivenAnswers.{released-all, drop-all, same-all}
 use Rattle.channel_laws.proofs.Growing.{grows, in-before}
-use Rattle.channel_laws.proofs.Moves.{EndMove, SideMove, StepParts, acts, delivers}
-use Rattle.channel_laws.proofs.Outlines.{RepliesFit}
+use Rattle.channel_laws.proofs.Moves.{StepParts, acts, delivers}
 use Rattle.channel_laws.proofs.PrefixRuns.{all-taken}
 use Rattle.channel_laws.proofs.Reached.{reached-has, all-pass, noted-reached}
 use Rattle.channel_laws.proofs.Rows.{request-message}
-use Rattle.channel_laws.proofs.Runs.{IsReached, RunMove, MoveKeeps, EveryMoveKeeps, AcrossEnds, across-ends, across-keep, every-run}
+use Rattle.channel_laws.proofs.Runs.{IsReached, EveryMoveKeeps, AcrossEnds, across-ends, across-keep, every-run}
 
 module _ (schema : Schema) (sent : List Note) where
   -- stacks

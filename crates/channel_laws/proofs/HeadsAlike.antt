@@ -1,14 +1,11 @@
 -- What lines tell of heads and deferral is what ends say of them.
-use Rattle.std.proofs.Common.{◌≡◌, ◌==◌, ℕ, ℤ, Bool, true, false, ◌&&◌, cond, if◌then◌else◌, List, [], ◌∷◌, find, map, Option, Some, None, option_map, option_and_then, refl, sym, ap, ◌∙◌}
+use Rattle.std.proofs.Common.{◌≡◌, ℕ, ℤ, Bool, true, false, cond, if◌then◌else◌, List, [], ◌∷◌, find, map, Option, Some, None, option_map, option_and_then, refl, sym, ap, ◌∙◌}
 use Rattle.std.specs.List.{AllByRecursion}
 use Rattle.std.specs.Option.{option_map_or}
 use Rattle.ipdl_base.specs.declared.kinds.Level.{Level}
-use Rattle.ipdl_base.specs.declared.kinds.Level.TheVariants.{InsideSync}
 use Rattle.ipdl_base.specs.declared.kinds.Side.{Side}
 use Rattle.ipdl_base.specs.declared.message.Message.{Message}
-use Rattle.ipdl_base.specs.declared.schema.MessageRow.{MessageRow}
 use Rattle.ipdl_base.specs.declared.schema.Schema.{Schema}
-use Rattle.ipdl_base.specs.Deferral.{rank, defers_arrival, request}
 use Rattle.nesting_core.specs.declared.frame.Head.{Head}
 use Rattle.nesting_core.specs.declared.frame.StackFrame.{StackFrame}
 use Rattle.nesting_core.specs.declared.frame.StackFrame.TheVariants.{Dispatch, Wait}
@@ -22,7 +19,7 @@ use Rattle.history_reading.specs.declared.parts.CallFrame.TheVariants as frame
 use Rattle.history_reading.specs.EndReading.{EndReading, own_request, frame_seq}
 use Rattle.history_reading.specs.SentPacket as told
 use Rattle.history_reading.specs.Still as lines
-use Rattle.channel_model.specs.Ends.{End, StackEntry}
+use Rattle.channel_model.specs.Ends.{StackEntry}
 use Rattle.channel_model.specs.Takes.{takes_under}
 use Rattle.channel_laws.specs.Heads.{IsOfRow, IsSentHead, FrameHead, EntryHead}
 use Rattle.channel_laws.specs.Notes.{Note, RequestNote, told_notes}

@@ -68,6 +68,7 @@ pub mod AnswerParts
 pub mod NotedArrivals
 pub mod ComingRequests
 pub mod HonestPackets
+pub mod OwnWaits
 pub mod Exchanges
 pub mod Taken
 pub mod Settling
@@ -88,6 +89,9 @@ pub mod WaitRuns
 pub mod EndEvents
 pub mod HeadParts
 pub mod HeadsAlike
-pub mod WaitMoments
 pub mod SettledRuns
+pub mod WaitMoments
 pub mod StillReads
+pub mod StillEnds
+pub mod WaitLaw
+pub mod PartLines

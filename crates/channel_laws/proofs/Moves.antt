@@ -1,12 +1,9 @@
 -- A step of one of two ends: what it is made of, and both ends and their reading before it and behind.
-use Rattle.std.proofs.Common.{◌≡◌, ℕ, ◌+◌, Bool, true, false, List, [], ◌∷◌, ◌++◌, cond, drop, find, map, Option, Some, None, option_map, refl, sym, ap, subst, ◌∙◌}
-use Rattle.ipdl_base.specs.declared.kinds.EndState.{EndState}
+use Rattle.std.proofs.Common.{◌≡◌, ℕ, ◌+◌, Bool, true, false, List, [], ◌∷◌, ◌++◌, cond, drop, find, map, Some, option_map, refl, sym, ap, subst, ◌∙◌}
 use Rattle.ipdl_base.specs.declared.kinds.Side.{Side}
 use Rattle.ipdl_base.specs.declared.kinds.Side.TheVariants.{Parent, Child}
-use Rattle.ipdl_base.specs.declared.line.Line.{Line}
 use Rattle.ipdl_base.specs.declared.line.What.{What}
 use Rattle.ipdl_base.specs.declared.message.Body.{Body}
-use Rattle.ipdl_base.specs.declared.message.Message.{Message}
 use Rattle.ipdl_base.specs.declared.schema.Schema.{Schema}
 use Rattle.nesting_core.specs.declared.frame.Answer.{Answer}
 use Rattle.nesting_core.specs.declared.frame.Answer.TheVariants as answer
@@ -32,7 +29,7 @@ use Rattle.channel_laws.specs.NestedWorlds.{IsNestedWorld, EndsAreNested}
 use Rattle.channel_laws.specs.Rows.{HasSoundRows}
 use Rattle.channel_laws.specs.Tested.{after_whats}
 use Rattle.channel_laws.specs.TwoEnds.{TwoEnds, ReadingIs}
-use Rattle.channel_laws.proofs.EveryRun.{from-side, end-side}
+use Rattle.channel_laws.proofs.EveryRun.{from-side}
 use Rattle.channel_laws.proofs.Outlines.{open-is}
 use Rattle.channel_laws.proofs.Replies.{reply-waits}
 use Rattle.channel_laws.proofs.TwoEnds.{Awaits, Arrival, first-is, own-paired, delivery-paired, arrival}

@@ -16,7 +16,7 @@ use Rattle.history_reading.specs.declared.parts.PacketKind.TheVariants as seen
 use Rattle.ipdl_base.specs.declared.kinds.Destroy.{Destroy}
 use Rattle.ipdl_base.specs.declared.kinds.Reason.{Reason}
 use Rattle.ipdl_base.specs.declared.message.Body.{Body}
-use Rattle.ipdl_base.specs.declared.message.Body.TheVariants.{Request, Reply, Fault, Goodbye}
+use Rattle.ipdl_base.specs.declared.message.Body.TheVariants.{Request}
 use Rattle.ipdl_base.specs.declared.message.Message.{Message}
 use Rattle.ipdl_base.specs.declared.schema.Kind.{Kind}
 use Rattle.ipdl_base.specs.declared.schema.Kind.TheVariants.{Normal, Constructor, Delete}
@@ -142,10 +142,6 @@ released-stack seq [] = refl
 released-stack seq (x ∷ xs) =
     ap (λ (f : CallFrame). f ∷ map shown_entry (answering.released seq xs)) (released-one (answering.has_resolver seq x) x)
     ∙ ap (λ (fs : List CallFrame). shown_entry x ∷ fs) (released-stack seq xs)
-
-without-stack : (by : Answering) (e : End) → map shown_entry (answering.without_resolver by e).stack ≡ map shown_entry e.stack
-without-stack (handled seq) e = released-stack seq e.stack
-without-stack (kept name number) e = refl
 
 -- an answer goes to the wait that is awaited
 

@@ -115,7 +115,7 @@ sent-request schema side open_end outbox count left others m vs s body i =
     let k = own-request schema side open_end outbox count others.sent left (message_note schema m vs) s (subst (λ (b : Body). In (body_note schema m b) (told_notes side others.sent)) body i) in
     record { request = k.0; found = k.1.0; route = ap (λ (x : RequestNote). x.route) k.1.1.0; number = ap (λ (x : RequestNote). x.number) k.1.1.0; values = ap (λ (x : RequestNote). x.values) k.1.1.0 }
 
-noted-at : (side is : Side) (e : End) (others : EndReading) (schema : Schema) → is ≡ side → ArrivalsAreNoted schema (told_notes side others.sent) e → ArrivalsAreNoted schema (told_notes is others.sent) e
+pub noted-at : (side is : Side) (e : End) (others : EndReading) (schema : Schema) → is ≡ side → ArrivalsAreNoted schema (told_notes side others.sent) e → ArrivalsAreNoted schema (told_notes is others.sent) e
 noted-at side is e others schema same k = subst (λ (s : Side). ArrivalsAreNoted schema (told_notes s others.sent) e) (sym same) k
 
 module _ (schema : Schema) (sound : IsSound schema) where

@@ -25,6 +25,7 @@ use Rattle.history_reading.specs.SentPacket.{Request}
 use Rattle.channel_laws.specs.Counts.{one_if, how_many, is_number}
 use Rattle.channel_laws.specs.Promised.{Promised, promised_by, promised_in, promised_entry, PromiseReading, requests_numbered, IsReadPromise, HasPromises}
 use Rattle.channel_laws.specs.SentAccounts.{request_seq}
+use Rattle.channel_laws.proofs.Standing.{has-append}
 use Rattle.channel_laws.proofs.Counting.{many-last, none-passes, int-same, more-seqs, next-is_free, next-once}
 
 -- Numbers
@@ -45,14 +46,6 @@ int-flip m n = by (int_eq n m) refl
 
 not-same : (m n : ℤ) → int_eq m n ≡ false → n ≢ m
 not-same m n is e = false≢true (sym is ∙ (Decides-int_eq m n).1 (sym e))
-
-pub has-append : (f g : List ℤ) (n : ℤ) → has (f ++ g) n ≡ has f n || has g n
-has-append [] g n = refl
-has-append (x ∷ f) g n = by (int_eq x n) (has-append f g n)
-  where
-    by : (b : Bool) → has (f ++ g) n ≡ has f n || has g n → b || has (f ++ g) n ≡ (b || has f n) || has g n
-    by true e = refl
-    by false e = e
 
 -- numbers of which each is counted once are distinct
 pub once-distinct : (ns : List ℤ) → ((n : ℤ) → how_many (is_number n) ns ≤ 1) → AreDistinct ns

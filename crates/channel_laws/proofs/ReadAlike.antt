@@ -1,15 +1,13 @@
 -- At every reached world lines and ends say the same of who lives.
-use Rattle.std.proofs.Common.{◌≡◌, ℕ, List, [], ◌∷◌, Option, Some, None, sym, subst, ◌∙◌}
+use Rattle.std.proofs.Common.{◌≡◌, ℕ, List, [], ◌∷◌, Some, None, sym, subst, ◌∙◌}
 use Rattle.std.specs.List.{AllByRecursion}
 use Rattle.std.proofs.lemmas.Option.{same_Some}
 use Rattle.ipdl_base.specs.declared.kinds.Side.{Side}
 use Rattle.ipdl_base.specs.declared.kinds.Side.TheVariants.{Parent, Child}
 use Rattle.ipdl_base.specs.declared.schema.Schema.{Schema}
-use Rattle.ipdl_base.specs.Sound.{IsSound}
 use Rattle.nesting_core.specs.declared.frame.StackFrame.{StackFrame}
 use Rattle.nesting_core.specs.declared.frame.StackFrame.TheVariants.{Dispatch, Wait}
 use Rattle.history_reading.specs.EndReading.{EndReading, lives}
-use Rattle.history_reading.specs.Reading.{Reading, end_reading_of}
 use Rattle.channel_model.specs.Ends.{End, World, StackEntry, end_of}
 use Rattle.channel_model.specs.Returns as return
 use Rattle.channel_model.specs.ValueActors.{ActorValue}
@@ -18,8 +16,6 @@ use Rattle.channel_laws.specs.EndActors.{ReadsActors}
 use Rattle.channel_laws.specs.Protocols.{Protocols, HasProtocols, HasItsProtocol, HaveTheirProtocols, WorldHasProtocols, EntryHasProtocols, FrameHasProtocols, AnswerHasProtocols}
 use Rattle.channel_laws.specs.ValueReadings.{LivesAlike}
 use Rattle.channel_laws.proofs.ProtocolRuns.{types_tell_who_lives}
-use Rattle.channel_laws.proofs.Reached.{actors-reached, protocols-reached}
-use Rattle.channel_laws.proofs.Runs.{IsReached, at-ends}
 use Rattle.channel_laws.proofs.Standing.{lives-read}
 
 pub alike : (schema : Schema) (made : Protocols) (e : End) (own : EndReading) → HasProtocols schema made e → ReadsActors schema e own → (few : List ActorValue) → HaveTheirProtocols made few → AllByRecursion (LivesAlike e.actors (lives own)) few

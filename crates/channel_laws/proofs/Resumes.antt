@@ -99,7 +99,7 @@ abbrev pub AnswersAreAlike : Schema → End → EndReading → Type 0
 AnswersAreAlike schema e h =
     (wait : return.AnsweredWait) (row : MessageRow) (vs : Values) → return.answered_wait_on_top e.stack ≡ Some wait → request_row schema wait.number ≡ Some row → wait.given ≡ answer.Ok vs → AllByRecursion (LivesAlike e.actors (lives h)) (actors_in_parts schema (returns_of_row row) vs)
 
-pub resumes-pass : (schema : Schema) (side their_side : Side) (h others : EndReading) (e : End) (open_end : Bool) (outbox : List Message) (count : ℕ) (left : List Note) → SentAccount schema side open_end outbox count h.sent left → HasAnswers schema (told_notes their_side others.sent) (told_notes side h.sent) h.failed e → AnswersAreAlike schema e h → ResumesPass schema others e h
+pub resumes-pass : (schema : Schema) (side their_side : Side) (h others : EndReading) (e : End) (open_end : Bool) (outbox : List Message) (count : ℕ) (left : List Note) → SentAccount schema side open_end outbox count h.sent left → HasAnswers (told_notes their_side others.sent) (told_notes side h.sent) h.failed e → AnswersAreAlike schema e h → ResumesPass schema others e h
 resumes-pass schema side their_side h others e open_end outbox count left s k alike wait row on_top found =
     let t : TopWait (told_notes their_side others.sent) (told_notes side h.sent) h.failed wait = top-wait (told_notes their_side others.sent) (told_notes side h.sent) h.failed e.stack wait on_top k.given k.waits in
     by wait.given refl t.given (returns-are schema side h open_end outbox count left wait.seq t.route wait.number row s t.requested found)

@@ -1,6 +1,6 @@
 -- What every move keeps beside the reading holds in every run, and the lines of every run pass what the lines of every
 -- move pass.
-use Rattle.std.proofs.Common.{◌≡◌, ℕ, Bool, true, false, if◌then◌else◌, List, [], ◌∷◌, ◌++◌, map, Option, Some, None, refl, sym, ap, subst, ◌∙◌}
+use Rattle.std.proofs.Common.{◌≡◌, ℕ, Bool, true, if◌then◌else◌, List, [], ◌∷◌, ◌++◌, map, Option, Some, None, refl, sym, ap, subst, ◌∙◌}
 use Rattle.std.specs.List.{AllByRecursion}
 use Rattle.std.proofs.lemmas.List.{append-nil}
 use Rattle.ipdl_base.specs.declared.kinds.Side.{Side}
@@ -18,16 +18,14 @@ use Rattle.channel_model.specs.Events.{Event, Move}
 use Rattle.channel_model.specs.Numbers.{other}
 use Rattle.channel_model.specs.Outputs.{Output, line_at}
 use Rattle.channel_model.specs.Runs.{RunState, output_of, passed_by, happens, run, history_of, world_after, after_event}
-use Rattle.channel_model.specs.Steps.{step}
 use Rattle.channel_model.specs.Laws.{MovesFollow}
 use Rattle.channel_model.proofs.Histories.{moves_go_one_after_another}
 use Rattle.channel_model.proofs.Events.{events_have_their_lines}
 use Rattle.channel_laws.specs.NestedWorlds.{IsNestedWorld}
-use Rattle.channel_laws.specs.Rows.{HasSoundRows}
 use Rattle.channel_laws.specs.Tested.{after_whats, EndLinesPass, LinesPass, read_from, test_at}
 use Rattle.channel_laws.specs.TwoEnds.{TwoEnds, ReadingIs}
 use Rattle.channel_laws.proofs.EveryRun.{nested_worlds_stay, end-side}
-use Rattle.channel_laws.proofs.Moves.{EndMove, SideMove, side-move, flip, other-other}
+use Rattle.channel_laws.proofs.Moves.{SideMove, side-move, flip, other-other}
 use Rattle.channel_laws.proofs.Rows.{sound_schemas_have_sound_rows}
 use Rattle.channel_laws.proofs.Testing.{read-own, read-other, read-append, pass-append, pass-lines}
 

@@ -48,7 +48,7 @@ use Rattle.ipdl_base.specs.declared.kinds.EndState.TheVariants.{Open, Draining, 
 use Rattle.channel_model.specs.Ends.{End, Packet, message, mark, PromiseEntry}
 use Rattle.channel_model.specs.Events.{Answering, handled, kept}
 use Rattle.channel_model.specs.Falls as fall
-use Rattle.channel_model.specs.Numbers.{top_id, id_of, seq_of, is_constructor, makes_promise, counting, is_sync_row, request_row}
+use Rattle.channel_model.specs.Numbers.{top_id, id_of, seq_of, is_constructor, counting, is_sync_row, request_row}
 use Rattle.channel_model.specs.Outputs.{is_open, is_dead_end, AnsweredRequest, answer_line, request_answered, resolver_answered, reply_to}
 use Rattle.channel_model.specs.Returns as return
 use Rattle.channel_model.specs.Sends as send
@@ -172,10 +172,6 @@ sent-falls id why e =
 
 -- Ids
 
-ids-agree : (side : Side) (n : ℕ) → reading_id_of side n ≡ id_of side n
-ids-agree Parent n = refl
-ids-agree Child n = refl
-
 not-zero : (n : ℕ) → (n + 1 == 0) ≡ false
 not-zero n = elim (cases_Bool (n + 1 == 0)) [ inl t ↦ (let e : n + 1 ≡ 0 = eqb-true (n + 1) 0 t in absurd (omega (arith, e))) | inr f ↦ f ]
 
@@ -201,9 +197,6 @@ made-is schema row side made count found is =
 
 open-sent : (e : End) → is_open e.state ≡ true → (schema : Schema) (outbox : List Message) (count : ℕ) (sent : List SentPacket) (left : List Note) → SentAccount schema e.side (is_open e.state) outbox count sent left → SentAccount schema e.side true outbox count sent left
 open-sent e o schema outbox count sent left k = subst (λ (b : Bool). SentAccount schema e.side b outbox count sent left) o k
-
-and-open : (e : End) (s : EndState) → e.state ≡ s → is_open s ≡ true → is_open e.state ≡ true
-and-open e s is o = ap is_open is ∙ o
 
 -- an end that is not open any more
 closed-sent : {schema : Schema} {side : Side} {b c : Bool} {outbox : List Message} {count : ℕ} {sent : List SentPacket} {left : List Note} → b ≡ false → SentAccount schema side c outbox count sent left → SentAccount schema side b outbox count sent left

@@ -65,7 +65,8 @@ use Rattle.channel_laws.specs.Tested.{after_whats, LinesPass}
 use Rattle.channel_laws.proofs.EffectLines.{IsEffectLine, built, answers_ok, answers_fault, fails, resolved, rejected, fell, rejection-effects, later-effects, effects-leave}
 use Rattle.channel_laws.proofs.ActorsKept.{first-kept, later-kept}
 use Rattle.channel_laws.proofs.PromiseParts.{abandoned-kept, first-keeps-promises, later-keeps-promises, effects-read, settled_by_lines, settled-append, rejections-settle}
-use Rattle.channel_laws.proofs.Promising.{int-apart, has-append, promises-distinct, numbers_passing, numbers_falling}
+use Rattle.channel_laws.proofs.Standing.{has-append}
+use Rattle.channel_laws.proofs.Promising.{int-apart, promises-distinct, numbers_passing, numbers_falling}
 use Rattle.channel_laws.proofs.Counting.{int-same}
 use Rattle.channel_laws.proofs.Settling.{IsUnsettled, GoesTo, pending-unsettled, passing-unsettled, passing-go, falling-distinct, falling-unsettled, passing-distinct}
 

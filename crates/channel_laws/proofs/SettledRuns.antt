@@ -21,7 +21,7 @@ use Rattle.history_reading.specs.Settled.{settled_moment}
 use Rattle.channel_laws.specs.EndActors.{ReadsActors}
 use Rattle.channel_laws.specs.Exchanges.{ReadsExchanges}
 use Rattle.channel_laws.specs.NotedArrivals.{IsNoted}
-use Rattle.channel_laws.specs.Protocols.{HasProtocols, WorldHasProtocols}
+use Rattle.channel_laws.specs.Protocols.{WorldHasProtocols}
 use Rattle.channel_laws.specs.Replies.{ReadsReplies}
 use Rattle.channel_laws.specs.Rows.{HasSoundRows}
 use Rattle.channel_laws.specs.SettledLaws.{HistoriesObeySettled}
@@ -31,6 +31,7 @@ use Rattle.channel_laws.proofs.Exchanges.{opening-exchanges}
 use Rattle.channel_laws.proofs.FallenRuns.{fallen-keeps_moves}
 use Rattle.channel_laws.proofs.Holding.{holds-in-runs}
 use Rattle.channel_laws.proofs.Moves.{StepParts, acts, delivers}
+use Rattle.channel_laws.proofs.ReadAlike.{protocols-at}
 use Rattle.channel_laws.proofs.Reached.{actors-reached, noted-reached, protocols-reached}
 use Rattle.channel_laws.proofs.RepliesKept.{replies-step}
 use Rattle.channel_laws.proofs.Rows.{sound_schemas_have_sound_rows}
@@ -50,10 +51,6 @@ pub record SettlesPromises (schema : Schema) (e : End) (own : EndReading) : Type
 state-after : (schema : Schema) (side : Side) (ev : Event) (w : World) (r : Reading) (output : Output) → AtEnds schema (ReadsActors schema) (world_after (record { side = side; event = ev }) output w) r → IsInState output.end
 state-after schema Parent ev w r output k = k.0.state
 state-after schema Child ev w r output k = k.1.state
-
-protocols-at : (schema : Schema) (top : ℕ) (side : Side) (w : World) (p : WorldHasProtocols schema top w) → HasProtocols schema p.made (end_of side w)
-protocols-at schema top Parent w p = p.keeps
-protocols-at schema top Child w p = p.their_keeps
 
 module _ (schema : Schema) (sound : IsSound schema) where
   rows : HasSoundRows schema

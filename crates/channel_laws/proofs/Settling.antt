@@ -20,6 +20,7 @@ use Rattle.history_reading.specs.Numbers.{has}
 use Rattle.history_reading.specs.SentPacket.{Request}
 use Rattle.channel_laws.specs.Promised.{Promised, promised_in, promised_entry, PromiseReading, IsReadPromise, HasPromises}
 use Rattle.channel_laws.specs.SentAccounts.{request_seq}
+use Rattle.channel_model.proofs.Tests.{and-left, and-right}
 use Rattle.channel_laws.proofs.Promising.{int-apart, once-distinct, numbers_passing, numbers_falling, is_falling, IsAmong, among-falling}
 use Rattle.channel_laws.proofs.Counting.{int-same}
 
@@ -50,7 +51,7 @@ found-each (r ∷ requests) d =
     (ap (λ (b : Bool). cond b (Some r) (find (λ (y : Request). int_eq y.seq r.seq) requests)) (int-same r.seq), found-later r requests requests d.0 (found-each requests d.1))
 
 -- a promise's request is found by its number, wants a reply, and goes to the promise's actor
-abbrev IsOwn : List Request → Promised → Type 0
+abbrev pub IsOwn : List Request → Promised → Type 0
 IsOwn all p = (r : Request) × (find (λ x. int_eq x.seq p.seq) all ≡ Some r) × (r.wants ≡ true) × (r.route ≡ p.route)
 
 own-promised : (all some : List Request) → AllByRecursion (FoundIn all) some → AllByRecursion (IsOwn all) (promised_in some)
@@ -66,7 +67,7 @@ of-entries P [] h = tt
 of-entries P (entry ∷ promises) h = (h.0, of-entries P promises h.1)
 
 module _ (side : Side) (promises : List PromiseEntry) (count : ℕ) (read : PromiseReading) (h : HasPromises side promises count read) where
-  own-entries : AllByRecursion (λ entry. IsOwn read.requests (promised_entry entry)) promises
+  pub own-entries : AllByRecursion (λ entry. IsOwn read.requests (promised_entry entry)) promises
   own-entries = of-entries (IsOwn read.requests) promises (subst (AllByRecursion (IsOwn read.requests)) (sym h.promises_are) (own-promised read.requests read.requests (found-each read.requests (once-distinct (map request_seq read.requests) h.numbered.once))))
 
   -- a pending promise is unsettled
@@ -111,14 +112,6 @@ passing-distinct test (entry ∷ promises) d = by (test entry) (passing-distinct
     by : (b : Bool) → AreDistinct (numbers_passing test promises) → AreDistinct (map promise_seq (cond b (entry ∷ filter test promises) (filter test promises)))
     by true rest = (all-passing (λ later. promise_seq entry ≢ later) test promises (each promises d.0), rest)
     by false rest = rest
-
-and-left : (a b : Bool) → a && b ≡ true → a ≡ true
-and-left true b e = refl
-and-left false b e = cc
-
-and-right : (a b : Bool) → a && b ≡ true → b ≡ true
-and-right true b e = e
-and-right false b e = cc
 
 -- what passes is pending
 pub passing-unsettled : (side : Side) (promises : List PromiseEntry) (count : ℕ) (read : PromiseReading) (test : Promise → Bool) → HasPromises side promises count read → AllByRecursion (IsUnsettled read) (numbers_passing (passes test) promises)

@@ -1,10 +1,8 @@
 -- Where lines tell that nothing but acts is possible, nothing else is.
-use Rattle.std.proofs.Common.{◌≡◌, ℕ, ◌+◌, ◌<◌, nat_lt, ℤ, pos, Bool, true, false, not, ◌&&◌, ◌||◌, if◌then◌else◌, List, [], ◌∷◌, ◌++◌, cond, drop, find, length, map, Option, Some, None, is_some, option_and_then, unwrap_or, refl, sym, ap, subst, ◌∙◌, arith}
-use Rattle.std.specs.List.{AllByRecursion, list_any}
-use Rattle.std.specs.Option.{option_map_or}
+use Rattle.std.proofs.Common.{◌≡◌, ℕ, ◌+◌, ◌<◌, nat_lt, ℤ, pos, Bool, true, false, not, ◌&&◌, ◌||◌, if◌then◌else◌, List, [], ◌∷◌, ◌++◌, cond, find, length, map, Option, Some, None, unwrap_or, refl, sym, ap, ◌∙◌, arith}
+use Rattle.std.specs.List.{AllByRecursion}
 use Rattle.std.proofs.lemmas.Bool.Decides.{Decides-ltb}
 use Rattle.std.proofs.lemmas.List.{length-append, length-map}
-use Rattle.std.proofs.lemmas.Option.{same_Some}
 use Rattle.ipdl_base.specs.declared.kinds.EndState.{EndState}
 use Rattle.ipdl_base.specs.declared.kinds.EndState.TheVariants.{Open, Draining, Closed, Dead}
 use Rattle.ipdl_base.specs.declared.kinds.Level.{Level}
@@ -14,40 +12,24 @@ use Rattle.ipdl_base.specs.declared.kinds.Side.TheVariants.{Parent, Child}
 use Rattle.ipdl_base.specs.declared.message.Body.{Body}
 use Rattle.ipdl_base.specs.declared.message.Body.TheVariants.{Request, Reply, Fault, Goodbye}
 use Rattle.ipdl_base.specs.declared.message.Message.{Message}
-use Rattle.ipdl_base.specs.declared.schema.MessageRow.{MessageRow}
 use Rattle.ipdl_base.specs.declared.schema.Schema.{Schema}
-use Rattle.ipdl_base.specs.Deferral.{Arrival, request, reply, goodbye, mark as mark_arrival, defers_arrival, defers_waiting, defers_request, defers_sync}
+use Rattle.ipdl_base.specs.Deferral.{Arrival, request, reply, goodbye, mark as mark_arrival, defers_arrival, defers_request, defers_sync}
 use Rattle.nesting_core.specs.declared.frame.Head.{Head}
-use Rattle.nesting_core.specs.declared.frame.StackFrame.{StackFrame}
-use Rattle.nesting_core.specs.declared.frame.StackFrame.TheVariants.{Dispatch, Wait}
-use Rattle.nesting_core.specs.declared.frame.StackTop.{StackTop}
-use Rattle.nesting_core.specs.declared.frame.StackTop.TheVariants as top
-use Rattle.nesting_core.specs.Deferral as deferral
-use Rattle.nesting_core.specs.Top.{top_of}
 use Rattle.pending_queue.specs.declared.item.Item.{Item}
 use Rattle.pending_queue.specs.declared.item.Item.TheVariants as item
-use Rattle.pending_queue.specs.Holding.{is_free, defers_item, arrival_of, arrival_of_body}
-use Rattle.history_reading.specs.declared.parts.CallFrame.{CallFrame}
-use Rattle.history_reading.specs.declared.parts.PacketKind.{PacketKind}
+use Rattle.pending_queue.specs.Holding.{arrival_of, arrival_of_body}
 use Rattle.history_reading.specs.EndReading.{EndReading}
 use Rattle.history_reading.specs.Still as lines
-use Rattle.channel_model.specs.Ends.{End, Packet, message, StackEntry}
-use Rattle.channel_model.specs.Events as event
-use Rattle.channel_model.specs.Numbers.{is_sync_row}
+use Rattle.channel_model.specs.Ends.{End, Packet, message}
 use Rattle.channel_model.specs.Outputs.{is_open}
-use Rattle.channel_model.specs.Returns as return
-use Rattle.channel_model.specs.Sends.{frames_of}
-use Rattle.channel_model.specs.Steps.{step, first_packet}
-use Rattle.channel_model.specs.Takes as take
 use Rattle.channel_laws.specs.Arrivals.{item_kind}
 use Rattle.channel_laws.specs.Delivered.{body_kind}
-use Rattle.channel_laws.specs.Heads.{IsOfRow, IsSentHead, ItemHead, BodyHead, HasHeads}
+use Rattle.channel_laws.specs.Heads.{ItemHead, BodyHead}
 use Rattle.channel_laws.specs.NotedArrivals.{ItemIsNoted}
 use Rattle.channel_laws.specs.Notes.{Note, told_note, told_notes, packet_note, body_note, message_note, notes, note_kind, In}
-use Rattle.channel_laws.specs.Outlines.{placeless, shown_entry}
-use Rattle.channel_laws.specs.SentAccounts.{SentAccount, EndAccount}
+use Rattle.channel_laws.specs.SentAccounts.{SentAccount}
 use Rattle.channel_laws.specs.TwoEnds.{LinkAccount}
-use Rattle.channel_laws.proofs.HeadsAlike.{request-head, takes-alike}
+use Rattle.channel_laws.proofs.HeadsAlike.{request-head}
 
 -- Tests
 
@@ -122,9 +104,6 @@ InnerIsClear Parent None inner = Unit {0}
 InnerIsClear Parent (Some w) None = ⊥
 InnerIsClear Parent (Some w) (Some t) = Unit {0}
 
-child-sync : (w : Level) (i j : Option ℤ) (l : Level) (t : ℤ) → defers_sync Child w i l t ≡ defers_sync Child w j l t
-child-sync w i j l t = refl
-
 child-request : (w : Level) (i j : Option ℤ) (sync : Bool) (l : Level) (t : ℤ) → defers_request Child w i sync l t ≡ defers_request Child w j sync l t
 child-request w i j sync InsideCpow t = refl
 child-request w i j false Not t = refl
@@ -170,7 +149,7 @@ module _ (schema : Schema) (side their_side : Side) (open_end : Bool) (outbox : 
       by Goodbye h i = goodbye-same d.level
 
   -- so where one is free by itself, one is by the lines
-  some-free : (items : List Item) (x : Item) → AllByRecursion (ItemHead schema) items → AllByRecursion (ItemIsNoted schema (told_notes their_side others.sent)) items → find (λ (y : Item). not (Deferred (arrival_of y))) items ≡ Some x → lines.some_is_free schema others d (map item_kind items) ≡ true
+  pub some-free : (items : List Item) (x : Item) → AllByRecursion (ItemHead schema) items → AllByRecursion (ItemIsNoted schema (told_notes their_side others.sent)) items → find (λ (y : Item). not (Deferred (arrival_of y))) items ≡ Some x → lines.some_is_free schema others d (map item_kind items) ≡ true
   some-free [] x h i e = cc
   some-free (y ∷ ys) x h i e = by (Deferred (arrival_of y)) (lines.defers_packet schema others d (item_kind y)) (item-same y h.0 i.0) e (some-free ys x h.1 i.1)
     where

@@ -1,5 +1,5 @@
 -- Every step of an end keeps the reading of both.
-use Rattle.std.proofs.Common.{◌≡◌, ℕ, ◌+◌, true, false, List, [], ◌∷◌, ◌++◌, drop, Option, Some, None, refl, sym, ap, subst, ◌∙◌, append_assoc}
+use Rattle.std.proofs.Common.{◌≡◌, ℕ, true, false, List, [], ◌∷◌, ◌++◌, drop, Option, Some, None, refl, sym, ap, subst, ◌∙◌, append_assoc}
 use Rattle.std.specs.List.{AllByRecursion}
 use Rattle.std.specs.Option.{option_map_or}
 use Rattle.std.proofs.lemmas.List.{map-append, append-nil}
@@ -17,13 +17,13 @@ use Rattle.ipdl_base.specs.declared.message.Body.TheVariants.{Request, Reply, Fa
 use Rattle.ipdl_base.specs.declared.message.Message.{Message}
 use Rattle.ipdl_base.specs.declared.schema.MessageRow.{MessageRow}
 use Rattle.ipdl_base.specs.declared.schema.Schema.{Schema}
-use Rattle.ipdl_base.specs.Sound.{message_of, has_reply}
+use Rattle.ipdl_base.specs.Sound.{message_of}
 use Rattle.nesting_core.specs.declared.frame.Answer.{Answer}
 use Rattle.nesting_core.specs.declared.frame.Answer.TheVariants as answer
 use Rattle.nesting_core.specs.Answers.{awaited}
 use Rattle.channel_model.specs.Ends.{End, Packet, message, mark}
-use Rattle.channel_model.specs.Numbers.{other, is_sync_row, request_row}
-use Rattle.channel_model.specs.Outputs.{Output, is_open}
+use Rattle.channel_model.specs.Numbers.{other, is_sync_row}
+use Rattle.channel_model.specs.Outputs.{is_open}
 use Rattle.channel_model.specs.Sends.{frames_of}
 use Rattle.channel_model.specs.Steps.{first_packet}
 use Rattle.channel_model.proofs.Known.{all-append}

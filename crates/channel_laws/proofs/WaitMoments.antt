@@ -1,6 +1,6 @@
 -- At every moment of a run two waits do not block each other, and nobody waits behind the end of the other end.
-use Rattle.std.proofs.Common.{◌≡◌, ℕ, ℤ, Bool, true, false, not, ◌&&◌, ◌||◌, if◌then◌else◌, List, [], ◌∷◌, ◌++◌, cond, find, map, Option, Some, None, option_map, refl, sym, ap, subst, ◌∙◌}
-use Rattle.std.specs.List.{AllByRecursion, list_any}
+use Rattle.std.proofs.Common.{◌≡◌, ℕ, ℤ, Bool, true, false, ◌&&◌, ◌||◌, List, [], ◌∷◌, cond, find, map, Option, Some, None, option_map, refl, sym, ap, subst, ◌∙◌}
+use Rattle.std.specs.List.{AllByRecursion}
 use Rattle.ipdl_base.specs.declared.kinds.Level.{Level}
 use Rattle.ipdl_base.specs.declared.kinds.Side.{Side}
 use Rattle.ipdl_base.specs.declared.kinds.Side.TheVariants.{Parent, Child}
@@ -9,7 +9,6 @@ use Rattle.ipdl_base.specs.Deferral.{defers_arrival, request}
 use Rattle.ipdl_base.specs.Sound.{IsSound}
 use Rattle.nesting_core.specs.declared.frame.Head.{Head}
 use Rattle.nesting_core.specs.declared.frame.StackFrame.{StackFrame}
-use Rattle.nesting_core.specs.declared.frame.StackFrame.TheVariants.{Dispatch, Wait}
 use Rattle.nesting_core.specs.declared.frame.StackTop.{StackTop}
 use Rattle.nesting_core.specs.declared.frame.StackTop.TheVariants as top
 use Rattle.nesting_core.specs.Answers as nesting
@@ -23,14 +22,12 @@ use Rattle.history_reading.specs.Reading.{Reading}
 use Rattle.history_reading.specs.Still as lines
 use Rattle.history_reading.specs.Waits.{blocks, block_each_other, is_end_event, waits_behind_end, some_waits_behind_end}
 use Rattle.ipdl_base.specs.declared.message.Message.{Message}
-use Rattle.channel_model.specs.Ends.{End, World, Packet, StackEntry, end_of, link_to, opening}
-use Rattle.channel_model.specs.Numbers.{other}
+use Rattle.channel_model.specs.Ends.{End, World, Packet}
 use Rattle.channel_model.specs.Outputs.{is_open}
-use Rattle.channel_model.specs.Runs.{run}
 use Rattle.channel_model.specs.Sends.{frames_of}
 use Rattle.channel_model.specs.States.{IsAnswered}
 use Rattle.channel_laws.specs.Heads.{EntryHead, HasHeads}
-use Rattle.channel_laws.specs.NestedWorlds.{IsNestedWorld, EndsAreNested, both_open, mine_open, theirs_open, both_over, IsOver}
+use Rattle.channel_laws.specs.NestedWorlds.{IsNestedWorld, EndsAreNested, both_open, mine_open, theirs_open, both_over}
 use Rattle.channel_laws.specs.Notes.{Note, told_notes}
 use Rattle.channel_laws.specs.Outlines.{placeless, shown_entry}
 use Rattle.channel_laws.specs.SentAccounts.{SentAccount}
@@ -40,7 +37,6 @@ use Rattle.channel_laws.proofs.EveryRun.{from-side}
 use Rattle.channel_laws.proofs.GivingWay.{waits_give_way}
 use Rattle.channel_laws.proofs.HeadsAlike.{unanswered_head, inner-alike, awaited-head, awaited-level}
 use Rattle.channel_laws.proofs.HeadParts.{KeepsHeads, heads-reached}
-use Rattle.channel_laws.proofs.Moves.{flip}
 use Rattle.channel_laws.proofs.Runs.{IsReached, AtEnds, AcrossEnds}
 use Rattle.channel_laws.proofs.WaitLines.{awaited-alike}
 
@@ -106,9 +102,6 @@ module _ (schema : Schema) (sound : IsSound schema) (w : World) (r : Reading) (r
 
   ends : TwoEnds schema w.parent w.child r.parent r.child w.to_parent w.to_child
   ends = reads.ends
-
-  child_side : w.child.side ≡ Child
-  child_side = nested.child
 
   -- the heads at each end, with what the lines of the other say, by the side that it keeps
   pub parent-heads : HasHeads schema (told_notes w.child.side r.child.sent) w.parent

@@ -1,4 +1,4 @@
--- Where the answers of waits come from, and what has arrived.
+-- Where the answers of waits come from.
 use Rattle.std.specs.Prelude.{◌≡◌, ℤ, true, List, Some, None}
 use Rattle.std.specs.List.{AllByRecursion}
 use Rattle.ipdl_base.specs.declared.kinds.Reason.TheVariants.{ChannelClosed}
@@ -8,14 +8,12 @@ use Rattle.nesting_core.specs.declared.frame.Answer.{Answer}
 use Rattle.nesting_core.specs.declared.frame.Answer.TheVariants as answer
 use Rattle.nesting_core.specs.declared.frame.StackFrame.{StackFrame}
 use Rattle.nesting_core.specs.declared.frame.StackFrame.TheVariants.{Dispatch, Wait}
-use Rattle.pending_queue.specs.declared.item.Item.{Item}
-use Rattle.pending_queue.specs.declared.item.Item.TheVariants as item
 use Rattle.history_reading.specs.EndReading.{EndReading}
 use Rattle.history_reading.specs.Numbers.{has}
 use Rattle.history_reading.specs.SentPacket.{ReplyContent, ok, fault}
 use Rattle.channel_model.specs.Ends.{End, Packet, message, mark, StackEntry}
 use Rattle.channel_model.specs.Numbers.{other}
-use Rattle.channel_laws.specs.Notes.{Note, says, broken, told_notes, body_note, In}
+use Rattle.channel_laws.specs.Notes.{Note, says, told_notes, body_note, In}
 use Rattle.channel_laws.specs.Origins.{IsRequested}
 
 -- what the reply to a sync request says
@@ -39,21 +37,16 @@ abbrev pub FrameIsOwn : List Note → StackEntry → StackFrame → Type 0
 FrameIsOwn own entry (Dispatch head) = Unit {0}
 FrameIsOwn own entry (Wait head a) = IsRequested own head.seq entry.route entry.number
 
--- what comes and what has arrived was sent by the other end
+-- a packet that comes was sent by the other end
 abbrev pub PacketIsSent : Schema → List Note → Packet → Type 0
 PacketIsSent schema sent (message m) = In (body_note schema m m.body) sent
 PacketIsSent schema sent mark = Unit {0}
 
-abbrev pub ItemIsSent : Schema → List Note → Item → Type 0
-ItemIsSent schema sent (item.Message m sync level) = In (body_note schema m m.body) sent
-ItemIsSent schema sent item.Broken = Unit {0}
-
--- Each wait is of an own request, and its answer is given; all that has arrived was sent.
-pub record HasAnswers (schema : Schema) (sent own : List Note) (failed : List ℤ) (e : End) : Type 0 where
+-- Each wait is of an own request, and its answer is given.
+pub record HasAnswers (sent own : List Note) (failed : List ℤ) (e : End) : Type 0 where
   pub given : AllByRecursion (λ entry. FrameIsGiven sent failed entry.frame) e.stack
   pub waits : AllByRecursion (λ entry. FrameIsOwn own entry entry.frame) e.stack
-  pub arrived : AllByRecursion (ItemIsSent schema sent) e.arrived
 
 -- an end keeps that with its own lines and those of the other, which is on this side
-abbrev pub KeepsAnswers : Schema → Side → EndReading → End → EndReading → Type 0
-KeepsAnswers schema side others e own = HasAnswers schema (told_notes side others.sent) (told_notes (other side) own.sent) own.failed e
+abbrev pub KeepsAnswers : Side → EndReading → End → EndReading → Type 0
+KeepsAnswers side others e own = HasAnswers (told_notes side others.sent) (told_notes (other side) own.sent) own.failed e

@@ -8,12 +8,10 @@ use Rattle.ipdl_base.specs.declared.message.Message.{Message}
 use Rattle.ipdl_base.specs.declared.schema.MessageRow.{MessageRow}
 use Rattle.ipdl_base.specs.declared.schema.Schema.{Schema}
 use Rattle.ipdl_base.specs.Sound.{message_of}
-use Rattle.nesting_core.specs.declared.frame.Head.{Head}
 use Rattle.nesting_core.specs.declared.frame.StackFrame.{StackFrame}
 use Rattle.nesting_core.specs.declared.frame.StackFrame.TheVariants.{Dispatch, Wait}
 use Rattle.pending_queue.specs.declared.item.Item.{Item}
 use Rattle.pending_queue.specs.declared.item.Item.TheVariants as item
-use Rattle.history_reading.specs.EndReading.{EndReading}
 use Rattle.channel_model.specs.Ends.{End, StackEntry}
 use Rattle.channel_model.specs.Numbers.{is_sync_row}
 use Rattle.channel_laws.specs.Notes.{Note, RequestNote, asks, In}

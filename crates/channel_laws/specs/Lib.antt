@@ -17,7 +17,6 @@ pub mod SentAccounts
 pub mod Delivered
 pub mod TwoEnds
 pub mod NextPackets
-pub mod WaitOrder
 pub mod ReadingLaws
 pub mod Counts
 pub mod Arrivals
@@ -25,11 +24,13 @@ pub mod Promised
 pub mod AnswersOnce
 pub mod NotedArrivals
 pub mod GivenAnswers
+pub mod OwnWaits
 pub mod Exchanges
 pub mod Taken
 pub mod PrefixLaws
-pub mod Heads
 pub mod Replies
+pub mod Heads
+pub mod WaitLaws
 pub mod SettledLaws
-pub mod TwoEndLaws
 pub mod ExchangeLaws
+pub mod TwoEndLaws
