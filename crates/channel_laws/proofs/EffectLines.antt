@@ -4,7 +4,7 @@ use Rattle.std.specs.List.{AllByRecursion, flat_map}
 use Rattle.actor_tree.specs.declared.actor.Actor.{Actor}
 use Rattle.ipdl_base.specs.declared.kinds.Destroy.{Destroy}
 use Rattle.ipdl_base.specs.declared.kinds.Reason.{Reason}
-use Rattle.ipdl_base.specs.declared.kinds.Reason.TheVariants.{ActorDestroyed}
+use Rattle.ipdl_base.specs.declared.kinds.Reason.TheVariants.{ActorDestroyed, ChannelClosed, ResolverDestroyed}
 use Rattle.ipdl_base.specs.declared.line.What.{What}
 use Rattle.ipdl_base.specs.declared.line.What.TheVariants as what
 use Rattle.ipdl_base.specs.declared.schema.Schema.{Schema}
@@ -15,10 +15,13 @@ use Rattle.promise_table.specs.declared.promise.Outcome.{Outcome}
 use Rattle.promise_table.specs.declared.promise.Outcome.TheVariants.{Resolved, Rejected}
 use Rattle.promise_table.specs.declared.promise.Promise.{Promise}
 use Rattle.promise_table.specs.Promises.{is_pending_of}
-use Rattle.channel_model.specs.Ends.{End, PromiseEntry}
+use Rattle.channel_model.specs.Ends.{End, Packet, PromiseEntry}
 use Rattle.channel_model.specs.Falls as fall
+use Rattle.channel_model.specs.Numbers.{top_id}
 use Rattle.channel_model.specs.Outputs.{AnsweredRequest}
-use Rattle.channel_model.specs.Parts.{reply_lines, fall_lines, falling}
+use Rattle.channel_model.specs.Parts
+use Rattle.channel_model.specs.Parts.{LaterPart, LaterParts, reply_lines, fall_lines, falling}
+use Rattle.channel_model.specs.Phases.{Phase}
 use Rattle.channel_model.specs.Takes.{settle_line}
 use Rattle.channel_model.proofs.Known.{all-append}
 use Rattle.history_reading.specs.EndReading.{EndReading}
@@ -65,6 +68,22 @@ fail-effects ns = effects-map what.Fails ns fails
 pub settle-effect : (n : ℤ) (outcome : Outcome) → IsEffectLine (settle_line n outcome)
 settle-effect n (Resolved vs) = resolved n vs
 settle-effect n (Rejected reason) = rejected n reason
+
+-- later parts print effects alone
+pub later-effects : {p q : Phase} {e f : End} {ws : List What} {ps : List Packet} → LaterPart p e ws ps f q → AreEffectLines ws
+later-effects (Parts.unnames name may silent) = tt
+later-effects (Parts.lets_go name r may held o) = (answers_fault r.seq ResolverDestroyed, tt)
+later-effects (Parts.names more holds) = tt
+later-effects (Parts.releases seq is) = tt
+later-effects (Parts.keeps seq name r is o) = tt
+later-effects (Parts.builds id protocol rest fresh alive) = (built id protocol, tt)
+later-effects {e = e} (Parts.deletes id is) = fall-effects id (fall.why_deleted id) e
+later-effects {e = e} (Parts.abandons why is) = rejection-effects (λ p. true) ChannelClosed e.promises
+later-effects {e = e} (Parts.falls why is) = fall-effects top_id (λ id. why) e
+
+pub laters-effects : {p q : Phase} {e f : End} {ws : List What} {ps : List Packet} → LaterParts p e ws ps f q → AreEffectLines ws
+laters-effects Parts.done = tt
+laters-effects (Parts.then {ws} {vs} part rest) = all-append IsEffectLine ws vs (later-effects part) (laters-effects rest)
 
 -- what each such line leaves, all of them leave
 pub effects-leave : {V : Type 0} (view : EndReading → V) (schema : Schema) → ((place : ℕ) (w : What) (own : EndReading) → IsEffectLine w → view (after_what schema place w own) ≡ view own) → (place : ℕ) (ws : List What) (own : EndReading) → AreEffectLines ws → view (after_whats schema place ws own) ≡ view own

@@ -45,7 +45,7 @@ use Rattle.channel_laws.specs.Arrivals.{arrival_reading, replies_delivered, Arri
 use Rattle.channel_laws.specs.Counts.{one_if, how_many, is_number, is_packet}
 use Rattle.channel_laws.specs.ExchangeLaws.{EndsReadExchanges, EndsTakeOnce}
 use Rattle.channel_laws.specs.Exchanges.{ReadsExchanges}
-use Rattle.channel_laws.specs.Notes.{Note, note_kind, told_note, told_notes, notes}
+use Rattle.channel_laws.specs.Notes.{Note, note_kind, told_notes, notes}
 use Rattle.channel_laws.specs.Tested.{after_whats}
 use Rattle.channel_laws.specs.TwoEnds.{LinkAccount}
 use Rattle.channel_laws.proofs.AnswerParts.{first-answers-once, later-answers-once, delivery-answers-once}
@@ -55,6 +55,7 @@ use Rattle.channel_laws.proofs.Counting.{many-append, some-any, none-any}
 use Rattle.channel_laws.proofs.Growing.{whats-append}
 use Rattle.channel_laws.proofs.Leaving.{same_packet-refl}
 use Rattle.channel_laws.proofs.OwnWaits.{first-waits, later-waits, delivery-waits}
+use Rattle.channel_laws.proofs.NextPackets.{told-shows}
 use Rattle.channel_laws.proofs.PromiseParts.{first-keeps-promises, later-keeps-promises, delivery-keeps-promises}
 
 -- Steps
@@ -139,15 +140,9 @@ reply-there e own m sync level a h next body once =
 
 -- A reply is delivered once
 
-told-kind : (side : Side) (p : SentPacket) → note_kind (told_note side p) ≡ packet_kind p
-told-kind side (told.request r) = refl
-told-kind side (told.said n content) = refl
-told-kind side told.goodbye = refl
-told-kind side told.broken = refl
-
 told-kinds : (side : Side) (sent : List SentPacket) → map note_kind (told_notes side sent) ≡ map packet_kind sent
 told-kinds side [] = refl
-told-kinds side (p ∷ sent) = ap (λ (k : PacketKind). k ∷ map note_kind (told_notes side sent)) (told-kind side p) ∙ ap (λ (ks : List PacketKind). packet_kind p ∷ ks) (told-kinds side sent)
+told-kinds side (p ∷ sent) = ap (λ (k : PacketKind). k ∷ map note_kind (told_notes side sent)) (told-shows side p) ∙ ap (λ (ks : List PacketKind). packet_kind p ∷ ks) (told-kinds side sent)
 
 pub replies-once : (schema : Schema) (theirs : End) (others own : EndReading) (link : List Packet) → LinkAccount schema theirs others own link → AnswersOnce schema theirs others → (n : ℤ) → replies_delivered (arrival_reading own) n ≤ 1
 replies-once schema theirs others own link account h n =

@@ -78,6 +78,7 @@ pub mod LivingParts
 pub mod LivingRuns
 pub mod PrefixRuns
 pub mod SettledLines
+pub mod TakingLines
 pub mod HonestRuns
 pub mod SettledCauses
 pub mod RepliesKept

@@ -2,12 +2,10 @@
 use Rattle.std.proofs.Common.{◌≡◌, ℕ, suc, ◌+◌, true, false, List, [], ◌∷◌, ◌++◌, drop, length, map, refl, sym, ap, ◌∙◌, append_assoc}
 use Rattle.std.specs.List.{slice_get}
 use Rattle.std.specs.Option.{option_map_or}
-use Rattle.std.proofs.lemmas.Bool.Decides.{Decides-int_eq}
 use Rattle.std.proofs.lemmas.List.{append-nil}
 use Rattle.ipdl_base.specs.declared.line.What.{What}
 use Rattle.history_reading.specs.Prefix.{is_next, is_next_of}
 use Rattle.history_reading.specs.declared.parts.PacketKind.{PacketKind}
-use Rattle.history_reading.specs.declared.parts.PacketKind.TheVariants as seen
 use Rattle.history_reading.specs.EndReading.{EndReading}
 use Rattle.history_reading.specs.Numbers.{same_packet}
 use Rattle.history_reading.specs.Reading.{after_what}
@@ -27,6 +25,7 @@ use Rattle.channel_model.specs.Phases.{Phase}
 use Rattle.channel_laws.proofs.Delivered.{own-delivers-none, delivery-delivers}
 use Rattle.channel_laws.proofs.Moves.{EndMove, StepParts, acts, delivers}
 use Rattle.channel_laws.proofs.Growing.{delivered-one}
+use Rattle.channel_laws.proofs.Leaving.{same_packet-refl}
 use Rattle.channel_laws.proofs.Outlines.{cons-head, cons-tail}
 use Rattle.channel_laws.proofs.TwoEnds.{note-shows}
 
@@ -70,13 +69,7 @@ module _ (schema : Schema) (others : EndReading) where
 
 -- The next packet
 
-pub same_packet-refl : (x : PacketKind) → same_packet x x ≡ true
-same_packet-refl (seen.Request n) = (Decides-int_eq n n).1 refl
-same_packet-refl (seen.Reply n) = (Decides-int_eq n n).1 refl
-same_packet-refl seen.Goodbye = refl
-same_packet-refl seen.Broken = refl
-
-told-shows : (side : Side) (t : SentPacket) → note_kind (told_note side t) ≡ packet_kind t
+pub told-shows : (side : Side) (t : SentPacket) → note_kind (told_note side t) ≡ packet_kind t
 told-shows side (told.request r) = refl
 told-shows side (told.said n w) = refl
 told-shows side told.goodbye = refl

@@ -1,78 +1,60 @@
 -- Every legal history obeys the law of prefixes.
-use Rattle.std.proofs.Common.{◌≡◌, ℕ, ◌+◌, ℤ, Bool, true, false, if◌then◌else◌, List, [], ◌∷◌, ◌++◌, map, Option, Some, None, refl, sym, ap, subst, ◌∙◌}
+use Rattle.std.proofs.Common.{◌≡◌, ℕ, ℤ, Bool, true, false, if◌then◌else◌, List, [], ◌∷◌, Option, Some, None, refl, sym, ap, subst, ◌∙◌, ◌&&◌, ◌==◌, cond, int_eq}
 use Rattle.std.specs.List.{AllByRecursion}
-use Rattle.ipdl_base.specs.declared.kinds.Reason.TheVariants.{ActorDestroyed, ResolverDestroyed}
+use Rattle.std.specs.Option.{option_map_or}
+use Rattle.std.proofs.lemmas.Bool.{eq-eqb}
+use Rattle.std.proofs.lemmas.Bool.Decides.{Decides-int_eq}
 use Rattle.ipdl_base.specs.declared.kinds.Side.{Side}
 use Rattle.ipdl_base.specs.declared.kinds.Side.TheVariants.{Parent, Child}
 use Rattle.ipdl_base.specs.declared.line.Line.{Line}
 use Rattle.ipdl_base.specs.declared.line.What.{What}
 use Rattle.ipdl_base.specs.declared.line.What.TheVariants as what
 use Rattle.ipdl_base.specs.declared.message.Body.{Body}
-use Rattle.ipdl_base.specs.declared.message.Body.TheVariants.{Request, Reply, Fault, Goodbye}
+use Rattle.ipdl_base.specs.declared.message.Body.TheVariants.{Request}
 use Rattle.ipdl_base.specs.declared.message.Message.{Message}
 use Rattle.ipdl_base.specs.declared.schema.MessageRow.{MessageRow}
 use Rattle.ipdl_base.specs.declared.schema.Schema.{Schema}
 use Rattle.ipdl_base.specs.declared.value.Values.{Values}
 use Rattle.ipdl_base.specs.Sound.{IsSound}
-use Rattle.nesting_core.specs.declared.frame.Answer.{Answer}
-use Rattle.nesting_core.specs.declared.frame.Answer.TheVariants as answer
-use Rattle.pending_queue.specs.declared.item.Item.{Item}
-use Rattle.pending_queue.specs.declared.item.Item.TheVariants as item
-use Rattle.channel_model.specs.Answers as answering
-use Rattle.channel_model.specs.Deliveries as delivery
-use Rattle.channel_model.specs.Ends.{End, World, Packet, message, mark, end_of, link_to}
-use Rattle.channel_model.specs.Events.{Event}
-use Rattle.channel_model.specs.Numbers.{other, is_sync_row}
-use Rattle.channel_model.specs.Outputs.{Output, request_answered, resolver_answered, is_open}
-use Rattle.channel_model.specs.Parts
-use Rattle.channel_model.specs.Parts.{OwnParts, FirstPart, LaterPart, LaterParts, DeliveryPart, IsRefusal, IsRenaming, reply_lines, fall_lines, farewell_line, shut_line, reply_outcome}
-use Rattle.channel_model.specs.Phases.{Phase}
-use Rattle.channel_model.specs.Returns as return
-use Rattle.channel_model.specs.Sends as send
-use Rattle.channel_model.specs.Takes as take
-use Rattle.channel_model.specs.ValueActors.{received}
-use Rattle.channel_model.proofs.Known.{all-append, all-map}
-use Rattle.history_reading.specs.EndReading.{EndReading}
-use Rattle.history_reading.specs.Reading.{Reading, end_reading_of, other_of, after_what}
-use Rattle.channel_laws.specs.NestedWorlds.{IsNestedWorld}
-use Rattle.channel_laws.specs.Notes.{told_notes}
-use Rattle.channel_laws.specs.Taken.{there_line}
-use Rattle.channel_laws.specs.Tested.{after_whats, EndLinesPass, test_at}
-use Rattle.channel_laws.proofs.EffectLines.{IsEffectLine, AreEffectLines, built, answers_ok, answers_fault, fails, resolved, rejected, fell, reply-effects, fail-effects, settle-effect}
-use Rattle.channel_laws.proofs.Exchanges.{opening-exchanges}
-use Rattle.channel_laws.proofs.Moves.{StepParts, acts, delivers, SideMove}
-use Rattle.channel_laws.proofs.Runs.{IsReached, EveryMoveKeeps, ends-pass}
-use Rattle.channel_laws.proofs.Testing.{tested-append, tested-free}
-use Rattle.channel_laws.proofs.Taken.{ReadExchanges, exchanges-keep, laters-effects}
-use Rattle.std.proofs.Common.{◌&&◌, ◌==◌, cond, int_eq}
-use Rattle.std.specs.Option.{option_map_or}
-use Rattle.std.proofs.lemmas.Bool.{eq-eqb}
-use Rattle.std.proofs.lemmas.Bool.Decides.{Decides-int_eq}
-use Rattle.ipdl_base.specs.declared.kinds.Level.{Level}
 use Rattle.ipdl_base.specs.Lines.{is_effect}
 use Rattle.ipdl_base.specs.Signatures.{params_of}
-use Rattle.ipdl_base.specs.Sound.{message_of}
 use Rattle.nesting_core.specs.Top.{top_of}
+use Rattle.pending_queue.specs.declared.item.Item.{Item}
+use Rattle.pending_queue.specs.declared.item.Item.TheVariants as item
 use Rattle.pending_queue.specs.Holding.{is_free}
+use Rattle.history_reading.specs.EndReading.{EndReading, lives, own_request}
+use Rattle.history_reading.specs.Reading.{Reading, end_reading_of, other_of, after, read}
 use Rattle.history_reading.specs.declared.law.Law.TheVariants as law
-use Rattle.history_reading.specs.EndReading.{lives, own_request}
 use Rattle.history_reading.specs.Holds.{moment_test, moment_before}
 use Rattle.history_reading.specs.Nulled.{is_nulled, same_values}
 use Rattle.history_reading.specs.Prefix.{prefix_line, was_sent, was_sent_with, is_for}
-use Rattle.history_reading.specs.Reading.{after, read}
 use Rattle.history_reading.specs.SentPacket as told
+use Rattle.channel_model.specs.Ends.{End, World, Packet, end_of, link_to}
+use Rattle.channel_model.specs.Events.{Event}
+use Rattle.channel_model.specs.Numbers.{other}
+use Rattle.channel_model.specs.Outputs.{Output, is_open}
+use Rattle.channel_model.specs.Phases.{Phase}
+use Rattle.channel_model.specs.Sends as send
 use Rattle.channel_model.specs.Takes.{taken_next}
+use Rattle.channel_model.specs.Takes as take
 use Rattle.channel_model.specs.Refusals.{actors_of}
 use Rattle.channel_model.specs.Runs.{history_of}
 use Rattle.channel_model.specs.ValueActors.{actors_in_parts, nulled}
+use Rattle.channel_laws.specs.NestedWorlds.{IsNestedWorld}
+use Rattle.channel_laws.specs.Notes.{told_notes, Note, RequestNote, body_note, message_note, In}
+use Rattle.channel_laws.specs.Taken.{there_line}
+use Rattle.channel_laws.specs.Tested.{EndLinesPass, test_at, LinesPass}
 use Rattle.channel_laws.specs.EndActors.{ReadsActors}
 use Rattle.channel_laws.specs.NextPackets.{next_line}
 use Rattle.channel_laws.specs.NotedArrivals.{ItemIsNoted, ArrivalsAreNoted}
-use Rattle.channel_laws.specs.Notes.{Note, RequestNote, body_note, message_note, In}
 use Rattle.channel_laws.specs.Protocols.{Protocols, HasProtocols, HaveTheirProtocols, ItemHasProtocols, WorldHasProtocols}
 use Rattle.channel_laws.specs.PrefixLaws.{HistoriesObeyPrefix}
 use Rattle.channel_laws.specs.SentAccounts.{SentAccount}
-use Rattle.channel_laws.specs.Tested.{LinesPass}
+use Rattle.channel_laws.proofs.Exchanges.{opening-exchanges}
+use Rattle.channel_laws.proofs.Moves.{StepParts, acts, delivers, SideMove}
+use Rattle.channel_laws.proofs.Runs.{IsReached, EveryMoveKeeps, ends-pass, every-run}
+use Rattle.channel_laws.proofs.Taken.{ReadExchanges, exchanges-keep}
+use Rattle.channel_laws.proofs.TakingLines.{takes_nothing, TakesPass, own-pass, delivery-pass}
 use Rattle.channel_laws.proofs.Growing.{own-request}
 use Rattle.channel_laws.proofs.Holding.{law_at, holds-in-runs}
 use Rattle.channel_laws.proofs.MissingAlike.{values_are_read_alike}
@@ -80,7 +62,6 @@ use Rattle.channel_laws.proofs.NextPackets.{move-next}
 use Rattle.channel_laws.proofs.Origins.{all-found}
 use Rattle.channel_laws.proofs.ReadAlike.{alike}
 use Rattle.channel_laws.proofs.Reached.{actors-reached, noted-reached, protocols-reached}
-use Rattle.channel_laws.proofs.Runs.{every-run}
 use Rattle.channel_laws.proofs.SameValues.{values-same}
 
 -- What is taken was sent, as far as lines tell.
@@ -92,106 +73,18 @@ sent_line schema own others (what.Take n route number values) = was_sent_with sc
 sent_line schema own others (what.Drop n route number id) = was_sent others n route number
 sent_line schema own others _ = true
 
--- What is known of the requests that an end takes or drops next: they are as the other end has sent them.
-record TakesAsSent (schema : Schema) (e : End) (own others : EndReading) : Type 0 where
-  take : (m : Message) (sync : Bool) (level : Level) (row : MessageRow) (vs : Values) → taken_next e ≡ Some (item.Message m sync level) → m.body ≡ Request vs → message_of schema m.number ≡ Some row → sent_line schema own others (what.Take m.seq m.route m.number (nulled schema e.actors row.params vs)) ≡ true
-  drop : (m : Message) (sync : Bool) (level : Level) (vs : Values) (id : ℤ) → taken_next e ≡ Some (item.Message m sync level) → m.body ≡ Request vs → sent_line schema own others (what.Drop m.seq m.route m.number id) ≡ true
+sent-free : (schema : Schema) (others own : EndReading) (w : What) → takes_nothing w ≡ true → sent_line schema own others w ≡ true
+sent-free schema others own (what.Take n route number vs) e = cc
+sent-free schema others own (what.Drop n route number id) e = cc
+sent-free schema others own _ e = refl
 
--- Lines
+-- what an end takes or drops next is as the other end has sent it
+abbrev TakesAsSent : Schema → End → EndReading → EndReading → Type 0
+TakesAsSent schema e own others = TakesPass schema (λ read w. sent_line schema read others w ≡ true) e own
 
 -- lines that take what was sent
 abbrev AsSent : Schema → ℕ → List What → EndReading → EndReading → Type 0
 AsSent schema place ws own others = EndLinesPass schema (λ read w. sent_line schema read others w ≡ true) place ws own
-
-effect-sent : (schema : Schema) (others : EndReading) (w : What) → IsEffectLine w → (read : EndReading) → sent_line schema read others w ≡ true
-effect-sent schema others w (built id protocol) read = refl
-effect-sent schema others w (answers_ok n vs) read = refl
-effect-sent schema others w (answers_fault n reason) read = refl
-effect-sent schema others w (fails n) read = refl
-effect-sent schema others w (resolved n vs) read = refl
-effect-sent schema others w (rejected n reason) read = refl
-effect-sent schema others w (fell id why) read = refl
-
-effects-sent : (schema : Schema) (place : ℕ) (ws : List What) (own others : EndReading) → AreEffectLines ws → AsSent schema place ws own others
-effects-sent schema place ws own others effects = tested-free schema (λ read w. sent_line schema read others w ≡ true) place ws own (all-map IsEffectLine (λ w. (read : EndReading) → sent_line schema read others w ≡ true) ws (effect-sent schema others) effects)
-
-refusal-sent : (schema : Schema) (w : What) (own others : EndReading) → IsRefusal schema w → sent_line schema own others w ≡ true
-refusal-sent schema (what.RefusedSend cause number) own others is = refl
-refusal-sent schema (what.RefusedClose cause) own others is = refl
-refusal-sent schema (what.RefusedResolve cause) own others is = refl
-refusal-sent schema (what.RefusedReject cause) own others is = refl
-refusal-sent schema _ own others is = absurd is
-
-renaming-sent : (schema : Schema) (w : What) (own others : EndReading) → IsRenaming w → sent_line schema own others w ≡ true
-renaming-sent schema (what.Keep n name) own others is = refl
-renaming-sent schema (what.Let name id) own others is = refl
-renaming-sent schema _ own others is = absurd is
-
-send-sent : (schema : Schema) (b : Bool) (m : Message) (vs : Values) (own others : EndReading) → sent_line schema own others (if b then what.Call m.seq m.transaction m.route m.number vs else what.Send m.seq m.route m.number vs) ≡ true
-send-sent schema true m vs own others = refl
-send-sent schema false m vs own others = refl
-
-answering-sent : (schema : Schema) (n : ℤ) (vs : Option Values) (own others : EndReading) → sent_line schema own others (answering.answering_line n vs) ≡ true
-answering-sent schema n None own others = refl
-answering-sent schema n (Some vs) own others = refl
-
-resume-sent : (schema : Schema) (n : ℤ) (a : Answer) (own others : EndReading) → sent_line schema own others (return.resume_line n a) ≡ true
-resume-sent schema n (answer.Ok vs) own others = refl
-resume-sent schema n (answer.Fault reason) own others = refl
-
-shut-sent : (schema : Schema) (last : Item) (own others : EndReading) → sent_line schema own others (shut_line last) ≡ true
-shut-sent schema (item.Message m sync level) own others = refl
-shut-sent schema item.Broken own others = refl
-
-farewell-sent : (schema : Schema) (packet : Packet) (own others : EndReading) → sent_line schema own others (farewell_line packet) ≡ true
-farewell-sent schema (message m) own others = refl
-farewell-sent schema mark own others = refl
-
-unknown-sent : (schema : Schema) (n : ℤ) (body : Body) (own others : EndReading) → sent_line schema own others (Parts.unknown_line n body) ≡ true
-unknown-sent schema n (Request vs) own others = refl
-unknown-sent schema n (Reply vs) own others = refl
-unknown-sent schema n (Fault reason) own others = refl
-unknown-sent schema n Goodbye own others = refl
-
--- Parts
-
-module _ (schema : Schema) (others : EndReading) where
-  first-sent : {e f : End} {ws : List What} {ps : List Packet} {q : Phase} (place : ℕ) (own : EndReading) → FirstPart schema e ws ps f q → TakesAsSent schema e own others → AsSent schema place ws own others
-  first-sent place own (Parts.refuses w is) fit = (refusal-sent schema w own others is, tt)
-  first-sent place own (Parts.renames w is) fit = (renaming-sent schema w own others is, tt)
-  first-sent place own (Parts.flushes o) fit = (refl, tt)
-  first-sent {e} place own (Parts.sends row route vs name sent) fit = (send-sent schema (is_sync_row row) (send.request_of e row route vs) vs own others, tt)
-  first-sent place own (Parts.answers by vs r row found may ok used) fit = (answering-sent schema r.seq vs own others, tt)
-  first-sent place own (Parts.closes o waits) fit = (refl, tt)
-  first-sent place own (Parts.dies o) fit = (refl, tt)
-  first-sent place own (Parts.dies_silent o alive) fit = (refl, tt)
-  first-sent {e} place own (Parts.takes m sync level row vs next body found stays) fit = (fit.take m sync level row vs next body found, tt)
-  first-sent {e} place own (Parts.drops m sync level row vs id replies next body found gone is) fit =
-      (fit.drop m sync level vs id next body, effects-sent schema (place + 1) (reply_lines replies (request_answered m) (answer.Fault ActorDestroyed)) _ others (reply-effects replies (request_answered m) (answer.Fault ActorDestroyed)))
-  first-sent {e} place own (Parts.drops_unknown m sync level vs next body found) fit = (fit.drop m sync level vs m.route next body, tt)
-  first-sent {e} place own (Parts.takes_reply m sync level a next body late) fit = (refl, tt)
-  first-sent {e} place own (Parts.settles m sync level row a next body found awaited) fit =
-      (refl, effects-sent schema (place + 1) (take.settle_line m.seq (reply_outcome schema e row a) ∷ []) (after_what schema place (what.TakeReply m.seq) own) others (settle-effect m.seq (reply_outcome schema e row a), tt))
-  first-sent place own (Parts.shuts last next is) fit = (shut-sent schema last own others, tt)
-  first-sent {e} place own (Parts.returns entry row vs told lost may t l) fit =
-      let ls : List What = reply_lines told (return.dispatch_answered entry) (return.return_answer schema e row entry vs) in
-      let ms : List What = reply_lines lost (resolver_answered (answering.resolver_in entry)) (answer.Fault ResolverDestroyed) in
-      (refl, effects-sent schema (place + 1) (ls ++ ms) _ others (all-append IsEffectLine ls ms (reply-effects told (return.dispatch_answered entry) (return.return_answer schema e row entry vs)) (reply-effects lost (resolver_answered (answering.resolver_in entry)) (answer.Fault ResolverDestroyed))))
-  first-sent {e} place own (Parts.resumes wait row on_top found) fit = (resume-sent schema wait.seq (received schema e.actors row wait.given) own others, tt)
-
-  own-sent : {q : Phase} {e f : End} {ws : List What} {ps : List Packet} (place : ℕ) (own : EndReading) → OwnParts schema e ws ps f q → TakesAsSent schema e own others → AsSent schema place ws own others
-  own-sent place own (Parts.begun {ws} {vs} part rest) fit =
-      tested-append schema (λ read w. sent_line schema read others w ≡ true) place ws vs own (first-sent place own part fit)
-      (λ at. effects-sent schema at vs (after_whats schema place ws own) others (laters-effects schema others rest))
-
-  delivery-sent : {packet : Packet} {q : Phase} {e f : End} {ws : List What} {ps : List Packet} (place : ℕ) (own : EndReading) → DeliveryPart schema packet e ws ps f q → AsSent schema place ws own others
-  delivery-sent place own (Parts.gets_request m row vs body found none) = (refl, tt)
-  delivery-sent place own (Parts.replaces m row vs old sync level replies body found is told) =
-      (refl, (refl, effects-sent schema (place + 1 + 1) (reply_lines replies (request_answered old) (answer.Fault ResolverDestroyed)) _ others (reply-effects replies (request_answered old) (answer.Fault ResolverDestroyed))))
-  delivery-sent place own (Parts.gets_answer m row a body found is) = (refl, tt)
-  delivery-sent place own (Parts.gets_reply m row a body found is) = (refl, tt)
-  delivery-sent {e = e} place own (Parts.drains packet is) = (farewell-sent schema packet own others, effects-sent schema (place + 1) (map what.Fails (delivery.unanswered e)) _ others (fail-effects (delivery.unanswered e)))
-  delivery-sent place own (Parts.passes_by m is found) = (unknown-sent schema m.seq m.body own others, tt)
 
 -- What is taken is as it was sent
 
@@ -228,7 +121,7 @@ noted-at side is e others schema same k = subst (λ (s : Side). ArrivalsAreNoted
 module _ (schema : Schema) (sound : IsSound schema) where
   takes-as-sent : (side : Side) (open_end : Bool) (outbox : List Message) (count : ℕ) (left : List Note) (made : Protocols) (e : End) (own others : EndReading) → SentAccount schema side open_end outbox count others.sent left → ArrivalsAreNoted schema (told_notes side others.sent) e → HasProtocols schema made e → ReadsActors schema e own → TakesAsSent schema e own others
   takes-as-sent side open_end outbox count left made e own others s noted protocols actors = record {
-    take = λ m sync level row vs next body found.
+    takes = λ m sync level row vs next body found.
         let r : SentRequest others m vs = sent-request schema side open_end outbox count left others m vs s body (all-taken (ItemIsNoted schema (told_notes side others.sent)) e (item.Message m sync level) next noted) in
         let has : HaveTheirProtocols made (actors_of schema row m (Request vs)) = subst (λ (b : Body). HaveTheirProtocols made (actors_of schema row m b)) body (all-taken (ItemHasProtocols schema made) e (item.Message m sync level) next protocols.arrived row found).actors in
         let values : Values = nulled schema e.actors row.params vs in
@@ -238,9 +131,10 @@ module _ (schema : Schema) (sound : IsSound schema) where
         ∙ (ap (λ (us : Values). same_values us values) (values_are_read_alike.nulled schema e.actors (lives own) row.params vs (alike schema made e own protocols actors (actors_in_parts schema row.params vs) has.1)) ∙ values-same values)) in
         ap (λ (o : Option told.Request). option_map_or (λ (x : told.Request). is_for m.route m.number x && is_nulled schema (lives own) (params_of schema m.number) x.values values) o false) r.found
         ∙ (ap (λ (b : Bool). b && is_nulled schema (lives own) (params_of schema m.number) r.request.values values) (for-same m.route m.number r.request r.route r.number) ∙ same);
-    drop = λ m sync level vs id next body.
+    drops = λ m sync level vs id next body.
         let r : SentRequest others m vs = sent-request schema side open_end outbox count left others m vs s body (all-taken (ItemIsNoted schema (told_notes side others.sent)) e (item.Message m sync level) next noted) in
         ap (λ (o : Option told.Request). option_map_or (is_for m.route m.number) o false) r.found ∙ for-same m.route m.number r.request r.route r.number;
+    takes_reply = λ m sync level a next body. refl;
   }
 
   -- The law of prefixes: what is delivered is next, what is taken is there, and is as it was sent
@@ -286,8 +180,8 @@ module _ (schema : Schema) (sound : IsSound schema) where
       fit = reached-fits side w r output ev nested reached m
 
       by : {ev : Event} {ws : List What} {ps : List Packet} {f : End} {q : Phase} → StepParts schema (end_of side w) (link_to side w) ev ws ps f q → AsSent schema r.lines ws (end_reading_of side r) (other_of side r)
-      by (acts same steps) = own-sent schema (other_of side r) r.lines (end_reading_of side r) steps fit
-      by (delivers packet first o part) = delivery-sent schema (other_of side r) r.lines (end_reading_of side r) part
+      by (acts same steps) = own-pass schema (λ read w. sent_line schema read (other_of side r) w ≡ true) (sent-free schema (other_of side r)) r.lines (end_reading_of side r) steps fit
+      by (delivers packet first o part) = delivery-pass schema (λ read w. sent_line schema read (other_of side r) w ≡ true) (sent-free schema (other_of side r)) r.lines (end_reading_of side r) part
 
   prefix-keeps : EveryMoveKeeps schema (ReadExchanges schema sound) (law_at law.Prefix schema)
   prefix-keeps move w r output m k =

@@ -62,9 +62,8 @@ use Rattle.channel_laws.specs.EndActors.{KeepsActors, ReadsActors, actor_reading
 use Rattle.channel_laws.specs.Rows.{HasSoundRows}
 use Rattle.channel_laws.specs.Promised.{PromiseReading, promise_reading, PromisesAreRead}
 use Rattle.channel_laws.specs.Tested.{after_whats, LinesPass}
-use Rattle.channel_laws.proofs.EffectLines.{IsEffectLine, built, answers_ok, answers_fault, fails, resolved, rejected, fell, rejection-effects, effects-leave}
+use Rattle.channel_laws.proofs.EffectLines.{IsEffectLine, built, answers_ok, answers_fault, fails, resolved, rejected, fell, rejection-effects, later-effects, effects-leave}
 use Rattle.channel_laws.proofs.ActorsKept.{first-kept, later-kept}
-use Rattle.channel_laws.proofs.Taken.{later-effects}
 use Rattle.channel_laws.proofs.PromiseParts.{first-keeps-promises, later-keeps-promises, effects-read, settled_by_lines, settled-append, rejections-settle}
 use Rattle.channel_laws.proofs.Standing.{has-append}
 use Rattle.channel_laws.proofs.Promising.{int-apart, promises-distinct, numbers_passing, numbers_falling}
@@ -417,7 +416,7 @@ module _ (schema : Schema) (side : Side) (others : EndReading) where
   later-cause (Parts.falls why is) = refl
 
   later-closes : {p q : Phase} {e f : End} {ws : List What} {ps : List Packet} (place : ℕ) (own : EndReading) → LaterPart p e ws ps f q → ClosesWith p own → ClosesWith q (after_whats schema place ws own)
-  later-closes {ws = ws} place own part closes why is = ap is_close_event (effects-leave (λ (read : EndReading). read.event) schema event-left place ws own (later-effects schema others part)) ∙ closes why (sym (later-cause part) ∙ is)
+  later-closes {ws = ws} place own part closes why is = ap is_close_event (effects-leave (λ (read : EndReading). read.event) schema event-left place ws own (later-effects part)) ∙ closes why (sym (later-cause part) ∙ is)
 
   -- Steps of an end's own
 

@@ -38,10 +38,9 @@ use Rattle.channel_laws.specs.Outlines.{Over, HasOutline, outline}
 use Rattle.channel_laws.specs.Rows.{HasSoundRows}
 use Rattle.channel_laws.specs.Tested.{after_whats}
 use Rattle.channel_laws.proofs.ActorParts.{first-begins, delivery-begins}
-use Rattle.channel_laws.proofs.EffectLines.{IsEffectLine, built, answers_ok, answers_fault, fails, resolved, rejected, fell, effects-leave}
+use Rattle.channel_laws.proofs.EffectLines.{IsEffectLine, built, answers_ok, answers_fault, fails, resolved, rejected, fell, laters-effects, effects-leave}
 use Rattle.channel_laws.proofs.Growing.{whats-append}
 use Rattle.channel_laws.proofs.Moves.{StepParts, acts, delivers}
-use Rattle.channel_laws.proofs.Taken.{laters-effects}
 use Rattle.history_reading.specs.SentPacket as told
 use Rattle.history_reading.specs.SentPacket.{SentPacket, Request, requests_of}
 use Rattle.history_reading.specs.Settled.{all_settled, settled_moment}
@@ -167,7 +166,7 @@ module _ (schema : Schema) where
   own-over rows place own {f = g} (Parts.begun {f} {ws} {vs} part rest) actors over =
       let at = whats-append schema place ws vs own in
       let first : EndReading = after_whats schema place ws own in
-      let same : (after_whats schema at.0 vs first).over ≡ first.over = effects-leave (λ (read : EndReading). read.over) schema over-left at.0 vs first (laters-effects schema own rest) in
+      let same : (after_whats schema at.0 vs first).over ≡ first.over = effects-leave (λ (read : EndReading). read.over) schema over-left at.0 vs first (laters-effects rest) in
       elim ((first-begins schema rows place own part actors.handled).over (sym same ∙ (sym (ap (λ (read : EndReading). read.over) at.1) ∙ over))) [
         | inl closed ↦ inl (ap is_closed (laters-state rest) ∙ closed)
         | inr before ↦ inr before

@@ -1,6 +1,5 @@
 -- In every run what is taken is there, and ends keep what they read of requests and replies.
-use Rattle.std.proofs.Common.{◌≡◌, ℕ, ◌+◌, ◌≤◌, ℤ, Bool, true, false, if◌then◌else◌, List, [], ◌∷◌, ◌++◌, drop, map, Option, Some, None, refl, sym, ap, subst, ◌∙◌}
-use Rattle.ipdl_base.specs.declared.kinds.Reason.TheVariants.{ActorDestroyed, ChannelClosed, ResolverDestroyed}
+use Rattle.std.proofs.Common.{◌≡◌, ℕ, ◌+◌, ◌≤◌, ℤ, true, List, ◌∷◌, ◌++◌, drop, map, Some, refl, sym, ap, subst, ◌∙◌}
 use Rattle.ipdl_base.specs.declared.kinds.Side.{Side}
 use Rattle.ipdl_base.specs.declared.line.What.{What}
 use Rattle.ipdl_base.specs.declared.line.What.TheVariants as what
@@ -8,30 +7,16 @@ use Rattle.ipdl_base.specs.declared.message.Body.{Body}
 use Rattle.ipdl_base.specs.declared.message.Body.TheVariants.{Request, Reply, Fault, Goodbye}
 use Rattle.ipdl_base.specs.declared.message.Message.{Message}
 use Rattle.ipdl_base.specs.declared.schema.Schema.{Schema}
-use Rattle.ipdl_base.specs.declared.value.Values.{Values}
 use Rattle.ipdl_base.specs.Sound.{IsSound}
-use Rattle.nesting_core.specs.declared.frame.Answer.{Answer}
 use Rattle.nesting_core.specs.declared.frame.Answer.TheVariants as answer
-use Rattle.pending_queue.specs.declared.item.Item.{Item}
-use Rattle.pending_queue.specs.declared.item.Item.TheVariants as item
-use Rattle.channel_model.specs.Answers as answering
-use Rattle.channel_model.specs.Deliveries as delivery
 use Rattle.channel_model.specs.Ends.{End, World, Packet, message, mark, end_of, link_to}
 use Rattle.channel_model.specs.Events.{Event}
 use Rattle.channel_model.specs.Steps.{first_packet}
-use Rattle.channel_model.specs.Falls as fall
-use Rattle.channel_model.specs.Numbers.{other, seq_of, is_sync_row, top_id}
-use Rattle.channel_model.specs.Outputs.{request_answered, resolver_answered, is_open}
-use Rattle.channel_model.specs.Parts
-use Rattle.channel_model.specs.Parts.{OwnParts, FirstPart, LaterPart, LaterParts, DeliveryPart, IsRefusal, IsRenaming, reply_lines, fall_lines, farewell_line, shut_line, reply_outcome}
+use Rattle.channel_model.specs.Numbers.{other, seq_of, is_sync_row}
+use Rattle.channel_model.specs.Outputs.{is_open}
 use Rattle.channel_model.specs.Phases.{Phase}
-use Rattle.channel_model.specs.Returns as return
-use Rattle.channel_model.specs.Sends as send
-use Rattle.channel_model.specs.Takes as take
-use Rattle.channel_model.specs.ValueActors.{received}
-use Rattle.channel_model.proofs.Known.{all-append, all-map}
 use Rattle.history_reading.specs.EndReading.{EndReading}
-use Rattle.history_reading.specs.Reading.{Reading, end_reading_of, other_of, after_what}
+use Rattle.history_reading.specs.Reading.{Reading, end_reading_of, other_of}
 use Rattle.channel_laws.specs.Arrivals.{arrival_reading, replies_delivered, ArrivalsAreRead, IsDueBody, IsDueMessage, IsDue}
 use Rattle.channel_laws.specs.Exchanges.{ReadsExchanges}
 use Rattle.channel_laws.specs.NestedWorlds.{IsNestedWorld}
@@ -47,7 +32,7 @@ use Rattle.channel_laws.proofs.Exchanges.{own-exchanges, delivery-exchanges, req
 use Rattle.channel_laws.proofs.Moves.{StepParts, acts, delivers}
 use Rattle.channel_laws.proofs.Outlines.{RepliesFit}
 use Rattle.channel_laws.proofs.Runs.{IsReached, EveryMoveKeeps, AtEnds, at-ends, ends-keep, ends-pass}
-use Rattle.channel_laws.proofs.Testing.{tested-append, tested-free}
+use Rattle.channel_laws.proofs.TakingLines.{takes_nothing, TakesPass, own-pass, delivery-pass}
 use Rattle.channel_laws.proofs.TwoEnds.{Arrival}
 
 -- Lines
@@ -56,111 +41,19 @@ use Rattle.channel_laws.proofs.TwoEnds.{Arrival}
 abbrev There : Schema → ℕ → List What → EndReading → EndReading → Type 0
 There schema place ws own others = EndLinesPass schema (λ read w. there_line read others w ≡ true) place ws own
 
-effect-there : (others : EndReading) (w : What) → IsEffectLine w → (read : EndReading) → there_line read others w ≡ true
-effect-there others w (built id protocol) read = refl
-effect-there others w (answers_ok n vs) read = refl
-effect-there others w (answers_fault n reason) read = refl
-effect-there others w (fails n) read = refl
-effect-there others w (resolved n vs) read = refl
-effect-there others w (rejected n reason) read = refl
-effect-there others w (fell id why) read = refl
+there-free : (others own : EndReading) (w : What) → takes_nothing w ≡ true → there_line own others w ≡ true
+there-free others own (what.Take n route number vs) e = cc
+there-free others own (what.Drop n route number id) e = cc
+there-free others own (what.TakeReply n) e = cc
+there-free others own _ e = refl
 
-effects-there : (schema : Schema) (place : ℕ) (ws : List What) (own others : EndReading) → AreEffectLines ws → There schema place ws own others
-effects-there schema place ws own others effects = tested-free schema (λ read w. there_line read others w ≡ true) place ws own (all-map IsEffectLine (λ w. (read : EndReading) → there_line read others w ≡ true) ws (effect-there others) effects)
-
-refusal-there : (schema : Schema) (w : What) (own others : EndReading) → IsRefusal schema w → there_line own others w ≡ true
-refusal-there schema (what.RefusedSend cause number) own others is = refl
-refusal-there schema (what.RefusedClose cause) own others is = refl
-refusal-there schema (what.RefusedResolve cause) own others is = refl
-refusal-there schema (what.RefusedReject cause) own others is = refl
-refusal-there schema _ own others is = absurd is
-
-renaming-there : (w : What) (own others : EndReading) → IsRenaming w → there_line own others w ≡ true
-renaming-there (what.Keep n name) own others is = refl
-renaming-there (what.Let name id) own others is = refl
-renaming-there _ own others is = absurd is
-
-send-there : (b : Bool) (m : Message) (vs : Values) (own others : EndReading) → there_line own others (if b then what.Call m.seq m.transaction m.route m.number vs else what.Send m.seq m.route m.number vs) ≡ true
-send-there true m vs own others = refl
-send-there false m vs own others = refl
-
-answering-there : (n : ℤ) (vs : Option Values) (own others : EndReading) → there_line own others (answering.answering_line n vs) ≡ true
-answering-there n None own others = refl
-answering-there n (Some vs) own others = refl
-
-resume-there : (n : ℤ) (a : Answer) (own others : EndReading) → there_line own others (return.resume_line n a) ≡ true
-resume-there n (answer.Ok vs) own others = refl
-resume-there n (answer.Fault reason) own others = refl
-
-shut-there : (last : Item) (own others : EndReading) → there_line own others (shut_line last) ≡ true
-shut-there (item.Message m sync level) own others = refl
-shut-there item.Broken own others = refl
-
-farewell-there : (packet : Packet) (own others : EndReading) → there_line own others (farewell_line packet) ≡ true
-farewell-there (message m) own others = refl
-farewell-there mark own others = refl
-
-unknown-there : (n : ℤ) (body : Body) (own others : EndReading) → there_line own others (Parts.unknown_line n body) ≡ true
-unknown-there n (Request vs) own others = refl
-unknown-there n (Reply vs) own others = refl
-unknown-there n (Fault reason) own others = refl
-unknown-there n Goodbye own others = refl
-
--- Parts
-
-module _ (schema : Schema) (others : EndReading) where
-  first-there : {e f : End} {ws : List What} {ps : List Packet} {q : Phase} (place : ℕ) (own : EndReading) → FirstPart schema e ws ps f q → ArrivalsAreRead e own → ((n : ℤ) → replies_delivered (arrival_reading own) n ≤ 1) → There schema place ws own others
-  first-there place own (Parts.refuses w is) h once = (refusal-there schema w own others is, tt)
-  first-there place own (Parts.renames w is) h once = (renaming-there w own others is, tt)
-  first-there place own (Parts.flushes o) h once = (refl, tt)
-  first-there {e} place own (Parts.sends row route vs name sent) h once = (send-there (is_sync_row row) (send.request_of e row route vs) vs own others, tt)
-  first-there place own (Parts.answers by vs r row found may ok used) h once = (answering-there r.seq vs own others, tt)
-  first-there place own (Parts.closes o waits) h once = (refl, tt)
-  first-there place own (Parts.dies o) h once = (refl, tt)
-  first-there place own (Parts.dies_silent o alive) h once = (refl, tt)
-  first-there {e} place own (Parts.takes m sync level row vs next body found stays) h once = (request-there e own m sync level vs h next body, tt)
-  first-there {e} place own (Parts.drops m sync level row vs id replies next body found gone is) h once =
-      (request-there e own m sync level vs h next body, effects-there schema (place + 1) (reply_lines replies (request_answered m) (answer.Fault ActorDestroyed)) _ others (reply-effects replies (request_answered m) (answer.Fault ActorDestroyed)))
-  first-there {e} place own (Parts.drops_unknown m sync level vs next body found) h once = (request-there e own m sync level vs h next body, tt)
-  first-there {e} place own (Parts.takes_reply m sync level a next body late) h once = (reply-there e own m sync level a h next body (once m.seq), tt)
-  first-there {e} place own (Parts.settles m sync level row a next body found awaited) h once =
-      (reply-there e own m sync level a h next body (once m.seq), effects-there schema (place + 1) (take.settle_line m.seq (reply_outcome schema e row a) ∷ []) (after_what schema place (what.TakeReply m.seq) own) others (settle-effect m.seq (reply_outcome schema e row a), tt))
-  first-there place own (Parts.shuts last next is) h once = (shut-there last own others, tt)
-  first-there {e} place own (Parts.returns entry row vs told lost may t l) h once =
-      let ls : List What = reply_lines told (return.dispatch_answered entry) (return.return_answer schema e row entry vs) in
-      let ms : List What = reply_lines lost (resolver_answered (answering.resolver_in entry)) (answer.Fault ResolverDestroyed) in
-      (refl, effects-there schema (place + 1) (ls ++ ms) _ others (all-append IsEffectLine ls ms (reply-effects told (return.dispatch_answered entry) (return.return_answer schema e row entry vs)) (reply-effects lost (resolver_answered (answering.resolver_in entry)) (answer.Fault ResolverDestroyed))))
-  first-there {e} place own (Parts.resumes wait row on_top found) h once = (resume-there wait.seq (received schema e.actors row wait.given) own others, tt)
-
-  -- later parts print effects alone
-  pub later-effects : {p q : Phase} {e f : End} {ws : List What} {ps : List Packet} → LaterPart p e ws ps f q → AreEffectLines ws
-  later-effects (Parts.unnames name may silent) = tt
-  later-effects (Parts.lets_go name r may held o) = (answers_fault r.seq ResolverDestroyed, tt)
-  later-effects (Parts.names more holds) = tt
-  later-effects (Parts.releases seq is) = tt
-  later-effects (Parts.keeps seq name r is o) = tt
-  later-effects (Parts.builds id protocol rest fresh alive) = (built id protocol, tt)
-  later-effects {e = e} (Parts.deletes id is) = fall-effects id (fall.why_deleted id) e
-  later-effects {e = e} (Parts.abandons why is) = rejection-effects (λ p. true) ChannelClosed e.promises
-  later-effects {e = e} (Parts.falls why is) = fall-effects top_id (λ id. why) e
-
-  pub laters-effects : {p q : Phase} {e f : End} {ws : List What} {ps : List Packet} → LaterParts p e ws ps f q → AreEffectLines ws
-  laters-effects Parts.done = tt
-  laters-effects (Parts.then {ws} {vs} part rest) = all-append IsEffectLine ws vs (later-effects part) (laters-effects rest)
-
-  own-there : {q : Phase} {e f : End} {ws : List What} {ps : List Packet} (place : ℕ) (own : EndReading) → OwnParts schema e ws ps f q → ArrivalsAreRead e own → ((n : ℤ) → replies_delivered (arrival_reading own) n ≤ 1) → There schema place ws own others
-  own-there place own (Parts.begun {ws} {vs} part rest) h once =
-      tested-append schema (λ read w. there_line read others w ≡ true) place ws vs own (first-there place own part h once)
-      (λ at. effects-there schema at vs (after_whats schema place ws own) others (laters-effects rest))
-
-  delivery-there : {packet : Packet} {q : Phase} {e f : End} {ws : List What} {ps : List Packet} (place : ℕ) (own : EndReading) → DeliveryPart schema packet e ws ps f q → There schema place ws own others
-  delivery-there place own (Parts.gets_request m row vs body found none) = (refl, tt)
-  delivery-there place own (Parts.replaces m row vs old sync level replies body found is told) =
-      (refl, (refl, effects-there schema (place + 1 + 1) (reply_lines replies (request_answered old) (answer.Fault ResolverDestroyed)) _ others (reply-effects replies (request_answered old) (answer.Fault ResolverDestroyed))))
-  delivery-there place own (Parts.gets_answer m row a body found is) = (refl, tt)
-  delivery-there place own (Parts.gets_reply m row a body found is) = (refl, tt)
-  delivery-there {e = e} place own (Parts.drains packet is) = (farewell-there packet own others, effects-there schema (place + 1) (map what.Fails (delivery.unanswered e)) _ others (fail-effects (delivery.unanswered e)))
-  delivery-there place own (Parts.passes_by m is found) = (unknown-there m.seq m.body own others, tt)
+-- what an end takes is there
+takes-there : (schema : Schema) (others : EndReading) (e : End) (own : EndReading) → ArrivalsAreRead e own → ((n : ℤ) → replies_delivered (arrival_reading own) n ≤ 1) → TakesPass schema (λ read w. there_line read others w ≡ true) e own
+takes-there schema others e own h once = record {
+  takes = λ m sync level row vs next body found. request-there e own m sync level vs h next body;
+  drops = λ m sync level vs id next body. request-there e own m sync level vs h next body;
+  takes_reply = λ m sync level a next body. reply-there e own m sync level a h next body (once m.seq);
+}
 
 -- What comes is due
 
@@ -192,8 +85,8 @@ module _ (schema : Schema) (sound : IsSound schema) where
 
   parts-keep : (mine : End) (own others : EndReading) (place : ℕ) (link : List Packet) {ev : Event} {ws : List What} {ps : List Packet} {f : End} {q : Phase} → StepParts schema mine link ev ws ps f q → ((packet : Packet) → first_packet link ≡ Some packet → is_open mine.state ≡ true → IsDue schema mine own packet) → ((n : ℤ) → replies_delivered (arrival_reading own) n ≤ 1) → ReadsExchanges schema mine own
       → ReadsExchanges schema f (after_whats schema place ws own) × There schema place ws own others
-  parts-keep mine own others place link (acts same part) due once h = (own-exchanges schema place own part h, own-there schema others place own part h.arrivals once)
-  parts-keep mine own others place link (delivers packet first opened part) due once h = (delivery-exchanges schema place own part (due packet first opened) h, delivery-there schema others place own part)
+  parts-keep mine own others place link (acts same part) due once h = (own-exchanges schema place own part h, own-pass schema (λ read w. there_line read others w ≡ true) (there-free others) place own part (takes-there schema others mine own h.arrivals once))
+  parts-keep mine own others place link (delivers packet first opened part) due once h = (delivery-exchanges schema place own part (due packet first opened) h, delivery-pass schema (λ read w. there_line read others w ≡ true) (there-free others) place own part)
 
   pub exchanges-keep : EveryMoveKeeps schema ReadExchanges (test_at there_line)
   exchanges-keep move w r output h k =
