@@ -31,6 +31,7 @@ pub mod PrefixLaws
 pub mod Heads
 pub mod WaitLaws
 pub mod Replies
+pub mod Settlings
 pub mod SettledLaws
 pub mod ExchangeLaws
 pub mod TwoEndLaws
