@@ -35,6 +35,7 @@ use Rattle.channel_model.specs.Takes as take
 use Rattle.channel_model.specs.ValueActors.{received}
 use Rattle.channel_model.proofs.Known.{all-append}
 use Rattle.channel_laws.specs.Delivered.{body_kind, delivered_kind, delivered_by, delivered_by_lines}
+use Rattle.channel_laws.proofs.PartLines.{EffectsHave, reply-has, laters-have}
 use Rattle.channel_laws.proofs.Outlines.{leaves-map, leaves-flat}
 
 -- Lines that deliver nothing
@@ -46,18 +47,8 @@ none-delivered : (ws : List What) → AllByRecursion DeliversNone ws → deliver
 none-delivered [] h = refl
 none-delivered (w ∷ ws) h = ap (λ (xs : List PacketKind). xs ++ delivered_by_lines ws) h.0 ∙ none-delivered ws h.1
 
-none-reply : (b : Bool) (q : AnsweredRequest) (a : Answer) → AllByRecursion DeliversNone (reply_lines b q a)
-none-reply true q (answer.Ok vs) = (refl, tt)
-none-reply true q (answer.Fault r) = (refl, tt)
-none-reply false q a = tt
-
-none-rejections : (test : Promise → Bool) (why : Reason) (ps : List PromiseEntry) → AllByRecursion DeliversNone (fall.rejections test why ps)
-none-rejections test why ps = leaves-map DeliversNone (λ (entry : PromiseEntry). what.Rejected entry.promise.seq why) (filter (fall.passes test) ps) (λ entry. refl)
-
-none-falls : (id : ℤ) (why : ℤ → Destroy) (e : End) → AllByRecursion DeliversNone (fall_lines id why e)
-none-falls id why e =
-    leaves-flat DeliversNone (fall.fall_lines why e.promises) (parts.falling id e)
-    (λ a. all-append DeliversNone (fall.rejections (is_pending_of a.id) reason.ActorDestroyed e.promises) (what.Fall a.id (why a.id) ∷ []) (none-rejections (is_pending_of a.id) reason.ActorDestroyed e.promises) (refl, tt))
+none-effects : EffectsHave DeliversNone
+none-effects = record { built = λ id protocol. refl; ok = λ n vs. refl; fault = λ n r. refl; rejected = λ n r. refl; fell = λ id why. refl }
 
 none-refusal : (schema : Schema) (w : What) → IsRefusal schema w → DeliversNone w
 none-refusal schema (what.RefusedSend c n) q = refl
@@ -103,7 +94,7 @@ first-none (parts.closes o waits) = (refl, tt)
 first-none (parts.dies o) = (refl, tt)
 first-none (parts.dies_silent o alive) = (refl, tt)
 first-none (parts.takes m sync level row vs next body found stays) = (refl, tt)
-first-none (parts.drops m sync level row vs id replies next body found gone is) = (refl, none-reply replies (request_answered m) (answer.Fault reason.ActorDestroyed))
+first-none (parts.drops m sync level row vs id replies next body found gone is) = (refl, reply-has DeliversNone none-effects replies (request_answered m) (answer.Fault reason.ActorDestroyed))
 first-none (parts.drops_unknown m sync level vs next body none) = (refl, tt)
 first-none (parts.takes_reply m sync level a next body late) = (refl, tt)
 first-none {schema} {e} (parts.settles m sync level row a next body found is) = (refl, (none-settle m.seq (parts.reply_outcome schema e row a), tt))
@@ -111,27 +102,12 @@ first-none (parts.shuts last next is) = (none-shut last, tt)
 first-none {schema} {e} (parts.returns entry row vs told lost on_top t l) = (
   refl,
   all-append DeliversNone (reply_lines told (return.dispatch_answered entry) (return.return_answer schema e row entry vs)) (reply_lines lost (resolver_answered (answering.resolver_in entry)) (answer.Fault reason.ResolverDestroyed))
-      (none-reply told (return.dispatch_answered entry) (return.return_answer schema e row entry vs)) (none-reply lost (resolver_answered (answering.resolver_in entry)) (answer.Fault reason.ResolverDestroyed)),
+      (reply-has DeliversNone none-effects told (return.dispatch_answered entry) (return.return_answer schema e row entry vs)) (reply-has DeliversNone none-effects lost (resolver_answered (answering.resolver_in entry)) (answer.Fault reason.ResolverDestroyed)),
 )
 first-none {schema} {e} (parts.resumes wait row on_top found) = (none-resume wait.seq (received schema e.actors row wait.given), tt)
 
-later-none : {p q : Phase} {e f : End} {ws : List What} {ps : List Packet} → LaterPart p e ws ps f q → AllByRecursion DeliversNone ws
-later-none (parts.unnames name now silent) = tt
-later-none (parts.lets_go name r now is o) = (refl, tt)
-later-none (parts.names more a) = tt
-later-none (parts.releases seq closed) = tt
-later-none (parts.keeps seq name r is open_end) = tt
-later-none (parts.builds id protocol rest fresh alive) = (refl, tt)
-later-none {e} (parts.deletes id cause) = none-falls id (fall.why_deleted id) e
-later-none {e} (parts.abandons why cause) = none-rejections (λ p. true) reason.ChannelClosed e.promises
-later-none {e} (parts.falls why cause) = none-falls top_id (λ id. why) e
-
-laters-none : {p q : Phase} {e f : End} {ws : List What} {ps : List Packet} → LaterParts p e ws ps f q → AllByRecursion DeliversNone ws
-laters-none parts.done = tt
-laters-none (parts.then {ws} {vs} part rest) = all-append DeliversNone ws vs (later-none part) (laters-none rest)
-
 pub own-delivers-none : {schema : Schema} {q : Phase} {e f : End} {ws : List What} {ps : List Packet} → OwnParts schema e ws ps f q → delivered_by_lines ws ≡ []
-own-delivers-none {ws = all} (parts.begun {ws} {vs} part rest) = none-delivered all (all-append DeliversNone ws vs (first-none part) (laters-none rest))
+own-delivers-none {ws = all} (parts.begun {ws} {vs} part rest) = none-delivered all (all-append DeliversNone ws vs (first-none part) (laters-have DeliversNone none-effects rest))
 
 -- A delivery
 
@@ -161,7 +137,7 @@ with-none w ws kind none is = ap (λ (xs : List PacketKind). xs ++ delivered_by_
 pub delivery-delivers : {schema : Schema} {packet : Packet} {q : Phase} {e f : End} {ws : List What} {ps : List Packet} → DeliveryPart schema packet e ws ps f q → delivered_by_lines ws ≡ delivered_kind packet ∷ []
 delivery-delivers (parts.gets_request m row vs body found none) = ap (λ (b : Body). body_kind m.seq b ∷ []) (sym body)
 delivery-delivers (parts.replaces m row vs old sync level replies body found rep is) =
-    with-none (what.DeliverRequest m.seq) (what.Replaced old.seq ∷ reply_lines replies (request_answered old) (answer.Fault reason.ResolverDestroyed)) (body_kind m.seq m.body) (refl, none-reply replies (request_answered old) (answer.Fault reason.ResolverDestroyed)) (ap (λ (b : Body). body_kind m.seq b ∷ []) (sym body))
+    with-none (what.DeliverRequest m.seq) (what.Replaced old.seq ∷ reply_lines replies (request_answered old) (answer.Fault reason.ResolverDestroyed)) (body_kind m.seq m.body) (refl, reply-has DeliversNone none-effects replies (request_answered old) (answer.Fault reason.ResolverDestroyed)) (ap (λ (b : Body). body_kind m.seq b ∷ []) (sym body))
 delivery-delivers (parts.gets_answer m row a body found is) = answer-kind m.seq a ∙ ap (λ (b : Body). body_kind m.seq b ∷ []) (sym body)
 delivery-delivers (parts.gets_reply m row a body found is) = answer-kind m.seq a ∙ ap (λ (b : Body). body_kind m.seq b ∷ []) (sym body)
 delivery-delivers {e} (parts.drains packet is) = with-none (farewell_line packet) (map what.Fails (delivery.unanswered e)) (delivered_kind packet) (leaves-map DeliversNone what.Fails (delivery.unanswered e) (λ n. refl)) (farewell-kind packet is)

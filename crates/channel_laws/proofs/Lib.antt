@@ -93,3 +93,4 @@ pub mod WaitMoments
 pub mod StillReads
 pub mod StillEnds
 pub mod WaitLaw
+pub mod PartLines

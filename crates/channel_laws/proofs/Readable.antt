@@ -53,6 +53,7 @@ use Rattle.channel_laws.proofs.Rows.{request-message, sound_schemas_have_sound_r
 use Rattle.channel_laws.specs.Rows.{HasSoundRows, IsSoundRow}
 use Rattle.channel_laws.proofs.Outlines.{leaves-map, leaves-flat, cons-head}
 use Rattle.channel_laws.proofs.Origins.{taken-origin, request-origin, body-asks}
+use Rattle.channel_laws.proofs.PartLines.{EffectsHave, reply-has, laters-have}
 use Rattle.channel_laws.proofs.Testing.{tested-free}
 use Rattle.ipdl_base.specs.declared.kinds.Level.{Level}
 use Rattle.ipdl_base.specs.declared.line.Line.{Line}
@@ -114,18 +115,8 @@ module _ (schema : Schema) where
   abbrev Free : What → Type 0
   Free w = (h : EndReading) → CanRead h w
 
-  free-reply : (b : Bool) (q : AnsweredRequest) (a : Answer) → AllByRecursion Free (reply_lines b q a)
-  free-reply true q (answer.Ok vs) = ((λ h. refl), tt)
-  free-reply true q (answer.Fault r) = ((λ h. refl), tt)
-  free-reply false q a = tt
-
-  free-rejections : (test : Promise → Bool) (why : Reason) (ps : List PromiseEntry) → AllByRecursion Free (fall.rejections test why ps)
-  free-rejections test why ps = leaves-map Free (λ (entry : PromiseEntry). what.Rejected entry.promise.seq why) (filter (fall.passes test) ps) (λ entry h. refl)
-
-  free-falls : (id : ℤ) (why : ℤ → Destroy) (e : End) → AllByRecursion Free (fall_lines id why e)
-  free-falls id why e =
-      leaves-flat Free (fall.fall_lines why e.promises) (parts.falling id e)
-      (λ a. all-append Free (fall.rejections (is_pending_of a.id) reason.ActorDestroyed e.promises) (what.Fall a.id (why a.id) ∷ []) (free-rejections (is_pending_of a.id) reason.ActorDestroyed e.promises) ((λ h. refl), tt))
+  free-effects : EffectsHave Free
+  free-effects = record { built = λ id protocol h. refl; ok = λ n vs h. refl; fault = λ n r h. refl; rejected = λ n r h. refl; fell = λ id why h. refl }
 
   renaming-reads : (w : What) (h : EndReading) → IsRenaming w → CanRead h w
   renaming-reads (what.Keep n name) h q = refl
@@ -162,26 +153,11 @@ module _ (schema : Schema) where
   unknown-reads seq (Fault r) h = refl
   unknown-reads seq Goodbye h = refl
 
-  -- Parts that follow, and those of a delivery, can be read wherever they stand
-
-  free-later : {p q : Phase} {e f : End} {ws : List What} {ps : List Packet} → LaterPart p e ws ps f q → AllByRecursion Free ws
-  free-later (parts.unnames name now silent) = tt
-  free-later (parts.lets_go name r now is o) = ((λ h. refl), tt)
-  free-later (parts.names more a) = tt
-  free-later (parts.releases seq closed) = tt
-  free-later (parts.keeps seq name r is open_end) = tt
-  free-later (parts.builds id protocol rest fresh alive) = ((λ h. refl), tt)
-  free-later {e} (parts.deletes id cause) = free-falls id (fall.why_deleted id) e
-  free-later {e} (parts.abandons why cause) = free-rejections (λ p. true) reason.ChannelClosed e.promises
-  free-later {e} (parts.falls why cause) = free-falls top_id (λ id. why) e
-
-  free-laters : {p q : Phase} {e f : End} {ws : List What} {ps : List Packet} → LaterParts p e ws ps f q → AllByRecursion Free ws
-  free-laters parts.done = tt
-  free-laters (parts.then {ws} {vs} part rest) = all-append Free ws vs (free-later part) (free-laters rest)
+  -- Parts of a delivery can be read wherever they stand
 
   free-delivery : {packet : Packet} {q : Phase} {e f : End} {ws : List What} {ps : List Packet} → DeliveryPart schema packet e ws ps f q → AllByRecursion Free ws
   free-delivery (parts.gets_request m row vs body found none) = ((λ h. refl), tt)
-  free-delivery (parts.replaces m row vs old sync level replies body found rep is) = ((λ h. refl), ((λ h. refl), free-reply replies (request_answered old) (answer.Fault reason.ResolverDestroyed)))
+  free-delivery (parts.replaces m row vs old sync level replies body found rep is) = ((λ h. refl), ((λ h. refl), reply-has Free free-effects replies (request_answered old) (answer.Fault reason.ResolverDestroyed)))
   free-delivery (parts.gets_answer m row a body found is) = ((λ h. refl), tt)
   free-delivery (parts.gets_reply m row a body found is) = ((λ h. refl), tt)
   free-delivery {e} (parts.drains packet is) = ((λ h. farewell-reads packet h), leaves-map Free what.Fails (delivery.unanswered e) (λ n h. refl))
@@ -212,7 +188,7 @@ module _ (schema : Schema) where
     first-reads place h (parts.dies o) s k = (refl, tt)
     first-reads place h (parts.dies_silent o alive) s k = (refl, tt)
     first-reads {e} place h (parts.takes m sync level row vs next body found stays) s k = (taken-number e m sync level vs k next body, tt)
-    first-reads {e} place h (parts.drops m sync level row vs id replies next body found gone is) s k = (taken-number e m sync level vs k next body, tested-free schema CanRead (place + 1) (reply_lines replies (request_answered m) (answer.Fault reason.ActorDestroyed)) _ (free-reply replies (request_answered m) (answer.Fault reason.ActorDestroyed)))
+    first-reads {e} place h (parts.drops m sync level row vs id replies next body found gone is) s k = (taken-number e m sync level vs k next body, tested-free schema CanRead (place + 1) (reply_lines replies (request_answered m) (answer.Fault reason.ActorDestroyed)) _ (reply-has Free free-effects replies (request_answered m) (answer.Fault reason.ActorDestroyed)))
     first-reads {e} place h (parts.drops_unknown m sync level vs next body none) s k = (taken-number e m sync level vs k next body, tt)
     first-reads place h (parts.takes_reply m sync level a next body late) s k = (refl, tt)
     first-reads {e} place h (parts.settles m sync level row a next body found is) s k = (refl, (settle-reads m.seq (parts.reply_outcome schema e row a) (after_what schema place (what.TakeReply m.seq) h), tt))
@@ -221,12 +197,12 @@ module _ (schema : Schema) where
       dispatch-top h.stack e.stack entry s.stack on_top.on_top,
       tested-free schema CanRead (place + 1) (reply_lines told (return.dispatch_answered entry) (return.return_answer schema e row entry vs) ++ reply_lines lost (resolver_answered (answering.resolver_in entry)) (answer.Fault reason.ResolverDestroyed)) _
           (all-append Free (reply_lines told (return.dispatch_answered entry) (return.return_answer schema e row entry vs)) (reply_lines lost (resolver_answered (answering.resolver_in entry)) (answer.Fault reason.ResolverDestroyed))
-          (free-reply told (return.dispatch_answered entry) (return.return_answer schema e row entry vs)) (free-reply lost (resolver_answered (answering.resolver_in entry)) (answer.Fault reason.ResolverDestroyed))),
+          (reply-has Free free-effects told (return.dispatch_answered entry) (return.return_answer schema e row entry vs)) (reply-has Free free-effects lost (resolver_answered (answering.resolver_in entry)) (answer.Fault reason.ResolverDestroyed))),
     )
     first-reads {e} place h (parts.resumes wait row on_top found) s k = (resume-reads wait.seq (received schema e.actors row wait.given) h (answer-top h.stack e.stack wait s.stack on_top), tt)
 
     pub move-reads : {mine : End} {link : List Packet} {ev : Event} {f : End} {ws : List What} {ps : List Packet} {q : Phase} (place : ℕ) (h : EndReading) → StepParts schema mine link ev ws ps f q → HasOutline mine (outline h) → HasOrigins schema theirs mine → EndLinesPass schema CanRead place ws h
-    move-reads place h (acts same (parts.begun {ws} {vs} part rest)) s k = tested-append schema CanRead place ws vs h (first-reads place h part s k) (λ at. tested-free schema CanRead at vs (after_whats schema place ws h) (free-laters rest))
+    move-reads place h (acts same (parts.begun {ws} {vs} part rest)) s k = tested-append schema CanRead place ws vs h (first-reads place h part s k) (λ at. tested-free schema CanRead at vs (after_whats schema place ws h) (laters-have Free free-effects rest))
     move-reads {ws} place h (delivers packet first o part) s k = tested-free schema CanRead place ws h (free-delivery part)
 
 -- Every legal history can be read

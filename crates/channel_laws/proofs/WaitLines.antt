@@ -40,6 +40,7 @@ use Rattle.channel_model.specs.Parts.{FirstPart, LaterPart, LaterParts, OwnParts
 use Rattle.channel_laws.specs.Tested.{after_whats, EndLinesPass}
 use Rattle.channel_laws.specs.Outlines.{outline, HasOutline, placeless, shown, shown_entry}
 use Rattle.channel_laws.proofs.Outlines.{leaves-map, leaves-flat, cons-head}
+use Rattle.channel_laws.proofs.PartLines.{EffectsHave, reply-has, laters-have}
 use Rattle.channel_laws.proofs.Testing.{tested-append, tested-free}
 use Rattle.std.proofs.Common.{find, option_map, append_assoc}
 use Rattle.nesting_core.specs.Answers as nesting
@@ -91,18 +92,8 @@ module _ (schema : Schema) (others : EndReading) where
   abbrev Free : What → Type 0
   Free w = (h : EndReading) → InOrder h w
 
-  free-reply : (b : Bool) (q : AnsweredRequest) (a : Answer) → AllByRecursion Free (reply_lines b q a)
-  free-reply true q (answer.Ok vs) = ((λ h. refl), tt)
-  free-reply true q (answer.Fault r) = ((λ h. refl), tt)
-  free-reply false q a = tt
-
-  free-rejections : (test : Promise → Bool) (why : Reason) (ps : List PromiseEntry) → AllByRecursion Free (fall.rejections test why ps)
-  free-rejections test why ps = leaves-map Free (λ (entry : PromiseEntry). what.Rejected entry.promise.seq why) (filter (fall.passes test) ps) (λ entry h. refl)
-
-  free-falls : (id : ℤ) (why : ℤ → Destroy) (e : End) → AllByRecursion Free (fall_lines id why e)
-  free-falls id why e =
-      leaves-flat Free (fall.fall_lines why e.promises) (parts.falling id e)
-      (λ a. all-append Free (fall.rejections (is_pending_of a.id) reason.ActorDestroyed e.promises) (what.Fall a.id (why a.id) ∷ []) (free-rejections (is_pending_of a.id) reason.ActorDestroyed e.promises) ((λ h. refl), tt))
+  free-effects : EffectsHave Free
+  free-effects = record { built = λ id protocol h. refl; ok = λ n vs h. refl; fault = λ n r h. refl; rejected = λ n r h. refl; fell = λ id why h. refl }
 
   refusal-waits : (w : What) (h : EndReading) → IsRefusal schema w → InOrder h w
   refusal-waits (what.RefusedSend c n) h q = refl
@@ -199,21 +190,6 @@ module _ (schema : Schema) (others : EndReading) where
 
   -- Lines of the parts of steps
 
-  free-later : {p q : Phase} {e f : End} {ws : List What} {ps : List Packet} → LaterPart p e ws ps f q → AllByRecursion Free ws
-  free-later (parts.unnames name now silent) = tt
-  free-later (parts.lets_go name r now is o) = ((λ h. refl), tt)
-  free-later (parts.names more a) = tt
-  free-later (parts.releases seq closed) = tt
-  free-later (parts.keeps seq name r is open_end) = tt
-  free-later (parts.builds id protocol rest fresh alive) = ((λ h. refl), tt)
-  free-later {e} (parts.deletes id cause) = free-falls id (fall.why_deleted id) e
-  free-later {e} (parts.abandons why cause) = free-rejections (λ p. true) reason.ChannelClosed e.promises
-  free-later {e} (parts.falls why cause) = free-falls top_id (λ id. why) e
-
-  free-laters : {p q : Phase} {e f : End} {ws : List What} {ps : List Packet} → LaterParts p e ws ps f q → AllByRecursion Free ws
-  free-laters parts.done = tt
-  free-laters (parts.then {ws} {vs} part rest) = all-append Free ws vs (free-later part) (free-laters rest)
-
   -- The line of a call that goes on passes: its answer was given.
   abbrev pub ResumesPass : End → EndReading → Type 0
   ResumesPass e h = (wait : return.AnsweredWait) (row : MessageRow) → return.answered_wait_on_top e.stack ≡ Some wait → request_row schema wait.number ≡ Some row → InOrder h (return.resume_line wait.seq (received schema e.actors row wait.given))
@@ -228,7 +204,7 @@ module _ (schema : Schema) (others : EndReading) where
   first-waits place h (parts.dies o) fit = (refl, tt)
   first-waits place h (parts.dies_silent o alive) fit = (refl, tt)
   first-waits {e} place h (parts.takes m sync level row vs next body found stays) fit = (refl, tt)
-  first-waits {e} place h (parts.drops m sync level row vs id replies next body found gone is) fit = (refl, tested-free schema InOrder (place + 1) (reply_lines replies (request_answered m) (answer.Fault reason.ActorDestroyed)) _ (free-reply replies (request_answered m) (answer.Fault reason.ActorDestroyed)))
+  first-waits {e} place h (parts.drops m sync level row vs id replies next body found gone is) fit = (refl, tested-free schema InOrder (place + 1) (reply_lines replies (request_answered m) (answer.Fault reason.ActorDestroyed)) _ (reply-has Free free-effects replies (request_answered m) (answer.Fault reason.ActorDestroyed)))
   first-waits place h (parts.drops_unknown m sync level vs next body none) fit = (refl, tt)
   first-waits place h (parts.takes_reply m sync level a next body late) fit = (refl, tt)
   first-waits {e} place h (parts.settles m sync level row a next body found is) fit = (refl, (settle-waits m.seq (parts.reply_outcome schema e row a) (after_what schema place (what.TakeReply m.seq) h), tt))
@@ -237,14 +213,14 @@ module _ (schema : Schema) (others : EndReading) where
     refl,
     tested-free schema InOrder (place + 1) (reply_lines told (return.dispatch_answered entry) (return.return_answer schema e row entry vs) ++ reply_lines lost (resolver_answered (answering.resolver_in entry)) (answer.Fault reason.ResolverDestroyed)) _
         (all-append Free (reply_lines told (return.dispatch_answered entry) (return.return_answer schema e row entry vs)) (reply_lines lost (resolver_answered (answering.resolver_in entry)) (answer.Fault reason.ResolverDestroyed))
-        (free-reply told (return.dispatch_answered entry) (return.return_answer schema e row entry vs)) (free-reply lost (resolver_answered (answering.resolver_in entry)) (answer.Fault reason.ResolverDestroyed))),
+        (reply-has Free free-effects told (return.dispatch_answered entry) (return.return_answer schema e row entry vs)) (reply-has Free free-effects lost (resolver_answered (answering.resolver_in entry)) (answer.Fault reason.ResolverDestroyed))),
   )
   first-waits {e} place h (parts.resumes wait row on_top found) fit = (fit wait row on_top found, tt)
 
   delivery-waits : {packet : Packet} {q : Phase} {e f : End} {ws : List What} {ps : List Packet} (place : ℕ) (h : EndReading) → DeliveryPart schema packet e ws ps f q → RepliesFit schema packet e h → HasOutline e (outline h) → EndLinesPass schema InOrder place ws h
   delivery-waits place h (parts.gets_request m row vs body found none) fit s = (refl, tt)
   delivery-waits place h (parts.replaces m row vs old sync level replies body found rep is) fit s =
-      (refl, (refl, tested-free schema InOrder (place + 1 + 1) (reply_lines replies (request_answered old) (answer.Fault reason.ResolverDestroyed)) _ (free-reply replies (request_answered old) (answer.Fault reason.ResolverDestroyed))))
+      (refl, (refl, tested-free schema InOrder (place + 1 + 1) (reply_lines replies (request_answered old) (answer.Fault reason.ResolverDestroyed)) _ (reply-has Free free-effects replies (request_answered old) (answer.Fault reason.ResolverDestroyed))))
   delivery-waits {e} place h (parts.gets_answer m row a body found is) fit s = (in-order h m.seq true (fit.sync m row a refl body found ∙ is) (λ b. awaits-found h.stack m.seq (awaited-alike h.stack e.stack s.stack ∙ fit.awaits m row a refl body found is)), tt)
   delivery-waits {e} place h (parts.gets_reply m row a body found is) fit s = (in-order h m.seq false (fit.sync m row a refl body found ∙ is) (λ b. cc), tt)
   delivery-waits {packet} {e} place h (parts.drains _ is) fit s = (farewell-waits packet h, fails-order (place + 1) (after_what schema place (farewell_line packet) h) h.stack e.stack s.stack (farewell-stack place packet h) (farewell-ends place packet h))
@@ -254,5 +230,5 @@ pub move-waits : (schema : Schema) (place : ℕ) (mine theirs : End) (own others
 move-waits schema place mine theirs own others to_me to_them ev output m fit = by m.parts
   where
     by : {ev : Event} {ws : List What} {ps : List Packet} {f : End} {q : Phase} → StepParts schema mine to_me ev ws ps f q → EndLinesPass schema (InOrder schema others) place ws own
-    by (acts same (parts.begun {ws} {vs} part rest)) = tested-append schema (InOrder schema others) place ws vs own (first-waits schema others place own part fit) (λ at. tested-free schema (InOrder schema others) at vs (after_whats schema place ws own) (free-laters schema others rest))
+    by (acts same (parts.begun {ws} {vs} part rest)) = tested-append schema (InOrder schema others) place ws vs own (first-waits schema others place own part fit) (λ at. tested-free schema (InOrder schema others) at vs (after_whats schema place ws own) (laters-have (Free schema others) (free-effects schema others) rest))
     by (delivers packet first o part) = delivery-waits schema others place own part (m.arrives packet first o).fits m.before.outlined

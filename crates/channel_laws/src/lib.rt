@@ -1,5 +1,6 @@
-//! No end waits for ever: the law of nested calls for every sound schema and every run (docs/nesting.md), and what
-//! follows from it for replies, for still worlds and for ends that have closed or died. No function that runs.
+//! What holds of every run of a channel, for every sound schema: no end waits for ever (docs/nesting.md); the reading of
+//! the lines is the world, and every legal history can be read and obeys the five laws (docs/laws.md); and what one end
+//! keeps of that with its own lines, whatever it is sent. No function that runs.
 #![tactic(auto)]
 
 mod actor_laws;
