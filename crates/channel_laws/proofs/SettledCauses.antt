@@ -55,7 +55,8 @@ use Rattle.channel_laws.proofs.PromiseParts.{message-row}
 use Rattle.channel_laws.proofs.Resumes.{returns-are, reason-same}
 use Rattle.channel_laws.proofs.Said.{says-passes}
 use Rattle.channel_laws.proofs.SameValues.{values-same}
-use Rattle.channel_laws.proofs.SettledLines.{has_cause, RepliesHaveCauses, awaited-unsettled}
+use Rattle.channel_laws.specs.Settlings.{has_cause, RepliesHaveCauses}
+use Rattle.channel_laws.proofs.SettledLines.{awaited-unsettled}
 use Rattle.channel_laws.proofs.Settling.{IsUnsettled, pending-unsettled}
 use Rattle.channel_laws.proofs.Track.{all-found}
 

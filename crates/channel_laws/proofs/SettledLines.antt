@@ -9,7 +9,6 @@ use Rattle.actor_tree.specs.declared.actor.Actor.{Actor}
 use Rattle.actor_tree.specs.Tree.{IsTree}
 use Rattle.actor_tree.proofs.Order.{falls_once}
 use Rattle.ipdl_base.specs.declared.kinds.Destroy.{Destroy}
-use Rattle.ipdl_base.specs.declared.kinds.Level.{Level}
 use Rattle.ipdl_base.specs.declared.kinds.Reason.{Reason}
 use Rattle.ipdl_base.specs.declared.kinds.Reason.TheVariants.{ActorDestroyed, ChannelClosed, ResolverDestroyed}
 use Rattle.ipdl_base.specs.declared.kinds.Side.{Side}
@@ -22,11 +21,9 @@ use Rattle.ipdl_base.specs.declared.message.Body.TheVariants as bodies
 use Rattle.ipdl_base.specs.declared.message.Message.{Message}
 use Rattle.ipdl_base.specs.declared.schema.Kind.{Kind}
 use Rattle.ipdl_base.specs.declared.schema.Kind.TheVariants.{Normal, Constructor, Delete}
-use Rattle.ipdl_base.specs.declared.schema.MessageRow.{MessageRow}
 use Rattle.ipdl_base.specs.declared.schema.Schema.{Schema}
 use Rattle.ipdl_base.specs.declared.value.Values.{Values}
 use Rattle.ipdl_base.specs.Lines.{same_side}
-use Rattle.ipdl_base.specs.Sound.{message_of}
 use Rattle.nesting_core.specs.declared.frame.Answer.{Answer}
 use Rattle.nesting_core.specs.declared.frame.Answer.TheVariants as answer
 use Rattle.nesting_core.specs.Frames.{head_of}
@@ -43,7 +40,7 @@ use Rattle.channel_model.specs.Ends.{End, Packet, message, mark, PromiseEntry}
 use Rattle.channel_model.specs.Falls as fall
 use Rattle.channel_model.specs.Falls.{passes}
 use Rattle.channel_model.specs.Numbers.{is_sync_row, top_id}
-use Rattle.channel_model.specs.Outputs.{AnsweredRequest, line_at, request_answered, resolver_answered, body_of}
+use Rattle.channel_model.specs.Outputs.{AnsweredRequest, line_at, request_answered, resolver_answered}
 use Rattle.channel_model.specs.Parts
 use Rattle.channel_model.specs.Parts.{OwnParts, FirstPart, LaterPart, LaterParts, DeliveryPart, IsRefusal, IsRenaming, reply_lines, fall_lines, falling, farewell_line, shut_line, left_end, reply_outcome}
 use Rattle.channel_model.specs.Phases.{Phase, closing, kind_cause}
@@ -61,6 +58,7 @@ use Rattle.history_reading.specs.Settled.{settled_line, is_unsettled, is_resolve
 use Rattle.channel_laws.specs.EndActors.{KeepsActors, ReadsActors, actor_reading}
 use Rattle.channel_laws.specs.Rows.{HasSoundRows}
 use Rattle.channel_laws.specs.Promised.{PromiseReading, promise_reading, PromisesAreRead}
+use Rattle.channel_laws.specs.Settlings.{SettledPass, has_cause, RepliesHaveCauses}
 use Rattle.channel_laws.specs.Tested.{after_whats, LinesPass}
 use Rattle.channel_laws.proofs.EffectLines.{IsEffectLine, built, answers_ok, answers_fault, fails, resolved, rejected, fell, rejection-effects, later-effects, effects-leave}
 use Rattle.channel_laws.proofs.ActorsKept.{first-kept, later-kept}
@@ -69,11 +67,6 @@ use Rattle.channel_laws.proofs.Standing.{has-append}
 use Rattle.channel_laws.proofs.Promising.{int-apart, promises-distinct, numbers_passing, numbers_falling}
 use Rattle.channel_laws.proofs.Counting.{int-same}
 use Rattle.channel_laws.proofs.Settling.{IsUnsettled, GoesTo, pending-unsettled, passing-unsettled, passing-go, falling-distinct, falling-unsettled, passing-distinct}
-
--- Lines of one end pass the law of settlings, whatever lines stand behind them.
-abbrev pub SettledPass : Schema → Side → EndReading → ℕ → List What → EndReading → Type 0
-SettledPass schema side others place [] own = Unit {0}
-SettledPass schema side others place (w ∷ ws) own = ((more : List Line) → settled_line schema side own others w (map (line_at side) ws ++ more) ≡ true) × SettledPass schema side others (place + 1) ws (after_what schema place w own)
 
 -- the same of a reading of both ends
 abbrev pub settled_test : Schema → Reading → Line → List Line → Bool
@@ -305,19 +298,7 @@ module _ (schema : Schema) (side : Side) (others : EndReading) where
   fails-nothing [] = tt
   fails-nothing (n ∷ ns) = (tt, fails-nothing ns)
 
-  -- why a settling may be as its line says, but for whether it is the first
-  abbrev pub has_cause : EndReading → What → List Line → Bool
-  has_cause own (what.Resolved n vs) behind = is_resolved schema own others n vs
-  has_cause own (what.Rejected n reason) behind = is_cause schema side own others n behind reason
-  has_cause own _ behind = true
-
-  -- the replies that an end may take now settle their promises with cause
-  abbrev pub RepliesHaveCauses : End → EndReading → Type 0
-  RepliesHaveCauses e own =
-      (m : Message) (sync : Bool) (level : Level) (row : MessageRow) (a : Answer) → take.taken_next e ≡ Some (item.Message m sync level) → m.body ≡ body_of a → message_of schema m.number ≡ Some row → take.is_awaited m.seq e.promises ≡ true
-      → (place : ℕ) (behind : List Line) → has_cause (after_what schema place (what.TakeReply m.seq) own) (take.settle_line m.seq (reply_outcome schema e row a)) behind ≡ true
-
-  outcome-pass : (own : EndReading) (n : ℤ) (outcome : Outcome) (behind : List Line) → is_unsettled own n ≡ true → has_cause own (take.settle_line n outcome) behind ≡ true → settled_line schema side own others (take.settle_line n outcome) behind ≡ true
+  outcome-pass : (own : EndReading) (n : ℤ) (outcome : Outcome) (behind : List Line) → is_unsettled own n ≡ true → has_cause schema side others own (take.settle_line n outcome) behind ≡ true → settled_line schema side own others (take.settle_line n outcome) behind ≡ true
   outcome-pass own n (Resolved vs) behind first cause = and-true (is_unsettled own n) (is_resolved schema own others n vs) first cause
   outcome-pass own n (Rejected reason) behind first cause = and-true (is_unsettled own n) (is_cause schema side own others n behind reason) first cause
 
@@ -332,7 +313,7 @@ module _ (schema : Schema) (side : Side) (others : EndReading) where
       by true is e rest = subst (IsUnsettled read) ((Decides-int_eq entry.promise.seq n).0 is) (h.0 e)
       by false is e rest = rest e
 
-  pub first-settles : {e f : End} {ws : List What} {ps : List Packet} {q : Phase} (place : ℕ) (own : EndReading) → FirstPart schema e ws ps f q → RepliesHaveCauses e own → PromisesAreRead e own → Pass place ws own
+  pub first-settles : {e f : End} {ws : List What} {ps : List Packet} {q : Phase} (place : ℕ) (own : EndReading) → FirstPart schema e ws ps f q → RepliesHaveCauses schema side others e own → PromisesAreRead e own → Pass place ws own
   first-settles place own (Parts.refuses w is) causes h = quiet-pass place (w ∷ []) own (refusal-nothing w is, tt)
   first-settles place own (Parts.renames w is) causes h = quiet-pass place (w ∷ []) own (renaming-nothing w is, tt)
   first-settles {e} place own (Parts.flushes o) causes h = ((λ more. refl), tt)
@@ -427,7 +408,7 @@ module _ (schema : Schema) (side : Side) (others : EndReading) where
       pass-append place ws vs own (later-settles place own part actors.ids.tree closes h)
       (λ at. laters-settle at (after_whats schema place ws own) rest (later-kept schema place own part actors).kept (later-closes place own part closes) (later-keeps-promises schema place own part h))
 
-  pub own-settles : HasSoundRows schema → {q : Phase} {e f : End} {ws : List What} {ps : List Packet} (place : ℕ) (own : EndReading) → OwnParts schema e ws ps f q → ReadsActors schema e own → RepliesHaveCauses e own → PromisesAreRead e own → Pass place ws own
+  pub own-settles : HasSoundRows schema → {q : Phase} {e f : End} {ws : List What} {ps : List Packet} (place : ℕ) (own : EndReading) → OwnParts schema e ws ps f q → ReadsActors schema e own → RepliesHaveCauses schema side others e own → PromisesAreRead e own → Pass place ws own
   own-settles rows place own (Parts.begun {ws} {vs} part rest ended) actors causes h =
       pass-append place ws vs own (first-settles place own part causes h)
       (λ at. laters-settle at (after_whats schema place ws own) rest (first-kept schema rows place own part actors).kept (first-closes place own part) (first-keeps-promises schema place own part h))

@@ -37,7 +37,8 @@ use Rattle.channel_laws.proofs.RepliesKept.{replies-step}
 use Rattle.channel_laws.proofs.Rows.{sound_schemas_have_sound_rows}
 use Rattle.channel_laws.proofs.Runs.{EveryMoveKeeps, AtEnds, at-ends, ends-keep, across-ends, side-lines, every-run, moment_at, moments-pass}
 use Rattle.channel_laws.proofs.SettledCauses.{KnowsReplies, replies-have-causes}
-use Rattle.channel_laws.proofs.SettledLines.{SettledPass, settled_test, settled-lines, RepliesHaveCauses, own-settles, delivery-settles}
+use Rattle.channel_laws.specs.Settlings.{SettledPass, RepliesHaveCauses, EndsSettle}
+use Rattle.channel_laws.proofs.SettledLines.{settled_test, settled-lines, own-settles, delivery-settles}
 use Rattle.channel_laws.proofs.SettledMoments.{OverSettles, step-settles, moment-settled}
 use Rattle.channel_laws.proofs.Taken.{ReadExchanges, exchanges-keep}
 use Rattle.channel_laws.proofs.Testing.{pass-both}
@@ -125,3 +126,6 @@ pub histories_obey_settled : HistoriesObeySettled
 histories_obey_settled schema sound top moves =
     let keeps = every-run schema sound (SettledKept schema sound) (settlings_test schema sound) (settled-moves schema sound) top moves ((opening-exchanges schema top Parent, opening-exchanges schema top Child), opening-settles schema sound top) in
     holds-in-runs law.Settled schema sound top moves (keeps.passes []) (moment-is schema sound (run schema moves (opening top)).world (read schema (history_of schema top moves)) keeps.kept)
+
+pub ends_settle : EndsSettle
+ends_settle = record { passes = λ schema sound side others q e f whats packets place own parts actors exchanges causes. own-settles schema side others (sound_schemas_have_sound_rows schema sound) place own parts actors causes exchanges.promises }

@@ -28,9 +28,10 @@ pub mod OwnWaits
 pub mod Exchanges
 pub mod Taken
 pub mod PrefixLaws
-pub mod Replies
 pub mod Heads
 pub mod WaitLaws
+pub mod Replies
+pub mod Settlings
 pub mod SettledLaws
 pub mod ExchangeLaws
 pub mod TwoEndLaws
