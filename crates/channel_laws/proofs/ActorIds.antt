@@ -1,5 +1,5 @@
 -- Each part keeps the ids of actors known.
-use Rattle.std.proofs.Common.{◌≡◌, ◌≢◌, inl, inr, ℕ, ◌+◌, ℤ, Bool, true, false, cond, List, [], ◌∷◌, ◌++◌, drop, ◌&&◌, Some, refl, sym, ap, subst, ◌∙◌, arith}
+use Rattle.std.proofs.Common.{◌≡◌, ◌≢◌, inl, inr, ℕ, ◌+◌, ℤ, Bool, true, false, cond, List, [], ◌∷◌, ◌++◌, drop, Some, refl, sym, ap, subst, ◌∙◌, arith}
 use Rattle.std.specs.List.{AllByRecursion}
 use Rattle.std.proofs.lemmas.List.{append-nil}
 use Rattle.actor_tree.specs.declared.actor.Actor.{Actor}
@@ -25,7 +25,7 @@ use Rattle.pending_queue.specs.declared.item.Item.TheVariants as item
 use Rattle.pending_queue.specs.Compression.{is_request, staying}
 use Rattle.pending_queue.specs.Holding.{is_free, without_first}
 use Rattle.history_reading.specs.declared.parts.BuiltActor.{BuiltActor}
-use Rattle.channel_model.specs.Actors.{Ids, IsTaken, AreKnown, IsNew, IsTopOf, AreDistinct, new_ids, new_ids_in, constructs_by}
+use Rattle.channel_model.specs.Actors.{Ids, IsTaken, AreKnown, IsNew, IsTopOf, AreDistinct, new_ids, new_ids_in}
 use Rattle.channel_model.specs.Deliveries as delivery
 use Rattle.channel_model.specs.Ends.{End, Packet, message, mark}
 use Rattle.channel_model.specs.Events.{handled, kept}

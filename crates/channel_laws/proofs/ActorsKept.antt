@@ -1,14 +1,12 @@
 -- Each part keeps what an end reads of its actors, and its lines pass the law of falls.
-use Rattle.std.proofs.Common.{◌≡◌, ◌≢◌, inl, inr, ℕ, ◌+◌, ◌*◌, ◌≤◌, ℤ, pos, Bool, true, false, not, ◌||◌, if◌then◌else◌, int_eq, List, [], ◌∷◌, ◌++◌, map, Option, Some, None, refl, sym, ap, subst, ◌∙◌, arith}
-use Rattle.std.specs.List.{AllByRecursion, flat_map}
+use Rattle.std.proofs.Common.{◌≡◌, ◌≢◌, inl, inr, ℕ, ◌+◌, ◌*◌, ◌≤◌, ℤ, pos, Bool, true, false, not, ◌||◌, if◌then◌else◌, List, [], ◌∷◌, ◌++◌, map, Option, Some, None, refl, sym, ap, subst, ◌∙◌, arith}
+use Rattle.std.specs.List.{AllByRecursion}
 use Rattle.std.proofs.lemmas.Bool.{cases_Bool}
-use Rattle.std.proofs.lemmas.List.{append-nil, map-append}
+use Rattle.std.proofs.lemmas.List.{map-append}
 use Rattle.actor_tree.specs.declared.actor.Actor.{Actor}
 use Rattle.actor_tree.specs.Fall.{post_order, others}
 use Rattle.actor_tree.specs.Tree.{lives}
-use Rattle.actor_tree.proofs.Ids.{same_or_other, other as other-id, lives-same, lives-other, lives-true}
-use Rattle.actor_tree.proofs.Below.{post_order-other}
-use Rattle.actor_tree.proofs.Order.{root_falls}
+use Rattle.actor_tree.proofs.Ids.{same_or_other, other as other-id, lives-true}
 use Rattle.actor_tree.proofs.Kept.{IsTree-append}
 use Rattle.ipdl_base.specs.declared.kinds.Destroy.{Destroy}
 use Rattle.ipdl_base.specs.declared.kinds.Reason.TheVariants.{ActorDestroyed, ChannelClosed, ResolverDestroyed}
@@ -26,7 +24,6 @@ use Rattle.nesting_core.specs.declared.frame.Answer.TheVariants as answer
 use Rattle.nesting_core.specs.Frames.{head_of}
 use Rattle.pending_queue.specs.declared.item.Item.{Item}
 use Rattle.pending_queue.specs.declared.item.Item.TheVariants as item
-use Rattle.history_reading.specs.declared.parts.ActorPlace.{ActorPlace}
 use Rattle.history_reading.specs.declared.parts.BuiltActor.{BuiltActor}
 use Rattle.history_reading.specs.declared.parts.Cause.{Cause}
 use Rattle.history_reading.specs.declared.parts.Cause.TheVariants as read_cause
@@ -44,7 +41,7 @@ use Rattle.channel_model.specs.Numbers.{id_of, top_id, is_sync_row}
 use Rattle.channel_model.specs.Outputs.{request_answered, resolver_answered}
 use Rattle.channel_model.specs.Parts as part
 use Rattle.channel_model.specs.Parts.{FirstPart, LaterPart, LaterParts, OwnParts, DeliveryPart, IsRefusal, IsRenaming, reply_lines, farewell_line}
-use Rattle.channel_model.specs.Phases.{EventStart, sends, takes, ends, closes, other, manager_of, FallCause, nobody, deletion, closing, Phase}
+use Rattle.channel_model.specs.Phases.{EventStart, sends, takes, ends, closes, other, manager_of, nobody, deletion, closing, Phase}
 use Rattle.channel_model.specs.Returns as return
 use Rattle.channel_model.specs.Sends as send
 use Rattle.channel_model.specs.Takes as take
@@ -54,13 +51,13 @@ use Rattle.channel_laws.specs.EndActors.{ActorReading, actor_reading, handled_en
 use Rattle.channel_laws.specs.Notes.{In, here, there}
 use Rattle.channel_laws.specs.Rows.{HasSoundRows}
 use Rattle.channel_laws.specs.Tested.{after_whats, EndLinesPass}
-use Rattle.channel_laws.proofs.ActorFalls.{one-may_fall, deleted-allowed, closing-allowed, places_of, fallen_reading, none-fallen, falls-read, falls-pass}
+use Rattle.channel_laws.proofs.ActorFalls.{one-may_fall, deleted-allowed, closing-allowed, fallen_reading, none-fallen, falls-read, falls-pass}
 use Rattle.channel_laws.proofs.ActorIds.{known-built, first-ids, delivery-ids}
 use Rattle.channel_laws.proofs.ActorLines.{SaysNoActor, replaced, says_fault, no_actor-read, no_actor-reply, no_actor-rejections, no_actor-fails, no_actor-settles, no_actor-pass}
 use Rattle.channel_laws.proofs.ActorParts.{Begins, first-begins, delivery-begins, first-due, delivery-due, released-handled}
 use Rattle.channel_laws.proofs.FallOrder.{in-order, has-in}
 use Rattle.channel_laws.proofs.Growing.{whats-append}
-use Rattle.channel_laws.proofs.Standing.{ids_in, standing-falls, standing-last, alive-unfallen, alive-built, fallen-dead, built-lives, built-more, lives-has}
+use Rattle.channel_laws.proofs.Standing.{ids_in, standing-falls, standing-last, alive-unfallen, alive-built, built-lives, built-more}
 use Rattle.channel_laws.proofs.Testing.{tested-append}
 
 -- Nobody has the id 0

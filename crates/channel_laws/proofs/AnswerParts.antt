@@ -62,7 +62,7 @@ use Rattle.channel_laws.proofs.Answering.{drop-fewer, drop-keeps, answered-owed,
 use Rattle.channel_laws.proofs.ArrivalParts.{taken-first, request-due, staying-all, request-shown, farewell-other}
 use Rattle.channel_laws.proofs.Arriving.{request-kind, reply-kind, leaves-count}
 use Rattle.channel_laws.proofs.Counting.{many-append, many-last, next-once, fewer-once}
-use Rattle.channel_laws.proofs.EffectLines.{IsEffectLine, AreEffectLines, built, answers_ok, answers_fault, fails, resolved, rejected, fell, reply-effects, rejection-effects, fall-effects, closing-effects, fail-effects, settle-effect}
+use Rattle.channel_laws.proofs.EffectLines.{IsEffectLine, AreEffectLines, built, answers_ok, answers_fault, fails, resolved, rejected, fell, reply-effects, fall-effects, closing-effects, fail-effects, settle-effect}
 use Rattle.channel_laws.proofs.Leaving.{TakenFrom, taken-before}
 use Rattle.channel_laws.proofs.Origins.{promise-async}
 use Rattle.channel_laws.proofs.PromiseParts.{message-row}

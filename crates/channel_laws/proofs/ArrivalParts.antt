@@ -2,7 +2,7 @@
 use Rattle.std.proofs.Common.{◌≡◌, ℕ, ◌+◌, ℤ, Bool, true, false, ◌&&◌, if◌then◌else◌, List, [], ◌∷◌, ◌++◌, drop, map, Option, Some, None, refl, sym, ap, subst, ◌∙◌}
 use Rattle.std.proofs.lemmas.Option.{same_Some}
 use Rattle.ipdl_base.specs.declared.kinds.Level.{Level}
-use Rattle.ipdl_base.specs.declared.kinds.Reason.TheVariants.{ActorDestroyed, ChannelClosed, ResolverDestroyed}
+use Rattle.ipdl_base.specs.declared.kinds.Reason.TheVariants.{ActorDestroyed, ResolverDestroyed}
 use Rattle.ipdl_base.specs.declared.line.What.{What}
 use Rattle.ipdl_base.specs.declared.line.What.TheVariants as what
 use Rattle.ipdl_base.specs.declared.message.Body.{Body}
@@ -48,7 +48,7 @@ use Rattle.channel_laws.specs.Arrivals.{item_kind, ArrivalReading, arrival_readi
 use Rattle.channel_laws.specs.Delivered.{body_kind}
 use Rattle.channel_laws.specs.Tested.{after_whats}
 use Rattle.channel_laws.proofs.Arriving.{arriving, delivering, request-arrives, other-arrives, reply-delivered, nothing-arrived, Leaves, request-goes, request-replaced, reply-leaves, request-alone, reply-alone, request-kind, reply-kind}
-use Rattle.channel_laws.proofs.EffectLines.{IsEffectLine, AreEffectLines, built, answers_ok, answers_fault, fails, resolved, rejected, fell, reply-effects, rejection-effects, fall-effects, closing-effects, fail-effects, settle-effect, effects-leave}
+use Rattle.channel_laws.proofs.EffectLines.{IsEffectLine, AreEffectLines, built, answers_ok, answers_fault, fails, resolved, rejected, fell, reply-effects, fall-effects, closing-effects, fail-effects, settle-effect, effects-leave}
 use Rattle.channel_laws.proofs.Leaving.{TakenFrom, taken-before, FirstTaken, first-taken}
 use Rattle.channel_laws.proofs.Replacing.{replaced-taken, none-replaced, alike-request}
 

@@ -1,5 +1,5 @@
 -- What tests say of their parts.
-use Rattle.std.proofs.Common.{◌≡◌, Bool, true, false, not, ◌&&◌, refl}
+use Rattle.std.proofs.Common.{◌≡◌, Bool, true, false, not, refl}
 
 pub not-false : (b : Bool) → not b ≡ true → b ≡ false
 not-false true e = cc

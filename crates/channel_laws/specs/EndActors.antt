@@ -1,5 +1,5 @@
 -- What the lines of one end say of its actors: who was built, who has fallen, and why actors fall now.
-use Rattle.std.specs.Prelude.{◌≡◌, ◌≢◌, ℤ, pos, Bool, true, false, not, ◌⊎◌, List, [], ◌∷◌, filter, map, Option, Some, None}
+use Rattle.std.specs.Prelude.{◌≡◌, ◌≢◌, ℤ, Bool, true, false, not, ◌⊎◌, List, [], ◌∷◌, filter, map, Option, Some, None}
 use Rattle.std.specs.List.{AllByRecursion}
 use Rattle.actor_tree.specs.declared.actor.Actor.{Actor}
 use Rattle.actor_tree.specs.Tree.{lives, IsTree}
@@ -24,7 +24,7 @@ use Rattle.history_reading.specs.Fallen.{fallen_line}
 use Rattle.history_reading.specs.Numbers.{has}
 use Rattle.channel_model.specs.Actors.{Ids, IsTaken, AreKnown, new_ids}
 use Rattle.channel_model.specs.Ends.{End, Packet, message, mark, StackEntry}
-use Rattle.channel_model.specs.Numbers.{top_id, is_constructor}
+use Rattle.channel_model.specs.Numbers.{is_constructor}
 use Rattle.channel_model.specs.Outputs.{is_closed}
 use Rattle.channel_model.specs.States.{IsInState}
 use Rattle.channel_model.specs.Refusals.{expected_id}
