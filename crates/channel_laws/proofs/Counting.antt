@@ -5,8 +5,8 @@ use Rattle.std.proofs.lemmas.Bool.Decides.{Decides-int_eq}
 use Rattle.ipdl_base.specs.declared.kinds.Side.{Side}
 use Rattle.channel_model.specs.Numbers.{seq_of}
 use Rattle.channel_model.specs.Requests.{IsSeqOf}
+use Rattle.channel_model.proofs.Numbered.{more_seqs, next-is_free}
 use Rattle.channel_laws.specs.Counts.{one_if, how_many, AreNumberedOnce}
-use Rattle.channel_laws.proofs.Growing.{same_seq}
 
 -- Lists
 
@@ -51,12 +51,6 @@ some-any test (x ∷ xs) h = any-case test (test x) xs (some-any test xs) h
 pub int-same : (n : ℤ) → int_eq n n ≡ true
 int-same n = (Decides-int_eq n n).1 refl
 
-pub more-seqs : (side : Side) (count : ℕ) (n : ℤ) → IsSeqOf side count n → IsSeqOf side (count + 1) n
-more-seqs side count n (k, one, low, e) = (k, one, omega arith, e)
-
-pub next-is_free : (side : Side) (count : ℕ) (n : ℤ) → IsSeqOf side count n → n ≢ seq_of side (count + 1)
-next-is_free side count n (k, one, low, e) is = let f : k ≡ count + 1 = same_seq side k (count + 1) one (omega arith) (sym e ∙ is) in absurd (omega arith)
-
 one-more : (side : Side) (sent : ℕ) (count : ℤ → ℕ) (n m : ℤ) (b : Bool) → AreNumberedOnce side sent count → n ≡ seq_of side (sent + 1) → int_eq n m ≡ b → (c : ℕ) → c ≡ count m → c + one_if b ≤ 1
 one-more side sent count n m false h is same c at = let low = h.once m in omega arith
 one-more side sent count n m true h is same zero at = omega arith
@@ -64,7 +58,7 @@ one-more side sent count n m true h is same (suc c) at = absurd (next-is_free si
 
 more-known : (side : Side) (sent : ℕ) (count : ℤ → ℕ) (n m : ℤ) (b : Bool) → AreNumberedOnce side sent count → n ≡ seq_of side (sent + 1) → int_eq n m ≡ b → 1 ≤ count m + one_if b → IsSeqOf side (sent + 1) m
 more-known side sent count n m true h is same low = (sent + 1, omega arith, omega arith, sym ((Decides-int_eq n m).0 same) ∙ is)
-more-known side sent count n m false h is same low = more-seqs side sent m (h.known m (omega arith))
+more-known side sent count n m false h is same low = more_seqs side sent m (h.known m (omega arith))
 
 -- the next number is counted once more
 pub next-once : (side : Side) (sent : ℕ) (count next : ℤ → ℕ) (n : ℤ) → AreNumberedOnce side sent count → n ≡ seq_of side (sent + 1) → ((m : ℤ) → next m ≡ count m + one_if (int_eq n m)) → AreNumberedOnce side (sent + 1) next

@@ -37,6 +37,7 @@ use Rattle.channel_model.specs.Parts.{FirstPart, LaterPart, LaterParts, OwnParts
 use Rattle.channel_model.specs.Phases.{Phase}
 use Rattle.channel_model.specs.Sends as send
 use Rattle.channel_model.proofs.Known.{all-map}
+use Rattle.channel_model.proofs.FittingEnds.{all-drop}
 use Rattle.channel_laws.specs.GivenAnswers.{answer_content, IsGiven, was_said, has_failed, FrameIsGiven, FrameIsOwn, PacketIsSent, HasAnswers}
 use Rattle.channel_laws.specs.Notes.{Note, says, asks, told_note, told_notes, request_note, body_note, packet_note, notes, In, here, there}
 use Rattle.channel_laws.specs.Notes as note
@@ -127,10 +128,6 @@ module _ (P : StackEntry → StackFrame → Type 0) (unresolved : (x : StackEntr
   released-all seq [] h = tt
   released-all seq (x ∷ xs) h = (released-one (answering.has_resolver seq x) x h.0, released-all seq xs h.1)
 
-pub drop-all : {A : Type 0} (P : A → Type 0) (xs : List A) → AllByRecursion P xs → AllByRecursion P (drop 1 xs)
-drop-all P [] h = tt
-drop-all P (x ∷ xs) h = h.1
-
 pub same-all : (P : StackEntry → Type 0) (es : List StackEntry) → AllByRecursion P es → AllByRecursion P (delivery.with_frames (map (λ (x : StackEntry). x.frame) es) es)
 same-all P [] h = tt
 same-all P (x ∷ xs) h = (h.0, same-all P xs h.1)
@@ -156,7 +153,7 @@ module _ (schema : Schema) (sent own : List Note) where
   left-answers failed e k = record { given = k.given; waits = k.waits }
 
   popped-answers : (failed : List ℤ) (e : End) → HasAnswers sent own failed e → HasAnswers sent own failed (record e { stack = drop 1 e.stack })
-  popped-answers failed e k = record { given = drop-all (λ (x : StackEntry). FrameIsGiven sent failed x.frame) e.stack k.given; waits = drop-all (λ (x : StackEntry). FrameIsOwn own x x.frame) e.stack k.waits }
+  popped-answers failed e k = record { given = all-drop (λ (x : StackEntry). FrameIsGiven sent failed x.frame) e.stack k.given; waits = all-drop (λ (x : StackEntry). FrameIsOwn own x x.frame) e.stack k.waits }
 
   -- a part that a step begins with; the request of a call is an own one once its line is read
   abbrev SentIsOwn : {q : Phase} {e f : End} {ws : List What} {ps : List Packet} → FirstPart schema e ws ps f q → Type 0

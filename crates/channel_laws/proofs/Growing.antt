@@ -27,6 +27,7 @@ use Rattle.channel_model.specs.Numbers.{seq_of}
 use Rattle.channel_model.specs.Actors.{AreDistinct}
 use Rattle.channel_model.specs.Requests.{IsSeqOf}
 use Rattle.channel_model.proofs.Known.{all-map, all-append, distinct-last}
+use Rattle.channel_model.proofs.Numbered.{same_seq}
 use Rattle.channel_laws.specs.Tested.{after_whats}
 use Rattle.channel_laws.specs.Notes
 use Rattle.channel_laws.specs.Notes.{RequestNote, Note, asks, told_note, told_notes, request_note, In, here, there}
@@ -156,12 +157,6 @@ module _ (schema : Schema) (theirs more : List Note) where
   replies-grow ps h = all-map (PacketReplies schema theirs) (PacketReplies schema (theirs ++ more)) ps packet-grows h
 
 -- The request of a number is the only one
-
-pub same_seq : (side : Side) (j k : ℕ) → 1 ≤ j → 1 ≤ k → seq_of side j ≡ seq_of side k → j ≡ k
-same_seq Parent j k one two e = cc
-same_seq Child zero k one two e = absurd (omega arith)
-same_seq Child (suc j) zero one two e = absurd (omega arith)
-same_seq Child (suc j) (suc k) one two e = let f : j ≡ k = cc in ap suc f
 
 more_seqs : (side : Side) (n : ℕ) (seq : ℤ) → IsSeqOf side n seq → IsSeqOf side (suc n) seq
 more_seqs side n seq (k, one, low, e) = (k, one, omega arith, e)

@@ -36,11 +36,12 @@ use Rattle.channel_model.specs.States.{is_farewell, is_goodbye}
 use Rattle.channel_model.specs.Takes as take
 use Rattle.channel_model.proofs.Known.{all-map, all-append}
 use Rattle.channel_model.proofs.Sublists.{all-sublist, without_first-sublist, staying-sublist}
+use Rattle.channel_model.proofs.FittingEnds.{all-drop}
 use Rattle.channel_laws.specs.Heads.{FrameHead, EntryHead, BodyHead, ItemHead, HasHeads}
 use Rattle.channel_laws.specs.NotedArrivals.{IsNoted, ItemIsNoted, ArrivalsAreNoted}
 use Rattle.channel_laws.specs.Notes.{Note, told_note, told_notes, body_note, message_note, In}
 use Rattle.channel_laws.specs.Tested.{after_whats}
-use Rattle.channel_laws.proofs.GivenAnswers.{released-all, drop-all, same-all}
+use Rattle.channel_laws.proofs.GivenAnswers.{released-all, same-all}
 use Rattle.channel_laws.proofs.Growing.{grows, in-before}
 use Rattle.channel_laws.proofs.Moves.{StepParts, acts, delivers}
 use Rattle.channel_laws.proofs.PrefixRuns.{all-taken}
@@ -86,7 +87,7 @@ module _ (schema : Schema) (sent : List Note) where
   left-heads e k = record { entries = k.entries; arrived = all-sublist (ItemHead schema) (without_first (is_free (take.holding_of e)) e.arrived) e.arrived (without_first-sublist (is_free (take.holding_of e)) e.arrived) k.arrived }
 
   popped-heads : (e : End) → HasHeads schema sent e → HasHeads schema sent (record e { stack = drop 1 e.stack })
-  popped-heads e k = record { entries = drop-all (EntryHead schema sent) e.stack k.entries; arrived = k.arrived }
+  popped-heads e k = record { entries = all-drop (EntryHead schema sent) e.stack k.entries; arrived = k.arrived }
 
   -- parts
 

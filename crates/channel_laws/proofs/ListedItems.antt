@@ -8,17 +8,9 @@ use Rattle.ipdl_base.specs.declared.message.Message.{Message}
 use Rattle.pending_queue.specs.declared.item.Item.{Item}
 use Rattle.pending_queue.specs.Compression.{are_alike, last_of, latest, replaced}
 use Rattle.channel_model.specs.Ends.{Packet, message}
+use Rattle.channel_model.proofs.FittingEnds.{all-at}
 
 -- Lists
-
-pub drop-all : {A : Type 0} (P : A → Type 0) (xs : List A) → AllByRecursion P xs → AllByRecursion P (drop 1 xs)
-drop-all P [] h = tt
-drop-all P (x ∷ xs) h = h.1
-
-all-get : {A : Type 0} (P : A → Type 0) (xs : List A) (i : ℕ) (x : A) → AllByRecursion P xs → slice_get xs i ≡ Some x → P x
-all-get P [] i x h e = cc
-all-get P (y ∷ ys) zero x h e = subst P (same_Some y x e) h.0
-all-get P (y ∷ ys) (suc i) x h e = all-get P ys i x h.1 e
 
 pub all-messages : (P : Packet → Type 0) (Q : Message → Type 0) (ms : List Message) → ((m : Message) → Q m → P (message m)) → AllByRecursion Q ms → AllByRecursion P (map message ms)
 all-messages P Q [] h k = tt
@@ -45,5 +37,5 @@ last-is P new (Some y) x h e = by (are_alike new y) refl e
 
 pub replaced-is : (P : Item → Type 0) (compress : Compress) (new : Item) (xs : List Item) (x : Item) → AllByRecursion P xs → replaced compress new xs ≡ Some x → P x × (are_alike new x ≡ true)
 replaced-is P Plain new xs x h e = cc
-replaced-is P Last new xs x h e = last-is P new (last_of xs) x (λ is. all-get P xs (length xs - 1) x h is) e
+replaced-is P Last new xs x h e = last-is P new (last_of xs) x (λ is. all-at P xs (length xs - 1) x h is) e
 replaced-is P All new xs x h e = latest-is P (are_alike new) xs x h e

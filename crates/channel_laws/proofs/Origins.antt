@@ -40,9 +40,12 @@ use Rattle.ipdl_base.specs.declared.line.What.{What}
 use Rattle.channel_model.specs.Phases.{Phase}
 use Rattle.channel_model.specs.Parts as parts
 use Rattle.channel_model.specs.Parts.{FirstPart, LaterPart, DeliveryPart, HoldsActor, IsRefusal, IsRenaming, behind_outbox, reply_packet, reply_packets, end_behind, left_end, outbox_after, request_packets, farewell_item}
+use Rattle.channel_model.proofs.FittingEnds.{all-drop}
+use Rattle.channel_model.proofs.FittingRequests.{promise-reply}
+use Rattle.channel_laws.proofs.Track.{all-found}
 use Rattle.channel_laws.specs.Notes.{Note}
 use Rattle.channel_laws.specs.Origins.{IsRequested, EntryOrigin, Origin, ResolverOrigin, ContentOrigin, NamingOrigin, BodyOrigin, ItemOrigin, PacketOrigin, BodyReplies, PacketReplies, IsRequestBody, IsRequestMessage, HasOrigins}
-use Rattle.channel_laws.proofs.ListedItems.{drop-all, all-messages, replaced-is}
+use Rattle.channel_laws.proofs.ListedItems.{all-messages, replaced-is}
 use Rattle.channel_laws.proofs.Rows.{request-message}
 use Rattle.channel_model.proofs.Tests.{and-left, and-right}
 
@@ -51,10 +54,6 @@ use Rattle.channel_model.proofs.Tests.{and-left, and-right}
 found-here : {A : Type 0} (P : A → Type 0) (b : Bool) (x y : A) (rest : Option A) → cond b (Some x) rest ≡ Some y → P x → (rest ≡ Some y → P y) → P y
 found-here P true x y rest e h k = subst P (same_Some x y e) h
 found-here P false x y rest e h k = k e
-
-pub all-found : {A : Type 0} (P : A → Type 0) (test : A → Bool) (xs : List A) (x : A) → AllByRecursion P xs → find test xs ≡ Some x → P x
-all-found P test [] x h e = cc
-all-found P test (y ∷ ys) x h e = found-here P (test y) y x (find test ys) e h.0 (all-found P test ys x h.1)
 
 pub found-passes : {A : Type 0} (test : A → Bool) (xs : List A) (x : A) → find test xs ≡ Some x → test x ≡ true
 found-passes test [] x e = cc
@@ -76,13 +75,6 @@ answered-at false r e = e
 
 pub answered-replied : (row : MessageRow) → parts.owes_reply row ≡ true → has_reply row ≡ true
 answered-replied row e = answered-at (is_sync_row row) (is_some row.returns) e
-
-pub promise-replied : (row : MessageRow) → makes_promise row ≡ true → has_reply row ≡ true
-promise-replied row e = by (is_sync_row row) (is_some row.returns) e
-  where
-    by : (s r : Bool) → not s && r ≡ true → s || r ≡ true
-    by true r e = refl
-    by false r e = e
 
 pub promise-async : (row : MessageRow) → makes_promise row ≡ true → is_sync_row row ≡ false
 promise-async row e = by (is_sync_row row) (is_some row.returns) e
@@ -278,8 +270,8 @@ module _ (schema : Schema) (theirs : List Note) where
       (without-origins by e k, behind_outbox-replies e (message (reply_to (resolver_answered r) (answering.answer_body vs))) k (answer-replies vs))
     where
       answer-replies : (vs : Option Values) → PacketReplies schema theirs (message (reply_to (resolver_answered r) (answering.answer_body vs)))
-      answer-replies None = record { number = r.number; is = refl; origin = (used-origin e by r k used).origin; replied = promise-replied (used-origin e by r k used).origin.row (used-origin e by r k used).promised }
-      answer-replies (Some us) = record { number = r.number; is = refl; origin = (used-origin e by r k used).origin; replied = promise-replied (used-origin e by r k used).origin.row (used-origin e by r k used).promised }
+      answer-replies None = record { number = r.number; is = refl; origin = (used-origin e by r k used).origin; replied = promise-reply (used-origin e by r k used).origin.row (used-origin e by r k used).promised }
+      answer-replies (Some us) = record { number = r.number; is = refl; origin = (used-origin e by r k used).origin; replied = promise-reply (used-origin e by r k used).origin.row (used-origin e by r k used).promised }
   first-origins {e} (parts.closes o waits) k =
       (record { entries = k.entries; names = all-filter (NamingOrigin schema theirs) is_actor e.names k.names; arrived = tt; outbox = tt }, behind_outbox-replies e (message goodbye) k tt)
   first-origins {e} (parts.dies o) k = (record { entries = tt; names = k.names; arrived = tt; outbox = tt }, behind_outbox-replies e mark k tt)
@@ -302,20 +294,20 @@ module _ (schema : Schema) (theirs : List Note) where
   first-origins {e} (parts.returns entry row vs told lost on_top t l) k =
       let top = top-origin e.stack entry on_top.on_top k.entries in
       let o : Origin schema theirs (head_of entry.frame).seq entry.route entry.number = record { row = top.0.row; found = top.0.found; requested = top.0.requested top.1 } in
-      let popped : HasOrigins schema theirs (record e { stack = drop 1 e.stack }) = record { entries = drop-all (EntryOrigin schema theirs) e.stack k.entries; names = k.names; arrived = k.arrived; outbox = k.outbox } in (
+      let popped : HasOrigins schema theirs (record e { stack = drop 1 e.stack }) = record { entries = all-drop (EntryOrigin schema theirs) e.stack k.entries; names = k.names; arrived = k.arrived; outbox = k.outbox } in (
         end_behind-origins lost (end_behind told (record e { stack = drop 1 e.stack })) (end_behind-origins told (record e { stack = drop 1 e.stack }) popped),
         all-append (PacketReplies schema theirs) (reply_packets told e (return.dispatch_answered entry) (return.return_answer schema e row entry vs)) (reply_packets lost (end_behind told e) (resolver_answered (answering.resolver_in entry)) (answer.Fault ResolverDestroyed))
             (reply-packets told e (return.dispatch_answered entry) (return.return_answer schema e row entry vs) k o (λ w. answered-replied top.0.row (or-left (is_sync_row top.0.row) (makes_promise top.0.row) (ap is_sync_row (sym (same_Some row top.0.row (sym on_top.found ∙ top.0.found))) ∙ and-right (is_open e.state) (is_sync_row row) (sym t ∙ w)))))
-            (reply-packets lost (end_behind told e) (resolver_answered (answering.resolver_in entry)) (answer.Fault ResolverDestroyed) (end_behind-origins told e k) o (λ w. promise-replied top.0.row (top.0.resolves (and-right (is_open e.state) entry.resolves (sym l ∙ w))))),
+            (reply-packets lost (end_behind told e) (resolver_answered (answering.resolver_in entry)) (answer.Fault ResolverDestroyed) (end_behind-origins told e k) o (λ w. promise-reply top.0.row (top.0.resolves (and-right (is_open e.state) entry.resolves (sym l ∙ w))))),
       )
-  first-origins {e} (parts.resumes wait row on_top found) k = (record { entries = drop-all (EntryOrigin schema theirs) e.stack k.entries; names = k.names; arrived = k.arrived; outbox = k.outbox }, tt)
+  first-origins {e} (parts.resumes wait row on_top found) k = (record { entries = all-drop (EntryOrigin schema theirs) e.stack k.entries; names = k.names; arrived = k.arrived; outbox = k.outbox }, tt)
 
   pub later-origins : {p q : Phase} {e f : End} {ws : List What} {ps : List Packet} → LaterPart p e ws ps f q → HasOrigins schema theirs e → Both f ps
   later-origins {e} (parts.unnames name now silent) k = (record { entries = k.entries; names = all-filter (NamingOrigin schema theirs) (λ naming. not (has_name name naming)) e.names k.names; arrived = k.arrived; outbox = k.outbox }, tt)
   later-origins {e} (parts.lets_go name r now is o) k =
       let h : ResolverOrigin schema theirs r = held-origin name e.names r k.names is in (
         record { entries = k.entries; names = all-filter (NamingOrigin schema theirs) (λ naming. not (has_name name naming)) e.names k.names; arrived = k.arrived; outbox = tt },
-        behind_outbox-replies e (reply_packet (resolver_answered r) (answer.Fault ResolverDestroyed)) k (reply-replies (resolver_answered r) (answer.Fault ResolverDestroyed) h.origin (promise-replied h.origin.row h.promised)),
+        behind_outbox-replies e (reply_packet (resolver_answered r) (answer.Fault ResolverDestroyed)) k (reply-replies (resolver_answered r) (answer.Fault ResolverDestroyed) h.origin (promise-reply h.origin.row h.promised)),
       )
   later-origins {e} (parts.names more a) k = (record { entries = k.entries; names = all-append (NamingOrigin schema theirs) e.names more k.names (actors-origin more a); arrived = k.arrived; outbox = k.outbox }, tt)
   later-origins {e} (parts.releases seq closed) k = (record { entries = released-origin seq e.stack k.entries; names = k.names; arrived = k.arrived; outbox = k.outbox }, tt)
@@ -339,7 +331,7 @@ module _ (schema : Schema) (theirs : List Note) where
   delivery-origins {e} (parts.gets_request m row vs body found none) new k = (counted-origins e row m new k, tt)
   delivery-origins {e} (parts.replaces m row vs old sync level replies body found rep is) new k = (
     end_behind-origins replies (delivery.counted row (delivery.item_of row m) e) (counted-origins e row m new k),
-    reply-packets replies e (request_answered old) (answer.Fault ResolverDestroyed) k (old-origin e row m old sync level k rep) (λ w. promise-replied (old-origin e row m old sync level k rep).row (ap makes_promise (old-row e row m old sync level k found rep) ∙ (sym is ∙ w))),
+    reply-packets replies e (request_answered old) (answer.Fault ResolverDestroyed) k (old-origin e row m old sync level k rep) (λ w. promise-reply (old-origin e row m old sync level k rep).row (ap makes_promise (old-row e row m old sync level k found rep) ∙ (sym is ∙ w))),
   )
   delivery-origins {e} (parts.gets_answer m row a body found is) new k = (record { entries = answered-origin a e.stack k.entries; names = k.names; arrived = k.arrived; outbox = k.outbox }, tt)
   delivery-origins {e} (parts.gets_reply m row a body found is) new k = (record { entries = k.entries; names = k.names; arrived = all-append (ItemOrigin schema theirs) e.arrived (delivery.item_of row m ∷ []) k.arrived (new, tt); outbox = k.outbox }, tt)

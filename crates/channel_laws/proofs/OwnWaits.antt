@@ -32,12 +32,13 @@ use Rattle.history_reading.specs.Reading.{after_what, request_after}
 use Rattle.history_reading.specs.Rows as rows_read
 use Rattle.history_reading.specs.SentPacket as told
 use Rattle.history_reading.specs.SentPacket.{SentPacket, Request, request_of, requests_of}
+use Rattle.channel_model.proofs.Numbered.{next-is_free}
 use Rattle.channel_laws.specs.OwnWaits.{IsOwnWait, WaitsOneWay, WaitsAreOwn}
 use Rattle.channel_laws.specs.Promised.{PromisesAreRead, requests_numbered}
 use Rattle.channel_laws.specs.Counts.{is_number}
 use Rattle.channel_laws.specs.SentAccounts.{request_seq}
 use Rattle.channel_laws.specs.Tested.{after_whats}
-use Rattle.channel_laws.proofs.Counting.{int-same, next-is_free, none-passes}
+use Rattle.channel_laws.proofs.Counting.{int-same, none-passes}
 use Rattle.channel_laws.proofs.Growing.{grows}
 use Rattle.channel_laws.proofs.PromiseParts.{message-row}
 use Rattle.channel_laws.proofs.SentAccounts.{requests-append}

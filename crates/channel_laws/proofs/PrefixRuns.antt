@@ -40,6 +40,7 @@ use Rattle.channel_model.specs.Takes as take
 use Rattle.channel_model.specs.Refusals.{actors_of}
 use Rattle.channel_model.specs.Runs.{history_of}
 use Rattle.channel_model.specs.ValueActors.{actors_in_parts, nulled}
+use Rattle.channel_laws.proofs.Track.{all-found}
 use Rattle.channel_laws.specs.NestedWorlds.{IsNestedWorld}
 use Rattle.channel_laws.specs.Notes.{told_notes, Note, RequestNote, body_note, message_note, In}
 use Rattle.channel_laws.specs.Taken.{there_line}
@@ -59,7 +60,6 @@ use Rattle.channel_laws.proofs.Growing.{own-request}
 use Rattle.channel_laws.proofs.Holding.{law_at, holds-in-runs}
 use Rattle.channel_laws.proofs.MissingAlike.{values_are_read_alike}
 use Rattle.channel_laws.proofs.NextPackets.{move-next}
-use Rattle.channel_laws.proofs.Origins.{all-found}
 use Rattle.channel_laws.proofs.ReadAlike.{alike}
 use Rattle.channel_laws.proofs.Reached.{actors-reached, noted-reached, protocols-reached}
 use Rattle.channel_laws.proofs.SameValues.{values-same}

@@ -22,11 +22,12 @@ use Rattle.channel_model.specs.Takes.{settled_entry}
 use Rattle.channel_model.proofs.Known.{all-map, all-append}
 use Rattle.history_reading.specs.Numbers.{has}
 use Rattle.history_reading.specs.SentPacket.{Request}
+use Rattle.channel_model.proofs.Numbered.{more_seqs, next-is_free}
 use Rattle.channel_laws.specs.Counts.{one_if, how_many, is_number}
 use Rattle.channel_laws.specs.Promised.{Promised, promised_by, promised_in, promised_entry, PromiseReading, requests_numbered, IsReadPromise, HasPromises}
 use Rattle.channel_laws.specs.SentAccounts.{request_seq}
 use Rattle.channel_laws.proofs.Standing.{has-append}
-use Rattle.channel_laws.proofs.Counting.{many-last, none-passes, int-same, more-seqs, next-is_free, next-once}
+use Rattle.channel_laws.proofs.Counting.{many-last, none-passes, int-same, next-once}
 
 -- Numbers
 
@@ -174,7 +175,7 @@ request-sent side promises more count read r h is made outcomes = record {
       ∙ (ap (λ (ps : List Promised). promised_in read.requests ++ ps) (made ∙ sym (append-nil (promised_by r))) ∙ sym (flat_map-append promised_by read.requests (r ∷ []))));
   outcomes = all-append (IsReadPromise read.settled) promises more h.outcomes outcomes;
   numbered = next-once side count (requests_numbered read.requests) (requests_numbered (read.requests ++ r ∷ [])) r.seq h.numbered is (seqs-last read.requests r);
-  known = λ n e. more-seqs side count n (h.known n e);
+  known = λ n e. more_seqs side count n (h.known n e);
 }
 
 -- the next number was not settled

@@ -51,10 +51,12 @@ use Rattle.channel_model.specs.ValueActors.{actors_in_parts, lives_as, has_dead}
 use Rattle.channel_model.proofs.Known.{all-append, all-filter}
 use Rattle.channel_model.proofs.SendParts.{passed-first}
 use Rattle.channel_model.proofs.Sublists.{all-sublist, without_first-sublist, staying-sublist}
+use Rattle.channel_model.proofs.FittingEnds.{all-drop}
+use Rattle.channel_model.proofs.FittingSends.{accepted-values}
 use Rattle.channel_laws.specs.Laws.{IsReply, awaited_reply}
 use Rattle.channel_laws.specs.Protocols.{Protocols, HasItsProtocol, HaveTheirProtocols, route_actor, MakesItsProtocol, IsRightMessage, MessageHasProtocols, KeptRequest, AnswerHasProtocols, FrameHasProtocols, EntryHasProtocols, ContentHasProtocols, NamingHasProtocols, ItemHasProtocols, PacketHasProtocols, ActorHasProtocol, HasProtocols}
 use Rattle.channel_laws.specs.SyncCalls.{is_sync_number, reply_head}
-use Rattle.channel_laws.proofs.ListedItems.{drop-all, all-messages, replaced-is}
+use Rattle.channel_laws.proofs.ListedItems.{all-messages, replaced-is}
 use Rattle.channel_laws.proofs.ReplyRows.{reply_protocol, reply_row-is}
 use Rattle.channel_laws.proofs.Rows.{request-message}
 use Rattle.channel_model.proofs.Tests.{and-left, and-right}
@@ -62,11 +64,6 @@ use Rattle.channel_laws.proofs.StandsFor.{lives-stands, none-dead}
 use Rattle.channel_laws.proofs.Track.{all-found}
 
 -- Refusals
-
-no-dead : (large dead : Bool) → send.value_refusal large dead ≡ None → dead ≡ false
-no-dead true dead e = cc
-no-dead false true e = cc
-no-dead false false e = refl
 
 past-stack : (refused : Option SendRefusal) (rest : Option SendRefusal) → (if is_some refused then refused else rest) ≡ None → rest ≡ None
 past-stack None rest e = e
@@ -322,7 +319,7 @@ module _ (schema : Schema) (sound : IsSound schema) (made : Protocols) where
       at (Some us) h =
           let none : send.value_refusal (answering.is_reply_too_large schema r us) (has_dead schema e.actors (returns_of_row row) us) ≡ None = ap (answering.resolver_refusal schema e row (Some us)) (sym used) ∙ h in
           reply-right (resolver_answered r) (answer.Ok us) (used-right e by r k used)
-          (alive-right e row r.number us k (answered-request schema e by row r found used) (no-dead (answering.is_reply_too_large schema r us) (has_dead schema e.actors (returns_of_row row) us) none))
+          (alive-right e row r.number us k (answered-request schema e by row r found used) (accepted-values (answering.is_reply_too_large schema r us) (has_dead schema e.actors (returns_of_row row) us) none))
 
   -- the request that is sent
   sent-right : (e : End) (row : MessageRow) (route : ℤ) (vs : Values) (name : Option (List ℕ)) → HasProtocols schema made e → Parts.IsSent schema e row route vs name → MakesItsProtocol made row.kind (send.next_made e row.kind)
@@ -334,7 +331,7 @@ module _ (schema : Schema) (sound : IsSound schema) (made : Protocols) where
       record {
         actors = (
           inr (lives-stands made e.actors k.actors (protocol_of row.number) route alive.0),
-          none-dead made e.actors k.actors (actors_in_parts schema row.params vs) (no-dead (send.is_too_large schema (send.request_of e row route vs)) (has_dead schema e.actors row.params vs) none),
+          none-dead made e.actors k.actors (actors_in_parts schema row.params vs) (accepted-values (send.is_too_large schema (send.request_of e row route vs)) (has_dead schema e.actors row.params vs) none),
         );
         request = record { found = sent.found; makes = makes };
       }
@@ -407,7 +404,7 @@ module _ (schema : Schema) (sound : IsSound schema) (made : Protocols) where
   first-right {e} (Parts.shuts last next is) new k = record { keeps = record { actors = k.actors; entries = k.entries; names = all-filter (NamingHasProtocols schema made) is_actor e.names k.names; arrived = tt; outbox = k.outbox }; packets = tt; fresh = tt }
   first-right {e} (Parts.returns entry row vs told lost is t l) new k =
       let top : EntryHasProtocols schema made entry = top-right e.stack entry is.on_top k.entries in
-      let popped : HasProtocols schema made (record e { stack = drop 1 e.stack }) = record { actors = k.actors; entries = drop-all (EntryHasProtocols schema made) e.stack k.entries; names = k.names; arrived = k.arrived; outbox = k.outbox } in
+      let popped : HasProtocols schema made (record e { stack = drop 1 e.stack }) = record { actors = k.actors; entries = all-drop (EntryHasProtocols schema made) e.stack k.entries; names = k.names; arrived = k.arrived; outbox = k.outbox } in
       record {
         keeps = sent-behind lost (end_behind told (record e { stack = drop 1 e.stack })) (sent-behind told (record e { stack = drop 1 e.stack }) popped);
         packets = all-append (PacketHasProtocols schema made) (reply_packets told e (return.dispatch_answered entry) (return.return_answer schema e row entry vs)) (reply_packets lost (end_behind told e) (resolver_answered (answering.resolver_in entry)) (answer.Fault ResolverDestroyed))
@@ -415,7 +412,7 @@ module _ (schema : Schema) (sound : IsSound schema) (made : Protocols) where
             (replies-right lost (end_behind told e) (resolver_answered (answering.resolver_in entry)) (answer.Fault ResolverDestroyed) (sent-behind told e k) top.request tt);
         fresh = tt;
       }
-  first-right {e} (Parts.resumes wait row on_top found) new k = quiet-right (record e { stack = drop 1 e.stack }) [] (record { actors = k.actors; entries = drop-all (EntryHasProtocols schema made) e.stack k.entries; names = k.names; arrived = k.arrived; outbox = k.outbox }) tt
+  first-right {e} (Parts.resumes wait row on_top found) new k = quiet-right (record e { stack = drop 1 e.stack }) [] (record { actors = k.actors; entries = all-drop (EntryHasProtocols schema made) e.stack k.entries; names = k.names; arrived = k.arrived; outbox = k.outbox }) tt
 
   later-right : {p q : Phase} {e f : End} {ws : List What} {ps : List Packet} → LaterPart p e ws ps f q → AllByRecursion (MakesItsProtocol made p.kind) p.fresh → HasProtocols schema made e → Right schema made f ps q
   later-right {e} (Parts.unnames name may silent) n k = record { keeps = record { actors = k.actors; entries = k.entries; names = all-filter (NamingHasProtocols schema made) (λ naming. not (has_name name naming)) e.names k.names; arrived = k.arrived; outbox = k.outbox }; packets = tt; fresh = n }
