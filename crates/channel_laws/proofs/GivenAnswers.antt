@@ -43,6 +43,7 @@ use Rattle.channel_laws.specs.Notes as note
 use Rattle.channel_laws.specs.Origins.{IsRequested}
 use Rattle.channel_laws.specs.Tested.{after_whats}
 use Rattle.channel_laws.proofs.Growing.{whats-append, grows, in-before, in-behind}
+use Rattle.channel_laws.proofs.ListedItems.{drop-all}
 use Rattle.channel_laws.proofs.Moves.{EndMove, StepParts, acts, delivers}
 use Rattle.channel_laws.proofs.Outlines.{RepliesFit}
 use Rattle.channel_laws.proofs.TwoEnds.{Arrival}
@@ -126,10 +127,6 @@ module _ (P : StackEntry → StackFrame → Type 0) (unresolved : (x : StackEntr
   pub released-all : (seq : ℤ) (es : List StackEntry) → AllByRecursion (λ x. P x x.frame) es → AllByRecursion (λ x. P x x.frame) (answering.released seq es)
   released-all seq [] h = tt
   released-all seq (x ∷ xs) h = (released-one (answering.has_resolver seq x) x h.0, released-all seq xs h.1)
-
-pub drop-all : {A : Type 0} (P : A → Type 0) (xs : List A) → AllByRecursion P xs → AllByRecursion P (drop 1 xs)
-drop-all P [] h = tt
-drop-all P (x ∷ xs) h = h.1
 
 pub same-all : (P : StackEntry → Type 0) (es : List StackEntry) → AllByRecursion P es → AllByRecursion P (delivery.with_frames (map (λ (x : StackEntry). x.frame) es) es)
 same-all P [] h = tt

@@ -40,7 +40,8 @@ use Rattle.channel_laws.specs.Heads.{FrameHead, EntryHead, BodyHead, ItemHead, H
 use Rattle.channel_laws.specs.NotedArrivals.{IsNoted, ItemIsNoted, ArrivalsAreNoted}
 use Rattle.channel_laws.specs.Notes.{Note, told_note, told_notes, body_note, message_note, In}
 use Rattle.channel_laws.specs.Tested.{after_whats}
-use Rattle.channel_laws.proofs.GivenAnswers.{released-all, drop-all, same-all}
+use Rattle.channel_laws.proofs.GivenAnswers.{released-all, same-all}
+use Rattle.channel_laws.proofs.ListedItems.{drop-all}
 use Rattle.channel_laws.proofs.Growing.{grows, in-before}
 use Rattle.channel_laws.proofs.Moves.{StepParts, acts, delivers}
 use Rattle.channel_laws.proofs.PrefixRuns.{all-taken}

@@ -42,6 +42,7 @@ use Rattle.channel_model.specs.Parts as parts
 use Rattle.channel_model.specs.Parts.{FirstPart, LaterPart, DeliveryPart, HoldsActor, IsRefusal, IsRenaming, behind_outbox, reply_packet, reply_packets, end_behind, left_end, outbox_after, request_packets, farewell_item}
 use Rattle.channel_laws.specs.Notes.{Note}
 use Rattle.channel_laws.specs.Origins.{IsRequested, EntryOrigin, Origin, ResolverOrigin, ContentOrigin, NamingOrigin, BodyOrigin, ItemOrigin, PacketOrigin, BodyReplies, PacketReplies, IsRequestBody, IsRequestMessage, HasOrigins}
+use Rattle.channel_laws.proofs.Track.{all-found}
 use Rattle.channel_laws.proofs.ListedItems.{drop-all, all-messages, replaced-is}
 use Rattle.channel_laws.proofs.Rows.{request-message}
 use Rattle.channel_model.proofs.TypedValues.{and-left, and-right}
@@ -54,14 +55,6 @@ all-filter P test (x ∷ xs) h = elim (test x) as (λ b. AllByRecursion P (cond 
   | true ↦ (h.0, all-filter P test xs h.1)
   | false ↦ all-filter P test xs h.1
 ]
-
-found-here : {A : Type 0} (P : A → Type 0) (b : Bool) (x y : A) (rest : Option A) → cond b (Some x) rest ≡ Some y → P x → (rest ≡ Some y → P y) → P y
-found-here P true x y rest e h k = subst P (same_Some x y e) h
-found-here P false x y rest e h k = k e
-
-pub all-found : {A : Type 0} (P : A → Type 0) (test : A → Bool) (xs : List A) (x : A) → AllByRecursion P xs → find test xs ≡ Some x → P x
-all-found P test [] x h e = cc
-all-found P test (y ∷ ys) x h e = found-here P (test y) y x (find test ys) e h.0 (all-found P test ys x h.1)
 
 pub found-passes : {A : Type 0} (test : A → Bool) (xs : List A) (x : A) → find test xs ≡ Some x → test x ≡ true
 found-passes test [] x e = cc

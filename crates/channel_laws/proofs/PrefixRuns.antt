@@ -59,7 +59,7 @@ use Rattle.channel_laws.proofs.Growing.{own-request}
 use Rattle.channel_laws.proofs.Holding.{law_at, holds-in-runs}
 use Rattle.channel_laws.proofs.MissingAlike.{values_are_read_alike}
 use Rattle.channel_laws.proofs.NextPackets.{move-next}
-use Rattle.channel_laws.proofs.Origins.{all-found}
+use Rattle.channel_laws.proofs.Track.{all-found}
 use Rattle.channel_laws.proofs.ReadAlike.{alike}
 use Rattle.channel_laws.proofs.Reached.{actors-reached, noted-reached, protocols-reached}
 use Rattle.channel_laws.proofs.SameValues.{values-same}
