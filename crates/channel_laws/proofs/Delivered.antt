@@ -1,8 +1,6 @@
 -- An end's own step delivers nothing, and a delivery its one packet, by its lines.
-use Rattle.std.proofs.Common.{◌≡◌, ℕ, ℤ, Bool, true, false, if◌then◌else◌, List, [], ◌∷◌, ◌++◌, filter, map, Option, Some, None, refl, sym, ap, ◌∙◌}
+use Rattle.std.proofs.Common.{◌≡◌, ℕ, ℤ, Bool, true, false, if◌then◌else◌, List, [], ◌∷◌, ◌++◌, map, Option, Some, None, refl, sym, ap, ◌∙◌}
 use Rattle.std.specs.List.{AllByRecursion}
-use Rattle.ipdl_base.specs.declared.kinds.Destroy.{Destroy}
-use Rattle.ipdl_base.specs.declared.kinds.Reason.{Reason}
 use Rattle.ipdl_base.specs.declared.kinds.Reason.TheVariants as reason
 use Rattle.ipdl_base.specs.declared.line.What.{What}
 use Rattle.ipdl_base.specs.declared.line.What.TheVariants as what
@@ -16,15 +14,12 @@ use Rattle.pending_queue.specs.declared.item.Item.{Item}
 use Rattle.pending_queue.specs.declared.item.Item.TheVariants as item
 use Rattle.promise_table.specs.declared.promise.Outcome.{Outcome}
 use Rattle.promise_table.specs.declared.promise.Outcome.TheVariants.{Resolved, Rejected}
-use Rattle.promise_table.specs.declared.promise.Promise.{Promise}
-use Rattle.promise_table.specs.Promises.{is_pending_of}
 use Rattle.history_reading.specs.declared.parts.PacketKind.{PacketKind}
 use Rattle.channel_model.specs.Answers as answering
 use Rattle.channel_model.specs.Deliveries as delivery
-use Rattle.channel_model.specs.Ends.{End, Packet, message, mark, PromiseEntry}
-use Rattle.channel_model.specs.Falls as fall
-use Rattle.channel_model.specs.Numbers.{is_sync_row, top_id}
-use Rattle.channel_model.specs.Outputs.{AnsweredRequest, body_of, request_answered, resolver_answered}
+use Rattle.channel_model.specs.Ends.{End, Packet, message, mark}
+use Rattle.channel_model.specs.Numbers.{is_sync_row}
+use Rattle.channel_model.specs.Outputs.{body_of, request_answered, resolver_answered}
 use Rattle.channel_model.specs.Parts as parts
 use Rattle.channel_model.specs.Parts.{FirstPart, LaterPart, LaterParts, OwnParts, DeliveryPart, IsRefusal, IsRenaming, reply_lines, fall_lines, farewell_line}
 use Rattle.channel_model.specs.Phases.{Phase}
@@ -36,7 +31,7 @@ use Rattle.channel_model.specs.ValueActors.{received}
 use Rattle.channel_model.proofs.Known.{all-append}
 use Rattle.channel_laws.specs.Delivered.{body_kind, delivered_kind, delivered_by, delivered_by_lines}
 use Rattle.channel_laws.proofs.PartLines.{EffectsHave, reply-has, laters-have}
-use Rattle.channel_laws.proofs.Outlines.{leaves-map, leaves-flat}
+use Rattle.channel_laws.proofs.Outlines.{leaves-map}
 
 -- Lines that deliver nothing
 

@@ -23,7 +23,6 @@ use Rattle.history_reading.specs.EndReading.{EndReading, opening, is_sync_reques
 use Rattle.history_reading.specs.Numbers.{has, has_packet, same_packet}
 use Rattle.history_reading.specs.Prefix.{is_there, is_reply_there}
 use Rattle.history_reading.specs.SentPacket.{SentPacket, Request as SentRequest, packet_kind, requests_of}
-use Rattle.history_reading.specs.SentPacket as told
 use Rattle.channel_laws.specs.AnswersOnce.{AnswersOnce, sent_kinds}
 use Rattle.channel_model.specs.Numbers.{other, sends, is_sync_row, is_constructor}
 use Rattle.channel_model.specs.Refusals.{DeliveryRefusal, wrong_direction, wrong_number, wrong_new_id, stray, expected_seq, expected_id, is_replied_to, is_waited_for, is_promised, is_expected_reply, actor_refusal, body_refusal, packet_refusal}

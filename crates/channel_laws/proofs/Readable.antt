@@ -1,5 +1,5 @@
 -- The lines of each part can be read.
-use Rattle.std.proofs.Common.{◌≡◌, ◌==◌, ℕ, ◌+◌, ℤ, Bool, true, false, ◌&&◌, if◌then◌else◌, List, [], ◌∷◌, ◌++◌, filter, map, Option, Some, None, refl, sym, ap, ◌∙◌}
+use Rattle.std.proofs.Common.{◌≡◌, ◌==◌, ℕ, ◌+◌, ℤ, Bool, true, false, ◌&&◌, if◌then◌else◌, List, [], ◌∷◌, ◌++◌, map, Option, Some, None, refl, sym, ap, ◌∙◌}
 use Rattle.std.specs.List.{AllByRecursion}
 use Rattle.std.specs.Option.{option_map_or}
 use Rattle.std.proofs.lemmas.Bool.{eq-eqb}
@@ -12,8 +12,6 @@ use Rattle.history_reading.specs.declared.parts.CallFrame.{CallFrame}
 use Rattle.history_reading.specs.declared.parts.CallFrame.TheVariants as frame
 use Rattle.history_reading.specs.EndReading.{EndReading, frame_seq}
 use Rattle.history_reading.specs.Rows.{is_request_number}
-use Rattle.ipdl_base.specs.declared.kinds.Destroy.{Destroy}
-use Rattle.ipdl_base.specs.declared.kinds.Reason.{Reason}
 use Rattle.ipdl_base.specs.declared.kinds.Reason.TheVariants as reason
 use Rattle.ipdl_base.specs.declared.message.Message.{Message}
 use Rattle.ipdl_base.specs.declared.schema.MessageRow.{MessageRow}
@@ -28,14 +26,11 @@ use Rattle.pending_queue.specs.declared.item.Item.{Item}
 use Rattle.pending_queue.specs.declared.item.Item.TheVariants as item
 use Rattle.promise_table.specs.declared.promise.Outcome.{Outcome}
 use Rattle.promise_table.specs.declared.promise.Outcome.TheVariants.{Resolved, Rejected}
-use Rattle.promise_table.specs.declared.promise.Promise.{Promise}
-use Rattle.promise_table.specs.Promises.{is_pending_of}
 use Rattle.channel_model.specs.Answers as answering
 use Rattle.channel_model.specs.Deliveries as delivery
-use Rattle.channel_model.specs.Ends.{End, Packet, StackEntry, PromiseEntry}
-use Rattle.channel_model.specs.Falls as fall
-use Rattle.channel_model.specs.Numbers.{top_id, is_sync_row}
-use Rattle.channel_model.specs.Outputs.{AnsweredRequest, request_answered, resolver_answered}
+use Rattle.channel_model.specs.Ends.{End, Packet, StackEntry}
+use Rattle.channel_model.specs.Numbers.{is_sync_row}
+use Rattle.channel_model.specs.Outputs.{request_answered, resolver_answered}
 use Rattle.channel_model.specs.Returns as return
 use Rattle.channel_model.specs.Sends as send
 use Rattle.channel_model.specs.Takes as take
@@ -51,7 +46,7 @@ use Rattle.channel_laws.specs.Origins.{Origin, HasOrigins}
 use Rattle.channel_laws.specs.Tested.{EndLinesPass}
 use Rattle.channel_laws.proofs.Rows.{request-message, sound_schemas_have_sound_rows}
 use Rattle.channel_laws.specs.Rows.{HasSoundRows, IsSoundRow}
-use Rattle.channel_laws.proofs.Outlines.{leaves-map, leaves-flat, cons-head}
+use Rattle.channel_laws.proofs.Outlines.{leaves-map, cons-head}
 use Rattle.channel_laws.proofs.Origins.{taken-origin, request-origin, body-asks}
 use Rattle.channel_laws.proofs.PartLines.{EffectsHave, reply-has, laters-have}
 use Rattle.channel_laws.proofs.Testing.{tested-free}

@@ -8,7 +8,6 @@ use Rattle.std.proofs.lemmas.Bool.{cases_Bool, eqb-true}
 use Rattle.ipdl_base.specs.declared.line.What.{What}
 use Rattle.ipdl_base.specs.declared.line.What.TheVariants as what
 use Rattle.history_reading.specs.EndReading.{EndReading, is_sync_request}
-use Rattle.history_reading.specs.Numbers.{id_of as reading_id_of}
 use Rattle.history_reading.specs.Reading as reads
 use Rattle.history_reading.specs.Reading.{after_what, request_after}
 use Rattle.history_reading.specs.Rows as reading
@@ -20,7 +19,7 @@ use Rattle.ipdl_base.specs.declared.kinds.Reason.{Reason}
 use Rattle.ipdl_base.specs.declared.kinds.Reason.TheVariants as reason
 use Rattle.ipdl_base.specs.declared.kinds.SendRefusal.TheVariants as refusal
 use Rattle.ipdl_base.specs.declared.kinds.Side.{Side}
-use Rattle.ipdl_base.specs.declared.kinds.Side.TheVariants.{Parent, Child}
+use Rattle.ipdl_base.specs.declared.kinds.Side.TheVariants.{Parent}
 use Rattle.ipdl_base.specs.declared.message.Body.{Body}
 use Rattle.ipdl_base.specs.declared.message.Body.TheVariants.{Request, Reply, Fault, Goodbye}
 use Rattle.ipdl_base.specs.declared.message.Message.{Message}

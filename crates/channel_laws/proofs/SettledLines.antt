@@ -9,7 +9,6 @@ use Rattle.actor_tree.specs.declared.actor.Actor.{Actor}
 use Rattle.actor_tree.specs.Tree.{IsTree}
 use Rattle.actor_tree.proofs.Order.{falls_once}
 use Rattle.ipdl_base.specs.declared.kinds.Destroy.{Destroy}
-use Rattle.ipdl_base.specs.declared.kinds.Level.{Level}
 use Rattle.ipdl_base.specs.declared.kinds.Reason.{Reason}
 use Rattle.ipdl_base.specs.declared.kinds.Reason.TheVariants.{ActorDestroyed, ChannelClosed, ResolverDestroyed}
 use Rattle.ipdl_base.specs.declared.kinds.Side.{Side}
@@ -22,11 +21,9 @@ use Rattle.ipdl_base.specs.declared.message.Body.TheVariants as bodies
 use Rattle.ipdl_base.specs.declared.message.Message.{Message}
 use Rattle.ipdl_base.specs.declared.schema.Kind.{Kind}
 use Rattle.ipdl_base.specs.declared.schema.Kind.TheVariants.{Normal, Constructor, Delete}
-use Rattle.ipdl_base.specs.declared.schema.MessageRow.{MessageRow}
 use Rattle.ipdl_base.specs.declared.schema.Schema.{Schema}
 use Rattle.ipdl_base.specs.declared.value.Values.{Values}
 use Rattle.ipdl_base.specs.Lines.{same_side}
-use Rattle.ipdl_base.specs.Sound.{message_of}
 use Rattle.nesting_core.specs.declared.frame.Answer.{Answer}
 use Rattle.nesting_core.specs.declared.frame.Answer.TheVariants as answer
 use Rattle.nesting_core.specs.Frames.{head_of}
@@ -43,7 +40,7 @@ use Rattle.channel_model.specs.Ends.{End, Packet, message, mark, PromiseEntry}
 use Rattle.channel_model.specs.Falls as fall
 use Rattle.channel_model.specs.Falls.{passes}
 use Rattle.channel_model.specs.Numbers.{is_sync_row, top_id}
-use Rattle.channel_model.specs.Outputs.{AnsweredRequest, line_at, request_answered, resolver_answered, body_of}
+use Rattle.channel_model.specs.Outputs.{AnsweredRequest, line_at, request_answered, resolver_answered}
 use Rattle.channel_model.specs.Parts
 use Rattle.channel_model.specs.Parts.{OwnParts, FirstPart, LaterPart, LaterParts, DeliveryPart, IsRefusal, IsRenaming, reply_lines, fall_lines, falling, farewell_line, shut_line, left_end, reply_outcome}
 use Rattle.channel_model.specs.Phases.{Phase, closing, kind_cause}

@@ -13,7 +13,7 @@ use Rattle.ipdl_base.specs.declared.message.Body.{Body}
 use Rattle.ipdl_base.specs.declared.message.Body.TheVariants.{Request, Reply, Fault, Goodbye}
 use Rattle.ipdl_base.specs.declared.message.Message.{Message}
 use Rattle.ipdl_base.specs.declared.schema.Schema.{Schema}
-use Rattle.ipdl_base.specs.Deferral.{Arrival, request, reply, goodbye, mark as mark_arrival, defers_arrival, defers_request, defers_sync}
+use Rattle.ipdl_base.specs.Deferral.{Arrival, request, reply, goodbye, mark as mark_arrival, defers_arrival, defers_request}
 use Rattle.nesting_core.specs.declared.frame.Head.{Head}
 use Rattle.pending_queue.specs.declared.item.Item.{Item}
 use Rattle.pending_queue.specs.declared.item.Item.TheVariants as item

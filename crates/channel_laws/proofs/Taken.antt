@@ -26,7 +26,6 @@ use Rattle.channel_laws.specs.RequestOrder.{InOrder, BodyInOrder, IsNextRequest,
 use Rattle.channel_laws.specs.Taken.{there_line}
 use Rattle.channel_laws.specs.Tested.{after_whats, EndLinesPass, test_at}
 use Rattle.channel_laws.proofs.ComingRequests.{comes-at, reached-in-order}
-use Rattle.channel_laws.proofs.EffectLines.{IsEffectLine, AreEffectLines, built, answers_ok, answers_fault, fails, resolved, rejected, fell, reply-effects, rejection-effects, fall-effects, fail-effects, settle-effect}
 use Rattle.channel_laws.proofs.EveryRun.{end-side}
 use Rattle.channel_laws.proofs.Exchanges.{own-exchanges, delivery-exchanges, request-there, reply-there, replies-once}
 use Rattle.channel_laws.proofs.Moves.{StepParts, acts, delivers}

@@ -8,12 +8,9 @@ use Rattle.ipdl_base.specs.declared.line.What.TheVariants as what
 use Rattle.history_reading.specs.declared.parts.CallFrame.{CallFrame}
 use Rattle.history_reading.specs.declared.parts.CallFrame.TheVariants as frame
 use Rattle.history_reading.specs.EndReading.{EndReading, frame_seq}
-use Rattle.ipdl_base.specs.declared.kinds.Destroy.{Destroy}
-use Rattle.ipdl_base.specs.declared.kinds.Reason.{Reason}
 use Rattle.ipdl_base.specs.declared.kinds.Reason.TheVariants as reason
 use Rattle.ipdl_base.specs.declared.schema.Schema.{Schema}
 use Rattle.ipdl_base.specs.declared.value.Values.{Values}
-use Rattle.nesting_core.specs.declared.frame.Answer.{Answer}
 use Rattle.nesting_core.specs.declared.frame.Answer.TheVariants as answer
 use Rattle.nesting_core.specs.declared.frame.StackFrame.{StackFrame}
 use Rattle.nesting_core.specs.declared.frame.StackFrame.TheVariants.{Dispatch, Wait}
@@ -22,13 +19,10 @@ use Rattle.pending_queue.specs.declared.item.Item.{Item}
 use Rattle.pending_queue.specs.declared.item.Item.TheVariants as item
 use Rattle.promise_table.specs.declared.promise.Outcome.{Outcome}
 use Rattle.promise_table.specs.declared.promise.Outcome.TheVariants.{Resolved, Rejected}
-use Rattle.promise_table.specs.declared.promise.Promise.{Promise}
-use Rattle.promise_table.specs.Promises.{is_pending_of}
 use Rattle.channel_model.specs.Answers as answering
-use Rattle.channel_model.specs.Ends.{End, Packet, StackEntry, PromiseEntry}
-use Rattle.channel_model.specs.Falls as fall
-use Rattle.channel_model.specs.Numbers.{top_id, is_sync_row}
-use Rattle.channel_model.specs.Outputs.{AnsweredRequest, request_answered, resolver_answered}
+use Rattle.channel_model.specs.Ends.{End, Packet, StackEntry}
+use Rattle.channel_model.specs.Numbers.{is_sync_row}
+use Rattle.channel_model.specs.Outputs.{request_answered, resolver_answered}
 use Rattle.channel_model.specs.Returns as return
 use Rattle.channel_model.specs.Sends as send
 use Rattle.channel_model.specs.Takes as take
@@ -39,7 +33,7 @@ use Rattle.channel_model.specs.Parts as parts
 use Rattle.channel_model.specs.Parts.{FirstPart, LaterPart, LaterParts, OwnParts, DeliveryPart, IsRefusal, IsRenaming, reply_lines, fall_lines, farewell_line}
 use Rattle.channel_laws.specs.Tested.{after_whats, EndLinesPass}
 use Rattle.channel_laws.specs.Outlines.{outline, HasOutline, placeless, shown, shown_entry}
-use Rattle.channel_laws.proofs.Outlines.{leaves-map, leaves-flat, cons-head}
+use Rattle.channel_laws.proofs.Outlines.{cons-head}
 use Rattle.channel_laws.proofs.PartLines.{EffectsHave, reply-has, laters-have}
 use Rattle.channel_laws.proofs.Testing.{tested-append, tested-free}
 use Rattle.std.proofs.Common.{find, option_map, append_assoc}

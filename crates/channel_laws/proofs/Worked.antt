@@ -1,6 +1,5 @@
 -- Worked runs: what their worlds are, and that they meet the premises of each law.
 use Rattle.std.proofs.Common.{◌≡◌, ◌+◌, ℤ, pos, negsuc, true, false, List, [], ◌∷◌, Some, None, refl}
-use Rattle.ipdl_base.specs.declared.kinds.EndState.TheVariants.{Open}
 use Rattle.ipdl_base.specs.declared.kinds.Level.TheVariants.{InsideSync, InsideCpow}
 use Rattle.ipdl_base.specs.declared.kinds.Side.TheVariants as side
 use Rattle.ipdl_base.specs.declared.line.What.TheVariants as what
@@ -8,20 +7,18 @@ use Rattle.ipdl_base.specs.declared.message.Body.TheVariants.{Reply}
 use Rattle.ipdl_base.specs.declared.message.Message.{Message}
 use Rattle.ipdl_base.specs.declared.value.Values.TheVariants.{Nothing}
 use Rattle.nesting_core.specs.declared.frame.Head.{Head}
-use Rattle.nesting_core.specs.declared.frame.StackTop.TheVariants.{Unanswered}
 use Rattle.nesting_core.specs.Answers.{awaited}
 use Rattle.nesting_core.specs.Deferral.{Defers}
-use Rattle.nesting_core.specs.Top.{top_of}
-use Rattle.nesting_laws.specs.Calls.{Call, wait, dispatch, request, reply, SyncEnd, sync_end, reply_of}
-use Rattle.channel_model.specs.Ends.{World, Packet, message, mark, end_of, link_to}
+use Rattle.nesting_laws.specs.Calls.{Call, wait, dispatch, request, reply, sync_end, reply_of}
+use Rattle.channel_model.specs.Ends.{World, mark}
 use Rattle.channel_model.specs.Events.{Event, Move}
 use Rattle.channel_model.specs.Events as event
-use Rattle.channel_model.specs.Outputs.{Output, is_open, line_at}
+use Rattle.channel_model.specs.Outputs.{Output, line_at}
 use Rattle.channel_model.specs.Refusals.{is_waited_for}
 use Rattle.channel_model.specs.Runs.{is_still}
 use Rattle.channel_model.specs.Sends.{frames_of}
 use Rattle.channel_model.specs.Steps.{step}
-use Rattle.channel_laws.specs.Laws.{world_of, awaited_reply, AllWaitsFail, EndsAreTold}
+use Rattle.channel_laws.specs.Laws.{world_of, awaited_reply, EndsAreTold}
 use Rattle.channel_laws.specs.NestedWorlds.{sync_end_of, EndsInLastPacket, IsNestedWorld}
 use Rattle.channel_laws.specs.SyncCalls.{reply_head}
 use Rattle.channel_laws.proofs.EndsTold.{ends_are_told_in_runs}

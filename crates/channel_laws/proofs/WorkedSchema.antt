@@ -1,6 +1,6 @@
 -- The schema of worked runs, and that it is sound: calls of one protocol, either way, and one of the highest level.
 use Rattle.std.proofs.Common.{◌≡◌, ◌≢◌, ℕ, zero, suc, inl, inr, ◌+◌, ◌*◌, true, false, Some, None, List, [], ◌∷◌, codes, refl, subst, arith}
-use Rattle.std.specs.List.{slice_get, All, AllPairs}
+use Rattle.std.specs.List.{slice_get, AllPairs}
 use Rattle.std.proofs.lemmas.Option.{same_Some}
 use Rattle.std.proofs.lemmas.List.Elements.{All-nil}
 use Rattle.ipdl_base.specs.declared.kinds.Compress.TheVariants as compress

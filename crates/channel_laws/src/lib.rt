@@ -11,9 +11,7 @@ mod reading_laws;
 mod two_end_laws;
 
 pub use actor_laws::{ends_obey_fallen, histories_obey_fallen};
-pub use exchange_laws::{
-    ends_read_exchanges, ends_settle, ends_take_once, histories_obey_settled,
-};
+pub use exchange_laws::{ends_read_exchanges, ends_settle, ends_take_once, histories_obey_settled};
 pub use history_laws::{histories_obey_prefix, histories_obey_waits};
 pub use laws::{
     ends_are_told_in_runs, last_packets_fail_all_waits, nested_worlds_stay, nesting_in_every_run,
