@@ -1,5 +1,5 @@
 -- Each part of a step keeps that all comes from what the other end has sent, and sends replies to that alone.
-use Rattle.std.proofs.Common.{◌≡◌, ◌==◌, ℕ, ◌+◌, ℤ, Bool, true, false, not, ◌&&◌, ◌||◌, cond, int_eq, List, [], ◌∷◌, ◌++◌, drop, filter, find, map, Option, Some, None, is_some, option_map, option_and_then, refl, sym, ap, subst, ◌∙◌}
+use Rattle.std.proofs.Common.{◌≡◌, ◌==◌, ℕ, ◌+◌, ℤ, Bool, true, false, not, ◌&&◌, ◌||◌, cond, int_eq, List, [], ◌∷◌, ◌++◌, drop, find, map, Option, Some, None, is_some, option_map, option_and_then, refl, sym, ap, subst, ◌∙◌}
 use Rattle.std.specs.List.{AllByRecursion}
 use Rattle.std.proofs.lemmas.Option.{same_Some}
 use Rattle.std.proofs.lemmas.Bool.{eqb-true}
@@ -42,19 +42,12 @@ use Rattle.channel_model.specs.Parts as parts
 use Rattle.channel_model.specs.Parts.{FirstPart, LaterPart, DeliveryPart, HoldsActor, IsRefusal, IsRenaming, behind_outbox, reply_packet, reply_packets, end_behind, left_end, outbox_after, request_packets, farewell_item}
 use Rattle.channel_laws.specs.Notes.{Note}
 use Rattle.channel_laws.specs.Origins.{IsRequested, EntryOrigin, Origin, ResolverOrigin, ContentOrigin, NamingOrigin, BodyOrigin, ItemOrigin, PacketOrigin, BodyReplies, PacketReplies, IsRequestBody, IsRequestMessage, HasOrigins}
-use Rattle.channel_laws.proofs.Track.{all-found}
+use Rattle.channel_laws.proofs.Track.{all-found, all-filter}
 use Rattle.channel_laws.proofs.ListedItems.{drop-all, all-messages, replaced-is}
 use Rattle.channel_laws.proofs.Rows.{request-message}
 use Rattle.channel_model.proofs.TypedValues.{and-left, and-right}
 
 -- Lists
-
-pub all-filter : {A : Type 0} (P : A → Type 0) (test : A → Bool) (xs : List A) → AllByRecursion P xs → AllByRecursion P (filter test xs)
-all-filter P test [] h = tt
-all-filter P test (x ∷ xs) h = elim (test x) as (λ b. AllByRecursion P (cond b (x ∷ filter test xs) (filter test xs))) [
-  | true ↦ (h.0, all-filter P test xs h.1)
-  | false ↦ all-filter P test xs h.1
-]
 
 pub found-passes : {A : Type 0} (test : A → Bool) (xs : List A) (x : A) → find test xs ≡ Some x → test x ≡ true
 found-passes test [] x e = cc
