@@ -51,10 +51,6 @@ use Rattle.channel_model.proofs.Tests.{and-left, and-right}
 
 -- Lists
 
-found-here : {A : Type 0} (P : A → Type 0) (b : Bool) (x y : A) (rest : Option A) → cond b (Some x) rest ≡ Some y → P x → (rest ≡ Some y → P y) → P y
-found-here P true x y rest e h k = subst P (same_Some x y e) h
-found-here P false x y rest e h k = k e
-
 pub found-passes : {A : Type 0} (test : A → Bool) (xs : List A) (x : A) → find test xs ≡ Some x → test x ≡ true
 found-passes test [] x e = cc
 found-passes test (y ∷ ys) x e = by (test y) refl e (found-passes test ys x)
