@@ -1,20 +1,16 @@
 -- The lines of effects that stand behind the line of an event, and what a view of the reading keeps behind them.
-use Rattle.std.proofs.Common.{◌≡◌, ℕ, ◌+◌, ℤ, Bool, true, false, List, [], ◌∷◌, ◌++◌, filter, map, refl, ◌∙◌}
-use Rattle.std.specs.List.{AllByRecursion, flat_map}
-use Rattle.actor_tree.specs.declared.actor.Actor.{Actor}
+use Rattle.std.proofs.Common.{◌≡◌, ℕ, ◌+◌, ℤ, Bool, List, [], ◌∷◌, ◌++◌, map, refl, ◌∙◌}
+use Rattle.std.specs.List.{AllByRecursion}
 use Rattle.ipdl_base.specs.declared.kinds.Destroy.{Destroy}
 use Rattle.ipdl_base.specs.declared.kinds.Reason.{Reason}
-use Rattle.ipdl_base.specs.declared.kinds.Reason.TheVariants.{ActorDestroyed, ChannelClosed, ResolverDestroyed}
 use Rattle.ipdl_base.specs.declared.line.What.{What}
 use Rattle.ipdl_base.specs.declared.line.What.TheVariants as what
 use Rattle.ipdl_base.specs.declared.schema.Schema.{Schema}
 use Rattle.ipdl_base.specs.declared.value.Values.{Values}
 use Rattle.nesting_core.specs.declared.frame.Answer.{Answer}
-use Rattle.nesting_core.specs.declared.frame.Answer.TheVariants as answer
 use Rattle.promise_table.specs.declared.promise.Outcome.{Outcome}
 use Rattle.promise_table.specs.declared.promise.Outcome.TheVariants.{Resolved, Rejected}
 use Rattle.promise_table.specs.declared.promise.Promise.{Promise}
-use Rattle.promise_table.specs.Promises.{is_pending_of}
 use Rattle.channel_model.specs.Ends.{End, Packet, PromiseEntry}
 use Rattle.channel_model.specs.Falls as fall
 use Rattle.channel_model.specs.Numbers.{top_id}
@@ -23,7 +19,6 @@ use Rattle.channel_model.specs.Parts
 use Rattle.channel_model.specs.Parts.{LaterPart, LaterParts, reply_lines, fall_lines, falling}
 use Rattle.channel_model.specs.Phases.{Phase}
 use Rattle.channel_model.specs.Takes.{settle_line}
-use Rattle.channel_model.proofs.Known.{all-append}
 use Rattle.history_reading.specs.EndReading.{EndReading}
 use Rattle.history_reading.specs.Reading.{after_what}
 use Rattle.channel_laws.specs.Tested.{after_whats}

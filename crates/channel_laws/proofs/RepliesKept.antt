@@ -1,10 +1,7 @@
 -- Every step of an end keeps what it reads of replies.
-use Rattle.std.proofs.Common.{◌≡◌, ℕ, ◌+◌, ℤ, Bool, true, false, if◌then◌else◌, List, [], ◌∷◌, ◌++◌, filter, Option, Some, None, is_none, sym, ap, subst, ◌∙◌}
+use Rattle.std.proofs.Common.{◌≡◌, ℕ, ◌+◌, ℤ, Bool, true, false, if◌then◌else◌, List, [], ◌∷◌, ◌++◌, Option, Some, None, is_none, sym, ap, subst, ◌∙◌}
 use Rattle.std.specs.List.{AllByRecursion}
-use Rattle.actor_tree.specs.declared.actor.Actor.{Actor}
-use Rattle.ipdl_base.specs.declared.kinds.Destroy.{Destroy}
-use Rattle.ipdl_base.specs.declared.kinds.Reason.{Reason}
-use Rattle.ipdl_base.specs.declared.kinds.Reason.TheVariants.{ActorDestroyed, ChannelClosed, HandlerRejected, ResolverDestroyed}
+use Rattle.ipdl_base.specs.declared.kinds.Reason.TheVariants.{ActorDestroyed, HandlerRejected, ResolverDestroyed}
 use Rattle.ipdl_base.specs.declared.kinds.Side.{Side}
 use Rattle.ipdl_base.specs.declared.line.What.{What}
 use Rattle.ipdl_base.specs.declared.line.What.TheVariants as what
@@ -21,14 +18,12 @@ use Rattle.pending_queue.specs.declared.item.Item.{Item}
 use Rattle.pending_queue.specs.declared.item.Item.TheVariants as item
 use Rattle.promise_table.specs.declared.promise.Outcome.{Outcome}
 use Rattle.promise_table.specs.declared.promise.Outcome.TheVariants.{Resolved, Rejected}
-use Rattle.promise_table.specs.declared.promise.Promise.{Promise}
-use Rattle.promise_table.specs.Promises.{is_pending_of}
 use Rattle.channel_model.specs.Answers as answering
 use Rattle.channel_model.specs.Deliveries as delivery
-use Rattle.channel_model.specs.Ends.{End, Packet, message, mark, StackEntry, PromiseEntry}
+use Rattle.channel_model.specs.Ends.{End, Packet, message, mark, StackEntry}
 use Rattle.channel_model.specs.Events.{Event}
 use Rattle.channel_model.specs.Falls as fall
-use Rattle.channel_model.specs.Numbers.{is_sync_row, top_id}
+use Rattle.channel_model.specs.Numbers.{is_sync_row}
 use Rattle.channel_model.specs.Outputs.{AnsweredRequest, request_answered, resolver_answered, is_open}
 use Rattle.channel_model.specs.Parts
 use Rattle.channel_model.specs.Parts.{OwnParts, FirstPart, LaterPart, LaterParts, DeliveryPart, IsRefusal, IsRenaming, reply_lines, fall_lines, falling, farewell_item, farewell_line, shut_line, reply_outcome}

@@ -1,5 +1,5 @@
 -- Each part of a step sends what its lines say.
-use Rattle.std.proofs.Common.{◌≡◌, ◌==◌, ℕ, suc, ◌+◌, ℤ, pos, Bool, true, false, if◌then◌else◌, List, [], ◌∷◌, ◌++◌, drop, filter, map, Option, Some, None, refl, sym, ap, subst, ◌∙◌, append_assoc, arith, inl, inr}
+use Rattle.std.proofs.Common.{◌≡◌, ◌==◌, ℕ, suc, ◌+◌, ℤ, pos, Bool, true, false, if◌then◌else◌, List, [], ◌∷◌, ◌++◌, drop, map, Option, Some, None, refl, sym, ap, subst, ◌∙◌, append_assoc, arith, inl, inr}
 use Rattle.std.specs.List.{AllByRecursion}
 use Rattle.std.specs.Option.{option_map_or}
 use Rattle.std.proofs.lemmas.List.{map-append, append-nil}
@@ -37,14 +37,12 @@ use Rattle.pending_queue.specs.declared.item.Item.{Item}
 use Rattle.pending_queue.specs.declared.item.Item.TheVariants as item
 use Rattle.promise_table.specs.declared.promise.Outcome.{Outcome}
 use Rattle.promise_table.specs.declared.promise.Outcome.TheVariants.{Resolved, Rejected}
-use Rattle.promise_table.specs.declared.promise.Promise.{Promise}
-use Rattle.promise_table.specs.Promises.{is_pending_of}
 use Rattle.channel_model.specs.Acts.{goodbye}
 use Rattle.channel_model.specs.Answers as answering
 use Rattle.channel_model.specs.Deliveries as delivery
 use Rattle.ipdl_base.specs.declared.kinds.EndState.{EndState}
 use Rattle.ipdl_base.specs.declared.kinds.EndState.TheVariants.{Open, Draining, Closed, Dead}
-use Rattle.channel_model.specs.Ends.{End, Packet, message, mark, PromiseEntry}
+use Rattle.channel_model.specs.Ends.{End, Packet, message, mark}
 use Rattle.channel_model.specs.Events.{Answering, handled, kept}
 use Rattle.channel_model.specs.Falls as fall
 use Rattle.channel_model.specs.Numbers.{top_id, id_of, seq_of, is_constructor, counting, is_sync_row, request_row}
