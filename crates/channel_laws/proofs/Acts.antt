@@ -1,5 +1,5 @@
 -- Answers, names, a close and a death, at an open end.
-use Rattle.channel_laws.proofs.Tests.{and-left, and-right}
+use Rattle.channel_model.proofs.Tests.{and-left, and-right}
 use Rattle.std.proofs.Common.{◌≡◌, ℕ, ◌+◌, ℤ, pos, Bool, true, false, not, ◌&&◌, ◌==◌, cond, if◌then◌else◌, int_eq, List, [], ◌∷◌, map, find, Option, Some, None, option_map, option_and_then, refl, sym, ap, subst, ◌∙◌}
 use Rattle.std.proofs.lemmas.Option.{same_Some}
 use Rattle.std.specs.List.{AllByRecursion}

@@ -1,6 +1,6 @@
 -- Deliveries to an open end.
-use Rattle.channel_laws.proofs.Tests.{and-left, and-right}
-use Rattle.std.proofs.Common.{◌≡◌, ℕ, zero, suc, ◌+◌, ◌-◌, Bool, true, false, not, ◌&&◌, ◌==◌, cond, if◌then◌else◌, int_eq, List, [], ◌∷◌, ◌++◌, map, length, take, ◌⊎◌, Option, Some, None, option_and_then, is_some, refl, sym, ap, subst, ◌∙◌}
+use Rattle.channel_model.proofs.Tests.{and-left, and-right}
+use Rattle.std.proofs.Common.{◌≡◌, ℕ, suc, ◌+◌, ◌-◌, Bool, true, false, not, ◌&&◌, ◌==◌, cond, if◌then◌else◌, int_eq, List, [], ◌∷◌, ◌++◌, map, length, take, ◌⊎◌, Option, Some, None, option_and_then, is_some, refl, sym, ap, subst, ◌∙◌}
 use Rattle.std.proofs.Math.Numerals.{sub-one}
 use Rattle.std.proofs.lemmas.List.{append-nil}
 use Rattle.std.proofs.lemmas.Grind.{flat_map-append}
@@ -39,6 +39,7 @@ use Rattle.std.proofs.lemmas.Bool.{eqb-true}
 use Rattle.channel_model.proofs.StateSteps.{all_failed-answered}
 use Rattle.channel_model.proofs.Known.{all-append, all-map}
 use Rattle.channel_model.proofs.Sublists.{all-sublist, staying-sublist}
+use Rattle.channel_model.proofs.FittingEnds.{all-at}
 use Rattle.channel_laws.proofs.SyncSteps.{SyncStep, no_step, one_step, drains, at-open, at-start}
 use Rattle.channel_laws.proofs.Track.{Track, IsOnTrack, KeepsTrack, keeps-when, keeps-answered, frames_in}
 use Rattle.channel_laws.proofs.Rows.{request-message}
@@ -186,16 +187,11 @@ replaced-last_at : (b : Bool) (old x : Item) → cond b (Some old) None ≡ Some
 replaced-last_at true old x e = (refl, same_Some old x e)
 replaced-last_at false old x e = cc
 
-replaced-last : (new : Item) (found : Option Item) (x : Item) → option_and_then (λ old. if are_alike new old then Some old else None) found ≡ Some x → (found ≡ Some x) × (are_alike new x ≡ true)
+pub replaced-last : (new : Item) (found : Option Item) (x : Item) → option_and_then (λ old. if are_alike new old then Some old else None) found ≡ Some x → (found ≡ Some x) × (are_alike new x ≡ true)
 replaced-last new None x e = cc
 replaced-last new (Some old) x e =
     let r = replaced-last_at (are_alike new old) old x e in
     (ap (λ (i : Item). Some i) r.1, ap (are_alike new) (sym r.1) ∙ r.0)
-
-all-at : {A : Type 0} (P : A → Type 0) (xs : List A) (i : ℕ) (x : A) → AllByRecursion P xs → slice_get xs i ≡ Some x → P x
-all-at P [] i x h e = cc
-all-at P (y ∷ xs) zero x h e = subst P (same_Some y x e) h.0
-all-at P (y ∷ xs) (suc i) x h e = all-at P xs i x h.1 e
 
 -- an item is silent where it is alike to a new one
 abbrev IsSilentLike : Item → Item → Type 0

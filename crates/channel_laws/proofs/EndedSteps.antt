@@ -1,5 +1,5 @@
 -- Every step of an end that is not open: it sends nothing, and opens no more.
-use Rattle.channel_laws.proofs.Tests.{and-left}
+use Rattle.channel_model.proofs.Tests.{and-left}
 use Rattle.std.proofs.Common.{◌≡◌, ℕ, ℤ, Bool, true, false, not, ◌||◌, if◌then◌else◌, List, [], ◌∷◌, Option, Some, None, option_and_then, refl, sym, ap, subst, ◌∙◌}
 use Rattle.std.specs.List.{AllByRecursion}
 use Rattle.std.specs.Option.{option_map_or}

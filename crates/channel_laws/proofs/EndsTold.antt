@@ -16,7 +16,7 @@ use Rattle.channel_laws.proofs.EveryRun.{nesting_in_every_run, from-side, open-n
 open-not_gone : {A : Type 0} (e : End) → e.state ≡ Open → is_open e.state ≡ false → A
 open-not_gone e is h = let k : true ≡ false = sym (ap is_open is) ∙ h in cc
 
-told-at : (schema : Schema) (side : Side) (mine theirs : End) (to_me to_them : List Packet) → mine.state ≡ Open → EndsAreNested schema side mine theirs to_me to_them → (theirs.state ≡ Draining → ⊥) × (theirs.state ≡ Open → HasNoLastPacket to_me) × (is_open theirs.state ≡ false → EndsInLastPacket to_me)
+pub told-at : (schema : Schema) (side : Side) (mine theirs : End) (to_me to_them : List Packet) → mine.state ≡ Open → EndsAreNested schema side mine theirs to_me to_them → (theirs.state ≡ Draining → ⊥) × (theirs.state ≡ Open → HasNoLastPacket to_me) × (is_open theirs.state ≡ false → EndsInLastPacket to_me)
 told-at schema side mine theirs to_me to_them is (both_open {stack} {under} h t n) =
     (λ d. let k : Open ≡ Draining = sym t.state ∙ d in cc, λ o. link-goes_on schema to_me (nested-goes_on side stack (sync_calls mine.arrived) (sync_packets schema to_me) (sync_end_of schema theirs to_them under) n), λ o. open-not_gone theirs t.state o)
 told-at schema side mine theirs to_me to_them is (mine_open h gone l a) = (gone.told, λ o. open-not_gone theirs o gone.ended.over, λ o. l)

@@ -1,5 +1,6 @@
 -- Sends of an open end: refused ones, async requests, and calls.
-use Rattle.channel_laws.proofs.Tests.{and-left, and-right, not-false}
+use Rattle.channel_model.proofs.Tests.{and-left, and-right}
+use Rattle.channel_laws.proofs.Tests.{not-false}
 use Rattle.std.proofs.Common.{◌≡◌, ℕ, ◌+◌, ℤ, pos, Bool, true, false, not, ◌&&◌, ◌||◌, cond, if◌then◌else◌, List, [], ◌∷◌, ◌++◌, map, Option, Some, None, is_some, is_none, arith, refl, sym, ap, subst, ◌∙◌}
 use Rattle.std.proofs.Math.Numerals.{add-one}
 use Rattle.std.proofs.lemmas.Bool.Decides.{nat_tests}

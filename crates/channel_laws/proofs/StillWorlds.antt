@@ -1,6 +1,7 @@
 -- Where nothing can happen by itself, no end waits.
 use Rattle.channel_laws.proofs.Track.{frames_in}
-use Rattle.channel_laws.proofs.Tests.{and-left, and-right, not-false}
+use Rattle.channel_model.proofs.Tests.{and-left, and-right}
+use Rattle.channel_laws.proofs.Tests.{not-false}
 use Rattle.std.proofs.Common.{◌≡◌, ℤ, Bool, true, false, not, ◌&&◌, List, [], ◌∷◌, ◌++◌, map, filter, cond, Some, None, refl, sym, ap, subst, ◌∙◌, ℕ}
 use Rattle.std.specs.List.{AllByRecursion, list_any}
 use Rattle.std.specs.Ordering.{int_eq}

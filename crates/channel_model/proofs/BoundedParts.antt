@@ -78,7 +78,7 @@ later-within {p} {e} (Parts.releases seq closed) tree =
 later-within {p} {e} (Parts.keeps seq name x is closed) tree =
     let f : End = record e { stack = answering.released seq e.stack } in
     record { lines = omega (arith, unsettled-is e, unsettled-is f, released-waits seq e.stack); packets = omega arith }
-later-within {p} {e} (Parts.builds id protocol rest is alive) tree =
+later-within {p} {e} (Parts.builds id protocol rest is built) tree =
     let fresh : length p.fresh ≡ length (id ∷ rest) = ap length is in
     let a : Actor = record { id = id; protocol = protocol; manager = manager_of p.start } in
     record { lines = omega (arith, fresh, length-append e.actors (a ∷ [])); packets = omega arith }

@@ -58,7 +58,7 @@ later-keeps (Parts.lets_go name x may is open_is) = keeps-none _ _ refl refl ref
 later-keeps (Parts.names more actors) = keeps-all _ _ refl refl refl refl
 later-keeps (Parts.releases seq closed) = keeps-all _ _ refl refl refl refl
 later-keeps (Parts.keeps seq name x is closed) = keeps-all _ _ refl refl refl refl
-later-keeps (Parts.builds id protocol rest is alive) = keeps-all _ _ refl refl refl refl
+later-keeps (Parts.builds id protocol rest is built) = keeps-all _ _ refl refl refl refl
 later-keeps (Parts.deletes id cause) = keeps-all _ _ refl refl refl refl
 later-keeps (Parts.falls why cause) = keeps-all _ _ refl refl refl refl
 

@@ -168,7 +168,7 @@ later-prints (Parts.lets_go name r may held open_is) = record { lines = (refl, t
 later-prints (Parts.names more actors) = record { lines = tt; side = refl }
 later-prints (Parts.releases seq closed) = record { lines = tt; side = refl }
 later-prints (Parts.keeps seq name r held closed) = record { lines = tt; side = refl }
-later-prints (Parts.builds id protocol rest fresh alive) = record { lines = (refl, tt); side = refl }
+later-prints (Parts.builds id protocol rest fresh built) = record { lines = (refl, tt); side = refl }
 later-prints {e} (Parts.deletes id cause) = record { lines = falls-effects id (fall.why_deleted id) e; side = refl }
 later-prints {e} (Parts.falls why cause) = record { lines = all-append IsEffect (Parts.abandoned_lines e) (Parts.fall_lines top_id (λ id. why) (Parts.abandoned_end e)) (rejections-effects (λ p. true) reason.ChannelClosed e.promises) (falls-effects top_id (λ id. why) (Parts.abandoned_end e)); side = refl }
 

@@ -51,7 +51,7 @@ pub all-drop : {A : Type 0} (P : A → Type 0) (xs : List A) → AllByRecursion 
 all-drop P [] h = tt
 all-drop P (x ∷ xs) h = h.1
 
-all-at : {A : Type 0} (P : A → Type 0) (xs : List A) (i : ℕ) (x : A) → AllByRecursion P xs → slice_get xs i ≡ Some x → P x
+pub all-at : {A : Type 0} (P : A → Type 0) (xs : List A) (i : ℕ) (x : A) → AllByRecursion P xs → slice_get xs i ≡ Some x → P x
 all-at P [] i x h e = cc
 all-at P (y ∷ ys) zero x h e = subst P (same_Some y x e) h.0
 all-at P (y ∷ ys) (suc i) x h e = all-at P ys i x h.1 e

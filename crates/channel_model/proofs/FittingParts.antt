@@ -198,7 +198,7 @@ module _ (schema : Schema) (sound : IsSound schema) where
     packets = tt;
     fresh = fresh;
   }
-  later-fits {p} {e} (Parts.builds id protocol rest is alive) fresh h =
+  later-fits {p} {e} (Parts.builds id protocol rest is built) fresh h =
       let ids : AllByRecursion IsLivingId (id ∷ rest) = subst (AllByRecursion IsLivingId) is fresh in
       record { end = fits-actors schema e _ (all-append HasLivingId e.actors (_ ∷ []) h.actors (ids.0, tt)) h; packets = tt; fresh = ids.1 }
   later-fits {e} (Parts.deletes id cause) fresh h = record { end = fallen-fits id e h; packets = tt; fresh = fresh }

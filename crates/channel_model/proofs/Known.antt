@@ -15,15 +15,15 @@ use Rattle.channel_model.proofs.Sublists.{Sublist, all-sublist, distinct-sublist
 
 -- Ids
 
-same_id : (side : Side) (j k : ℕ) → id_of side j ≡ id_of side k → j ≡ k
+pub same_id : (side : Side) (j k : ℕ) → id_of side j ≡ id_of side k → j ≡ k
 same_id Parent j k e = let f : 4 * j + 2 ≡ 4 * k + 2 = cc in omega arith
 same_id Child j k e = let f : 4 * j ≡ 4 * k = cc in omega arith
 
-ids_apart : (side : Side) (j k : ℕ) → id_of side j ≢ id_of (other side) k
+pub ids_apart : (side : Side) (j k : ℕ) → id_of side j ≢ id_of (other side) k
 ids_apart Parent j k e = let f : 4 * j + 2 ≡ 4 * k = cc in absurd (omega arith)
 ids_apart Child j k e = let f : 4 * j ≡ 4 * k + 2 = cc in absurd (omega arith)
 
-not_top : (side : Side) (k : ℕ) → id_of side k ≢ top_id
+pub not_top : (side : Side) (k : ℕ) → id_of side k ≢ top_id
 not_top Parent k e = let f : 4 * k + 2 ≡ 2147483647 = cc in absurd (omega arith)
 not_top Child k e = let f : 4 * k ≡ 2147483647 = cc in absurd (omega arith)
 
@@ -31,7 +31,7 @@ more_ids : (side : Side) (n m : ℕ) (id : ℤ) → n ≤ m → IsIdOf side n id
 more_ids side n m id h (k, one, low, e) = (k, one, omega arith, e)
 
 -- the next id of this side is not taken, and neither is that of the other side
-own_is_free : (ids : Ids) → ¬ IsTaken ids (id_of ids.side (ids.sent + 1))
+pub own_is_free : (ids : Ids) → ¬ IsTaken ids (id_of ids.side (ids.sent + 1))
 own_is_free ids (inl e) = not_top ids.side (ids.sent + 1) e
 own_is_free ids (inr (inl (k, one, low, e))) = let f : ids.sent + 1 ≡ k = same_id ids.side (ids.sent + 1) k e in absurd (omega arith)
 own_is_free ids (inr (inr (k, one, low, e))) = ids_apart ids.side (ids.sent + 1) k e
@@ -47,7 +47,7 @@ pub all-map : {A : Type 0} (P Q : A → Type 0) (xs : List A) → ((x : A) → P
 all-map P Q [] h k = tt
 all-map P Q (x ∷ xs) h k = (h x k.0, all-map P Q xs h k.1)
 
-all-both : {A : Type 0} (P Q R : A → Type 0) (xs : List A) → ((x : A) → P x → Q x → R x) → AllByRecursion P xs → AllByRecursion Q xs → AllByRecursion R xs
+pub all-both : {A : Type 0} (P Q R : A → Type 0) (xs : List A) → ((x : A) → P x → Q x → R x) → AllByRecursion P xs → AllByRecursion Q xs → AllByRecursion R xs
 all-both P Q R [] h k l = tt
 all-both P Q R (x ∷ xs) h k l = (h x k.0 l.0, all-both P Q R xs h k.1 l.1)
 
@@ -75,24 +75,24 @@ distinct-last [] y d h = (tt, tt)
 distinct-last (x ∷ xs) y d h = (all-append (λ later. x ≢ later) xs (y ∷ []) d.0 (h.0, tt), distinct-last xs y d.1 h.1)
 
 -- one of distinct ids differs from those before and behind it
-distinct-from : (xs : List ℤ) (y : ℤ) (zs : List ℤ) → AreDistinct (xs ++ y ∷ zs) → AllByRecursion (λ x. x ≢ y) (xs ++ zs)
+pub distinct-from : (xs : List ℤ) (y : ℤ) (zs : List ℤ) → AreDistinct (xs ++ y ∷ zs) → AllByRecursion (λ x. x ≢ y) (xs ++ zs)
 distinct-from [] y zs d = all-map (λ later. y ≢ later) (λ x. x ≢ y) zs (λ x n e. n (sym e)) d.0
 distinct-from (x ∷ xs) y zs d = ((all-behind (λ later. x ≢ later) xs (y ∷ zs) d.0).0, distinct-from xs y zs d.1)
 
-distinct-without : (xs : List ℤ) (y : ℤ) (zs : List ℤ) → AreDistinct (xs ++ y ∷ zs) → AreDistinct (xs ++ zs)
+pub distinct-without : (xs : List ℤ) (y : ℤ) (zs : List ℤ) → AreDistinct (xs ++ y ∷ zs) → AreDistinct (xs ++ zs)
 distinct-without [] y zs d = d.1
 distinct-without (x ∷ xs) y zs d =
     (all-append (λ later. x ≢ later) xs zs (all-before (λ later. x ≢ later) xs (y ∷ zs) d.0) (all-behind (λ later. x ≢ later) xs (y ∷ zs) d.0).1, distinct-without xs y zs d.1)
 
 -- Actors
 
-dead-append : (id : ℤ) (actors : List Actor) (a : Actor) → lives id actors ≡ false → id ≢ a.id → lives id (actors ++ a ∷ []) ≡ false
+pub dead-append : (id : ℤ) (actors : List Actor) (a : Actor) → lives id actors ≡ false → id ≢ a.id → lives id (actors ++ a ∷ []) ≡ false
 dead-append id actors a h n = lives-false id (actors ++ a ∷ []) (λ k. elim (Has-append id actors (a ∷ []) k) [
   | inl p ↦ has_not id actors h p
   | inr p ↦ elim p [ inl e ↦ n (sym e) | inr q ↦ absurd q ]
 ])
 
-living-append : (id : ℤ) (actors : List Actor) (a : Actor) → lives id (actors ++ a ∷ []) ≡ true → (lives id actors ≡ true) ⊎ (a.id ≡ id)
+pub living-append : (id : ℤ) (actors : List Actor) (a : Actor) → lives id (actors ++ a ∷ []) ≡ true → (lives id actors ≡ true) ⊎ (a.id ≡ id)
 living-append id actors a h = elim (Has-append id actors (a ∷ []) (has id (actors ++ a ∷ []) h)) [
   | inl p ↦ inl (lives-true id actors p)
   | inr p ↦ elim p [ inl e ↦ inr e | inr q ↦ absurd q ]
@@ -103,7 +103,7 @@ Has-if id true a some all k (inl e) = inl e
 Has-if id true a some all k (inr h) = inr (k h)
 Has-if id false a some all k h = inr (k h)
 
-Has-filter : (id : ℤ) (test : Actor → Bool) (actors : List Actor) → Has id (filter test actors) → Has id actors
+pub Has-filter : (id : ℤ) (test : Actor → Bool) (actors : List Actor) → Has id (filter test actors) → Has id actors
 Has-filter id test [] h = absurd h
 Has-filter id test (a ∷ actors) h = Has-if id (test a) a (filter test actors) actors (Has-filter id test actors) h
 
@@ -117,7 +117,7 @@ tree-falls id actors (a ∷ given) left t f =
     tree-falls id f.0 given left (subst IsTree (sym next.left) (IsTree-without actors id a (post_order id f.0) t next.next)) f.2
 
 -- those who do not fall are a tree
-tree-others : (id : ℤ) (actors : List Actor) → IsTree actors → IsTree (others (post_order id actors) actors)
+pub tree-others : (id : ℤ) (actors : List Actor) → IsTree actors → IsTree (others (post_order id actors) actors)
 tree-others id actors t =
     tree-falls id actors (post_order id actors) (others (post_order id actors) actors) t ((gives_subtree id actors (post_order id actors) (others (post_order id actors) actors) t).1 (refl, refl))
 

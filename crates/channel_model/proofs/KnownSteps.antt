@@ -57,17 +57,25 @@ pub record KnownIn (schema : Schema) (protocol : ℕ) (p : Phase) (e : End) : Ty
 -- New ids
 
 -- what has arrived, and one more
-new_ids-last : (schema : Schema) (items : List Item) (new : Item) → new_ids schema (items ++ new ∷ []) ≡ new_ids schema items ++ new_ids_in schema new
+pub new_ids-last : (schema : Schema) (items : List Item) (new : Item) → new_ids schema (items ++ new ∷ []) ≡ new_ids schema items ++ new_ids_in schema new
 new_ids-last schema items new = flat_map-append (new_ids_in schema) items (new ∷ []) ∙ ap (λ ids. new_ids schema items ++ ids) (append-nil (new_ids_in schema new))
 
 -- what is no request has no new id
-not_request : (schema : Schema) (m : Message) (sync : Bool) (level : Level) → is_request m.body ≡ false → new_ids_in schema (item.Message m sync level) ≡ []
+pub not_request : (schema : Schema) (m : Message) (sync : Bool) (level : Level) → is_request m.body ≡ false → new_ids_in schema (item.Message m sync level) ≡ []
 not_request schema m sync level plain = ap (λ (b : Bool). cond (b && constructs_by schema m.number) (m.made ∷ []) []) plain
 
 -- a constructor has its own, another request has none
-request-ids : (schema : Schema) (m : Message) (row : MessageRow) (vs : Values) (sync : Bool) (level : Level) → m.body ≡ Request vs → message_of schema m.number ≡ Some row → new_ids_in schema (item.Message m sync level) ≡ cond (is_constructor row.kind) (m.made ∷ []) []
-request-ids schema m row vs sync level body found =
+pub new_ids-request : (schema : Schema) (m : Message) (row : MessageRow) (vs : Values) (sync : Bool) (level : Level) → m.body ≡ Request vs → message_of schema m.number ≡ Some row → new_ids_in schema (item.Message m sync level) ≡ cond (is_constructor row.kind) (m.made ∷ []) []
+new_ids-request schema m row vs sync level body found =
     ap (λ (b : Body). cond (is_request b && constructs_by schema m.number) (m.made ∷ []) []) body ∙ ap (λ (r : Option MessageRow). cond (option_map_or (λ (row : MessageRow). is_constructor row.kind) r false) (m.made ∷ []) []) found
+
+-- the third of three tests passes where none refuses
+pub third_passes : {A : Type 0} (a b c d : Bool) (x y z : A) (rest : Option A) → cond (not a) (Some x) (cond (not b) (Some y) (cond (c && not d) (Some z) rest)) ≡ None → c ≡ true → d ≡ true
+third_passes a b c true x y z rest e h = refl
+third_passes true true true false x y z rest e h = cc
+third_passes true true false false x y z rest e h = cc
+third_passes true false c false x y z rest e h = cc
+third_passes false b c false x y z rest e h = cc
 
 module _ (schema : Schema) (protocol : ℕ) where
   -- Later parts
@@ -89,10 +97,10 @@ module _ (schema : Schema) (protocol : ℕ) where
   later-known (Parts.names more actors) h = record { known = h.known; fresh = h.fresh; few = h.few }
   later-known (Parts.releases seq closed) h = record { known = h.known; fresh = h.fresh; few = h.few }
   later-known (Parts.keeps seq name r held closed) h = record { known = h.known; fresh = h.fresh; few = h.few }
-  later-known {p} {e} (Parts.builds id built rest is alive) h =
+  later-known {p} {e} (Parts.builds id built rest is built_as) h =
       let few : length (id ∷ rest) ≤ 1 = subst (λ (ids : List ℤ). length ids ≤ 1) is h.few in
       record {
-        known = known-built protocol (ids_of schema e) _ h.known (subst (AllByRecursion (IsFresh (ids_of schema e))) is h.fresh).0 alive;
+        known = known-built protocol (ids_of schema e) _ h.known (subst (AllByRecursion (IsFresh (ids_of schema e))) is h.fresh).0 built_as.alive;
         fresh = only-one rest _ id few;
         few = omega (arith, few);
       }
@@ -164,7 +172,7 @@ module _ (schema : Schema) (protocol : ℕ) where
   first-known {e} (Parts.dies_silent open_is alive) h = record { known = dropped-known e h; fresh = tt; few = omega arith }
   first-known {e} (Parts.takes m sync level row vs next body found stays) h = record {
     known = left-known e h;
-    fresh = taken-fresh e m sync level row.kind h (taken-first e (item.Message m sync level) next) (request-ids schema m row vs sync level body found);
+    fresh = taken-fresh e m sync level row.kind h (taken-first e (item.Message m sync level) next) (new_ids-request schema m row vs sync level body found);
     few = fresh-one row.kind m.made;
   }
   first-known {e} (Parts.drops m sync level row vs id replies next body found gone is) h = record { known = behind-known replies (left_end e) (left-known e h); fresh = tt; few = omega arith }
@@ -195,13 +203,6 @@ module _ (schema : Schema) (protocol : ℕ) where
   arrived-known e some new (Constructor p) made h s is next =
       subst (λ (ids : List ℤ). AreKnown protocol (record (ids_of schema e) { delivered = e.constructors_delivered + 1; waiting = some ++ ids })) (sym is) (known-arrives protocol (ids_of schema e) some made h s (next refl))
 
-  third_passes : {A : Type 0} (a b c d : Bool) (x y z : A) (rest : Option A) → cond (not a) (Some x) (cond (not b) (Some y) (cond (c && not d) (Some z) rest)) ≡ None → c ≡ true → d ≡ true
-  third_passes a b c true x y z rest e h = refl
-  third_passes true true true false x y z rest e h = cc
-  third_passes true true false false x y z rest e h = cc
-  third_passes true false c false x y z rest e h = cc
-  third_passes false b c false x y z rest e h = cc
-
   -- the new id of a constructor that is not refused is the next
   next-id : (e : End) (m : Message) (row : MessageRow) (vs : Values) → m.body ≡ Request vs → message_of schema m.number ≡ Some row → packet_refusal schema e (message m) ≡ None → is_constructor row.kind ≡ true → m.made ≡ expected_id e
   next-id e m row vs body found accepted constructor =
@@ -214,7 +215,7 @@ module _ (schema : Schema) (protocol : ℕ) where
       let new : Item = delivery.item_of row m in
       let stays : List Item = staying row.compress new e.arrived in
       subst (λ (ids : List ℤ). AreKnown protocol (record (ids_of schema e) { delivered = counting row.kind e.constructors_delivered; waiting = ids })) (sym (new_ids-last schema stays new))
-      (arrived-known e (new_ids schema stays) (new_ids_in schema new) row.kind m.made h (sublist-flat_map (new_ids_in schema) stays e.arrived (staying-sublist row.compress new e.arrived)) (request-ids schema m row vs (is_sync_row row) row.level body found) (next-id e m row vs body found accepted))
+      (arrived-known e (new_ids schema stays) (new_ids_in schema new) row.kind m.made h (sublist-flat_map (new_ids_in schema) stays e.arrived (staying-sublist row.compress new e.arrived)) (new_ids-request schema m row vs (is_sync_row row) row.level body found) (next-id e m row vs body found accepted))
 
   farewell-ids : (packet : Packet) → is_farewell (farewell_item packet) ≡ true → new_ids_in schema (farewell_item packet) ≡ []
   farewell-ids (message m) is = not_request schema m false Not (plain m.body is)

@@ -31,16 +31,16 @@ use Rattle.channel_model.proofs.StepParts.{parts-keep}
 
 -- Numbers
 
-same_seq : (side : Side) (j k : ℕ) → 1 ≤ j → 1 ≤ k → seq_of side j ≡ seq_of side k → j ≡ k
+pub same_seq : (side : Side) (j k : ℕ) → 1 ≤ j → 1 ≤ k → seq_of side j ≡ seq_of side k → j ≡ k
 same_seq Parent j k one other e = cc
 same_seq Child zero k one other e = absurd (omega arith)
 same_seq Child (suc j) zero one other e = absurd (omega arith)
 same_seq Child (suc j) (suc k) one other e = let f : j ≡ k = cc in ap suc f
 
-more_seqs : (side : Side) (n : ℕ) (seq : ℤ) → IsSeqOf side n seq → IsSeqOf side (n + 1) seq
+pub more_seqs : (side : Side) (n : ℕ) (seq : ℤ) → IsSeqOf side n seq → IsSeqOf side (n + 1) seq
 more_seqs side n seq (k, one, low, e) = (k, one, omega arith, e)
 
-next-is_free : (side : Side) (n : ℕ) (seq : ℤ) → IsSeqOf side n seq → seq ≢ seq_of side (n + 1)
+pub next-is_free : (side : Side) (n : ℕ) (seq : ℤ) → IsSeqOf side n seq → seq ≢ seq_of side (n + 1)
 next-is_free side n seq (k, one, low, e) is = let f : k ≡ n + 1 = same_seq side k (n + 1) one (omega arith) (sym e ∙ is) in absurd (omega arith)
 
 pub next_number_is_free : NextNumberIsFree
@@ -133,7 +133,7 @@ later-numbered (Parts.lets_go name r may held open_is) h = h
 later-numbered (Parts.names more actors) h = h
 later-numbered (Parts.releases seq closed) h = h
 later-numbered (Parts.keeps seq name r held closed) h = h
-later-numbered (Parts.builds id protocol rest fresh alive) h = h
+later-numbered (Parts.builds id protocol rest fresh built) h = h
 later-numbered {e} (Parts.deletes id cause) h = fallen-numbered id e h
 later-numbered {e} (Parts.falls why cause) h = fallen-numbered _ (Parts.abandoned_end e) (same-promised e _ (rejected-seqs (λ p. true) reason.ChannelClosed e.promises) h)
 

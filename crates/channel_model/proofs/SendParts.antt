@@ -22,7 +22,7 @@ use Rattle.channel_model.specs.Falls as fall
 use Rattle.channel_model.specs.Numbers.{counting, protocol_of, is_sync_row, makes_promise, request_row, is_constructor}
 use Rattle.channel_model.specs.Outputs.{Output, Change, ◌▷◌, beginning, when, on_end, line, is_open}
 use Rattle.channel_model.specs.Parts
-use Rattle.channel_model.specs.Parts.{FirstPart, LaterParts, OwnParts, IsSent, sent_end, outbox_after, request_packets, promise_for}
+use Rattle.channel_model.specs.Parts.{FirstPart, IsBuilt, LaterParts, OwnParts, IsSent, sent_end, outbox_after, request_packets, promise_for}
 use Rattle.channel_model.specs.Phases.{Phase, manager_of, kind_cause, fresh_of, quiet, sending, IsOver}
 use Rattle.channel_model.specs.Sends as send
 use Rattle.channel_model.specs.ValueActors.{lives_as}
@@ -91,9 +91,9 @@ request-sends false false true row m w o = record { end_is = refl; lines_are = r
 request-sends false false false row m w o = record { end_is = refl; lines_are = refl; packets_are = put-packets o.packets o.end (message m) }
 
 -- an actor is built
-pub builds-made : (p : Phase) (id : ℤ) (protocol : ℕ) (o : Output) → p.fresh ≡ id ∷ [] → lives (manager_of p.start) o.end.actors ≡ true → Makes (LaterParts p o.end) (send.built id protocol (manager_of p.start)) o (record p { fresh = [] })
-builds-made p id protocol o fresh alive =
-    made-later p (record p { fresh = [] }) (send.built id protocol (manager_of p.start)) o (what.Built id protocol ∷ []) [] (Parts.builds id protocol [] fresh alive) refl (sym (append-nil o.packets)) refl
+pub builds-made : (p : Phase) (id : ℤ) (protocol : ℕ) (o : Output) → p.fresh ≡ id ∷ [] → IsBuilt p o.end protocol → Makes (LaterParts p o.end) (send.built id protocol (manager_of p.start)) o (record p { fresh = [] })
+builds-made p id protocol o fresh built =
+    made-later p (record p { fresh = [] }) (send.built id protocol (manager_of p.start)) o (what.Built id protocol ∷ []) [] (Parts.builds id protocol [] fresh built) refl (sym (append-nil o.packets)) refl
 
 -- no other kind makes an actor
 pub fresh-none : (row : MessageRow) (m : Message) (kind : Kind) → row.kind ≡ kind → is_constructor kind ≡ false → fresh_of row m ≡ []
@@ -129,7 +129,7 @@ module _ (schema : Schema) where
         q,
         made-as (LaterParts p o.end) (send.names_actor m.made name ▷ send.constructs m.made m.route (Constructor protocol) ▷ fall.deletes m.route (Constructor protocol)) (send.names_actor m.made name ▷ send.built m.made protocol m.route) o q refl
             (made-joined p r q (send.names_actor m.made name) (send.built m.made protocol m.route) o n.1
-            (builds-made r m.made protocol named (fresh-is row m protocol is) (ap (λ (living : List Actor). lives m.route living) (names_actor-actors m.made name o) ∙ alive))),
+            (builds-made r m.made protocol named (fresh-is row m protocol is) (record { alive = ap (λ (living : List Actor). lives m.route living) (names_actor-actors m.made name o) ∙ alive; made = is }))),
         (refl, ap (λ (k : Kind). kind_cause k m.route) is),
       )
   finish row m name Delete o is alive =

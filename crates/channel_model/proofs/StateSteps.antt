@@ -316,8 +316,8 @@ later-state {p} {q} {e} (Parts.lets_go name r may held open_is) tree h = phase-f
 later-state {p} {q} {e} (Parts.names more actors) tree h = phase-follows p q e _ refl (names-follow e _) h
 later-state {p} {q} {e} (Parts.releases seq closed) tree h = phase-follows p q e _ refl (released-follows seq e) h
 later-state {p} {q} {e} (Parts.keeps seq name r held closed) tree h = phase-follows p q e _ refl (follows-chain e _ _ (released-follows seq e) (names-follow (record e { stack = released seq e.stack }) _)) h
-later-state {p} {q} {e} {f} (Parts.builds id protocol rest is alive) tree h =
-    phase-follows p q e f refl (record { state = refl; arrived = refl; outbox = λ x. x; waits = λ x. x; nobody = nobody-builds e id (manager_of p.start) _ alive; settled = λ x. x; stack = λ x. x }) h
+later-state {p} {q} {e} {f} (Parts.builds id protocol rest is built) tree h =
+    phase-follows p q e f refl (record { state = refl; arrived = refl; outbox = λ x. x; waits = λ x. x; nobody = nobody-builds e id (manager_of p.start) _ built.alive; settled = λ x. x; stack = λ x. x }) h
 later-state {p} {q} {e} (Parts.deletes id due) tree (inl h) = let k : deletion id ≡ closing h.0.0 = sym due ∙ h.0.1 in cc
 later-state {p} {q} {e} (Parts.deletes id due) tree (inr h) = inr (follows-in_state e (fallen_end id e) (fallen-follows id e) h)
 later-state {p} {q} {e} (Parts.falls why due) tree (inl h) = inr (fallen-closed why e tree h.1)

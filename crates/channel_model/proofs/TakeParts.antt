@@ -61,7 +61,7 @@ module _ (schema : Schema) where
       by (Constructor protocol) e =
           let q : Phase = record (taking row m) { fresh = [] } in (
             q,
-            made-begun schema (taking row m) q begins (send.built m.made protocol m.route) o part (builds-made (taking row m) m.made protocol (begins o) (fresh-is row m protocol e) alive) (refl, refl),
+            made-begun schema (taking row m) q begins (send.built m.made protocol m.route) o part (builds-made (taking row m) m.made protocol (begins o) (fresh-is row m protocol e) (record { alive = alive; made = e })) (refl, refl),
           )
 
   -- Requests that are dropped

@@ -48,7 +48,7 @@ silent-one (Parts.lets_go name r may held open_is) is = let k : true ≡ false =
 silent-one (Parts.names more actors) is = (refl, refl, is)
 silent-one (Parts.releases seq closed) is = (refl, refl, is)
 silent-one (Parts.keeps seq name r held closed) is = (refl, refl, is)
-silent-one (Parts.builds id protocol rest fresh alive) is = let k : id ∷ rest ≡ [] = sym fresh ∙ ap (λ (p : Phase). p.fresh) is in cc
+silent-one (Parts.builds id protocol rest fresh built) is = let k : id ∷ rest ≡ [] = sym fresh ∙ ap (λ (p : Phase). p.fresh) is in cc
 silent-one (Parts.deletes id due) is = let k : deletion id ≡ nobody = sym due ∙ ap (λ (p : Phase). p.due) is in cc
 silent-one (Parts.falls why due) is = let k : closing why ≡ nobody = sym due ∙ ap (λ (p : Phase). p.due) is in cc
 

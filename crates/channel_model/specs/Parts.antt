@@ -16,6 +16,7 @@ use Rattle.ipdl_base.specs.declared.line.What.TheVariants as what
 use Rattle.ipdl_base.specs.declared.message.Body.{Body}
 use Rattle.ipdl_base.specs.declared.message.Body.TheVariants.{Request, Reply, Fault, Goodbye}
 use Rattle.ipdl_base.specs.declared.message.Message.{Message}
+use Rattle.ipdl_base.specs.declared.schema.Kind.TheVariants.{Constructor}
 use Rattle.ipdl_base.specs.declared.schema.MessageRow.{MessageRow}
 use Rattle.ipdl_base.specs.declared.schema.Schema.{Schema}
 use Rattle.ipdl_base.specs.declared.value.Values.{Values}
@@ -265,6 +266,11 @@ pub data FirstPart (schema : Schema) : End → List What → List Packet → End
   resumes : {e : End} (wait : return.AnsweredWait) (row : MessageRow) → return.answered_wait_on_top e.stack ≡ Some wait → request_row schema wait.number ≡ Some row
       → FirstPart schema e (return.resume_line wait.seq (received schema e.actors row wait.given) ∷ []) [] (record e { stack = drop 1 e.stack }) quiet
 
+-- What is known of an actor that is built: it is under one that lives, and of the protocol that the request makes.
+pub record IsBuilt (p : Phase) (e : End) (protocol : ℕ) : Type 0 where
+  pub alive : lives (manager_of p.start) e.actors ≡ true
+  pub made : p.kind ≡ Constructor protocol
+
 -- The parts that follow in the same step.
 pub data LaterPart : Phase → End → List What → List Packet → End → Phase → Type 0 where
   -- a name loses what it held, and nobody is told
@@ -280,7 +286,7 @@ pub data LaterPart : Phase → End → List What → List Packet → End → Pha
   keeps : {p : Phase} {e : End} (seq : ℤ) (name : List ℕ) (r : Resolver) → answering.handled_resolver e seq ≡ Some r → is_closed e.state ≡ false
       → LaterPart p e [] [] (record e { stack = answering.released seq e.stack; names = e.names ++ record { name = name; holds = resolver r } ∷ [] }) p
   -- an actor is built under the one that the request went to
-  builds : {p : Phase} {e : End} (id : ℤ) (protocol : ℕ) (rest : List ℤ) → p.fresh ≡ id ∷ rest → lives (manager_of p.start) e.actors ≡ true
+  builds : {p : Phase} {e : End} (id : ℤ) (protocol : ℕ) (rest : List ℤ) → p.fresh ≡ id ∷ rest → IsBuilt p e protocol
       → LaterPart p e (what.Built id protocol ∷ []) [] (record e { actors = e.actors ++ record { id = id; protocol = protocol; manager = manager_of p.start } ∷ [] }) (record p { fresh = rest })
   -- the actor of a destructor falls with all below it
   deletes : {p : Phase} {e : End} (id : ℤ) → p.due ≡ deletion id → LaterPart p e (fall_lines id (fall.why_deleted id) e) [] (fallen_end id e) (record p { due = nobody })

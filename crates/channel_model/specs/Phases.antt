@@ -22,10 +22,11 @@ pub data FallCause : Type 0 where
   deletion : ℤ → FallCause
   closing : Destroy → FallCause
 
--- How far an event has come: how it began, why actors fall in it, the ids that are still to be built, the falls that are
--- still due, and whether a name may still lose what it holds.
+-- How far an event has come: how it began, with a request of which kind, why actors fall in it, the ids that are still to
+-- be built, the falls that are still due, and whether a name may still lose what it holds.
 pub record Phase : Type 0 where
   pub start : EventStart
+  pub kind : Kind
   pub cause : FallCause
   pub fresh : List ℤ
   pub due : FallCause
@@ -41,19 +42,19 @@ manager_of other = pos 0
 
 -- nothing is to follow
 abbrev pub quiet : Phase
-quiet = record { start = other; cause = nobody; fresh = []; due = nobody; renames = false }
+quiet = record { start = other; kind = Normal; cause = nobody; fresh = []; due = nobody; renames = false }
 
 -- a name is to hold something else
 abbrev pub renaming : Phase
-renaming = record { start = other; cause = nobody; fresh = []; due = nobody; renames = true }
+renaming = record { start = other; kind = Normal; cause = nobody; fresh = []; due = nobody; renames = true }
 
 -- the other end has closed or died
 abbrev pub ending : Phase
-ending = record { start = ends; cause = nobody; fresh = []; due = nobody; renames = false }
+ending = record { start = ends; kind = Normal; cause = nobody; fresh = []; due = nobody; renames = false }
 
 -- the end closes for this reason
 abbrev pub shutting : Destroy → Phase
-shutting why = record { start = closes; cause = closing why; fresh = []; due = closing why; renames = false }
+shutting why = record { start = closes; kind = Normal; cause = closing why; fresh = []; due = closing why; renames = false }
 
 -- why actors fall behind a request of a kind that went to this actor
 abbrev pub kind_cause : Kind → ℤ → FallCause
@@ -67,15 +68,15 @@ fresh_of row m = if is_constructor row.kind then m.made ∷ [] else []
 
 -- a request is sent
 abbrev pub sending : MessageRow → Message → Phase
-sending row m = record { start = sends m.seq m.route; cause = kind_cause row.kind m.route; fresh = fresh_of row m; due = kind_cause row.kind m.route; renames = true }
+sending row m = record { start = sends m.seq m.route; kind = row.kind; cause = kind_cause row.kind m.route; fresh = fresh_of row m; due = kind_cause row.kind m.route; renames = true }
 
 -- a request is handled
 abbrev pub taking : MessageRow → Message → Phase
-taking row m = record { start = takes m.seq m.route; cause = nobody; fresh = fresh_of row m; due = nobody; renames = false }
+taking row m = record { start = takes m.seq m.route; kind = row.kind; cause = nobody; fresh = fresh_of row m; due = nobody; renames = false }
 
 -- the handler of a request that went to this actor returns
 abbrev pub returning : MessageRow → ℤ → Phase
-returning row route = record { start = other; cause = kind_cause row.kind route; fresh = []; due = kind_cause row.kind route; renames = false }
+returning row route = record { start = other; kind = Normal; cause = kind_cause row.kind route; fresh = []; due = kind_cause row.kind route; renames = false }
 
 -- all that is to be built is built, and no fall is due
 abbrev pub IsOver : Phase → Type 0

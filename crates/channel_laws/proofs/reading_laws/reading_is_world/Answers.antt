@@ -1,0 +1,5 @@
+use Rattle.channel_laws.proofs.Readable as law
+use Rattle.channel_laws.proofs.reading_laws.reading_is_world.Goals as goal
+
+pub returns : goal.returns
+returns c = law.reading_is_world

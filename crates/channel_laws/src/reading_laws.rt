@@ -1,0 +1,11 @@
+ghost use Rattle.channel_laws.specs.ReadingLaws.{HistoriesAreReadable, ReadingIsWorld};
+
+/// The law of the reading: that of the lines of every run is its world.
+pub fn reading_is_world()
+    ensures { ReadingIsWorld }
+{}
+
+/// The law of readable histories: every legal history can be read.
+pub fn histories_are_readable()
+    ensures { HistoriesAreReadable }
+{}
