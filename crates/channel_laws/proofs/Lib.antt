@@ -91,3 +91,4 @@ pub mod HeadsAlike
 pub mod WaitMoments
 pub mod SettledRuns
 pub mod StillReads
+pub mod FittingRuns

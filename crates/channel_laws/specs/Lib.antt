@@ -31,5 +31,6 @@ pub mod PrefixLaws
 pub mod Heads
 pub mod Replies
 pub mod SettledLaws
+pub mod FittingWorlds
 pub mod TwoEndLaws
 pub mod ExchangeLaws
