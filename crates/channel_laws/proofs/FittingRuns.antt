@@ -1,5 +1,5 @@
 -- In every run that is not too long what the ends keep, and what is on the links, fits the schema.
-use Rattle.std.proofs.Common.{◌≡◌, ℕ, ◌+◌, ◌<◌, ◌≤◌, Bool, true, false, List, [], ◌∷◌, ◌++◌, drop, Option, Some, None, refl, sym, ap, subst, ◌∙◌, arith}
+use Rattle.std.proofs.Common.{◌≡◌, ℕ, Bool, true, false, List, [], ◌∷◌, Some, None, refl, subst, arith}
 use Rattle.std.specs.List.{AllByRecursion}
 use Rattle.ipdl_base.specs.declared.kinds.EndState.TheVariants.{Open}
 use Rattle.ipdl_base.specs.declared.kinds.Side.{Side}
@@ -7,11 +7,10 @@ use Rattle.ipdl_base.specs.declared.kinds.Side.TheVariants.{Parent, Child}
 use Rattle.ipdl_base.specs.declared.schema.Schema.{Schema}
 use Rattle.ipdl_base.specs.Sound.{IsSound}
 use Rattle.history_reading.specs.Reading.{Reading}
-use Rattle.channel_model.specs.Bounds.{HasCounted}
 use Rattle.channel_model.specs.Ends.{End, World, Packet, end_of, link_to, opening}
 use Rattle.channel_model.specs.Events.{Event, Move}
 use Rattle.channel_model.specs.Events as event
-use Rattle.channel_model.specs.Fitting.{IsFitting, FitsPacket, IsFittingDelivery}
+use Rattle.channel_model.specs.Fitting.{FitsPacket, IsFittingDelivery}
 use Rattle.channel_model.specs.Outputs.{Output, Change, is_open}
 use Rattle.channel_model.specs.Refusals.{packet_refusal}
 use Rattle.channel_model.specs.Runs.{after_event, output_of, world_after}

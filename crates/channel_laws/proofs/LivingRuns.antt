@@ -34,8 +34,6 @@ use Rattle.channel_laws.specs.Rows.{HasSoundRows}
 use Rattle.channel_laws.specs.SentAccounts.{EndAccount}
 use Rattle.channel_laws.specs.Tested.{after_whats, EndLinesPass, LinesPass}
 use Rattle.channel_laws.specs.TwoEnds.{TwoEnds}
-use Rattle.channel_laws.proofs.ActorIds.{first-ids}
-use Rattle.channel_laws.proofs.ActorParts.{first-begins}
 use Rattle.channel_laws.proofs.ActorsKept.{first-kept, later-kept}
 use Rattle.channel_laws.proofs.EveryRun.{end-side}
 use Rattle.channel_laws.proofs.Holding.{holds-in-runs, law_at}
