@@ -1,9 +1,7 @@
 -- What a sound schema says of rows.
-use Rattle.std.proofs.Common.{◌≡◌, ◌≢◌, ℕ, ◌+◌, ◌*◌, ◌/◌, ◌%◌, Bool, true, false, ◌||◌, ◌==◌, ◌⊎◌, cond, if◌then◌else◌, Option, Some, None, option_and_then, is_some, inl, inr, refl, sym, ap, subst, ◌∙◌, arith}
+use Rattle.std.proofs.Common.{◌≡◌, ◌≢◌, ℕ, ◌+◌, ◌/◌, ◌%◌, Bool, true, false, ◌||◌, Option, Some, is_some, refl, sym, ap, ◌∙◌, arith}
 use Rattle.std.specs.List.{slice_get}
 use Rattle.std.specs.Option.{option_map_or}
-use Rattle.std.proofs.lemmas.Option.{same_Some}
-use Rattle.std.proofs.lemmas.Bool.{cases_Bool, eqb-true, eq-eqb}
 use Rattle.ipdl_base.specs.declared.kinds.Compress.{Compress}
 use Rattle.ipdl_base.specs.declared.kinds.Compress.TheVariants as compress
 use Rattle.ipdl_base.specs.declared.kinds.Direction.{Direction}
@@ -14,10 +12,9 @@ use Rattle.ipdl_base.specs.declared.kinds.Semantics.{Semantics}
 use Rattle.ipdl_base.specs.declared.kinds.Semantics.TheVariants.{Async, Sync}
 use Rattle.ipdl_base.specs.declared.kinds.Side.TheVariants.{Parent}
 use Rattle.ipdl_base.specs.declared.schema.MessageRow.{MessageRow}
-use Rattle.ipdl_base.specs.declared.schema.ProtocolRow.{ProtocolRow}
 use Rattle.ipdl_base.specs.declared.schema.Schema.{Schema}
-use Rattle.ipdl_base.specs.Sound.{IsSound, IsSoundMessage, is_sync, has_reply, message_of}
-use Rattle.ipdl_base.proofs.Numbers.{no_protocol, no_message, request_found, reply_found, no_reply}
+use Rattle.ipdl_base.specs.Sound.{IsSound, is_sync, has_reply, message_of}
+use Rattle.ipdl_base.proofs.Numbers.{no_reply}
 use Rattle.channel_model.specs.Numbers.{sends, is_sync_row, request_row}
 use Rattle.channel_model.proofs.SendParts.{request-number}
 use Rattle.channel_model.proofs.SoundRows.{IsAt, row-at, reply-row}

@@ -34,4 +34,5 @@ pub mod Replies
 pub mod Settlings
 pub mod SettledLaws
 pub mod ExchangeLaws
+pub mod FittingWorlds
 pub mod TwoEndLaws

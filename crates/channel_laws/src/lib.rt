@@ -21,5 +21,5 @@ pub use laws::{
 pub use reading_laws::{histories_are_readable, reading_is_world};
 pub use two_end_laws::{
     histories_obey_living, honest_packets_are_accepted, protocols_in_every_run,
-    requests_come_in_order, types_tell_who_lives, values_are_read_alike,
+    requests_come_in_order, types_tell_who_lives, values_are_read_alike, worlds_fit_in_runs,
 };
