@@ -96,3 +96,4 @@ pub mod StillEnds
 pub mod WaitLaw
 pub mod PartLines
 pub mod FittingRuns
+pub mod BoundedRuns

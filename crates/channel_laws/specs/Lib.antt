@@ -36,3 +36,4 @@ pub mod SettledLaws
 pub mod ExchangeLaws
 pub mod FittingWorlds
 pub mod TwoEndLaws
+pub mod BoundedRuns
