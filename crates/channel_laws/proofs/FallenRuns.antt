@@ -62,7 +62,7 @@ not-true true n = absurd (n refl)
 not-true false n = refl
 
 -- the protocol of the top actor
-top_protocol : List Actor → ℕ
+pub top_protocol : List Actor → ℕ
 top_protocol [] = 0
 top_protocol (a ∷ later) = a.protocol
 
@@ -75,7 +75,7 @@ unfolding top_protocol
 tops [] t = tt
 tops (a ∷ later) t = ((λ e. refl), later-tops a.protocol (a ∷ []) later t.1 (inl (ap (λ (x : Actor). x.id) t.0)))
 
-known-of : (schema : Schema) (e : End) (own : EndReading) → ReadsActors schema e own → AreKnown (top_protocol e.actors) (ids_of schema e)
+pub known-of : (schema : Schema) (e : End) (own : EndReading) → ReadsActors schema e own → AreKnown (top_protocol e.actors) (ids_of schema e)
 known-of schema e own k = record {
   tree = k.ids.tree;
   top = tops e.actors k.ids.tree;

@@ -143,7 +143,7 @@ module _ (schema : Schema) where
 
 -- Runs
 
-reached-next : (schema : Schema) (move : Move) (w : World) (r : Reading) → IsReached schema w r → IsReached schema (happens schema w move).world (read_from schema r (happens schema w move).lines)
+pub reached-next : (schema : Schema) (move : Move) (w : World) (r : Reading) → IsReached schema w r → IsReached schema (happens schema w move).world (read_from schema r (happens schema w move).lines)
 reached-next schema move w r h =
     let before : RunState = run schema h.front (opening h.top) in
     let m : MovesFollow schema h.front (move ∷ []) (opening h.top) = moves_go_one_after_another schema h.front (move ∷ []) (opening h.top) in

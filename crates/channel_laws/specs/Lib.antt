@@ -34,4 +34,6 @@ pub mod Replies
 pub mod Settlings
 pub mod SettledLaws
 pub mod ExchangeLaws
+pub mod FittingWorlds
 pub mod TwoEndLaws
+pub mod BoundedRuns

@@ -13,6 +13,7 @@ use Rattle.channel_model.specs.Events.{Move}
 use Rattle.channel_model.specs.Refusals.{packet_refusal}
 use Rattle.channel_model.specs.Runs.{history_of}
 use Rattle.channel_model.specs.ValueActors.{ActorValue, lives_as}
+use Rattle.channel_laws.specs.FittingWorlds.{IsFittingWorld, IsShort}
 use Rattle.channel_laws.specs.Laws.{world_of}
 use Rattle.channel_laws.specs.Protocols.{Protocols, HasItsProtocol, HasProtocols, WorldHasProtocols}
 use Rattle.channel_laws.specs.RequestOrder.{WorldInOrder}
@@ -41,3 +42,8 @@ abbrev pub HonestPacketsAreAccepted : Type 0
 HonestPacketsAreAccepted =
     (schema : Schema) → IsSound schema → (top : ℕ) (moves : List Move) (side : Side) (packet : Packet) (rest : List Packet)
     → (end_of side (world_of schema top moves)).state ≡ Open → link_to side (world_of schema top moves) ≡ packet ∷ rest → packet_refusal schema (end_of side (world_of schema top moves)) packet ≡ None
+
+-- While each end has sent less than 2^28 requests, what the ends keep and what is on the links fits the schema. So an open
+-- end is given only what fits and what it does not refuse.
+abbrev pub WorldsFitInRuns : Type 0
+WorldsFitInRuns = (schema : Schema) → IsSound schema → (top : ℕ) (moves : List Move) → IsShort (world_of schema top moves) → IsFittingWorld schema (world_of schema top moves)

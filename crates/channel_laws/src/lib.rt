@@ -4,6 +4,7 @@
 #![tactic(auto)]
 
 mod actor_laws;
+mod bound_laws;
 mod exchange_laws;
 mod history_laws;
 mod laws;
@@ -11,6 +12,7 @@ mod reading_laws;
 mod two_end_laws;
 
 pub use actor_laws::{ends_obey_fallen, histories_obey_fallen};
+pub use bound_laws::histories_are_bounded;
 pub use exchange_laws::{ends_read_exchanges, ends_settle, ends_take_once, histories_obey_settled};
 pub use history_laws::{histories_obey_prefix, histories_obey_waits};
 pub use laws::{
@@ -21,5 +23,5 @@ pub use laws::{
 pub use reading_laws::{histories_are_readable, reading_is_world};
 pub use two_end_laws::{
     histories_obey_living, honest_packets_are_accepted, protocols_in_every_run,
-    requests_come_in_order, types_tell_who_lives, values_are_read_alike,
+    requests_come_in_order, types_tell_who_lives, values_are_read_alike, worlds_fit_in_runs,
 };

@@ -1,4 +1,4 @@
-ghost use Rattle.channel_laws.specs.TwoEndLaws.{HistoriesObeyLiving, HonestPacketsAreAccepted, ProtocolsInEveryRun, RequestsComeInOrder, TypesTellWhoLives};
+ghost use Rattle.channel_laws.specs.TwoEndLaws.{HistoriesObeyLiving, HonestPacketsAreAccepted, ProtocolsInEveryRun, RequestsComeInOrder, TypesTellWhoLives, WorldsFitInRuns};
 ghost use Rattle.channel_laws.specs.ValueReadings.{ValuesAreReadAlike};
 
 /// The law of protocols: in every run each id stands for one protocol, by which both ends and all packets speak of it.
@@ -31,4 +31,9 @@ pub fn histories_obey_living()
 /// channel has sent.
 pub fn honest_packets_are_accepted()
     ensures { HonestPacketsAreAccepted }
+{}
+
+/// The law of what fits: while each end has sent less than 2^28 requests, all that the ends keep and send fits the schema.
+pub fn worlds_fit_in_runs()
+    ensures { WorldsFitInRuns }
 {}

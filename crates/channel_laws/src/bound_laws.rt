@@ -1,0 +1,7 @@
+ghost use Rattle.channel_laws.specs.BoundedRuns.{HistoriesAreBounded};
+
+/// The law of bounds: in every history each end prints at most five lines for each of its events, and one more, and puts
+/// at most two packets on its link for each.
+pub fn histories_are_bounded()
+    ensures { HistoriesAreBounded }
+{}
