@@ -95,3 +95,5 @@ pub mod StillReads
 pub mod StillEnds
 pub mod WaitLaw
 pub mod PartLines
+pub mod AllLaws
+pub mod QuietWorlds

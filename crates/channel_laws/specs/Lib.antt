@@ -35,3 +35,5 @@ pub mod Settlings
 pub mod SettledLaws
 pub mod ExchangeLaws
 pub mod TwoEndLaws
+pub mod AllLaws
+pub mod Quiet
