@@ -97,3 +97,5 @@ pub mod WaitLaw
 pub mod PartLines
 pub mod FittingRuns
 pub mod BoundedRuns
+pub mod AllLaws
+pub mod QuietWorlds

@@ -37,3 +37,5 @@ pub mod ExchangeLaws
 pub mod FittingWorlds
 pub mod TwoEndLaws
 pub mod BoundedRuns
+pub mod AllLaws
+pub mod Quiet
