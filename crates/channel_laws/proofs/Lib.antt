@@ -95,3 +95,4 @@ pub mod StillReads
 pub mod StillEnds
 pub mod WaitLaw
 pub mod PartLines
+mod WorkedLaws
