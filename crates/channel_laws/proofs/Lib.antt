@@ -99,3 +99,4 @@ pub mod FittingRuns
 pub mod BoundedRuns
 pub mod AllLaws
 pub mod QuietWorlds
+mod WorkedLaws

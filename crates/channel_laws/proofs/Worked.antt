@@ -29,13 +29,13 @@ use Rattle.channel_laws.proofs.Replies.{replies_find_their_waits, sync_replies_a
 use Rattle.channel_laws.proofs.StillWorlds.{still_ends_wait_for_nothing, still_histories_leave_no_end_waiting}
 use Rattle.channel_laws.proofs.WorkedSchema.{calling, calling_is_sound, ask, tell, peek}
 
-abbrev parent : Event → Move
+abbrev pub parent : Event → Move
 parent event = record { side = side.Parent; event = event }
 
-abbrev child : Event → Move
+abbrev pub child : Event → Move
 child event = record { side = side.Child; event = event }
 
-abbrev top : ℤ
+abbrev pub top : ℤ
 top = pos 2147483647
 
 -- the world behind moves
@@ -44,7 +44,7 @@ behind moves = world_of calling 0 moves
 
 -- Both ends call at once.
 
-abbrev at_once : List Move
+abbrev pub at_once : List Move
 at_once = parent (event.send top tell Nothing None) ∷ child (event.send top ask Nothing None) ∷ []
 
 -- the parent's call and the child's
@@ -95,7 +95,7 @@ reply_is_not_stray = sync_replies_are_not_stray calling calling_is_sound 0 first
 
 -- All is answered, and the world is still.
 
-abbrev answers : List Move
+abbrev pub answers : List Move
 answers =
     child event.deliver
     ∷ child event.take

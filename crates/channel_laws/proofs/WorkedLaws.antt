@@ -1,0 +1,75 @@
+-- A worked history, and that it meets the premises of the theorem of each law: both ends call at once, all is answered,
+-- and the parent closes.
+use Rattle.std.proofs.Common.{◌≡◌, ◌++◌, ℤ, pos, negsuc, List, [], ◌∷◌, refl}
+use Rattle.ipdl_base.specs.declared.kinds.Destroy.TheVariants.{NormalShutdown}
+use Rattle.ipdl_base.specs.declared.kinds.Side.TheVariants as side
+use Rattle.ipdl_base.specs.declared.line.Line.{Line}
+use Rattle.ipdl_base.specs.declared.line.What.{What}
+use Rattle.ipdl_base.specs.declared.line.What.TheVariants as what
+use Rattle.ipdl_base.specs.declared.value.Values.TheVariants.{Nothing}
+use Rattle.history_reading.specs.declared.law.Law.TheVariants as law
+use Rattle.history_reading.specs.Holds.{IsReadable, Holds}
+use Rattle.channel_model.specs.Events.{Move}
+use Rattle.channel_model.specs.Events as event
+use Rattle.channel_model.specs.Outputs.{line_at}
+use Rattle.channel_model.specs.Runs.{history_of}
+use Rattle.channel_laws.proofs.FallenRuns.{histories_obey_fallen}
+use Rattle.channel_laws.proofs.LivingRuns.{histories_obey_living}
+use Rattle.channel_laws.proofs.PrefixRuns.{histories_obey_prefix}
+use Rattle.channel_laws.proofs.Readable.{histories_are_readable}
+use Rattle.channel_laws.proofs.SettledRuns.{histories_obey_settled}
+use Rattle.channel_laws.proofs.WaitLaw.{histories_obey_waits}
+use Rattle.channel_laws.proofs.Worked.{parent, child, top, at_once, answers}
+use Rattle.channel_laws.proofs.WorkedSchema.{calling, calling_is_sound, ask, tell}
+
+abbrev moves : List Move
+moves = (at_once ++ answers) ++ (parent event.close ∷ child event.deliver ∷ child event.take ∷ [])
+
+abbrev at_parent : What → Line
+at_parent said = line_at side.Parent said
+
+abbrev at_child : What → Line
+at_child said = line_at side.Child said
+
+abbrev lines : List Line
+lines =
+    at_parent (what.Call (pos 1) (pos 1) top tell Nothing)
+    ∷ at_child (what.Call (negsuc 0) (negsuc 0) top ask Nothing)
+    ∷ at_child (what.DeliverRequest (pos 1))
+    ∷ at_child (what.Take (pos 1) top tell Nothing)
+    ∷ at_child (what.Return (pos 1))
+    ∷ at_child (what.AnswerOk (pos 1) Nothing)
+    ∷ at_parent (what.DeliverRequest (negsuc 0))
+    ∷ at_parent (what.DeliverReply (pos 1))
+    ∷ at_parent (what.ResumeOk (pos 1) Nothing)
+    ∷ at_parent (what.Take (negsuc 0) top ask Nothing)
+    ∷ at_parent (what.Return (negsuc 0))
+    ∷ at_parent (what.AnswerOk (negsuc 0) Nothing)
+    ∷ at_child (what.DeliverReply (negsuc 0))
+    ∷ at_child (what.ResumeOk (negsuc 0) Nothing)
+    ∷ at_parent what.Close
+    ∷ at_parent (what.Fall top NormalShutdown)
+    ∷ at_child what.DeliverGoodbye
+    ∷ at_child what.ShutNormal
+    ∷ at_child (what.Fall top NormalShutdown) ∷ []
+
+history_is : history_of calling 0 moves ≡ lines
+history_is = refl
+
+can_be_read : IsReadable calling lines
+can_be_read = histories_are_readable calling calling_is_sound 0 moves
+
+obeys_prefix : Holds law.Prefix calling lines
+obeys_prefix = histories_obey_prefix calling calling_is_sound 0 moves
+
+obeys_living : Holds law.Living calling lines
+obeys_living = histories_obey_living calling calling_is_sound 0 moves
+
+obeys_waits : Holds law.Waits calling lines
+obeys_waits = histories_obey_waits calling calling_is_sound 0 moves
+
+obeys_settled : Holds law.Settled calling lines
+obeys_settled = histories_obey_settled calling calling_is_sound 0 moves
+
+obeys_fallen : Holds law.Fallen calling lines
+obeys_fallen = histories_obey_fallen calling calling_is_sound 0 moves
