@@ -24,7 +24,7 @@ use Rattle.channel_model.specs.Parts.{reply_lines}
 use Rattle.channel_model.specs.Takes.{settle_line}
 use Rattle.channel_laws.specs.EndActors.{actor_reading, handled_frame}
 use Rattle.channel_laws.specs.Tested.{after_whats, EndLinesPass}
-use Rattle.channel_laws.proofs.Outlines.{leaves-map}
+use Rattle.channel_laws.proofs.PartLines.{mapped-lines}
 use Rattle.channel_laws.proofs.Testing.{tested-free}
 
 -- Effects that say nothing of actors
@@ -71,10 +71,10 @@ no_actor-reply true q (answer.Fault r) = (says_fault q.seq r, tt)
 no_actor-reply false q a = tt
 
 pub no_actor-rejections : (test : Promise → Bool) (why : Reason) (ps : List PromiseEntry) → AllByRecursion SaysNoActor (fall.rejections test why ps)
-no_actor-rejections test why ps = leaves-map SaysNoActor (λ (entry : PromiseEntry). what.Rejected entry.promise.seq why) (filter (fall.passes test) ps) (λ entry. rejected entry.promise.seq why)
+no_actor-rejections test why ps = mapped-lines SaysNoActor (λ (entry : PromiseEntry). what.Rejected entry.promise.seq why) (filter (fall.passes test) ps) (λ entry. rejected entry.promise.seq why)
 
 pub no_actor-fails : (ns : List ℤ) → AllByRecursion SaysNoActor (map what.Fails ns)
-no_actor-fails ns = leaves-map SaysNoActor what.Fails ns fails
+no_actor-fails ns = mapped-lines SaysNoActor what.Fails ns fails
 
 pub no_actor-settles : (seq : ℤ) (o : Outcome) → SaysNoActor (settle_line seq o)
 no_actor-settles seq (Resolved vs) = resolved seq vs

@@ -30,8 +30,7 @@ use Rattle.channel_model.specs.Takes as take
 use Rattle.channel_model.specs.ValueActors.{received}
 use Rattle.channel_model.proofs.Known.{all-append}
 use Rattle.channel_laws.specs.Delivered.{body_kind, delivered_kind, delivered_by, delivered_by_lines}
-use Rattle.channel_laws.proofs.PartLines.{EffectsHave, reply-has, laters-have}
-use Rattle.channel_laws.proofs.Outlines.{leaves-map}
+use Rattle.channel_laws.proofs.PartLines.{EffectsHave, reply-has, laters-have, mapped-lines}
 
 -- Lines that deliver nothing
 
@@ -43,7 +42,7 @@ none-delivered [] h = refl
 none-delivered (w ∷ ws) h = ap (λ (xs : List PacketKind). xs ++ delivered_by_lines ws) h.0 ∙ none-delivered ws h.1
 
 none-effects : EffectsHave DeliversNone
-none-effects = record { built = λ id protocol. refl; ok = λ n vs. refl; fault = λ n r. refl; rejected = λ n r. refl; fell = λ id why. refl }
+none-effects = record { built = λ id protocol. refl; ok = λ n vs. refl; fault = λ n r. refl; falls = record { rejected = λ n r. refl; fell = λ id why. refl } }
 
 none-refusal : (schema : Schema) (w : What) → IsRefusal schema w → DeliversNone w
 none-refusal schema (what.RefusedSend c n) q = refl
@@ -135,5 +134,5 @@ delivery-delivers (parts.replaces m row vs old sync level replies body found rep
     with-none (what.DeliverRequest m.seq) (what.Replaced old.seq ∷ reply_lines replies (request_answered old) (answer.Fault reason.ResolverDestroyed)) (body_kind m.seq m.body) (refl, reply-has DeliversNone none-effects replies (request_answered old) (answer.Fault reason.ResolverDestroyed)) (ap (λ (b : Body). body_kind m.seq b ∷ []) (sym body))
 delivery-delivers (parts.gets_answer m row a body found is) = answer-kind m.seq a ∙ ap (λ (b : Body). body_kind m.seq b ∷ []) (sym body)
 delivery-delivers (parts.gets_reply m row a body found is) = answer-kind m.seq a ∙ ap (λ (b : Body). body_kind m.seq b ∷ []) (sym body)
-delivery-delivers {e} (parts.drains packet is) = with-none (farewell_line packet) (map what.Fails (delivery.unanswered e)) (delivered_kind packet) (leaves-map DeliversNone what.Fails (delivery.unanswered e) (λ n. refl)) (farewell-kind packet is)
+delivery-delivers {e} (parts.drains packet is) = with-none (farewell_line packet) (map what.Fails (delivery.unanswered e)) (delivered_kind packet) (mapped-lines DeliversNone what.Fails (delivery.unanswered e) (λ n. refl)) (farewell-kind packet is)
 delivery-delivers (parts.passes_by m ordinary none) = with-none (parts.unknown_line m.seq m.body) [] (body_kind m.seq m.body) tt (unknown-kind m.seq m.body)

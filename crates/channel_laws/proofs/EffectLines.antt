@@ -1,20 +1,16 @@
 -- The lines of effects that stand behind the line of an event, and what a view of the reading keeps behind them.
-use Rattle.std.proofs.Common.{◌≡◌, ℕ, ◌+◌, ℤ, Bool, true, false, List, [], ◌∷◌, ◌++◌, filter, map, refl, ◌∙◌}
-use Rattle.std.specs.List.{AllByRecursion, flat_map}
-use Rattle.actor_tree.specs.declared.actor.Actor.{Actor}
+use Rattle.std.proofs.Common.{◌≡◌, ℕ, ◌+◌, ℤ, Bool, List, [], ◌∷◌, ◌++◌, map, refl, ◌∙◌}
+use Rattle.std.specs.List.{AllByRecursion}
 use Rattle.ipdl_base.specs.declared.kinds.Destroy.{Destroy}
 use Rattle.ipdl_base.specs.declared.kinds.Reason.{Reason}
-use Rattle.ipdl_base.specs.declared.kinds.Reason.TheVariants.{ActorDestroyed, ChannelClosed, ResolverDestroyed}
 use Rattle.ipdl_base.specs.declared.line.What.{What}
 use Rattle.ipdl_base.specs.declared.line.What.TheVariants as what
 use Rattle.ipdl_base.specs.declared.schema.Schema.{Schema}
 use Rattle.ipdl_base.specs.declared.value.Values.{Values}
 use Rattle.nesting_core.specs.declared.frame.Answer.{Answer}
-use Rattle.nesting_core.specs.declared.frame.Answer.TheVariants as answer
 use Rattle.promise_table.specs.declared.promise.Outcome.{Outcome}
 use Rattle.promise_table.specs.declared.promise.Outcome.TheVariants.{Resolved, Rejected}
 use Rattle.promise_table.specs.declared.promise.Promise.{Promise}
-use Rattle.promise_table.specs.Promises.{is_pending_of}
 use Rattle.channel_model.specs.Ends.{End, Packet, PromiseEntry}
 use Rattle.channel_model.specs.Falls as fall
 use Rattle.channel_model.specs.Numbers.{top_id}
@@ -23,10 +19,10 @@ use Rattle.channel_model.specs.Parts
 use Rattle.channel_model.specs.Parts.{LaterPart, LaterParts, reply_lines, fall_lines, falling}
 use Rattle.channel_model.specs.Phases.{Phase}
 use Rattle.channel_model.specs.Takes.{settle_line}
-use Rattle.channel_model.proofs.Known.{all-append}
 use Rattle.history_reading.specs.EndReading.{EndReading}
 use Rattle.history_reading.specs.Reading.{after_what}
 use Rattle.channel_laws.specs.Tested.{after_whats}
+use Rattle.channel_laws.proofs.PartLines.{EffectsHave, reply-has, rejections-have, falls-have, closing-has, later-has, laters-have, mapped-lines}
 
 -- A line of an effect, but for that of a request that is replaced.
 pub data IsEffectLine : What → Type 0 where
@@ -41,53 +37,34 @@ pub data IsEffectLine : What → Type 0 where
 abbrev pub AreEffectLines : List What → Type 0
 AreEffectLines ws = AllByRecursion IsEffectLine ws
 
-effects-map : {A : Type 0} (f : A → What) (xs : List A) → ((x : A) → IsEffectLine (f x)) → AreEffectLines (map f xs)
-effects-map f [] h = tt
-effects-map f (x ∷ xs) h = (h x, effects-map f xs h)
-
-effects-flat : {A : Type 0} (f : A → List What) (xs : List A) → ((x : A) → AreEffectLines (f x)) → AreEffectLines (flat_map f xs)
-effects-flat f [] h = tt
-effects-flat f (x ∷ xs) h = all-append IsEffectLine (f x) (flat_map f xs) (h x) (effects-flat f xs h)
+effects-have : EffectsHave IsEffectLine
+effects-have = record { built = built; ok = answers_ok; fault = answers_fault; falls = record { rejected = rejected; fell = fell } }
 
 pub reply-effects : (b : Bool) (q : AnsweredRequest) (a : Answer) → AreEffectLines (reply_lines b q a)
-reply-effects true q (answer.Ok vs) = (answers_ok q.seq vs, tt)
-reply-effects true q (answer.Fault reason) = (answers_fault q.seq reason, tt)
-reply-effects false q a = tt
+reply-effects = reply-has IsEffectLine effects-have
 
 pub rejection-effects : (test : Promise → Bool) (why : Reason) (promises : List PromiseEntry) → AreEffectLines (fall.rejections test why promises)
-rejection-effects test why promises = effects-map (λ (entry : PromiseEntry). what.Rejected entry.promise.seq why) (filter (fall.passes test) promises) (λ entry. rejected entry.promise.seq why)
+rejection-effects = rejections-have IsEffectLine effects-have.falls
 
 pub fall-effects : (id : ℤ) (why : ℤ → Destroy) (e : End) → AreEffectLines (fall_lines id why e)
-fall-effects id why e =
-    effects-flat (fall.fall_lines why e.promises) (falling id e)
-    (λ (a : Actor). all-append IsEffectLine (fall.rejections (is_pending_of a.id) ActorDestroyed e.promises) (what.Fall a.id (why a.id) ∷ []) (rejection-effects (is_pending_of a.id) ActorDestroyed e.promises) (fell a.id (why a.id), tt))
+fall-effects = falls-have IsEffectLine effects-have.falls
+
+pub closing-effects : (why : Destroy) (e : End) → AreEffectLines (Parts.abandoned_lines e ++ fall_lines top_id (λ id. why) (Parts.abandoned_end e))
+closing-effects = closing-has IsEffectLine effects-have.falls
 
 pub fail-effects : (ns : List ℤ) → AreEffectLines (map what.Fails ns)
-fail-effects ns = effects-map what.Fails ns fails
+fail-effects ns = mapped-lines IsEffectLine what.Fails ns fails
 
 pub settle-effect : (n : ℤ) (outcome : Outcome) → IsEffectLine (settle_line n outcome)
 settle-effect n (Resolved vs) = resolved n vs
 settle-effect n (Rejected reason) = rejected n reason
 
--- those of an end that closes
-pub closing-effects : (why : Destroy) (e : End) → AreEffectLines (Parts.abandoned_lines e ++ fall_lines top_id (λ id. why) (Parts.abandoned_end e))
-closing-effects why e =
-    all-append IsEffectLine (Parts.abandoned_lines e) (fall_lines top_id (λ id. why) (Parts.abandoned_end e)) (rejection-effects (λ p. true) ChannelClosed e.promises) (fall-effects top_id (λ id. why) (Parts.abandoned_end e))
-
 -- later parts print effects alone
 pub later-effects : {p q : Phase} {e f : End} {ws : List What} {ps : List Packet} → LaterPart p e ws ps f q → AreEffectLines ws
-later-effects (Parts.unnames name may silent) = tt
-later-effects (Parts.lets_go name r may held o) = (answers_fault r.seq ResolverDestroyed, tt)
-later-effects (Parts.names more holds) = tt
-later-effects (Parts.releases seq is) = tt
-later-effects (Parts.keeps seq name r is o) = tt
-later-effects (Parts.builds id protocol rest fresh alive) = (built id protocol, tt)
-later-effects {e = e} (Parts.deletes id is) = fall-effects id (fall.why_deleted id) e
-later-effects {e = e} (Parts.falls why is) = closing-effects why e
+later-effects = later-has IsEffectLine effects-have
 
 pub laters-effects : {p q : Phase} {e f : End} {ws : List What} {ps : List Packet} → LaterParts p e ws ps f q → AreEffectLines ws
-laters-effects Parts.done = tt
-laters-effects (Parts.then {ws} {vs} part rest) = all-append IsEffectLine ws vs (later-effects part) (laters-effects rest)
+laters-effects = laters-have IsEffectLine effects-have
 
 -- what each such line leaves, all of them leave
 pub effects-leave : {V : Type 0} (view : EndReading → V) (schema : Schema) → ((place : ℕ) (w : What) (own : EndReading) → IsEffectLine w → view (after_what schema place w own) ≡ view own) → (place : ℕ) (ws : List What) (own : EndReading) → AreEffectLines ws → view (after_whats schema place ws own) ≡ view own

@@ -56,12 +56,12 @@ use Rattle.channel_laws.specs.Protocols.{Protocols, HaveTheirProtocols, HasItsPr
 use Rattle.channel_laws.specs.SentAccounts.{EndAccount}
 use Rattle.channel_laws.specs.Tested.{after_whats, EndLinesPass}
 use Rattle.channel_laws.specs.ValueReadings.{LivesAlike}
+use Rattle.channel_laws.proofs.PartLines.{flat-lines}
 use Rattle.channel_laws.proofs.ActorLines.{SaysNoActor, replaced, says_ok, says_fault, fails, resolved, rejected, no_actor-reply, no_actor-rejections, no_actor-fails, no_actor-settles}
 use Rattle.channel_laws.proofs.ActorsKept.{zero-free}
 use Rattle.channel_laws.proofs.MadeByEvents.{IsAsked, FreshIsMade, event-makes, taken-asked}
 use Rattle.channel_laws.proofs.MissingAlike.{values_are_read_alike}
 use Rattle.channel_laws.proofs.NulledLive.{nulled-live}
-use Rattle.channel_laws.proofs.Outlines.{leaves-flat}
 use Rattle.channel_laws.proofs.ProtocolParts.{taken-request}
 use Rattle.channel_laws.proofs.Standing.{lives-read, built-lives}
 use Rattle.channel_laws.proofs.StandsFor.{lives-alike}
@@ -97,7 +97,7 @@ module _ (schema : Schema) (sound : IsSound schema) (side : Side) (others : EndR
   falls-free : (place : ℕ) (own : EndReading) (why : ℤ → Destroy) (promises : List PromiseEntry) (fs : List Actor) → EndLinesPass schema IsLivingLine place (flat_map (fall.fall_lines why promises) fs) own
   falls-free place own why promises fs =
       tested-free schema IsLivingLine place (flat_map (fall.fall_lines why promises) fs) own
-      (leaves-flat (λ w. (h : EndReading) → IsLivingLine h w) (fall.fall_lines why promises) fs
+      (flat-lines (λ w. (h : EndReading) → IsLivingLine h w) (fall.fall_lines why promises) fs
       (λ a. all-append (λ w. (h : EndReading) → IsLivingLine h w) (fall.rejections (is_pending_of a.id) ActorDestroyed promises) (what.Fall a.id (why a.id) ∷ [])
       (all-map SaysNoActor (λ w. (h : EndReading) → IsLivingLine h w) (fall.rejections (is_pending_of a.id) ActorDestroyed promises) free-line (no_actor-rejections (is_pending_of a.id) ActorDestroyed promises)) (λ h. refl, tt)))
 

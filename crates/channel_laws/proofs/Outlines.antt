@@ -1,5 +1,5 @@
 -- Each part of a step keeps the outline of an end: its state, its stack and its constructors are read from its lines.
-use Rattle.std.proofs.Common.{◌≡◌, ℕ, ◌+◌, ℤ, Bool, true, false, ◌&&◌, cond, if◌then◌else◌, int_eq, List, [], ◌∷◌, ◌++◌, drop, filter, find, flat_map, map, Option, Some, None, refl, sym, ap, subst, ◌∙◌}
+use Rattle.std.proofs.Common.{◌≡◌, ℕ, ◌+◌, ℤ, Bool, true, false, ◌&&◌, cond, if◌then◌else◌, int_eq, List, [], ◌∷◌, ◌++◌, drop, filter, find, map, Option, Some, None, refl, sym, ap, subst, ◌∙◌}
 use Rattle.std.specs.List.{AllByRecursion}
 use Rattle.std.specs.Option.{option_map_or}
 use Rattle.std.proofs.lemmas.Bool.Decides.{Decides-int_eq}
@@ -36,20 +36,18 @@ use Rattle.pending_queue.specs.declared.item.Item.TheVariants as item
 use Rattle.pending_queue.specs.Holding.{is_free, without_first}
 use Rattle.promise_table.specs.declared.promise.Outcome.{Outcome}
 use Rattle.promise_table.specs.declared.promise.Outcome.TheVariants.{Resolved, Rejected}
-use Rattle.promise_table.specs.declared.promise.Promise.{Promise}
-use Rattle.promise_table.specs.Promises.{is_pending_of}
 use Rattle.ipdl_base.specs.declared.kinds.Reason.TheVariants.{ActorDestroyed, ChannelClosed, ResolverDestroyed}
 use Rattle.channel_model.specs.Answers as answering
 use Rattle.channel_model.specs.Deliveries as delivery
 use Rattle.ipdl_base.specs.declared.kinds.EndState.{EndState}
 use Rattle.ipdl_base.specs.declared.kinds.EndState.TheVariants.{Open, Draining, Closed, Dead}
-use Rattle.channel_model.specs.Ends.{End, Packet, message, mark, StackEntry, PromiseEntry}
+use Rattle.channel_model.specs.Ends.{End, Packet, message, mark, StackEntry}
 use Rattle.channel_model.specs.Events.{Answering, handled, kept}
 use Rattle.channel_model.specs.Falls as fall
 use Rattle.nesting_core.specs.Top.{top_of}
 use Rattle.pending_queue.specs.Compression.{staying}
 use Rattle.channel_model.specs.Numbers.{top_id, makes_promise, counting, is_sync_row}
-use Rattle.channel_model.specs.Outputs.{is_open, body_of, AnsweredRequest, request_answered, resolver_answered}
+use Rattle.channel_model.specs.Outputs.{is_open, body_of, request_answered, resolver_answered}
 use Rattle.channel_model.specs.Returns as return
 use Rattle.channel_model.specs.Sends as send
 use Rattle.channel_model.specs.Takes as take
@@ -62,6 +60,7 @@ use Rattle.channel_model.specs.Parts as parts
 use Rattle.channel_model.specs.Parts.{FirstPart, LaterPart, DeliveryPart, IsRefusal, IsRenaming, reply_lines, fall_lines, farewell_item, farewell_line, end_behind, left_end}
 use Rattle.channel_laws.specs.Tested.{after_whats}
 use Rattle.channel_laws.specs.Outlines.{Ended, Over, shown, shown_entry, placeless, Outline, outline, HasOutline}
+use Rattle.channel_laws.proofs.PartLines.{EffectsHave, reply-has, falls-have, closing-has}
 use Rattle.channel_laws.proofs.Rows.{request-message}
 
 -- Lines that leave the outline
@@ -88,26 +87,8 @@ pub outline-left : (schema : Schema) (place : ℕ) (ws : List What) (h : EndRead
 outline-left schema place [] h l = refl
 outline-left schema place (w ∷ ws) h l = outline-left schema (place + 1) ws (after_what schema place w h) l.1 ∙ left-one schema place w h l.0
 
-pub leaves-map : {A : Type 0} (P : What → Type 0) (f : A → What) (xs : List A) → ((x : A) → P (f x)) → AllByRecursion P (map f xs)
-leaves-map P f [] h = tt
-leaves-map P f (x ∷ xs) h = (h x, leaves-map P f xs h)
-
-pub leaves-flat : {A : Type 0} (P : What → Type 0) (f : A → List What) (xs : List A) → ((x : A) → AllByRecursion P (f x)) → AllByRecursion P (flat_map f xs)
-leaves-flat P f [] h = tt
-leaves-flat P f (x ∷ xs) h = all-append P (f x) (flat_map f xs) (h x) (leaves-flat P f xs h)
-
-leaves-reply : (b : Bool) (q : AnsweredRequest) (a : Answer) → AllByRecursion LeavesOutline (reply_lines b q a)
-leaves-reply true q (answer.Ok vs) = (says_ok q.seq vs, tt)
-leaves-reply true q (answer.Fault r) = (says_fault q.seq r, tt)
-leaves-reply false q a = tt
-
-leaves-rejections : (test : Promise → Bool) (why : Reason) (ps : List PromiseEntry) → AllByRecursion LeavesOutline (fall.rejections test why ps)
-leaves-rejections test why ps = leaves-map LeavesOutline (λ (entry : PromiseEntry). what.Rejected entry.promise.seq why) (filter (fall.passes test) ps) (λ entry. rejected entry.promise.seq why)
-
-leaves-falls : (id : ℤ) (why : ℤ → Destroy) (e : End) → AllByRecursion LeavesOutline (fall_lines id why e)
-leaves-falls id why e =
-    leaves-flat LeavesOutline (fall.fall_lines why e.promises) (parts.falling id e)
-    (λ a. all-append LeavesOutline (fall.rejections (is_pending_of a.id) ActorDestroyed e.promises) (what.Fall a.id (why a.id) ∷ []) (leaves-rejections (is_pending_of a.id) ActorDestroyed e.promises) (fell a.id (why a.id), tt))
+outline-effects : EffectsHave LeavesOutline
+outline-effects = record { built = built; ok = says_ok; fault = says_fault; falls = record { rejected = rejected; fell = fell } }
 
 -- States
 
@@ -372,7 +353,7 @@ module _ (schema : Schema) where
       let l : HasOutline (left_end e) (outline h) = left_end-outlined e (outline h) k in
       record { state = l.state; ended = l.ended; over = l.over; stack = ap (λ (fs : List CallFrame). frame.Dispatch (record { seq = m.seq; route = m.route; number = m.number }) ∷ fs) k.stack; made = l.made; ordinary = l.ordinary }
   first-outlined {e} place h (parts.drops m sync level row vs id replies next body found gone is) k =
-      left-outlined schema (place + 1) (reply_lines replies (request_answered m) (answer.Fault ActorDestroyed)) (end_behind replies (left_end e)) (after_what schema place (what.Drop m.seq m.route m.number id) h) (leaves-reply replies (request_answered m) (answer.Fault ActorDestroyed))
+      left-outlined schema (place + 1) (reply_lines replies (request_answered m) (answer.Fault ActorDestroyed)) (end_behind replies (left_end e)) (after_what schema place (what.Drop m.seq m.route m.number id) h) (reply-has LeavesOutline outline-effects replies (request_answered m) (answer.Fault ActorDestroyed))
       (end_behind-outlined replies (left_end e) (outline h) (left_end-outlined e (outline h) k))
   first-outlined {e} place h (parts.drops_unknown m sync level vs next body none) k = left_end-outlined e (outline h) k
   first-outlined {e} place h (parts.takes_reply m sync level a next body late) k = left_end-outlined e (outline h) k
@@ -386,7 +367,7 @@ module _ (schema : Schema) where
       left-outlined schema (place + 1) (reply_lines told (return.dispatch_answered entry) (return.return_answer schema e row entry vs) ++ reply_lines lost (resolver_answered (answering.resolver_in entry)) (answer.Fault ResolverDestroyed))
       (end_behind lost (end_behind told (record e { stack = drop 1 e.stack }))) (after_what schema place (what.Return (head_of entry.frame).seq) h)
       (all-append LeavesOutline (reply_lines told (return.dispatch_answered entry) (return.return_answer schema e row entry vs)) (reply_lines lost (resolver_answered (answering.resolver_in entry)) (answer.Fault ResolverDestroyed))
-      (leaves-reply told (return.dispatch_answered entry) (return.return_answer schema e row entry vs)) (leaves-reply lost (resolver_answered (answering.resolver_in entry)) (answer.Fault ResolverDestroyed)))
+      (reply-has LeavesOutline outline-effects told (return.dispatch_answered entry) (return.return_answer schema e row entry vs)) (reply-has LeavesOutline outline-effects lost (resolver_answered (answering.resolver_in entry)) (answer.Fault ResolverDestroyed)))
       (end_behind-outlined lost (end_behind told (record e { stack = drop 1 e.stack })) (outline (after_what schema place (what.Return (head_of entry.frame).seq) h)) (end_behind-outlined told (record e { stack = drop 1 e.stack }) (outline (after_what schema place (what.Return (head_of entry.frame).seq) h))
       (record { state = k.state; ended = k.ended; over = k.over; stack = popped-stack h e k.stack; made = k.made; ordinary = k.ordinary })))
   first-outlined {e} place h (parts.resumes wait row on_top found) k =
@@ -403,10 +384,9 @@ module _ (schema : Schema) where
   later-outlined {e} place h (parts.keeps seq name r is open_end) k = record { state = k.state; ended = k.ended; over = k.over; stack = k.stack ∙ sym (released-stack seq e.stack); made = k.made; ordinary = k.ordinary }
   later-outlined place h (parts.builds id protocol rest fresh alive) k = record { state = k.state; ended = k.ended; over = k.over; stack = k.stack; made = k.made; ordinary = k.ordinary }
   later-outlined {e} place h (parts.deletes id cause) k =
-      left-outlined schema place (fall_lines id (fall.why_deleted id) e) (parts.fallen_end id e) h (leaves-falls id (fall.why_deleted id) e) (record { state = k.state; ended = k.ended; over = k.over; stack = k.stack; made = k.made; ordinary = k.ordinary })
+      left-outlined schema place (fall_lines id (fall.why_deleted id) e) (parts.fallen_end id e) h (falls-have LeavesOutline outline-effects.falls id (fall.why_deleted id) e) (record { state = k.state; ended = k.ended; over = k.over; stack = k.stack; made = k.made; ordinary = k.ordinary })
   later-outlined {e} place h (parts.falls why cause) k =
-      left-outlined schema place (parts.abandoned_lines e ++ fall_lines top_id (λ id. why) (parts.abandoned_end e)) (parts.fallen_end top_id (parts.abandoned_end e)) h
-      (all-append LeavesOutline (parts.abandoned_lines e) (fall_lines top_id (λ id. why) (parts.abandoned_end e)) (leaves-rejections (λ p. true) ChannelClosed e.promises) (leaves-falls top_id (λ id. why) (parts.abandoned_end e))) (record { state = k.state; ended = k.ended; over = k.over; stack = k.stack; made = k.made; ordinary = k.ordinary })
+      left-outlined schema place (parts.abandoned_lines e ++ fall_lines top_id (λ id. why) (parts.abandoned_end e)) (parts.fallen_end top_id (parts.abandoned_end e)) h (closing-has LeavesOutline outline-effects.falls why e) (record { state = k.state; ended = k.ended; over = k.over; stack = k.stack; made = k.made; ordinary = k.ordinary })
 
   -- A delivery
 
@@ -432,7 +412,7 @@ module _ (schema : Schema) where
   delivery-outlined {e} place h (parts.gets_request m row vs body found none) o fit k = counted-outlined e (outline h) row m vs body k
   delivery-outlined {e} place h (parts.replaces m row vs old sync level replies body found rep is) o fit k =
       left-outlined schema (place + 1) (what.Replaced old.seq ∷ reply_lines replies (request_answered old) (answer.Fault ResolverDestroyed)) (end_behind replies (delivery.counted row (delivery.item_of row m) e)) (after_what schema place (what.DeliverRequest m.seq) h)
-      (replaced old.seq, leaves-reply replies (request_answered old) (answer.Fault ResolverDestroyed))
+      (replaced old.seq, reply-has LeavesOutline outline-effects replies (request_answered old) (answer.Fault ResolverDestroyed))
       (end_behind-outlined replies (delivery.counted row (delivery.item_of row m) e) (outline h) (counted-outlined e (outline h) row m vs body k))
   delivery-outlined {e} place h (parts.gets_answer m row a body found is) o fit k =
       subst (HasOutline (delivery.answers_wait a e)) (sym (replying-outline m.seq h true (fit.sync m row a refl body found ∙ is)))

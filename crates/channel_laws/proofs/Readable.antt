@@ -46,9 +46,9 @@ use Rattle.channel_laws.specs.Origins.{Origin, HasOrigins}
 use Rattle.channel_laws.specs.Tested.{EndLinesPass}
 use Rattle.channel_laws.proofs.Rows.{request-message, sound_schemas_have_sound_rows}
 use Rattle.channel_laws.specs.Rows.{HasSoundRows, IsSoundRow}
-use Rattle.channel_laws.proofs.Outlines.{leaves-map, cons-head}
+use Rattle.channel_laws.proofs.Outlines.{cons-head}
 use Rattle.channel_laws.proofs.Origins.{taken-origin, request-origin, body-asks}
-use Rattle.channel_laws.proofs.PartLines.{EffectsHave, reply-has, laters-have}
+use Rattle.channel_laws.proofs.PartLines.{EffectsHave, reply-has, laters-have, mapped-lines}
 use Rattle.channel_laws.proofs.Testing.{tested-free}
 use Rattle.ipdl_base.specs.declared.kinds.Level.{Level}
 use Rattle.ipdl_base.specs.declared.line.Line.{Line}
@@ -111,7 +111,7 @@ module _ (schema : Schema) where
   Free w = (h : EndReading) → CanRead h w
 
   free-effects : EffectsHave Free
-  free-effects = record { built = λ id protocol h. refl; ok = λ n vs h. refl; fault = λ n r h. refl; rejected = λ n r h. refl; fell = λ id why h. refl }
+  free-effects = record { built = λ id protocol h. refl; ok = λ n vs h. refl; fault = λ n r h. refl; falls = record { rejected = λ n r h. refl; fell = λ id why h. refl } }
 
   renaming-reads : (w : What) (h : EndReading) → IsRenaming w → CanRead h w
   renaming-reads (what.Keep n name) h q = refl
@@ -155,7 +155,7 @@ module _ (schema : Schema) where
   free-delivery (parts.replaces m row vs old sync level replies body found rep is) = ((λ h. refl), ((λ h. refl), reply-has Free free-effects replies (request_answered old) (answer.Fault reason.ResolverDestroyed)))
   free-delivery (parts.gets_answer m row a body found is) = ((λ h. refl), tt)
   free-delivery (parts.gets_reply m row a body found is) = ((λ h. refl), tt)
-  free-delivery {e} (parts.drains packet is) = ((λ h. farewell-reads packet h), leaves-map Free what.Fails (delivery.unanswered e) (λ n h. refl))
+  free-delivery {e} (parts.drains packet is) = ((λ h. farewell-reads packet h), mapped-lines Free what.Fails (delivery.unanswered e) (λ n h. refl))
   free-delivery (parts.passes_by m ordinary none) = ((λ h. unknown-reads m.seq m.body h), tt)
 
   -- The part that a step begins with

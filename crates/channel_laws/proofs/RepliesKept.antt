@@ -1,10 +1,7 @@
 -- Every step of an end keeps what it reads of replies.
-use Rattle.std.proofs.Common.{◌≡◌, ℕ, ◌+◌, ℤ, Bool, true, false, if◌then◌else◌, List, [], ◌∷◌, ◌++◌, filter, Option, Some, None, is_none, sym, ap, subst, ◌∙◌}
+use Rattle.std.proofs.Common.{◌≡◌, ℕ, ◌+◌, ℤ, Bool, true, false, if◌then◌else◌, List, [], ◌∷◌, ◌++◌, Option, Some, None, is_none, sym, ap, subst, ◌∙◌}
 use Rattle.std.specs.List.{AllByRecursion}
-use Rattle.actor_tree.specs.declared.actor.Actor.{Actor}
-use Rattle.ipdl_base.specs.declared.kinds.Destroy.{Destroy}
-use Rattle.ipdl_base.specs.declared.kinds.Reason.{Reason}
-use Rattle.ipdl_base.specs.declared.kinds.Reason.TheVariants.{ActorDestroyed, ChannelClosed, HandlerRejected, ResolverDestroyed}
+use Rattle.ipdl_base.specs.declared.kinds.Reason.TheVariants.{ActorDestroyed, HandlerRejected, ResolverDestroyed}
 use Rattle.ipdl_base.specs.declared.kinds.Side.{Side}
 use Rattle.ipdl_base.specs.declared.line.What.{What}
 use Rattle.ipdl_base.specs.declared.line.What.TheVariants as what
@@ -21,14 +18,12 @@ use Rattle.pending_queue.specs.declared.item.Item.{Item}
 use Rattle.pending_queue.specs.declared.item.Item.TheVariants as item
 use Rattle.promise_table.specs.declared.promise.Outcome.{Outcome}
 use Rattle.promise_table.specs.declared.promise.Outcome.TheVariants.{Resolved, Rejected}
-use Rattle.promise_table.specs.declared.promise.Promise.{Promise}
-use Rattle.promise_table.specs.Promises.{is_pending_of}
 use Rattle.channel_model.specs.Answers as answering
 use Rattle.channel_model.specs.Deliveries as delivery
-use Rattle.channel_model.specs.Ends.{End, Packet, message, mark, StackEntry, PromiseEntry}
+use Rattle.channel_model.specs.Ends.{End, Packet, message, mark, StackEntry}
 use Rattle.channel_model.specs.Events.{Event}
 use Rattle.channel_model.specs.Falls as fall
-use Rattle.channel_model.specs.Numbers.{is_sync_row, top_id}
+use Rattle.channel_model.specs.Numbers.{is_sync_row}
 use Rattle.channel_model.specs.Outputs.{AnsweredRequest, request_answered, resolver_answered, is_open}
 use Rattle.channel_model.specs.Parts
 use Rattle.channel_model.specs.Parts.{OwnParts, FirstPart, LaterPart, LaterParts, DeliveryPart, IsRefusal, IsRenaming, reply_lines, fall_lines, falling, farewell_item, farewell_line, shut_line, reply_outcome}
@@ -49,10 +44,10 @@ use Rattle.channel_laws.specs.Notes.{Note, told_note, told_notes}
 use Rattle.channel_laws.specs.Origins.{PacketReplies}
 use Rattle.channel_laws.specs.Replies.{ItemReplies, IsNoClosedFault, SaysNoClosedFault, ReadsReplies}
 use Rattle.channel_laws.specs.Tested.{after_whats}
+use Rattle.channel_laws.proofs.PartLines.{mapped-lines, FallsHave, falls-have, closing-has}
 use Rattle.channel_laws.proofs.Growing.{grows, replies-grow}
 use Rattle.channel_laws.proofs.Moves.{StepParts, acts, delivers}
 use Rattle.channel_laws.proofs.NotedArrivals.{own-arrived, delivery-arrived}
-use Rattle.channel_laws.proofs.Outlines.{leaves-map, leaves-flat}
 use Rattle.std.proofs.lemmas.List.{map-append}
 
 -- Lines
@@ -163,13 +158,8 @@ unknown-allowed n (bodies.Reply vs) = tt
 unknown-allowed n (bodies.Fault reason) = tt
 unknown-allowed n bodies.Goodbye = tt
 
-rejections-allowed : (test : Promise → Bool) (why : Reason) (ps : List PromiseEntry) → AllByRecursion IsAllowed (fall.rejections test why ps)
-rejections-allowed test why ps = leaves-map IsAllowed (λ (entry : PromiseEntry). what.Rejected entry.promise.seq why) (filter (fall.passes test) ps) (λ entry. tt)
-
-falls-allowed : (id : ℤ) (why : ℤ → Destroy) (e : End) → AllByRecursion IsAllowed (fall_lines id why e)
-falls-allowed id why e =
-    leaves-flat IsAllowed (fall.fall_lines why e.promises) (falling id e)
-    (λ (a : Actor). all-append IsAllowed (fall.rejections (is_pending_of a.id) ActorDestroyed e.promises) (what.Fall a.id (why a.id) ∷ []) (rejections-allowed (is_pending_of a.id) ActorDestroyed e.promises) (tt, tt))
+allowed-falls : FallsHave IsAllowed
+allowed-falls = record { rejected = λ n r. tt; fell = λ id why. tt }
 
 module _ (schema : Schema) where
   first-allowed : {e f : End} {ws : List What} {ps : List Packet} {q : Phase} → FirstPart schema e ws ps f q → AllByRecursion IsAllowed ws
@@ -201,9 +191,8 @@ module _ (schema : Schema) where
   later-allowed (Parts.releases seq is) = tt
   later-allowed (Parts.keeps seq name r is o) = tt
   later-allowed (Parts.builds id protocol rest fresh alive) = (tt, tt)
-  later-allowed {e = e} (Parts.deletes id is) = falls-allowed id (fall.why_deleted id) e
-  later-allowed {e = e} (Parts.falls why is) =
-      all-append IsAllowed (Parts.abandoned_lines e) (Parts.fall_lines top_id (λ id. why) (Parts.abandoned_end e)) (rejections-allowed (λ p. true) ChannelClosed e.promises) (falls-allowed top_id (λ id. why) (Parts.abandoned_end e))
+  later-allowed {e = e} (Parts.deletes id is) = falls-have IsAllowed allowed-falls id (fall.why_deleted id) e
+  later-allowed {e = e} (Parts.falls why is) = closing-has IsAllowed allowed-falls why e
 
   laters-allowed : {p q : Phase} {e f : End} {ws : List What} {ps : List Packet} → LaterParts p e ws ps f q → AllByRecursion IsAllowed ws
   laters-allowed Parts.done = tt
@@ -217,7 +206,7 @@ module _ (schema : Schema) where
   delivery-allowed (Parts.replaces m row vs old sync level replies body found is told_it) = (tt, (tt, replies-allowed replies (request_answered old) (answer.Fault ResolverDestroyed) tt))
   delivery-allowed (Parts.gets_answer m row a body found is) = (tt, tt)
   delivery-allowed (Parts.gets_reply m row a body found is) = (tt, tt)
-  delivery-allowed {e = e} (Parts.drains packet is) = (farewell-allowed packet, leaves-map IsAllowed what.Fails (delivery.unanswered e) (λ n. tt))
+  delivery-allowed {e = e} (Parts.drains packet is) = (farewell-allowed packet, mapped-lines IsAllowed what.Fails (delivery.unanswered e) (λ n. tt))
   delivery-allowed (Parts.passes_by m is found) = (unknown-allowed m.seq m.body, tt)
 
   -- What has arrived

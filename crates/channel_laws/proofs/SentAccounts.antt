@@ -1,5 +1,5 @@
 -- Each part of a step sends what its lines say.
-use Rattle.std.proofs.Common.{◌≡◌, ◌==◌, ℕ, suc, ◌+◌, ℤ, pos, Bool, true, false, if◌then◌else◌, List, [], ◌∷◌, ◌++◌, drop, filter, map, Option, Some, None, refl, sym, ap, subst, ◌∙◌, append_assoc, arith, inl, inr}
+use Rattle.std.proofs.Common.{◌≡◌, ◌==◌, ℕ, suc, ◌+◌, ℤ, pos, Bool, true, false, if◌then◌else◌, List, [], ◌∷◌, ◌++◌, drop, map, Option, Some, None, refl, sym, ap, subst, ◌∙◌, append_assoc, arith, inl, inr}
 use Rattle.std.specs.List.{AllByRecursion}
 use Rattle.std.specs.Option.{option_map_or}
 use Rattle.std.proofs.lemmas.List.{map-append, append-nil}
@@ -37,14 +37,12 @@ use Rattle.pending_queue.specs.declared.item.Item.{Item}
 use Rattle.pending_queue.specs.declared.item.Item.TheVariants as item
 use Rattle.promise_table.specs.declared.promise.Outcome.{Outcome}
 use Rattle.promise_table.specs.declared.promise.Outcome.TheVariants.{Resolved, Rejected}
-use Rattle.promise_table.specs.declared.promise.Promise.{Promise}
-use Rattle.promise_table.specs.Promises.{is_pending_of}
 use Rattle.channel_model.specs.Acts.{goodbye}
 use Rattle.channel_model.specs.Answers as answering
 use Rattle.channel_model.specs.Deliveries as delivery
 use Rattle.ipdl_base.specs.declared.kinds.EndState.{EndState}
 use Rattle.ipdl_base.specs.declared.kinds.EndState.TheVariants.{Open, Draining, Closed, Dead}
-use Rattle.channel_model.specs.Ends.{End, Packet, message, mark, PromiseEntry}
+use Rattle.channel_model.specs.Ends.{End, Packet, message, mark}
 use Rattle.channel_model.specs.Events.{Answering, handled, kept}
 use Rattle.channel_model.specs.Falls as fall
 use Rattle.channel_model.specs.Numbers.{top_id, id_of, seq_of, is_constructor, counting, is_sync_row, request_row}
@@ -61,7 +59,8 @@ use Rattle.channel_laws.specs.Outlines.{Ended, Outline, outline, HasOutline}
 use Rattle.channel_laws.specs.Notes.{Note, says as note_says, asks as note_asks, told_note, told_notes, packet_note, notes, fault_content, values_content}
 use Rattle.channel_laws.specs.Origins.{Origin, ResolverOrigin, HasOrigins}
 use Rattle.channel_laws.specs.SentAccounts.{seqs, request_seq, HasSyncOfRow, SentAccount, EndAccount}
-use Rattle.channel_laws.proofs.Outlines.{open-is, leaves-map, leaves-flat}
+use Rattle.channel_laws.proofs.PartLines.{mapped-lines, FallsHave, falls-have, closing-has}
+use Rattle.channel_laws.proofs.Outlines.{open-is}
 use Rattle.channel_laws.proofs.Origins.{promise-async, old-origin, held-origin, used-origin, top-origin, taken-origin, request-origin, body-asks}
 use Rattle.channel_laws.specs.Rows.{HasSoundRows}
 use Rattle.channel_laws.proofs.Rows.{request-message}
@@ -161,13 +160,8 @@ pub sent-left : (schema : Schema) (place : ℕ) (ws : List What) (h : EndReading
 sent-left schema place [] h l = refl
 sent-left schema place (w ∷ ws) h l = sent-left schema (place + 1) ws (after_what schema place w h) l.1 ∙ sent-one schema place w h l.0
 
-sent-rejections : (test : Promise → Bool) (why : Reason) (ps : List PromiseEntry) → AllByRecursion LeavesSent (fall.rejections test why ps)
-sent-rejections test why ps = leaves-map LeavesSent (λ (entry : PromiseEntry). what.Rejected entry.promise.seq why) (filter (fall.passes test) ps) (λ entry. rejected entry.promise.seq why)
-
-sent-falls : (id : ℤ) (why : ℤ → Destroy) (e : End) → AllByRecursion LeavesSent (fall_lines id why e)
-sent-falls id why e =
-    leaves-flat LeavesSent (fall.fall_lines why e.promises) (parts.falling id e)
-    (λ a. all-append LeavesSent (fall.rejections (is_pending_of a.id) reason.ActorDestroyed e.promises) (what.Fall a.id (why a.id) ∷ []) (sent-rejections (is_pending_of a.id) reason.ActorDestroyed e.promises) (fell a.id (why a.id), tt))
+sent-falls : FallsHave LeavesSent
+sent-falls = record { rejected = rejected; fell = fell }
 
 -- Ids
 
@@ -294,7 +288,7 @@ module _ (schema : Schema) (rows : HasSoundRows schema) (theirs : List Note) whe
   resume-sent place seq (answer.Fault r) h = refl
 
   fails-sent : (ns : List ℤ) → AllByRecursion LeavesSent (map what.Fails ns)
-  fails-sent ns = leaves-map LeavesSent what.Fails ns fails
+  fails-sent ns = mapped-lines LeavesSent what.Fails ns fails
 
   ended-open : (e : End) (s : Outline) → HasOutline e s → is_open e.state ≡ true → s.ended ≡ false
   ended-open e s k o = subst (λ (t : EndState). Ended t s.ended) (open-is e.state o) k.ended
@@ -408,11 +402,11 @@ module _ (schema : Schema) (rows : HasSoundRows schema) (theirs : List Note) whe
   later-account {e} place h left (parts.releases seq closed) k t = same t
   later-account {e} place h left (parts.keeps seq name r is open_end) k t = same t
   later-account {e} place h left (parts.builds id protocol rest fresh alive) k t = same t
-  later-account {e} place h left (parts.deletes id cause) k t = leaves e h (after_whats schema place (fall_lines id (fall.why_deleted id) e) h) left (sent-left schema place (fall_lines id (fall.why_deleted id) e) h (sent-falls id (fall.why_deleted id) e)) t
+  later-account {e} place h left (parts.deletes id cause) k t = leaves e h (after_whats schema place (fall_lines id (fall.why_deleted id) e) h) left (sent-left schema place (fall_lines id (fall.why_deleted id) e) h (falls-have LeavesSent sent-falls id (fall.why_deleted id) e)) t
   later-account {e} place h left (parts.falls why cause) k t =
       let ls : List What = parts.abandoned_lines e in
       let ms : List What = fall_lines top_id (λ id. why) (parts.abandoned_end e) in
-      leaves e h (after_whats schema place (ls ++ ms) h) left (sent-left schema place (ls ++ ms) h (all-append LeavesSent ls ms (sent-rejections (λ p. true) reason.ChannelClosed e.promises) (sent-falls top_id (λ id. why) (parts.abandoned_end e)))) t
+      leaves e h (after_whats schema place (ls ++ ms) h) left (sent-left schema place (ls ++ ms) h (closing-has LeavesSent sent-falls why e)) t
 
   pub delivery-account : {packet : Packet} {q : Phase} {e f : End} {ws : List What} {ps : List Packet} (place : ℕ) (h : EndReading) (left : List Note) → DeliveryPart schema packet e ws ps f q → is_open e.state ≡ true → HasOrigins schema theirs e → EndAccount schema e h left → EndAccount schema f (after_whats schema place ws h) (left ++ notes schema ps)
   delivery-account {e} place h left (parts.gets_request m row vs body found none) o k t = same t

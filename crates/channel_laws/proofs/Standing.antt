@@ -124,10 +124,6 @@ alive-built built fallen actors id k alive = by (was_built built id) (has fallen
     by true b x = refl
     by false b x = cc
 
--- and one that has fallen does not live
-pub fallen-dead : (built : List BuiltActor) (fallen : List ℤ) (actors : List Actor) (id : ℤ) → standing fallen built ≡ map shown_actor actors → has fallen id ≡ true → lives id actors ≡ false
-fallen-dead built fallen actors id k fell = sym (lives-read built fallen actors id k) ∙ (ap (λ (b : Bool). was_built built id && not b) fell ∙ and-false (was_built built id) false refl)
-
 -- All that were built, as actors
 
 pub built-lives : (built : List BuiltActor) (id : ℤ) → lives id (map built_actor built) ≡ was_built built id

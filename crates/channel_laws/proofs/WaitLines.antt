@@ -87,7 +87,7 @@ module _ (schema : Schema) (others : EndReading) where
   Free w = (h : EndReading) → InOrder h w
 
   free-effects : EffectsHave Free
-  free-effects = record { built = λ id protocol h. refl; ok = λ n vs h. refl; fault = λ n r h. refl; rejected = λ n r h. refl; fell = λ id why h. refl }
+  free-effects = record { built = λ id protocol h. refl; ok = λ n vs h. refl; fault = λ n r h. refl; falls = record { rejected = λ n r h. refl; fell = λ id why h. refl } }
 
   refusal-waits : (w : What) (h : EndReading) → IsRefusal schema w → InOrder h w
   refusal-waits (what.RefusedSend c n) h q = refl
