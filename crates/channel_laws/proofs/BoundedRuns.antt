@@ -1,7 +1,7 @@
 -- Each end of a run prints few lines, and sends few packets, for its events.
 use Rattle.std.proofs.Common.{◌≡◌, ℕ, ◌+◌, ◌*◌, ◌≤◌, Bool, true, false, not, ◌&&◌, cond, List, [], ◌∷◌, ◌++◌, drop, length, map, Option, Some, None, refl, ap, subst, ◌∙◌, arith}
 use Rattle.std.specs.List.{AllByRecursion}
-use Rattle.std.proofs.lemmas.List.{length-append}
+use Rattle.std.proofs.lemmas.List.{length-append, length-drop}
 use Rattle.std.proofs.lemmas.List.Concat.{flat_map-append}
 use Rattle.ipdl_base.specs.declared.kinds.Side.{Side}
 use Rattle.ipdl_base.specs.declared.kinds.Side.TheVariants.{Parent, Child}
@@ -35,6 +35,7 @@ use Rattle.channel_laws.proofs.Delivered.{own-delivers-none, delivery-delivers}
 use Rattle.channel_laws.proofs.EveryRun.{nested_worlds_stay, end-side}
 use Rattle.channel_laws.proofs.FallenRuns.{top_protocol, known-of}
 use Rattle.channel_laws.proofs.Reached.{actors-reached}
+use Rattle.channel_laws.proofs.Testing.{same-side}
 use Rattle.channel_laws.proofs.Runs.{IsReached, reached-next, at-ends}
 use Rattle.channel_laws.specs.EndActors.{ReadsActors}
 
@@ -50,10 +51,6 @@ record NoneOf (side : Side) (lines : List Line) : Type 0 where
   count : Count side lines 0 0
   delivered : delivered_at side lines ≡ []
 
-same : (side : Side) → same_side side side ≡ true
-same Parent = refl
-same Child = refl
-
 differs : (side : Side) → same_side side (other side) ≡ false
 differs Parent = refl
 differs Child = refl
@@ -65,7 +62,7 @@ count-line side line lines n k a b is effect c = record {
 }
 
 is-same : (side : Side) (line : Line) → line.side ≡ side → same_side line.side side ≡ true
-is-same side line is = ap (λ (s : Side). same_side s side) is ∙ same side
+is-same side line is = ap (λ (s : Side). same_side s side) is ∙ same-side side
 
 effects-count : (side : Side) (lines : List Line) → AllByRecursion (IsEffectOf side) lines → Count side lines (length lines) 0
 effects-count side [] h = record { all = refl; events = refl }
@@ -99,12 +96,8 @@ delivered-lines side [] = refl
 delivered-lines Parent (w ∷ ws) = ap (λ (ks : List PacketKind). delivered_by w ++ ks) (delivered-lines Parent ws)
 delivered-lines Child (w ∷ ws) = ap (λ (ks : List PacketKind). delivered_by w ++ ks) (delivered-lines Child ws)
 
-drop-shorter : (link : List Packet) → length (drop 1 link) ≤ length link
-drop-shorter [] = omega arith
-drop-shorter (p ∷ ps) = omega arith
-
 after-shorter : (ev : Event) (link : List Packet) → length (after_event ev link) ≤ length link
-after-shorter event.deliver link = drop-shorter link
+after-shorter event.deliver link = omega (arith, length-drop 1 link)
 after-shorter _ link = omega arith
 
 first-off : (link : List Packet) (packet : Packet) → first_packet link ≡ Some packet → 1 + length (drop 1 link) ≤ length link
