@@ -28,6 +28,7 @@ use Rattle.channel_model.proofs.StepParts.{by-parts}
 use Rattle.channel_laws.specs.BoundedRuns.{lines_of, events_of, delivered_at, waiting_of, HistoriesAreBounded}
 use Rattle.channel_laws.specs.Counts.{one_if}
 use Rattle.channel_laws.specs.Delivered.{delivered_by, delivered_by_lines}
+use Rattle.channel_laws.specs.EndActors.{ReadsActors}
 use Rattle.channel_laws.specs.NestedWorlds.{IsNestedWorld}
 use Rattle.channel_laws.specs.Tested.{read_from}
 use Rattle.channel_laws.proofs.Counting.{many-append}
@@ -35,9 +36,8 @@ use Rattle.channel_laws.proofs.Delivered.{own-delivers-none, delivery-delivers}
 use Rattle.channel_laws.proofs.EveryRun.{nested_worlds_stay, end-side}
 use Rattle.channel_laws.proofs.FallenRuns.{top_protocol, known-of}
 use Rattle.channel_laws.proofs.Reached.{actors-reached}
-use Rattle.channel_laws.proofs.Testing.{same-side}
 use Rattle.channel_laws.proofs.Runs.{IsReached, reached-next, at-ends}
-use Rattle.channel_laws.specs.EndActors.{ReadsActors}
+use Rattle.channel_laws.proofs.Testing.{same-side}
 
 -- Lines of one event
 
