@@ -96,3 +96,5 @@ pub mod StillEnds
 pub mod WaitLaw
 pub mod PartLines
 mod WorkedLaws
+pub mod NumberParts
+pub mod PrintedNames

@@ -35,3 +35,4 @@ pub mod Settlings
 pub mod SettledLaws
 pub mod ExchangeLaws
 pub mod TwoEndLaws
+pub mod PrintedNames
