@@ -1,11 +1,10 @@
 -- All requests whose numbers an end keeps are noted: each part of a step keeps that, and prints the values of answers to
 -- such requests alone.
-use Rattle.std.proofs.Common.{◌≡◌, ◌==◌, ℕ, suc, ◌+◌, ℤ, Bool, true, false, not, ◌&&◌, cond, if◌then◌else◌, int_eq, List, [], ◌∷◌, ◌++◌, drop, find, map, filter, flat_map, Option, Some, None, is_some, option_map, option_and_then, refl, sym, ap, subst, ◌∙◌}
+use Rattle.std.proofs.Common.{◌≡◌, ◌==◌, ℕ, suc, ℤ, Bool, true, false, not, ◌&&◌, cond, if◌then◌else◌, List, [], ◌∷◌, ◌++◌, drop, find, map, filter, flat_map, Option, Some, None, is_some, option_map, option_and_then, refl, ap, subst}
 use Rattle.std.specs.List.{AllByRecursion, slice_get}
 use Rattle.std.specs.Option.{option_map_or, IsSomeAnd}
 use Rattle.std.proofs.lemmas.Bool.Decides.{Decides-int_eq}
 use Rattle.std.proofs.lemmas.Option.{same_Some}
-use Rattle.actor_tree.specs.declared.actor.Actor.{Actor}
 use Rattle.ipdl_base.specs.declared.kinds.Destroy.{Destroy}
 use Rattle.ipdl_base.specs.declared.kinds.Reason.{Reason}
 use Rattle.ipdl_base.specs.declared.kinds.Reason.TheVariants.{ActorDestroyed, ChannelClosed, ResolverDestroyed}
@@ -19,13 +18,13 @@ use Rattle.ipdl_base.specs.declared.schema.MessageRow.{MessageRow}
 use Rattle.ipdl_base.specs.declared.schema.ProtocolRow.{ProtocolRow}
 use Rattle.ipdl_base.specs.declared.schema.Schema.{Schema}
 use Rattle.ipdl_base.specs.declared.value.Values.{Values}
-use Rattle.ipdl_base.specs.Sound.{IsSound, IsSoundMessage, IsKindOf, IsNamed, has_number, message_of}
+use Rattle.ipdl_base.specs.Sound.{IsSound, IsSoundMessage, IsKindOf, has_number, message_of}
 use Rattle.nesting_core.specs.declared.frame.Answer.{Answer}
 use Rattle.nesting_core.specs.declared.frame.Answer.TheVariants as answer
 use Rattle.nesting_core.specs.declared.frame.StackFrame.{StackFrame}
 use Rattle.nesting_core.specs.declared.frame.StackFrame.TheVariants.{Dispatch, Wait}
 use Rattle.nesting_core.specs.Answers.{with_answer}
-use Rattle.nesting_core.specs.Frames.{head_of, is_dispatch}
+use Rattle.nesting_core.specs.Frames.{head_of}
 use Rattle.pending_queue.specs.declared.item.Item.{Item}
 use Rattle.pending_queue.specs.declared.item.Item.TheVariants as item
 use Rattle.promise_table.specs.declared.promise.Outcome.{Outcome}
@@ -37,8 +36,8 @@ use Rattle.channel_model.specs.Deliveries as delivery
 use Rattle.channel_model.specs.Ends.{End, Packet, message, mark, StackEntry, PromiseEntry, Naming, NameContent, actor, resolver, Resolver}
 use Rattle.channel_model.specs.Events.{Answering, handled, kept}
 use Rattle.channel_model.specs.Falls as fall
-use Rattle.channel_model.specs.Names.{has_name, held_by_name, is_actor}
-use Rattle.channel_model.specs.Numbers.{is_sync_row, makes_promise, request_row, top_id}
+use Rattle.channel_model.specs.Names.{has_name, is_actor}
+use Rattle.channel_model.specs.Numbers.{is_sync_row, makes_promise, top_id}
 use Rattle.channel_model.specs.Outputs.{AnsweredRequest, request_answered, resolver_answered}
 use Rattle.channel_model.specs.Parts as parts
 use Rattle.channel_model.specs.Parts.{FirstPart, LaterPart, LaterParts, DeliveryPart, HoldsActor, IsRefusal, IsRenaming, reply_lines, fall_lines, farewell_line, end_behind}

@@ -13,30 +13,32 @@ use Rattle.ipdl_base.specs.declared.schema.MessageRow.{MessageRow}
 use Rattle.ipdl_base.specs.declared.schema.ProtocolRow.{ProtocolRow}
 use Rattle.ipdl_base.specs.declared.schema.Schema.{Schema}
 use Rattle.ipdl_base.specs.Lines.{same_side}
-use Rattle.ipdl_base.specs.Sound.{IsSound, message_of}
+use Rattle.ipdl_base.specs.Sound.{IsSound}
 use Rattle.ipdl_base.proofs.Numbers.{no_protocol}
 use Rattle.history.specs.Messages.{given, message_at, message_of_number}
 use Rattle.history_reading.specs.Holds.{is_readable_what}
 use Rattle.history_reading.specs.declared.parts.CallFrame.{CallFrame}
 use Rattle.history_reading.specs.Reading.{Reading, after, end_reading_of, opening_reading}
 use Rattle.history_reading.specs.Rows.{is_request_number}
-use Rattle.channel_model.specs.Ends.{End, World, Packet, end_of, link_to, opening}
+use Rattle.channel_model.specs.Ends.{End, World, Packet, opening}
 use Rattle.channel_model.specs.Events.{Event, Move}
 use Rattle.channel_model.specs.Events as event
 use Rattle.channel_model.specs.Outputs.{Output, line_at}
 use Rattle.channel_model.specs.Parts as parts
 use Rattle.channel_model.specs.Parts.{OwnParts}
-use Rattle.channel_model.specs.Runs.{RunState, output_of, passed_by, happens, run, history_of, world_after}
+use Rattle.channel_model.specs.Runs.{RunState, passed_by, happens, run, history_of}
 use Rattle.channel_model.specs.StepLaws.{IsStepOfParts, IsMadeOf}
 use Rattle.channel_model.specs.Steps.{step}
 use Rattle.channel_model.proofs.Known.{all-append, all-before, all-behind, all-map}
 use Rattle.channel_model.proofs.StepParts.{steps_are_made_of_parts}
-use Rattle.channel_model.proofs.Tests.{and-left, and-right}
 use Rattle.channel_laws.specs.NestedWorlds.{IsNestedWorld}
 use Rattle.channel_laws.specs.PrintedNames.{is_printable_message, is_noted_message, finds_names, LinesNameWhatIsPrinted}
 use Rattle.channel_laws.specs.Tested.{LinesPass, test_at}
+use Rattle.channel_laws.proofs.FallOrder.{or-right}
+use Rattle.channel_laws.proofs.Origins.{or-left}
+use Rattle.channel_laws.proofs.Testing.{same-side}
 use Rattle.channel_laws.proofs.EveryRun.{nested_worlds_stay, end-side}
-use Rattle.channel_laws.proofs.NumberParts.{Asks, Gives, KeepsNumbers, MakesProtocol, asks-grow, gives-grow, keeps-grow, delivery-asks, first-asks, laters-ask, first-makes, delivery-keeps, first-keeps, laters-keep}
+use Rattle.channel_laws.proofs.NumberParts.{Asks, Gives, KeepsNumbers, asks-grow, gives-grow, keeps-grow, delivery-asks, first-asks, laters-ask, first-makes, delivery-keeps, first-keeps, laters-keep}
 use Rattle.channel_laws.proofs.Readable.{run-reads}
 use Rattle.channel_laws.proofs.Runs.{side-lines}
 
@@ -49,14 +51,6 @@ IsNoted side before n = is_some (message_of_number side before n) ≡ true
 either-some : (later here : Option ℕ) → is_some (if is_some later then later else here) ≡ is_some later || is_some here
 either-some None here = refl
 either-some (Some n) here = refl
-
-or-left : (a b : Bool) → a ≡ true → a || b ≡ true
-or-left true b e = refl
-or-left false b e = cc
-
-or-right : (a b : Bool) → b ≡ true → a || b ≡ true
-or-right true b e = refl
-or-right false b e = e
 
 or-more : (a b c : Bool) → (a ≡ true → c ≡ true) → a || b ≡ true → c || b ≡ true
 or-more true b c f e = or-left c b (f refl)
@@ -72,13 +66,9 @@ noted-later : (side : Side) (xs ys : List Line) (n : ℤ) → IsNoted side ys n 
 noted-later side [] ys n h = h
 noted-later side (x ∷ xs) ys n h = either-some (message_of_number side (xs ++ ys) n) (message_at side n x) ∙ or-left (is_some (message_of_number side (xs ++ ys) n)) (is_some (message_at side n x)) (noted-later side xs ys n h)
 
-itself : (side : Side) → same_side side side ≡ true
-itself Parent = refl
-itself Child = refl
-
 here-noted : (side : Side) (w : What) (rest : List Line) (n : ℤ) (message : ℕ) → given w ≡ Some (n, message) → IsNoted side (line_at side w ∷ rest) n
 here-noted side w rest n message is =
-    let own : message_at side n (line_at side w) ≡ option_and_then (λ (g : ℤ × ℕ). if int_eq g.0 n then Some g.1 else None) (given w) = ap (λ (b : Bool). if b then option_and_then (λ (g : ℤ × ℕ). if int_eq g.0 n then Some g.1 else None) (given w) else None) (itself side) in
+    let own : message_at side n (line_at side w) ≡ option_and_then (λ (g : ℤ × ℕ). if int_eq g.0 n then Some g.1 else None) (given w) = ap (λ (b : Bool). if b then option_and_then (λ (g : ℤ × ℕ). if int_eq g.0 n then Some g.1 else None) (given w) else None) (same-side side) in
     let same : option_and_then (λ (g : ℤ × ℕ). if int_eq g.0 n then Some g.1 else None) (given w) ≡ Some message =
     ap (λ (o : Option (ℤ × ℕ)). option_and_then (λ (g : ℤ × ℕ). if int_eq g.0 n then Some g.1 else None) o) is ∙ ap (λ (b : Bool). if b then Some message else None) ((Decides-int_eq n n).1 refl) in
     either-some (message_of_number side rest n) (message_at side n (line_at side w)) ∙ or-right (is_some (message_of_number side rest n)) (is_some (message_at side n (line_at side w))) (ap (λ (o : Option ℕ). is_some o) (own ∙ same))

@@ -66,7 +66,7 @@ pass-lines schema test Child (w ∷ ws) r behind t = (t.0, pass-lines schema tes
 abbrev pub event_test : Reading → Line → List Line → Bool
 event_test r l behind = if is_effect l.what then is_of_event l.side r.last else true
 
-same-side : (side : Side) → same_side side side ≡ true
+pub same-side : (side : Side) → same_side side side ≡ true
 same-side Parent = refl
 same-side Child = refl
 
