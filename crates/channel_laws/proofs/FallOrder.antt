@@ -317,7 +317,7 @@ climbs-here a earlier id top e k = ap (λ (t : Bool). if t then (int_eq a.manage
 climbs-past : (a : BuiltActor) (earlier : List BuiltActor) (id top : ℤ) → a.id ≢ id → climbs earlier id top ≡ true → climbs (a ∷ earlier) id top ≡ true
 climbs-past a earlier id top n k = ap (λ (t : Bool). if t then (int_eq a.manager top || climbs earlier a.manager top) else climbs earlier id top) (other a.id id n) ∙ k
 
-or-right : (b c : Bool) → c ≡ true → b || c ≡ true
+pub or-right : (b c : Bool) → c ≡ true → b || c ≡ true
 or-right true c e = refl
 or-right false c e = e
 

@@ -100,3 +100,5 @@ pub mod BoundedRuns
 pub mod AllLaws
 pub mod QuietWorlds
 mod WorkedLaws
+pub mod NumberParts
+pub mod PrintedNames

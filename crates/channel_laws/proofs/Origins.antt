@@ -61,7 +61,7 @@ found-passes test (y ∷ ys) x e = by (test y) refl e (found-passes test ys x)
 
 -- Rows that have replies
 
-or-left : (a b : Bool) → a ≡ true → a || b ≡ true
+pub or-left : (a b : Bool) → a ≡ true → a || b ≡ true
 or-left true b e = refl
 or-left false b e = cc
 

@@ -1,21 +1,24 @@
 -- A worked history, and that it meets the premises of the theorem of each law: both ends call at once, all is answered,
 -- and the parent closes.
-use Rattle.std.proofs.Common.{◌≡◌, ◌++◌, ℤ, pos, negsuc, List, [], ◌∷◌, refl}
+use Rattle.std.proofs.Common.{◌≡◌, ◌++◌, ℤ, pos, negsuc, true, List, [], ◌∷◌, drop, take, Some, refl}
 use Rattle.ipdl_base.specs.declared.kinds.Destroy.TheVariants.{NormalShutdown}
 use Rattle.ipdl_base.specs.declared.kinds.Side.TheVariants as side
 use Rattle.ipdl_base.specs.declared.line.Line.{Line}
 use Rattle.ipdl_base.specs.declared.line.What.{What}
 use Rattle.ipdl_base.specs.declared.line.What.TheVariants as what
 use Rattle.ipdl_base.specs.declared.value.Values.TheVariants.{Nothing}
+use Rattle.history.specs.Messages.{message_of_number}
 use Rattle.history_reading.specs.declared.law.Law.TheVariants as law
 use Rattle.history_reading.specs.Holds.{IsReadable, Holds}
 use Rattle.channel_model.specs.Events.{Move}
 use Rattle.channel_model.specs.Events as event
 use Rattle.channel_model.specs.Outputs.{line_at}
 use Rattle.channel_model.specs.Runs.{history_of}
+use Rattle.channel_laws.specs.PrintedNames.{finds_names}
 use Rattle.channel_laws.proofs.FallenRuns.{histories_obey_fallen}
 use Rattle.channel_laws.proofs.LivingRuns.{histories_obey_living}
 use Rattle.channel_laws.proofs.PrefixRuns.{histories_obey_prefix}
+use Rattle.channel_laws.proofs.PrintedNames.{lines_name_what_is_printed}
 use Rattle.channel_laws.proofs.Readable.{histories_are_readable}
 use Rattle.channel_laws.proofs.SettledRuns.{histories_obey_settled}
 use Rattle.channel_laws.proofs.WaitLaw.{histories_obey_waits}
@@ -73,3 +76,11 @@ obeys_settled = histories_obey_settled calling calling_is_sound 0 moves
 
 obeys_fallen : Holds law.Fallen calling lines
 obeys_fallen = histories_obey_fallen calling calling_is_sound 0 moves
+
+-- The parent's call goes on: the text of that line finds the message of the call by its number.
+
+noted_is : message_of_number side.Parent (take 8 lines) (pos 1) ≡ Some tell
+noted_is = refl
+
+finds_its_call : finds_names calling (message_of_number side.Parent (take 8 lines)) (what.ResumeOk (pos 1) Nothing) ≡ true
+finds_its_call = lines_name_what_is_printed calling calling_is_sound 0 moves (take 8 lines) (at_parent (what.ResumeOk (pos 1) Nothing)) (drop 9 lines) refl

@@ -39,3 +39,4 @@ pub mod TwoEndLaws
 pub mod BoundedRuns
 pub mod AllLaws
 pub mod Quiet
+pub mod PrintedNames

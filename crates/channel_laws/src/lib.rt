@@ -8,6 +8,7 @@ mod bound_laws;
 mod exchange_laws;
 mod history_laws;
 mod laws;
+mod print_laws;
 mod quiet_laws;
 mod reading_laws;
 mod two_end_laws;
@@ -21,6 +22,7 @@ pub use laws::{
     replies_find_their_waits, sound_schemas_have_sound_rows, still_ends_wait_for_nothing,
     still_histories_leave_no_end_waiting, sync_replies_are_not_stray, waits_give_way,
 };
+pub use print_laws::lines_name_what_is_printed;
 pub use quiet_laws::quiet_worlds_are_still;
 pub use reading_laws::{histories_are_readable, reading_is_world};
 pub use two_end_laws::{
