@@ -49,7 +49,7 @@ use Rattle.channel_model.specs.ValueActors.{received}
 use Rattle.channel_model.proofs.FittingEnds.{all-drop}
 use Rattle.channel_model.proofs.Known.{all-append, all-filter, all-map}
 use Rattle.channel_laws.proofs.Origins.{found-passes}
-use Rattle.channel_laws.proofs.Outlines.{leaves-map, leaves-flat}
+use Rattle.channel_laws.proofs.PartLines.{mapped-lines, flat-lines}
 use Rattle.channel_laws.proofs.Rows.{request-message}
 use Rattle.channel_laws.proofs.Track.{all-found}
 
@@ -257,11 +257,11 @@ module _ (schema : Schema) (P : ℤ → Type 0) where
   fault-asks false q r = tt
 
   rejections-ask : (test : Promise → Bool) (why : Reason) (ps : List PromiseEntry) → AllByRecursion (Asks schema P) (fall.rejections test why ps)
-  rejections-ask test why ps = leaves-map (Asks schema P) (λ (entry : PromiseEntry). what.Rejected entry.promise.seq why) (filter (fall.passes test) ps) (λ entry. tt)
+  rejections-ask test why ps = mapped-lines (Asks schema P) (λ (entry : PromiseEntry). what.Rejected entry.promise.seq why) (filter (fall.passes test) ps) (λ entry. tt)
 
   falls-ask : (id : ℤ) (why : ℤ → Destroy) (e : End) → AllByRecursion (Asks schema P) (fall_lines id why e)
   falls-ask id why e =
-      leaves-flat (Asks schema P) (fall.fall_lines why e.promises) (parts.falling id e)
+      flat-lines (Asks schema P) (fall.fall_lines why e.promises) (parts.falling id e)
       (λ a. all-append (Asks schema P) (fall.rejections (promises.is_pending_of a.id) ActorDestroyed e.promises) (what.Fall a.id (why a.id) ∷ []) (rejections-ask (promises.is_pending_of a.id) ActorDestroyed e.promises) (tt, tt))
 
   refusal-asks : (w : What) → IsRefusal schema w → Asks schema P w
@@ -334,7 +334,7 @@ module _ (schema : Schema) (P : ℤ → Type 0) where
   delivery-asks (parts.replaces m row vs old sync level replies body found rep is) = (tt, (tt, fault-asks replies (request_answered old) ResolverDestroyed))
   delivery-asks (parts.gets_answer m row a body found is) = (tt, tt)
   delivery-asks (parts.gets_reply m row a body found is) = (tt, tt)
-  delivery-asks {e} (parts.drains packet is) = (farewell-asks packet, leaves-map (Asks schema P) what.Fails (delivery.unanswered e) (λ n. tt))
+  delivery-asks {e} (parts.drains packet is) = (farewell-asks packet, mapped-lines (Asks schema P) what.Fails (delivery.unanswered e) (λ n. tt))
   delivery-asks (parts.passes_by m ordinary none) = (unknown-asks m.seq m.body, tt)
 
   pub first-asks : {q : Phase} {e f : End} {ws : List What} {ps : List Packet} → FirstPart schema e ws ps f q → KeepsNumbers P e → AllByRecursion (Asks schema P) ws
