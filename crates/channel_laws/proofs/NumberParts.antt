@@ -79,8 +79,8 @@ pub row-makes : (schema : Schema) → IsSound schema → (n : ℕ) (row : Messag
 row-makes schema sound n row found =
     let all : AllByRecursion (λ (r : MessageRow). MakesProtocol schema r.kind) (flat_map (λ (p : ProtocolRow). p.messages) schema.protocols) =
     all-joined (λ (r : MessageRow). MakesProtocol schema r.kind) (λ (p : ProtocolRow). p.messages) schema.protocols
-        (all-places (λ (p : ProtocolRow). AllByRecursion (λ (r : MessageRow). MakesProtocol schema r.kind) p.messages) schema.protocols
-        (λ p protocol at. all-places (λ (r : MessageRow). MakesProtocol schema r.kind) protocol.messages (λ i r here. kind-makes schema p i protocol r ((sound.protocols p protocol at).messages i r here)))) in
+    (all-places (λ (p : ProtocolRow). AllByRecursion (λ (r : MessageRow). MakesProtocol schema r.kind) p.messages) schema.protocols
+    (λ p protocol at. all-places (λ (r : MessageRow). MakesProtocol schema r.kind) protocol.messages (λ i r here. kind-makes schema p i protocol r ((sound.protocols p protocol at).messages i r here)))) in
     all-found (λ (r : MessageRow). MakesProtocol schema r.kind) (has_number n) (flat_map (λ (p : ProtocolRow). p.messages) schema.protocols) row all found
 
 -- What lines ask for and give

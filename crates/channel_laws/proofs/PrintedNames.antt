@@ -134,7 +134,7 @@ module _ (schema : Schema) where
             let all : AllByRecursion (Gives (IsNoted side (map (line_at side) (ws ++ vs) ++ []))) (ws ++ vs) = gives-all side (ws ++ vs) [] in
             let gives : AllByRecursion (Gives Q) (ws ++ vs) =
             all-map (Gives (IsNoted side (map (line_at side) (ws ++ vs) ++ []))) (Gives Q) (ws ++ vs)
-                (λ w h. gives-grow (IsNoted side (map (line_at side) (ws ++ vs) ++ [])) Q (λ n g. noted-later side before (map (line_at side) (ws ++ vs)) n (subst (λ (ls : List Line). IsNoted side ls n) (append-nil (map (line_at side) (ws ++ vs))) g)) w h) all in
+            (λ w h. gives-grow (IsNoted side (map (line_at side) (ws ++ vs) ++ [])) Q (λ n g. noted-later side before (map (line_at side) (ws ++ vs)) n (subst (λ (ls : List Line). IsNoted side ls n) (append-nil (map (line_at side) (ws ++ vs))) g)) w h) all in
             made-asks side before output (ws ++ vs) lines
             (all-append (Asks schema P) ws vs (first-asks schema P first k) (laters-ask schema P rest (first-makes schema P sound first)))
             (laters-keep schema Q rest (first-keeps schema Q first (all-before (Gives Q) ws vs gives) (keeps-grow P Q (noted-more side before (map (line_at side) (ws ++ vs))) e k)))

@@ -1,6 +1,6 @@
 -- A worked history, and that it meets the premises of the theorem of each law: both ends call at once, all is answered,
 -- and the parent closes.
-use Rattle.std.proofs.Common.{◌≡◌, ◌++◌, ℤ, pos, negsuc, true, List, [], ◌∷◌, drop, take, Some, refl}
+use Rattle.std.proofs.Common.{◌≡◌, ◌++◌, pos, negsuc, true, List, [], ◌∷◌, drop, take, Some, refl}
 use Rattle.ipdl_base.specs.declared.kinds.Destroy.TheVariants.{NormalShutdown}
 use Rattle.ipdl_base.specs.declared.kinds.Side.TheVariants as side
 use Rattle.ipdl_base.specs.declared.line.Line.{Line}
