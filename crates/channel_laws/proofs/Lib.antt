@@ -94,6 +94,7 @@ pub mod WaitMoments
 pub mod StillReads
 pub mod StillEnds
 pub mod WaitLaw
+pub mod WorldReading
 pub mod PartLines
 pub mod FittingRuns
 pub mod BoundedRuns

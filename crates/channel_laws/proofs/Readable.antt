@@ -56,13 +56,14 @@ use Rattle.ipdl_base.specs.declared.message.Body.{Body}
 use Rattle.ipdl_base.specs.declared.message.Body.TheVariants.{Request, Reply, Fault, Goodbye}
 use Rattle.ipdl_base.specs.Sound.{IsSound, message_of}
 use Rattle.history_reading.specs.Holds.{is_readable}
-use Rattle.history_reading.specs.Reading.{Reading, after, after_what, end_reading_of, other_of, opening_reading}
+use Rattle.history_reading.specs.Reading.{Reading, after, after_what, end_reading_of, other_of, opening_reading, read}
 use Rattle.channel_model.specs.Ends.{World, message, mark, end_of, opening}
 use Rattle.channel_model.specs.Events.{Event, Move}
 use Rattle.channel_model.specs.Numbers.{other}
 use Rattle.channel_model.specs.Runs.{run, history_of}
 use Rattle.channel_model.proofs.Follow.{effects_follow_events}
-use Rattle.channel_laws.specs.ReadingLaws.{ReadingIsWorld, HistoriesAreReadable}
+use Rattle.channel_laws.specs.ReadingLaws.{HistoriesAreReadable}
+use Rattle.channel_laws.specs.TwoEnds.{ReadingIs}
 use Rattle.channel_laws.specs.Tested.{LinesPass, test_at}
 use Rattle.channel_laws.proofs.Moves.{StepParts, acts, delivers}
 use Rattle.channel_laws.proofs.Runs.{RunKeeps, every-run, ends-pass}
@@ -229,8 +230,8 @@ lines-read schema sound top moves =
     unfold-readable schema opening_reading lines []
     (pass-both schema event_test (test_at (λ own other said. is_readable_what schema own.stack said)) opening_reading lines [] (pass-events schema opening_reading lines [] (effects_follow_events schema top moves)) ((run-reads schema sound top moves).passes []))
 
-pub reading_is_world : ReadingIsWorld
-reading_is_world schema sound top moves = (run-reads schema sound top moves).reads
+pub reading-is : (schema : Schema) → IsSound schema → (top : ℕ) (moves : List Move) → ReadingIs schema (run schema moves (opening top)).world (read schema (history_of schema top moves))
+reading-is schema sound top moves = (run-reads schema sound top moves).reads
 
 pub histories_are_readable : HistoriesAreReadable
 histories_are_readable schema sound top moves = each-passes schema (λ r l b. is_readable schema r l) [] (history_of schema top moves) (lines-read schema sound top moves)

@@ -30,7 +30,7 @@ use Rattle.channel_laws.proofs.Moves.{flip}
 use Rattle.channel_laws.proofs.Outlines.{open-is}
 use Rattle.channel_laws.proofs.PrefixRuns.{noted-at}
 use Rattle.channel_laws.proofs.Reached.{reached-has, noted-reached}
-use Rattle.channel_laws.proofs.Readable.{reading_is_world}
+use Rattle.channel_laws.proofs.Readable.{reading-is}
 use Rattle.channel_laws.proofs.Runs.{IsReached, MoveKeeps, EveryMoveKeeps, AtEnds, AcrossEnds, every-run, moment_at, moments-pass}
 use Rattle.channel_laws.proofs.StillEnds.{nothing-possible, parent-clear, child-clear}
 use Rattle.channel_laws.proofs.StillReads.{StillEnd, still-end}
@@ -57,7 +57,7 @@ all-five false false false true e p q r s t = cc
 all-five false false false false true p q r s t = cc
 
 module _ (schema : Schema) (sound : IsSound schema) where
-  exchanges-reached : (w : World) (r : Reading) → IsReached schema w r → AtEnds schema (ReadsExchanges schema) w r
+  pub exchanges-reached : (w : World) (r : Reading) → IsReached schema w r → AtEnds schema (ReadsExchanges schema) w r
   exchanges-reached w r h =
       reached-has schema (AtEnds schema (ReadsExchanges schema)) (λ top moves. (every-run schema sound (ReadExchanges schema sound) (test_at there_line) (exchanges-keep schema sound) top moves (opening-exchanges schema top Parent, opening-exchanges schema top Child)).kept) w r h
 
@@ -126,4 +126,4 @@ histories_obey_waits schema sound top moves =
     let runs = every-run schema sound (AnswersKept schema sound) (waits_test schema sound) (waits-moves schema sound) top moves none in
     let w : World = (run schema moves (opening top)).world in
     holds-in-runs law.Waits schema sound top moves (runs.passes [])
-    (moment-is schema sound w (read schema (history_of schema top moves)) (record { top = top; front = moves; world = refl; reading = refl }) (nesting_in_every_run schema sound top moves) (reading_is_world schema sound top moves))
+    (moment-is schema sound w (read schema (history_of schema top moves)) (record { top = top; front = moves; world = refl; reading = refl }) (nesting_in_every_run schema sound top moves) (reading-is schema sound top moves))

@@ -21,7 +21,7 @@ use Rattle.channel_model.specs.Runs.{run, history_of}
 use Rattle.channel_laws.specs.BoundedRuns.{IsBoundedRun}
 use Rattle.channel_laws.specs.Laws.{world_of}
 use Rattle.channel_laws.specs.PrintedNames.{finds_names}
-use Rattle.channel_laws.specs.TwoEnds.{ReadingIs}
+use Rattle.channel_laws.specs.ReadingLaws.{WorldIsRead}
 use Rattle.channel_laws.proofs.AllLaws.{histories_obey_all_laws}
 use Rattle.channel_laws.proofs.BoundedRuns.{histories_are_bounded}
 use Rattle.channel_laws.proofs.FallenRuns.{histories_obey_fallen}
@@ -29,10 +29,11 @@ use Rattle.channel_laws.proofs.HonestRuns.{honest_packets_are_accepted}
 use Rattle.channel_laws.proofs.LivingRuns.{histories_obey_living}
 use Rattle.channel_laws.proofs.PrefixRuns.{histories_obey_prefix}
 use Rattle.channel_laws.proofs.PrintedNames.{lines_name_what_is_printed}
-use Rattle.channel_laws.proofs.Readable.{histories_are_readable, reading_is_world}
+use Rattle.channel_laws.proofs.Readable.{histories_are_readable}
 use Rattle.channel_laws.proofs.SettledRuns.{histories_obey_settled}
 use Rattle.channel_laws.proofs.WaitLaw.{histories_obey_waits}
 use Rattle.channel_laws.proofs.Worked.{parent, child, top, at_once, answers}
+use Rattle.channel_laws.proofs.WorldReading.{reading_is_world}
 use Rattle.channel_laws.proofs.WorkedSchema.{calling, calling_is_sound, ask, tell}
 
 abbrev moves : List Move
@@ -100,7 +101,7 @@ finds_its_call = lines_name_what_is_printed calling calling_is_sound 0 moves (ta
 obeys_all : (l : Law) → Holds l calling lines
 obeys_all = histories_obey_all_laws calling calling_is_sound 0 moves
 
-reading_is : ReadingIs calling (run calling moves (opening 0)).world (read calling lines)
+reading_is : WorldIsRead calling (run calling moves (opening 0)).world (read calling lines)
 reading_is = reading_is_world calling calling_is_sound 0 moves
 
 is_bounded : IsBoundedRun side.Parent (run calling moves (opening 0))

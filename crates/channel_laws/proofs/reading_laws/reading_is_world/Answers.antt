@@ -1,4 +1,4 @@
-use Rattle.channel_laws.proofs.Readable as law
+use Rattle.channel_laws.proofs.WorldReading as law
 use Rattle.channel_laws.proofs.reading_laws.reading_is_world.Goals as goal
 
 pub returns : goal.returns
