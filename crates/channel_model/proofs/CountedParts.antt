@@ -19,8 +19,8 @@ use Rattle.channel_model.specs.StepLaws.{CountsGrow}
 use Rattle.channel_model.proofs.StepParts.{by-parts}
 
 -- No request is counted, and no more wait in the outbox.
-record Keeps (e f : End) : Type 0 where
-  sent : f.sent ≡ e.sent
+pub record Keeps (e f : End) : Type 0 where
+  pub sent : f.sent ≡ e.sent
   delivered : f.delivered ≡ e.delivered
   outbox : length f.outbox ≤ length e.outbox
   constructors : f.constructors_sent ≡ e.constructors_sent
@@ -62,7 +62,7 @@ later-keeps (Parts.builds id protocol rest is built) = keeps-all _ _ refl refl r
 later-keeps (Parts.deletes id cause) = keeps-all _ _ refl refl refl refl
 later-keeps (Parts.falls why cause) = keeps-all _ _ refl refl refl refl
 
-laters-keep : {p q : Phase} {e f : End} {ws : List What} {ps : List Packet} → LaterParts p e ws ps f q → Keeps e f
+pub laters-keep : {p q : Phase} {e f : End} {ws : List What} {ps : List Packet} → LaterParts p e ws ps f q → Keeps e f
 laters-keep Parts.done = keeps-all _ _ refl refl refl refl
 laters-keep (Parts.then part rest) = keeps-both _ _ _ (later-keeps part) (laters-keep rest)
 

@@ -1,5 +1,5 @@
 -- What an end keeps and sends fits: part by part, and so in every step.
-use Rattle.std.proofs.Common.{◌≡◌, ℕ, ◌+◌, ◌<◌, ◌==◌, ℤ, Bool, true, false, not, ◌&&◌, ◌||◌, cond, if◌then◌else◌, List, [], ◌∷◌, ◌++◌, drop, map, is_some, is_none, unwrap_or, option_and_then, Option, Some, None, refl, sym, ap, subst, ◌∙◌, int_eq, arith}
+use Rattle.std.proofs.Common.{◌≡◌, ℕ, ◌+◌, ◌<◌, ◌≤◌, ◌==◌, ℤ, Bool, true, false, not, ◌&&◌, ◌||◌, cond, if◌then◌else◌, List, [], ◌∷◌, ◌++◌, drop, map, is_some, is_none, unwrap_or, option_and_then, Option, Some, None, refl, sym, ap, subst, ◌∙◌, int_eq, arith}
 use Rattle.std.specs.List.{AllByRecursion}
 use Rattle.std.specs.Option.{option_map_or}
 use Rattle.std.proofs.lemmas.Bool.{eqb-true}
@@ -56,6 +56,7 @@ use Rattle.channel_model.specs.StepLaws.{IsMadeOf, IsDeliveryOfOnePart, FitsOutp
 use Rattle.channel_model.specs.Takes as take
 use Rattle.channel_model.specs.Typed.{have_types}
 use Rattle.channel_model.specs.ValueActors.{has_dead}
+use Rattle.channel_model.proofs.CountedParts.{laters-keep}
 use Rattle.channel_model.proofs.FittingEnds.{fits-outbox, fits-state, fits-actors, fits-arrived, fits-stack, fits-promises, fits-names, fits-delivered, fits-behind, outbox-packets, behind-packets, released-stack, failed-stack, AnswerFits, answered-stack, entry-resolver, handled-resolver, without-names, actor-names, held-fits, more-names, rejected-promises, settled-promises, taken-fits, left-items, staying-items, last-item, replaced-in, all-drop}
 use Rattle.channel_model.proofs.FittingRequests.{promise-reply, sync-reply, same-row, request-kept, request-of, values-fit, fault-fits, rejected-fault, destroyed-fault, resolver-fault, promised-fault, gives-returns, reply-of}
 use Rattle.channel_model.proofs.FittingSends.{accepted-values, sent-fresh, sent-packets, sent-end, request-fresh}
@@ -222,11 +223,13 @@ module _ (schema : Schema) (sound : IsSound schema) where
   leaving-fits : (e : End) → IsFitting schema e → IsFitting schema (left_end e)
   leaving-fits e h = fits-arrived schema e _ (left-items schema e h) h
 
-  first-fits : {p : Phase} {e f : End} {ws : List What} {ps : List Packet} → FirstPart schema e ws ps f p → IsCounted e → e.sent < 268435456 → IsFitting schema e → PartFits schema ps f p
+  first-fits : {p : Phase} {e f : End} {ws : List What} {ps : List Packet} → FirstPart schema e ws ps f p → IsCounted e → f.sent ≤ 268435456 → IsFitting schema e → PartFits schema ps f p
   first-fits (Parts.refuses w is) counted few h = record { end = h; packets = tt; fresh = tt }
   first-fits (Parts.renames w is) counted few h = record { end = h; packets = tt; fresh = tt }
   first-fits {e} (Parts.flushes open_is) counted few h = record { end = fits-outbox schema e h; packets = outbox-packets schema e.outbox h.outbox; fresh = tt }
-  first-fits {e} (Parts.sends row route vs name sent) counted few h = record { end = sent-end schema e row route vs name sent counted few h; packets = sent-packets schema e row route vs name sent counted few h; fresh = sent-fresh schema e row route vs name sent counted few h }
+  first-fits {e} (Parts.sends row route vs name sent) counted few h =
+      let low : e.sent < 268435456 = omega arith in
+      record { end = sent-end schema e row route vs name sent counted low h; packets = sent-packets schema e row route vs name sent counted low h; fresh = sent-fresh schema e row route vs name sent counted low h }
   first-fits {e} (Parts.answers by vs r row found may ok is) counted few h = record {
     end = fits-outbox schema (answering.without_resolver by e) (answered-end e by h);
     packets = behind-packets schema e (message (reply_to (resolver_answered r) (answering.answer_body vs))) (answer-fits e vs r row (used e by r row found is h) may (ap (answering.resolver_refusal schema e row vs) (sym is) ∙ (passed-first (is_open e.state) refusal.Closed (answering.resolver_refusal schema e row vs (answering.resolver_used e by)) ok).1) h) h;
@@ -269,9 +272,10 @@ module _ (schema : Schema) (sound : IsSound schema) where
       }
   first-fits {e} (Parts.resumes wait row on_top found) counted few h = record { end = fits-stack schema e (drop 1 e.stack) (all-drop (FitsEntry schema) e.stack h.stack) h; packets = tt; fresh = tt }
 
-  own-fits : {p : Phase} {e f : End} {ws : List What} {ps : List Packet} → OwnParts schema e ws ps f p → IsCounted e → e.sent < 268435456 → IsFitting schema e → PartFits schema ps f p
+  own-fits : {p : Phase} {e f : End} {ws : List What} {ps : List Packet} → OwnParts schema e ws ps f p → IsCounted e → f.sent ≤ 268435456 → IsFitting schema e → PartFits schema ps f p
   own-fits (Parts.begun {ps} {qs} first rest over) counted few h =
-      let a = first-fits first counted few h in
+      let k = laters-keep rest in
+      let a = first-fits first counted (omega (arith, k.sent)) h in
       let b = laters-fit rest a.fresh a.end in
       record { end = b.end; packets = all-append (FitsPacket schema) ps qs a.packets b.packets; fresh = b.fresh }
 
@@ -291,12 +295,12 @@ module _ (schema : Schema) (sound : IsSound schema) where
       fits-delivered schema (record e { arrived = items }) (e.delivered + 1) (counting row.kind e.constructors_delivered) (fits-arrived schema e items (staying-items schema e row.compress (delivery.item_of row m) (arriving row m fits found) h) h)
 
   -- a request that is replaced is one of the same message
-  record Alike (m old : Message) : Type 0 where
-    values : Values
-    body : old.body ≡ Request values
-    number : old.number ≡ m.number
+  pub record Alike (m old : Message) : Type 0 where
+    pub values : Values
+    pub body : old.body ≡ Request values
+    pub number : old.number ≡ m.number
 
-  alike : (m old : Message) (sync was : Bool) (level before : Level) → are_alike (item.Message m sync level) (item.Message old was before) ≡ true → Alike m old
+  pub alike : (m old : Message) (sync was : Bool) (level before : Level) → are_alike (item.Message m sync level) (item.Message old was before) ≡ true → Alike m old
   alike m old sync was level before e =
       let numbers : Bool = old.number == m.number in
       let routes : Bool = int_eq old.route m.route in
@@ -318,7 +322,7 @@ module _ (schema : Schema) (sound : IsSound schema) where
       fault-fits schema sound row (request_answered old) (request-kept schema row old a.values r) reason.ResolverDestroyed (promise-reply row promise) (resolver-fault row promise)
 
   -- a reply to a sync request that is not refused is waited for
-  waited : (e : End) (m : Message) (row : MessageRow) (a : Answer) → m.body ≡ body_of a → message_of schema m.number ≡ Some row → is_sync_row row ≡ true → packet_refusal schema e (message m) ≡ None → is_waited_for e m ≡ true
+  pub waited : (e : End) (m : Message) (row : MessageRow) (a : Answer) → m.body ≡ body_of a → message_of schema m.number ≡ Some row → is_sync_row row ≡ true → packet_refusal schema e (message m) ≡ None → is_waited_for e m ≡ true
   waited e m row a body found sync accepted =
       expected (is_sync_row row) (is_waited_for e m) (is_promised e m) sync
       (by_answer a (sym (ap (λ (b : Body). body_refusal schema e m b row) body) ∙ (sym (ap (λ (r : Option MessageRow). option_map_or (body_refusal schema e m m.body) r None) found) ∙ accepted)))
@@ -368,7 +372,7 @@ module _ (schema : Schema) (sound : IsSound schema) where
 
 -- Steps
 
-own-output : (schema : Schema) → IsSound schema → (e : End) (output : Output) → IsCounted e → e.sent < 268435456 → IsFitting schema e → IsMadeOf (OwnParts schema e) e.side output → FitsOutput schema output
+own-output : (schema : Schema) → IsSound schema → (e : End) (output : Output) → IsCounted e → output.end.sent ≤ 268435456 → IsFitting schema e → IsMadeOf (OwnParts schema e) e.side output → FitsOutput schema output
 own-output schema sound e output counted few h made = let r = own-fits schema sound made.parts counted few h in record { end = r.end; packets = r.packets }
 
 delivered-output : (schema : Schema) → IsSound schema → (e : End) (link : List Packet) (output : Output) → IsFittingDelivery schema e link event.deliver → IsFitting schema e → IsDeliveryOfOnePart schema e link output → FitsOutput schema output

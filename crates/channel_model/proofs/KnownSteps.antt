@@ -204,7 +204,7 @@ module _ (schema : Schema) (protocol : ℕ) where
       subst (λ (ids : List ℤ). AreKnown protocol (record (ids_of schema e) { delivered = e.constructors_delivered + 1; waiting = some ++ ids })) (sym is) (known-arrives protocol (ids_of schema e) some made h s (next refl))
 
   -- the new id of a constructor that is not refused is the next
-  next-id : (e : End) (m : Message) (row : MessageRow) (vs : Values) → m.body ≡ Request vs → message_of schema m.number ≡ Some row → packet_refusal schema e (message m) ≡ None → is_constructor row.kind ≡ true → m.made ≡ expected_id e
+  pub next-id : (e : End) (m : Message) (row : MessageRow) (vs : Values) → m.body ≡ Request vs → message_of schema m.number ≡ Some row → packet_refusal schema e (message m) ≡ None → is_constructor row.kind ≡ true → m.made ≡ expected_id e
   next-id e m row vs body found accepted constructor =
       (Decides-int_eq m.made (expected_id e)).0
       (third_passes (sends_way (other e.side) row.direction) (int_eq m.seq (expected_seq e)) (is_constructor row.kind) (int_eq m.made (expected_id e)) wrong_direction wrong_number wrong_new_id (actor_refusal schema e row m)

@@ -1,5 +1,5 @@
 -- What follows from the steps of ends, for every schema and every list of moves.
-use Rattle.std.specs.Prelude.{◌≡◌, ◌≢◌, ℕ, ◌<◌, true, List, map, Some, None}
+use Rattle.std.specs.Prelude.{◌≡◌, ◌≢◌, ℕ, ◌≤◌, true, List, map, Some, None}
 use Rattle.std.specs.List.{AllByRecursion}
 use Rattle.ipdl_base.specs.declared.kinds.Side.{Side}
 use Rattle.ipdl_base.specs.declared.line.What.{What}
@@ -94,12 +94,12 @@ pub record FitsOutput (schema : Schema) (output : Output) : Type 0 where
   pub end : IsFitting schema output.end
   pub packets : AllByRecursion (FitsPacket schema) output.packets
 
--- What an end keeps and sends fits a sound schema, while it has sent less than 2^28 requests and nothing is delivered
--- that does not fit or is refused.
+-- What an end keeps and sends fits a sound schema, while it has sent, the step counted, at most 2^28 requests and nothing
+-- is delivered that does not fit or is refused.
 abbrev pub FittingEndsStay : Type 0
 FittingEndsStay =
     (schema : Schema) (e : End) (link : List Packet) (event : Event) (output : Output)
-    → step schema e link event ≡ Some output → IsSound schema → IsCounted e → e.sent < 268435456 → IsFittingDelivery schema e link event → IsFitting schema e → FitsOutput schema output
+    → step schema e link event ≡ Some output → IsSound schema → IsCounted e → output.end.sent ≤ 268435456 → IsFittingDelivery schema e link event → IsFitting schema e → FitsOutput schema output
 
 -- An end fits, and its counts do, as it begins.
 abbrev pub FirstEndsFit : Type 0

@@ -1,8 +1,8 @@
 ghost use Rattle.ipdl_base.specs.Sound.{IsSound};
 
 use super::chain_rows::{CHAINS, CHAINS_COUNT};
-use super::given::{note, schema_of};
-use super::lists::history_of;
+use super::given::note;
+use history_of_text::{history_of, schema_of};
 use history::History;
 use ipdl_base::{Schema, Side};
 use law_checks::{Held, can_read, chain};

@@ -1,6 +1,6 @@
 use super::chains::waiting;
-use super::given::{laws, schema_of};
-use super::lists::history_of;
+use super::given::laws;
+use history_of_text::{history_of, schema_of};
 use std::alloc::{AllocError, Global};
 use std::test::Fail;
 

@@ -13,13 +13,9 @@ mod given;
 #[cfg(test)]
 mod large;
 #[cfg(test)]
-mod lists;
-#[cfg(test)]
 mod living_rows;
 #[cfg(test)]
 mod prefix_rows;
-#[cfg(test)]
-mod protocols;
 #[cfg(test)]
 mod run_rows;
 #[cfg(test)]

@@ -1,6 +1,6 @@
-use super::given::{laws, note, schema_of};
-use super::lists::history_of;
+use super::given::{laws, note};
 use super::run_rows::{RUNS, RUNS_COUNT};
+use history_of_text::{history_of, schema_of};
 use history::history_text;
 use std::alloc::Global;
 use std::test::Fail;

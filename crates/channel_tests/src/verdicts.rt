@@ -1,11 +1,11 @@
 use super::fallen_rows::{FALLEN, FALLEN_COUNT};
-use super::given::{laws, note, schema_of};
-use super::lists::history_of;
+use super::given::{laws, note};
 use super::living_rows::{LIVING, LIVING_COUNT};
 use super::prefix_rows::{PREFIX, PREFIX_COUNT};
 use super::settled_rows::{SETTLED, SETTLED_COUNT};
 use super::waits_rows::{WAITS, WAITS_COUNT};
 use super::whole_rows::{WHOLE, WHOLE_COUNT};
+use history_of_text::{history_of, schema_of};
 use std::alloc::Global;
 use std::test::Fail;
 

@@ -30,10 +30,6 @@ use Rattle.end_parts.specs.PromiseRequests.{pending_in}
 true_here : (a : ℤ) → int_eq a a ≡ true
 true_here a = (Decides-int_eq a a).1 refl
 
-false_unless : (b : Bool) → (b ≡ true → ⊥) → b ≡ false
-false_unless true h = absurd (h refl)
-false_unless false h = refl
-
 swaps_at : (a b : ℤ) (s t : Bool) → int_eq a b ≡ s → int_eq b a ≡ t → s ≡ t
 swaps_at a b true true e f = refl
 swaps_at a b false false e f = refl

@@ -11,3 +11,8 @@ pub mod FailLemmas
 pub mod NameLemmas
 pub mod ReadLemmas
 pub mod ReceiveLemmas
+pub mod LivingLemmas
+pub mod ReturnLemmas
+pub mod RenamingLemmas
+pub mod DeliveryRefusalLemmas
+pub mod PlanLemmas

@@ -1,9 +1,10 @@
 -- What happens to promises happens to their entries.
-use Rattle.std.proofs.Common.{◌≡◌, ◌≢◌, ℕ, ℤ, zero, suc, ◌<◌, Bool, true, false, ◌&&◌, cond, List, [], ◌∷◌, ◌++◌, length, get_or, Option, Some, None, refl, ap, sym, ◌∙◌, arith}
+use Rattle.std.proofs.Common.{◌≡◌, ◌≢◌, ℕ, ℤ, zero, suc, ◌<◌, Bool, true, false, cond, List, [], ◌∷◌, ◌++◌, length, get_or, Option, Some, None, refl, ap, sym, ◌∙◌, arith}
 use Rattle.std.specs.Option.{option_map}
 use Rattle.std.specs.Ordering.{int_eq}
 use Rattle.std.specs.List.{find, AllByRecursion}
 use Rattle.std.proofs.lemmas.List.Quantifiers.{all_pairs_push}
+use Rattle.std.proofs.lemmas.Bool.{false_from_ne_true}
 use Rattle.std.proofs.lemmas.Bool.Decides.{Decides-int_eq}
 use Rattle.ipdl_base.specs.declared.kinds.Reason.{Reason}
 use Rattle.promise_table.specs.declared.promise.Outcome.{Outcome}
@@ -13,6 +14,7 @@ use Rattle.promise_table.specs.Plain.{plain_promise}
 use Rattle.promise_table.specs.Promises.{made, has_number, is_pending, is_pending_of, settled, with_settled, oldest, with_rejected, HaveDistinctNumbers}
 use Rattle.channel_model.specs.Ends.{PromiseEntry}
 use Rattle.channel_model.specs.Falls.{rejected_entry}
+use Rattle.channel_model.proofs.Tests.{and-right}
 use Rattle.end_parts.specs.declared.reply.RequestKey.{RequestKey}
 use Rattle.end_parts.specs.PromiseRequests.{entries_of, oldest_of, with_oldest_rejected}
 
@@ -33,33 +35,27 @@ oldest-entries test blind (p ∷ ps) (n ∷ ns) e =
     rw (blind p) (seq_or (test p) p n (find (λ (entry : PromiseEntry). test entry.promise) (entries_of ps ns)) (find test ps) (oldest-entries test blind ps ns (omega arith)))
 
 -- no promise of them has the number
-AreApart : ℤ → List Promise → Type 0
+abbrev pub AreApart : ℤ → List Promise → Type 0
 AreApart seq [] = Unit {0}
 AreApart seq (p ∷ ps) = (p.seq ≢ seq) × AreApart seq ps
 
-apart : (seq : ℤ) (ps : List Promise) → ((k : ℕ) (d : Promise) → k < length ps → (get_or ps k d).seq ≢ seq) → AreApart seq ps
-unfolding AreApart
+pub apart : (seq : ℤ) (ps : List Promise) → ((k : ℕ) (d : Promise) → k < length ps → (get_or ps k d).seq ≢ seq) → AreApart seq ps
 apart seq [] h = tt
 apart seq (p ∷ ps) h = (h 0 p (omega arith), apart seq ps (λ k d l. h (suc k) d (omega arith)))
 
 -- the first of distinct promises is apart from those behind it
-first_apart : (p : Promise) (ps : List Promise) → HaveDistinctNumbers (p ∷ ps) → AreApart p.seq ps
+pub first_apart : (p : Promise) (ps : List Promise) → HaveDistinctNumbers (p ∷ ps) → AreApart p.seq ps
 first_apart p ps h = apart p.seq ps (λ k d l e. h 0 (suc k) d (omega arith) (omega arith) (sym e))
 
-rest_distinct : (p : Promise) (ps : List Promise) → HaveDistinctNumbers (p ∷ ps) → HaveDistinctNumbers ps
+pub rest_distinct : (p : Promise) (ps : List Promise) → HaveDistinctNumbers (p ∷ ps) → HaveDistinctNumbers ps
 rest_distinct p ps h = λ i j d l m. h (suc i) (suc j) d (omega arith) (omega arith)
-
-false_unless : (b : Bool) → (b ≡ true → ⊥) → b ≡ false
-false_unless true h = absurd (h refl)
-false_unless false h = refl
 
 settled_other : (seq : ℤ) (outcome : Outcome) (p : Promise) → p.seq ≢ seq → settled seq outcome p ≡ p
 settled_other seq outcome p n =
-    let elsewhere : has_number seq p ≡ false = false_unless (has_number seq p) (λ e. n ((Decides-int_eq p.seq seq).0 e)) in
+    let elsewhere : has_number seq p ≡ false = false_from_ne_true (has_number seq p) (λ e. n ((Decides-int_eq p.seq seq).0 e)) in
     rw elsewhere refl
 
 others_stay : (seq : ℤ) (outcome : Outcome) (ps : List Promise) → AreApart seq ps → with_settled ps seq outcome ≡ ps
-unfolding AreApart
 others_stay seq outcome [] h = refl
 others_stay seq outcome (p ∷ ps) h =
     let first : settled seq outcome p ≡ p = settled_other seq outcome p h.0 in
@@ -77,7 +73,6 @@ found_or seq test p true there n first rest e = λ m. first (cc)
 found_or seq test p false there n first rest e = rest e
 
 found_apart : (seq : ℤ) (test : Promise → Bool) (ps : List Promise) (n : ℤ) → AreApart seq ps → oldest test ps ≡ Some n → n ≢ seq
-unfolding AreApart
 found_apart seq test [] n h e = cc
 found_apart seq test (p ∷ ps) n h e = found_or seq test p (test p) (find test ps) n h.0 (found_apart seq test ps n h.1) e
 
@@ -108,12 +103,8 @@ rejected-entries test blind pends reason (p ∷ ps) (n ∷ ns) e distinct =
     rw (blind p) (rejected_at test reason p ps n ns (test p) refl (pends p) distinct (rejected-entries test blind pends reason ps ns (omega arith) (rest_distinct p ps distinct)))
 
 -- of an actor's pending promises each pends
-both : (a b : Bool) → a && b ≡ true → b ≡ true
-both true b e = e
-both false b e = cc
-
 pub pends_of : (actor : ℤ) (p : Promise) → is_pending_of actor p ≡ true → is_pending p ≡ true
-pends_of actor p e = both (int_eq p.actor actor) (is_pending p) e
+pends_of actor p e = and-right (int_eq p.actor actor) (is_pending p) e
 
 -- A promise more
 

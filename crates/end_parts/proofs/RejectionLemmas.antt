@@ -15,6 +15,7 @@ use Rattle.channel_model.specs.Outputs.{line_at}
 use Rattle.end_parts.specs.OutputView.{OutputView, with_line}
 use Rattle.end_parts.specs.Rejections.{HasRejected}
 use Rattle.end_parts.specs.PromiseRequests.{pending_in, oldest_of, with_oldest_rejected}
+use Rattle.end_parts.proofs.PromiseLemmas.{pends_of}
 
 -- The test of the code says what that of the definitions says, and only of what pends.
 pub record Agree (t u : Promise → Bool) : Type 0 where
@@ -89,13 +90,9 @@ absorbs true b = refl
 absorbs false true = refl
 absorbs false false = refl
 
-both : (a b : Bool) → a && b ≡ true → b ≡ true
-both true b e = e
-both false b e = cc
-
 -- those of an actor
 pub agree_of : (actor : ℤ) → Agree (is_pending_of actor) (is_pending_of actor)
-agree_of actor = record { same = λ e. absorbs (is_pending e.promise) (int_eq e.promise.actor actor); pends = λ p e. both (int_eq p.actor actor) (is_pending p) e }
+agree_of actor = record { same = λ e. absorbs (is_pending e.promise) (int_eq e.promise.actor actor); pends = pends_of actor }
 
 -- The loop
 

@@ -1,5 +1,5 @@
 -- Dispatches whose resolvers are used or kept, and dispatches that come off.
-use Rattle.std.proofs.Common.{◌≡◌, ℕ, ℤ, suc, ◌+◌, Bool, true, false, ◌&&◌, cond, List, [], ◌∷◌, ◌++◌, drop, length, map, reverse, Option, Some, None, refl, ap, sym, subst, ◌∙◌, arith}
+use Rattle.std.proofs.Common.{◌≡◌, ℕ, ℤ, suc, ◌+◌, Bool, true, false, ◌&&◌, cond, List, [], ◌∷◌, ◌++◌, drop, find, length, map, reverse, Option, Some, None, option_map, refl, ap, sym, subst, ◌∙◌, arith}
 use Rattle.std.specs.Prelude.{IsSome, MatchOption}
 use Rattle.std.specs.Option.{option_to_list}
 use Rattle.std.specs.Ordering.{int_eq}
@@ -9,12 +9,13 @@ use Rattle.nesting_core.specs.declared.frame.Answer.{Answer}
 use Rattle.nesting_core.specs.declared.frame.Head.{Head}
 use Rattle.nesting_core.specs.declared.frame.StackFrame.{StackFrame}
 use Rattle.nesting_core.specs.declared.frame.StackFrame.TheVariants.{Dispatch, Wait}
+use Rattle.nesting_core.specs.Frames.{head_of}
 use Rattle.nesting_core.specs.Top.{after_pop}
-use Rattle.channel_model.specs.Answers.{has_resolver, released}
-use Rattle.channel_model.specs.Ends.{StackEntry}
+use Rattle.channel_model.specs.Answers.{has_resolver, resolver_in, released}
+use Rattle.channel_model.specs.Ends.{Resolver, StackEntry}
 use Rattle.channel_model.specs.Returns.{dispatch_on_top}
 use Rattle.end_parts.specs.declared.stack_entries.EntryDetail.{EntryDetail}
-use Rattle.end_parts.specs.StackDetails.{entries_of, entry_of, released_detail, IsDetailOf, AreDetails}
+use Rattle.end_parts.specs.StackDetails.{entries_of, entry_of, is_resolver_detail, released_detail, IsDetailOf, AreDetails}
 use Rattle.end_parts.proofs.StackLemmas.{length-details}
 
 released_by : (b c : Bool) (frame : StackFrame) (detail : EntryDetail) → b ≡ c
@@ -86,3 +87,29 @@ off [] after items rest came n m are some l e count cases = absurd (false≢true
 off (Dispatch head ∷ below) after items rest came n m are some l e count cases =
     subst (λ frames. IsOff (Dispatch head ∷ below) (reverse items) frames (reverse rest)) (sym l) (dispatch_off head below items rest came n m are e count cases)
 off (Wait head a ∷ below) after items rest came n m are some l e count cases = absurd (no_dispatch (reverse items) head a below some)
+
+-- the resolver of a request, as its detail tells it
+abbrev pub resolver_told : EntryDetail → Resolver
+resolver_told detail = record { seq = detail.request.seq; route = detail.request.route; number = detail.request.number }
+
+resolver_if : (seq : ℤ) (b c : Bool) (frame : StackFrame) (detail : EntryDetail) (frames : List StackFrame) (details : List EntryDetail) → b ≡ c → detail.request.seq ≡ (head_of frame).seq
+    → option_map resolver_in (find (has_resolver seq) (entries_of frames details)) ≡ option_map resolver_told (find (is_resolver_detail seq) details)
+    → option_map resolver_in (cond b (Some (entry_of frame detail)) (find (has_resolver seq) (entries_of frames details))) ≡ option_map resolver_told (cond c (Some detail) (find (is_resolver_detail seq) details))
+resolver_if seq true true (Dispatch head) detail frames details e s h = ap (λ (z : ℤ). Some (record { seq = z; route = detail.request.route; number = detail.request.number })) (sym s)
+resolver_if seq true true (Wait head a) detail frames details e s h = ap (λ (z : ℤ). Some (record { seq = z; route = detail.request.route; number = detail.request.number })) (sym s)
+resolver_if seq true false frame detail frames details e s h = cc
+resolver_if seq false true frame detail frames details e s h = cc
+resolver_if seq false false frame detail frames details e s h = h
+
+has_resolver-detail : (seq : ℤ) (frame : StackFrame) (detail : EntryDetail) → IsDetailOf frame detail → has_resolver seq (entry_of frame detail) ≡ is_resolver_detail seq detail
+has_resolver-detail seq (Dispatch head) detail is = ap (λ (z : ℤ). detail.resolves && int_eq z seq) (sym is.seq)
+has_resolver-detail seq (Wait head a) detail is = sym (never detail.resolves (int_eq detail.request.seq seq) is.resolves)
+
+-- the innermost resolver of the request of a number, by its detail
+pub resolver-entries : (seq : ℤ) (frames : List StackFrame) (details : List EntryDetail) → AreDetails frames details
+    → option_map resolver_in (find (has_resolver seq) (entries_of frames details)) ≡ option_map resolver_told (find (is_resolver_detail seq) details)
+resolver-entries seq [] [] h = refl
+resolver-entries seq [] (detail ∷ details) h = absurd h
+resolver-entries seq (frame ∷ frames) [] h = absurd h
+resolver-entries seq (frame ∷ frames) (detail ∷ details) h =
+    resolver_if seq (has_resolver seq (entry_of frame detail)) (is_resolver_detail seq detail) frame detail frames details (has_resolver-detail seq frame detail h.0) h.0.seq (resolver-entries seq frames details h.1)

@@ -1,16 +1,23 @@
 -- The entries of a stack, as its frames and its details have them.
-use Rattle.std.proofs.Common.{◌≡◌, ℤ, suc, List, [], ◌∷◌, map, length, reverse, refl, ap, sym, ◌∙◌}
+use Rattle.std.proofs.Common.{◌≡◌, ℕ, ℤ, pos, suc, ◌<◌, true, List, [], ◌∷◌, map, length, reverse, Option, unwrap_or, refl, ap, sym, ◌∙◌}
 use Rattle.std.proofs.lemmas.List.{length-reverse}
+use Rattle.ipdl_base.specs.declared.kinds.Level.{Level}
+use Rattle.ipdl_base.specs.declared.kinds.Side.{Side}
 use Rattle.nesting_core.specs.declared.frame.StackFrame.{StackFrame}
 use Rattle.nesting_core.specs.declared.frame.SendHead.{SendHead}
-use Rattle.nesting_core.specs.Deferral.{transaction_of}
+use Rattle.nesting_core.specs.declared.frame.StackTop.{StackTop}
+use Rattle.nesting_core.specs.declared.frame.StackTop.TheVariants as top
+use Rattle.nesting_core.specs.Deferral.{awaited_level, inner_transaction, transaction_of}
 use Rattle.nesting_core.specs.Refusals.{refusal_of}
 use Rattle.nesting_core.specs.Frames.{has_wait}
 use Rattle.nesting_core.specs.Plain.{plain_frame}
-use Rattle.nesting_core.proofs.PlainLemmas.{has_wait-plain, refusal_of-plain, transaction_of-plain}
+use Rattle.nesting_core.specs.Room.{LeavesRoom}
+use Rattle.nesting_core.specs.Top.{top_of}
+use Rattle.nesting_core.proofs.PlainLemmas.{awaited_level-plain, has_wait-plain, inner_transaction-plain, refusal_of-plain, top_of-plain, transaction_of-plain}
 use Rattle.channel_model.specs.Ends.{StackEntry}
+use Rattle.channel_model.specs.Takes.{takes_under}
 use Rattle.end_parts.specs.declared.stack_entries.EntryDetail.{EntryDetail}
-use Rattle.end_parts.specs.StackDetails.{frames_in, entries_of, AreDetails}
+use Rattle.end_parts.specs.StackDetails.{frames_in, entries_of, holding_by, AreDetails}
 
 -- the frames of entries are those of the stack
 pub frames-entries : (frames : List StackFrame) (details : List EntryDetail) → AreDetails frames details → frames_in (entries_of frames details) ≡ map plain_frame frames
@@ -48,3 +55,19 @@ length-frames frames details entries are is = sym (length-entries frames details
 -- and as many details, in either order
 pub length-items : (frames : List StackFrame) (items : List EntryDetail) (entries : List StackEntry) → AreDetails frames (reverse items) → entries_of frames (reverse items) ≡ entries → length items ≡ length entries
 length-items frames items entries are is = sym (length-reverse items) ∙ length-details frames (reverse items) are ∙ length-frames frames (reverse items) entries are is
+
+pub top_of-entries : (frames : List StackFrame) (details : List EntryDetail) → AreDetails frames details → top_of (frames_in (entries_of frames details)) ≡ top_of frames
+top_of-entries frames details h = ap top_of (frames-entries frames details h) ∙ top_of-plain frames
+
+pub holding-entries : (side : Side) (frames : List StackFrame) (details : List EntryDetail) → AreDetails frames details → holding_by side (frames_in (entries_of frames details)) ≡ holding_by side frames
+holding-entries side frames details h =
+    ap (holding_by side) (frames-entries frames details h)
+    ∙ ap (λ (level : Option Level). record { side = side; level = level; transaction = unwrap_or (inner_transaction (map plain_frame frames)) (pos 0) }) (awaited_level-plain frames)
+    ∙ ap (λ (t : Option ℤ). record { side = side; level = awaited_level frames; transaction = unwrap_or t (pos 0) }) (inner_transaction-plain frames)
+
+-- where an item may be taken there is room for its dispatch
+pub room-taken : (t : StackTop) (n : ℕ) → takes_under t ≡ true → LeavesRoom t n → n < 64
+room-taken top.Empty n e h = h
+room-taken (top.Dispatch head) n e h = cc
+room-taken (top.Unanswered head) n e h = h
+room-taken (top.Answered head) n e h = cc

@@ -28,6 +28,11 @@ AreRequestsOf [] (request ∷ requests) = ⊥
 AreRequestsOf (promise ∷ promises) [] = ⊥
 AreRequestsOf (promise ∷ promises) (request ∷ requests) = IsRequestOf promise request × AreRequestsOf promises requests
 
+-- each request stands at its number
+abbrev pub AreByNumber : List (ℤ × RequestKey) → Type 0
+AreByNumber [] = Unit {0}
+AreByNumber (entry ∷ entries) = (entry.0 ≡ entry.1.seq) × AreByNumber entries
+
 -- how many pend
 abbrev pub pending_in : List PromiseEntry → ℕ
 pending_in [] = 0

@@ -1,7 +1,11 @@
 -- What an answer repeats of its request, and what waits for a reply.
-use Rattle.std.specs.Prelude.{Bool, false, List, Option, Some, None, find}
+use Rattle.std.specs.Prelude.{ℤ, Bool, false, List, Option, Some, None, find}
 use Rattle.std.specs.List.{list_any}
 use Rattle.std.specs.Option.{option_map_or}
+use Rattle.ipdl_base.specs.declared.line.What.{What}
+use Rattle.ipdl_base.specs.declared.line.What.TheVariants as what
+use Rattle.ipdl_base.specs.declared.message.Body.{Body}
+use Rattle.ipdl_base.specs.declared.message.Body.TheVariants.{Request, Reply, Fault, Goodbye}
 use Rattle.ipdl_base.specs.declared.message.Message.{Message}
 use Rattle.nesting_core.specs.Frames.{head_of, is_unanswered}
 use Rattle.channel_model.specs.Ends.{StackEntry, PromiseEntry}
@@ -13,6 +17,16 @@ use Rattle.end_parts.specs.declared.reply.AnsweredRequest.{AnsweredRequest}
 -- what an answer repeats, in the model's words
 abbrev pub answered_of : AnsweredRequest → model_of.AnsweredRequest
 answered_of q = record { seq = q.seq; route = q.route; number = q.number; transaction = q.transaction }
+
+-- the line of an answer by a resolver, by its reply
+abbrev pub line_of_body : ℤ → Body → What
+line_of_body seq (Reply vs) = what.Resolve seq vs
+line_of_body seq (Request vs) = what.Reject seq
+line_of_body seq (Fault reason) = what.Reject seq
+line_of_body seq Goodbye = what.Reject seq
+
+abbrev pub line_of_reply : Message → What
+line_of_reply m = line_of_body m.seq m.body
 
 -- what the answer by a resolver repeats, if a name holds one
 abbrev pub answered_by : model.NameContent → Option model_of.AnsweredRequest

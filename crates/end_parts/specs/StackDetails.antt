@@ -1,13 +1,17 @@
 -- A stack with what its frames do not keep.
-use Rattle.std.specs.Prelude.{◌≡◌, ℤ, true, false, ◌&&◌, if◌then◌else◌, List, [], ◌∷◌, map, Option, Some, None, option_map}
+use Rattle.std.specs.Prelude.{◌≡◌, ℕ, ◌==◌, ℤ, pos, Bool, true, false, ◌&&◌, if◌then◌else◌, List, [], ◌∷◌, map, Option, Some, None, option_map, unwrap_or}
+use Rattle.std.specs.Option.{option_map_or}
 use Rattle.std.specs.Ordering.{int_eq}
 use Rattle.ipdl_base.specs.declared.value.Values.{Values}
 use Rattle.ipdl_base.specs.Plain.{plain_values}
+use Rattle.ipdl_base.specs.declared.kinds.Side.{Side}
 use Rattle.nesting_core.specs.declared.frame.StackFrame.{StackFrame}
 use Rattle.nesting_core.specs.declared.frame.StackFrame.TheVariants.{Dispatch, Wait}
+use Rattle.nesting_core.specs.Deferral.{awaited_level, inner_transaction}
 use Rattle.nesting_core.specs.Frames.{head_of, is_unanswered, is_dispatch}
 use Rattle.nesting_core.specs.Plain.{plain_frame}
-use Rattle.channel_model.specs.Ends.{StackEntry}
+use Rattle.pending_queue.specs.declared.holding.Holding.{Holding}
+use Rattle.channel_model.specs.Ends.{Resolver, StackEntry}
 use Rattle.end_parts.specs.CopiedAnswers.{values_of}
 use Rattle.end_parts.specs.declared.stack_entries.DispatchEntry.{DispatchEntry}
 use Rattle.end_parts.specs.declared.stack_entries.EntryDetail.{EntryDetail}
@@ -50,11 +54,23 @@ AreDetails (frame ∷ frames) (detail ∷ details) = IsDetailOf frame detail × 
 abbrev pub dispatch_entry : DispatchEntry → StackEntry
 dispatch_entry d = record { frame = Dispatch d.head; route = d.route; number = d.number; resolves = d.resolves }
 
+-- whether a resolver is there, and is that of a request of this message to this actor
+abbrev pub is_resolver_of : ℤ → ℕ → Option Resolver → Bool
+is_resolver_of route number found = option_map_or (λ r. int_eq r.route route && (r.number == number)) found false
+
+-- whether a detail is that of a dispatch which has the resolver of the request of a number
+abbrev pub is_resolver_detail : ℤ → EntryDetail → Bool
+is_resolver_detail seq detail = detail.resolves && int_eq detail.request.seq seq
+
 -- a detail whose resolver is used or kept, if it is that of the request of this number
 abbrev pub released_detail : ℤ → EntryDetail → EntryDetail
-released_detail seq detail = if detail.resolves && int_eq detail.request.seq seq then record detail { resolves = false } else detail
+released_detail seq detail = if is_resolver_detail seq detail then record detail { resolves = false } else detail
 
 -- the details, innermost first, when the innermost wait without an answer gets one, of which this is the copy
 abbrev pub with_copy : Option Values → List EntryDetail → List EntryDetail
 with_copy copy [] = []
 with_copy copy (detail ∷ details) = if detail.is_unanswered then record detail { is_unanswered = false; answer_copy = copy } ∷ details else detail ∷ with_copy copy details
+
+-- what an end of this side with these frames awaits
+abbrev pub holding_by : Side → List StackFrame → Holding
+holding_by side frames = record { side = side; level = awaited_level frames; transaction = unwrap_or (inner_transaction frames) (pos 0) }

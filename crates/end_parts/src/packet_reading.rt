@@ -11,7 +11,7 @@ use crate::packet::Packet;
 use codec_laws::frames_look_at_no_box;
 use ipdl_base::{Body, Items, Message, Schema};
 use std::alloc::{AllocError, Global};
-use value_codec::{Decoded, decode, encode};
+use value_codec::{Decoded, decode, new_frame};
 use value_types::NEW;
 
 /// What a packet is.
@@ -65,9 +65,8 @@ pub fn frame_of(alloc: Global, schema: &Schema, message: &Message) -> Result<Ite
     ensures spelling { IfOk result (λ frame. FrameOf NEW schema.now message.now frame) }
 {
     frames_look_at_no_box();
-    let mut frame = Vec::new(alloc);
-    match encode(alloc, schema, message, &mut frame) {
-        Ok(()) => Ok(Items::from_vec(frame)),
+    match new_frame(alloc, schema, message) {
+        Ok(frame) => Ok(Items::from_vec(frame)),
         Err(_) => Err(AllocError),
     }
 }

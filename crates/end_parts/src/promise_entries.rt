@@ -1,13 +1,15 @@
-ghost use Rattle.std.specs.Prelude.{◌≡◌, ◌≢◌, [], ◌∷◌, ◌++◌, map, IfOk, OnOk, OnErr};
-ghost use Rattle.std.specs.List.{AllByRecursion, list_any};
+ghost use Rattle.std.specs.Prelude.{◌≡◌, ◌≢◌, ◌<◌, [], ◌∷◌, ◌++◌, map, None, IfOk, OnOk, OnErr};
+ghost use Rattle.std.specs.List.{AllByRecursion};
+ghost use Rattle.std.specs.Ordering.{int_eq};
+ghost use Rattle.indexmap.specs.IndexMap.{get, spare};
 ghost use Rattle.promise_table.specs.Promises.{is_pending, is_pending_of, made};
 ghost use Rattle.promise_table.specs.Plain.{plain_outcome};
-ghost use Rattle.channel_model.specs.Refusals.{is_replied_to};
 ghost use Rattle.channel_model.specs.Takes.{is_awaited, settled_entry};
 ghost use Rattle.end_parts.specs.Replies.{is_promised_in};
 ghost use Rattle.end_parts.specs.PromiseRequests.{is_now, oldest_of, with_oldest_rejected};
 
 use crate::reply::{RequestKey, is_replied_to};
+use indexmap::IndexMap;
 use ipdl_base::{Message, Reason};
 use promise_table::{Outcome, Promises, Settling};
 use std::alloc::{AllocError, Global};
@@ -18,14 +20,15 @@ use std::marker::Model;
 #[derive(Drop)]
 pub struct PromiseEntries {
     promises: Promises,
-    /// The request of each, in the same order.
-    requests: Vec<RequestKey>,
+    /// The request of each by its number, in the same order.
+    requests: IndexMap<i32, RequestKey>,
 }
 
 impl Model for PromiseEntries {
     ghost use Rattle.std.specs.Prelude.{List};
     ghost use Rattle.channel_model.specs.Ends.{PromiseEntry};
-    ghost use Rattle.end_parts.specs.PromiseRequests.{entries_of, AreRequestsOf};
+    ghost use Rattle.end_parts.specs.PromiseRequests.{entries_of, AreRequestsOf, AreByNumber};
+    ghost use Rattle.std.specs.Map.{values_of};
     ghost use Rattle.promise_table.specs.Promises.{HaveDistinctNumbers};
     ghost use Rattle.ipdl_base.specs.contracts.value.Values as values;
     ghost use Rattle.std.specs.Coded.{codes};
@@ -34,9 +37,9 @@ impl Model for PromiseEntries {
 
     ghost coded = { Prim.hlevel (codes, values.the_row.coded) };
 
-    ghost view = { λ a. entries_of a.promises a.requests.items };
+    ghost view = { λ a. entries_of a.promises (values_of a.requests.entries) };
 
-    ghost invariant = { λ a. AreRequestsOf a.promises a.requests.items × HaveDistinctNumbers a.promises };
+    ghost invariant = { λ a. AreRequestsOf a.promises (values_of a.requests.entries) × HaveDistinctNumbers a.promises × AreByNumber a.requests.entries };
 }
 
 impl PromiseEntries {
@@ -46,7 +49,7 @@ impl PromiseEntries {
     {
         Ok(PromiseEntries {
             promises: Promises::new(alloc)?,
-            requests: Vec::new(alloc),
+            requests: IndexMap::new(alloc),
         })
     }
 
@@ -59,11 +62,14 @@ impl PromiseEntries {
     {
         self.requests.reserve(1)?;
         self.promises.make(seq, actor)?;
-        self.requests.push(RequestKey {
-            seq,
-            route: actor,
-            number,
-        })?;
+        put_request(
+            &mut self.requests,
+            RequestKey {
+                seq,
+                route: actor,
+                number,
+            },
+        );
         Ok(())
     }
 
@@ -96,7 +102,10 @@ impl PromiseEntries {
     pub fn is_promised(&self, reply: &Message) -> bool
         ensures { result ≡ is_promised_in self.now reply.now }
     {
-        is_any_replied_to(self.requests.as_slice(), reply)
+        match self.requests.get(&reply.seq) {
+            None => false,
+            Some(request) => is_replied_to(reply, request),
+        }
     }
 }
 
@@ -110,9 +119,14 @@ fn is_now(settling: Settling) -> bool
     }
 }
 
-// Whether a reply is one to any of the requests.
-fn is_any_replied_to(requests: &[RequestKey], reply: &Message) -> bool
-    ensures { result ≡ list_any (λ r. is_replied_to reply.now r.seq r.number r.route) requests.now }
+// Puts a request last, of a number that none has, where there is room.
+fn put_request(requests: &mut IndexMap<i32, RequestKey>, request: RequestKey)
+    requires room { 0 < spare requests.old }
+    requires free { get int_eq requests.old request.seq ≡ None }
+    ensures { requests.new.entries ≡ requests.old.entries ++ (request.seq, request) ∷ [] }
 {
-    requests.iter().any(|request| is_replied_to(reply, request))
+    match requests.insert(request.seq, request) {
+        Ok(_) => {}
+        Err(_) => unreachable!(),
+    }
 }

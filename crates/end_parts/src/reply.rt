@@ -1,11 +1,14 @@
-//! What an answer repeats of its request, and the reply that it makes.
-ghost use Rattle.std.specs.Prelude.{◌≡◌, ◌<◌};
-ghost use Rattle.ipdl_base.specs.Plain.{plain_body, plain_message};
+//! What an answer repeats of its request, the reply that it makes, and its line.
+ghost use Rattle.std.specs.Prelude.{◌≡◌, ◌<◌, option_map, IfOk};
+ghost use Rattle.ipdl_base.specs.Plain.{plain_body, plain_message, plain_values};
+ghost use Rattle.channel_model.specs.Answers.{answer_body, refused_line};
 ghost use Rattle.channel_model.specs.Outputs.{reply_to};
 ghost use Rattle.channel_model.specs.Refusals.{is_replied_to};
-ghost use Rattle.end_parts.specs.Replies.{answered_of};
+ghost use Rattle.end_parts.specs.PlainLines.{plain_what};
+ghost use Rattle.end_parts.specs.Replies.{answered_of, line_of_reply};
 
-use ipdl_base::{Body, Message};
+use ipdl_base::{Body, Message, Reason, SendRefusal, Values, What};
+use std::alloc::{AllocError, Global};
 
 /// What the answer to a request repeats of it.
 #[derive(Clone, Copy, Debug, PartialEq, Eq)]
@@ -28,6 +31,51 @@ pub fn reply_to(request: &AnsweredRequest, body: Body) -> Message
         transaction: request.transaction,
         made: 0,
         body,
+    }
+}
+
+/// The reply by a resolver: values, or without them the fault HandlerRejected. The only error is want
+/// of memory.
+pub fn resolver_reply(
+    alloc: Global,
+    request: &AnsweredRequest,
+    values: Option<&Values>,
+) -> Result<Message, AllocError>
+    requires { request.now.number < 4294967295 }
+    ensures { IfOk result (λ m. plain_message m ≡ reply_to (answered_of request.now) (answer_body (option_map (λ vs. plain_values vs.now) values.entry))) }
+{
+    let body = resolver_body(alloc, values)?;
+    Ok(reply_to(request, body))
+}
+
+// What a reply by a resolver says.
+fn resolver_body(alloc: Global, values: Option<&Values>) -> Result<Body, AllocError>
+    ensures { IfOk result (λ body. plain_body body ≡ answer_body (option_map (λ vs. plain_values vs.now) values.entry)) }
+{
+    match values {
+        None => Ok(Body::Fault(Reason::HandlerRejected)),
+        Some(values) => Ok(Body::Reply(values.copy(alloc)?)),
+    }
+}
+
+/// The line of an answer by a resolver, with the values of its reply.
+pub fn reply_line(reply: Message) -> What
+    ensures { plain_what result ≡ line_of_reply (plain_message reply) }
+{
+    let seq = reply.seq;
+    match reply.body {
+        Body::Reply(values) => What::Resolve(seq, values),
+        Body::Fault(_) | Body::Request(_) | Body::Goodbye => What::Reject(seq),
+    }
+}
+
+/// The line of an answer by a resolver that is refused.
+pub fn refused_line(cause: SendRefusal, values: Option<&Values>) -> What
+    ensures { result ≡ refused_line cause (option_map (λ vs. plain_values vs.now) values.entry) }
+{
+    match values {
+        None => What::RefusedReject(cause),
+        Some(_) => What::RefusedResolve(cause),
     }
 }
 

@@ -2,7 +2,7 @@ ghost use Rattle.std.specs.Prelude.{◌≡◌};
 ghost use Rattle.channel_model.specs.Outputs.{resolver_answered};
 ghost use Rattle.end_parts.specs.Replies.{answered_of};
 
-use crate::reply::AnsweredRequest;
+use crate::reply::{AnsweredRequest, RequestKey};
 use std::marker::Model;
 
 /// The right to answer an async request, which a take gives. Contracts see the number of the
@@ -49,6 +49,17 @@ impl Resolver {
         ensures { result ≡ self.now.number }
     {
         self.number
+    }
+
+    /// What a reply to the request shows of it.
+    pub fn key(&self) -> RequestKey
+        ensures { result ≡ record { seq = self.now.seq; route = self.now.route; number = self.now.number } }
+    {
+        RequestKey {
+            seq: self.seq,
+            route: self.route,
+            number: self.number,
+        }
     }
 
     /// What the answer by it repeats.

@@ -29,7 +29,7 @@ pub fn seq_of(side: Side, k: u32) -> i32
 
 /// The id of the k-th actor that a side constructs.
 pub fn id_of(side: Side, k: u32) -> i32
-    requires { k ≤ 268435456 }
+    requires { k ≤ 536870911 }
     ensures { result ≡ id_of side k }
 {
     match side {
@@ -38,8 +38,8 @@ pub fn id_of(side: Side, k: u32) -> i32
     }
 }
 
-// Whether a request of this kind makes an actor.
-fn is_constructor(kind: Kind) -> bool
+/// Whether a request of this kind makes an actor.
+pub fn is_constructor(kind: Kind) -> bool
     ensures { result ≡ is_constructor kind }
 {
     match kind {

@@ -1,6 +1,9 @@
 ghost use Rattle.std.specs.Prelude.{◌≡◌, ◌<◌, ◌≤◌, [], ◌∷◌, ◌++◌, false, drop, find, length, map, option_map, reverse, None, Some, IsSome, IsSomeAnd, IfOk, vec_len, vec_capacity};
+ghost use Rattle.std.specs.Prelude.{◌==◌, ◌&&◌};
+ghost use Rattle.std.specs.Ordering.{int_eq};
 ghost use Rattle.nesting_core.specs.declared.frame.StackFrame.TheVariants.{Dispatch, Wait};
-ghost use Rattle.nesting_core.specs.Deferral.{transaction_of};
+ghost use Rattle.std.specs.Bool.{OnTrue};
+ghost use Rattle.nesting_core.specs.Deferral.{level_under, transaction_of};
 ghost use Rattle.nesting_core.specs.Frames.{has_wait};
 ghost use Rattle.nesting_core.specs.Refusals.{refusal_of};
 ghost use Rattle.nesting_core.specs.Top.{top_of};
@@ -8,18 +11,20 @@ ghost use Rattle.ipdl_base.specs.declared.kinds.Reason.TheVariants.{ChannelClose
 ghost use Rattle.nesting_core.specs.declared.frame.Answer.TheVariants.{Fault};
 ghost use Rattle.nesting_core.specs.Answers.{awaited, with_answer};
 ghost use Rattle.nesting_core.specs.Plain.{plain_answer};
-ghost use Rattle.channel_model.specs.Answers.{released};
+ghost use Rattle.channel_model.specs.Answers.{has_resolver, resolver_in, released};
 ghost use Rattle.channel_model.specs.Deliveries.{with_frames};
-ghost use Rattle.channel_model.specs.Returns.{dispatch_on_top};
+ghost use Rattle.channel_model.specs.Returns.{dispatch_answered, dispatch_on_top};
+ghost use Rattle.channel_model.specs.Takes.{takes_under};
 ghost use Rattle.end_parts.specs.CopiedAnswers.{IsCopied};
-ghost use Rattle.end_parts.specs.Replies.{is_waited_for_in};
-ghost use Rattle.end_parts.specs.StackDetails.{dispatch_entry, released_detail, with_copy};
+ghost use Rattle.end_parts.specs.Replies.{answered_of, is_waited_for_in};
+ghost use Rattle.end_parts.specs.StackDetails.{dispatch_entry, holding_by, is_resolver_detail, is_resolver_of, released_detail, with_copy};
 ghost use Rattle.end_parts.specs.Resumed.{IsTakenOff, IsWaitPopped, IsResumed};
 
 use crate::copied_answer::CopiedAnswer;
-use crate::reply::{RequestKey, is_replied_to};
-use ipdl_base::{Message, SendRefusal, Values};
+use crate::reply::{AnsweredRequest, RequestKey, is_replied_to};
+use ipdl_base::{Level, Message, SendRefusal, Side, Values};
 use nesting_core::{Head, Popped, SendHead, Stack, StackTop};
+use pending_queue::Holding;
 use std::alloc::{AllocError, Global};
 use std::marker::Model;
 
@@ -88,6 +93,26 @@ impl StackEntries {
         ensures { result ≡ top_of (frames_in self.now) }
     {
         self.frames.top()
+    }
+
+    /// Whether an item that has arrived may be taken under these entries; then there is room for a
+    /// dispatch.
+    pub fn takes(&self) -> bool
+        ensures takes { result ≡ takes_under (top_of (frames_in self.now)) }
+        ensures room { OnTrue result (length self.now < 64) }
+    {
+        takes_under(self.frames.top())
+    }
+
+    /// What an end of this side with these entries awaits.
+    pub fn holding(&self, side: Side) -> Holding
+        ensures { result ≡ holding_by side (frames_in self.now) }
+    {
+        Holding {
+            side,
+            level: level_under(self.frames.top()),
+            transaction: self.frames.transaction(0),
+        }
     }
 
     /// Why the stack refuses a send.
@@ -195,6 +220,17 @@ impl StackEntries {
         release_details(self.details.as_mut_slice(), seq);
     }
 
+    /// Whether a dispatch has the resolver of the request of this number, neither used nor kept, and
+    /// the innermost such is that of a request of this message to this actor.
+    pub fn has_resolver(&self, request: &RequestKey) -> bool
+        ensures { result ≡ is_resolver_of request.now.route request.now.number (option_map resolver_in (find (has_resolver request.now.seq) self.now)) }
+    {
+        match innermost_resolver(self.details.as_slice(), request) {
+            None => false,
+            Some(detail) => is_alike(&detail.request, request),
+        }
+    }
+
     /// Whether the innermost wait without an answer waits for this reply.
     pub fn is_waited_for(&self, reply: &Message) -> bool
         ensures { result ≡ is_waited_for_in self.now reply.now }
@@ -256,6 +292,40 @@ pub struct DispatchEntry {
     pub number: u32,
     /// Whether its resolver is neither used nor kept.
     pub resolves: bool,
+}
+
+impl DispatchEntry {
+    /// What the answer to its request repeats of that.
+    pub fn answered(&self) -> AnsweredRequest
+        ensures { answered_of result ≡ dispatch_answered (dispatch_entry self.now) }
+    {
+        AnsweredRequest {
+            seq: self.head.seq,
+            route: self.route,
+            number: self.number,
+            transaction: self.head.transaction,
+        }
+    }
+}
+
+// Whether an item that has arrived may be taken under this top.
+fn takes_under(top: StackTop) -> bool
+    ensures { result ≡ takes_under top }
+{
+    match top {
+        StackTop::Empty | StackTop::Unanswered(_) => true,
+        StackTop::Dispatch(_) | StackTop::Answered(_) => false,
+    }
+}
+
+// The level of the message whose reply is awaited under this top.
+fn level_under(top: StackTop) -> Option<Level>
+    ensures { result ≡ level_under top }
+{
+    match top {
+        StackTop::Unanswered(head) => Some(head.level),
+        StackTop::Empty | StackTop::Dispatch(_) | StackTop::Answered(_) => None,
+    }
 }
 
 // What came off a stack, which is a wait with its answer.
@@ -340,4 +410,21 @@ fn innermost_unanswered(details: &[EntryDetail]) -> Option<&EntryDetail>
     ensures { option_map (λ d. d.now) result ≡ find (λ d. d.is_unanswered) (reverse details.now) }
 {
     details.iter().rev().find(|detail| detail.is_unanswered)
+}
+
+// Whether two requests are of one message and to one actor.
+fn is_alike(one: &RequestKey, other: &RequestKey) -> bool
+    ensures { result ≡ (int_eq one.now.route other.now.route && (one.now.number == other.now.number)) }
+{
+    one.route == other.route && one.number == other.number
+}
+
+// The innermost detail of a dispatch that has the resolver of the request of this number.
+fn innermost_resolver<'a>(
+    details: &'a [EntryDetail],
+    request: &RequestKey,
+) -> Option<&'a EntryDetail>
+    ensures { option_map (λ d. d.now) result ≡ find (is_resolver_detail request.now.seq) (reverse details.now) }
+{
+    details.iter().rev().find(|detail| detail.resolves && detail.request.seq == request.seq)
 }

@@ -2,7 +2,8 @@
 ghost use Rattle.std.specs.Prelude.{◌≡◌, find};
 ghost use Rattle.channel_model.specs.Refusals.{actors_of, lives_otherwise};
 ghost use Rattle.channel_model.specs.ValueActors.{lives_as, actor_at, actors_in, actors_in_all, actors_in_parts, nulled_value, nulled_all, nulled, received_id};
-ghost use Rattle.end_parts.specs.SoughtActors.{is_sought, first_id};
+ghost use Rattle.actor_tree.specs.Tree.{without};
+ghost use Rattle.end_parts.specs.SoughtActors.{is_sought, first_id, living_beside};
 
 use actor_tree::Tree;
 use ipdl_base::{
@@ -186,13 +187,23 @@ pub fn wrong_actor(schema: &Schema, tree: &Tree, row: &MessageRow, message: &Mes
     }
 }
 
+// Whether an actor of this id and protocol lives beside the one that is left out.
+fn lives_beside(tree: &Tree, left_out: Option<i32>, protocol: u32, id: i32) -> bool
+    ensures { result ≡ lives_as (living_beside left_out tree.now) protocol id }
+{
+    match left_out {
+        None => lives_as(tree, protocol, id),
+        Some(other) => id != other && lives_as(tree, protocol, id),
+    }
+}
+
 // Puts null for a dead actor of a nullable type.
-fn null_actor(id: &mut i32, tree: &Tree, shape: &Shape)
-    ensures { id.new ≡ received_id tree.now shape.now id.old }
+fn null_actor(id: &mut i32, tree: &Tree, left_out: Option<i32>, shape: &Shape)
+    ensures { id.new ≡ received_id (living_beside left_out tree.now) shape.now id.old }
 {
     match shape {
         Shape::Actor(protocol, nullable) => {
-            if *nullable && !lives_as(tree, *protocol, *id) {
+            if *nullable && !lives_beside(tree, left_out, *protocol, *id) {
                 *id = 0;
             }
         }
@@ -202,31 +213,37 @@ fn null_actor(id: &mut i32, tree: &Tree, shape: &Shape)
 
 // Puts null for the dead actors of nullable types in a value.
 #[cycle(nulls)]
-fn null_in_value(value: &mut Value, schema: &Schema, tree: &Tree, shape: &Shape)
-    ensures { value.new ≡ nulled_value schema.now tree.now shape.now value.old }
+fn null_in_value(
+    value: &mut Value,
+    schema: &Schema,
+    tree: &Tree,
+    left_out: Option<i32>,
+    shape: &Shape,
+)
+    ensures { value.new ≡ nulled_value schema.now (living_beside left_out tree.now) shape.now value.old }
 {
     match value {
         Value::Struct(values) => {
             if let Some(fields) = fields_of(schema, shape) {
-                null_dead(values, schema, tree, fields);
+                null_in_fields(values, schema, tree, left_out, fields);
             }
         }
         Value::Union(index, held) => {
             if let Some(component) = component_of(schema, shape, *index) {
-                null_in_value(held, schema, tree, component);
+                null_in_value(held, schema, tree, left_out, component);
             }
         }
         Value::Array(values) => {
             if let Some(element) = element_of(shape) {
-                null_in_all(values, schema, tree, element);
+                null_in_all(values, schema, tree, left_out, element);
             }
         }
         Value::Maybe(Some(held)) => {
             if let Some(inner) = held_by(shape) {
-                null_in_value(held, schema, tree, inner);
+                null_in_value(held, schema, tree, left_out, inner);
             }
         }
-        Value::Actor(id) => null_actor(id, tree, shape),
+        Value::Actor(id) => null_actor(id, tree, left_out, shape),
         Value::Bool(_)
         | Value::Int(_)
         | Value::Text(_)
@@ -238,31 +255,64 @@ fn null_in_value(value: &mut Value, schema: &Schema, tree: &Tree, shape: &Shape)
 
 // The same in values of one type.
 #[cycle(nulls)]
-fn null_in_all(values: &mut Values, schema: &Schema, tree: &Tree, shape: &Shape)
-    ensures { values.new ≡ nulled_all schema.now tree.now shape.now values.old }
+fn null_in_all(
+    values: &mut Values,
+    schema: &Schema,
+    tree: &Tree,
+    left_out: Option<i32>,
+    shape: &Shape,
+)
+    ensures { values.new ≡ nulled_all schema.now (living_beside left_out tree.now) shape.now values.old }
 {
     match values {
         Values::Nothing => {}
         Values::First(value, rest) => {
-            null_in_value(value, schema, tree, shape);
-            null_in_all(rest, schema, tree, shape);
+            null_in_value(value, schema, tree, left_out, shape);
+            null_in_all(rest, schema, tree, left_out, shape);
+        }
+    }
+}
+
+// The same in values of the types of parameters, returns or fields.
+#[cycle(nulls)]
+fn null_in_fields(
+    values: &mut Values,
+    schema: &Schema,
+    tree: &Tree,
+    left_out: Option<i32>,
+    types: &[ParamRow],
+)
+    ensures { values.new ≡ nulled schema.now (living_beside left_out tree.now) types.now values.old }
+{
+    match values {
+        Values::Nothing => {}
+        Values::First(value, rest) => {
+            if let Some((first, more)) = types.split_first() {
+                null_in_value(value, schema, tree, left_out, &first.shape);
+                null_in_fields(rest, schema, tree, left_out, more);
+            }
         }
     }
 }
 
 /// Puts null for the dead actors of nullable types in values of the types of parameters, returns or
 /// fields. Boxes stay where they are.
-#[cycle(nulls)]
 pub fn null_dead(values: &mut Values, schema: &Schema, tree: &Tree, types: &[ParamRow])
     ensures { values.new ≡ nulled schema.now tree.now types.now values.old }
 {
-    match values {
-        Values::Nothing => {}
-        Values::First(value, rest) => {
-            if let Some((first, more)) = types.split_first() {
-                null_in_value(value, schema, tree, &first.shape);
-                null_dead(rest, schema, tree, more);
-            }
-        }
-    }
+    null_in_fields(values, schema, tree, None, types);
+}
+
+/// The same, where the actor of an id is taken for one that does not live: the one that the request of
+/// these values has just built.
+pub fn null_dead_beside(
+    values: &mut Values,
+    schema: &Schema,
+    tree: &Tree,
+    left_out: i32,
+    types: &[ParamRow],
+)
+    ensures { values.new ≡ nulled schema.now (without left_out tree.now) types.now values.old }
+{
+    null_in_fields(values, schema, tree, Some(left_out), types);
 }

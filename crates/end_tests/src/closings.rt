@@ -3,10 +3,9 @@ use super::outputs::lines_text;
 use super::schemas::{ASK, CALL, TOP};
 use actor_tree::Tree;
 use end_parts::{
-    EndOutput, FallCause, NameEntries, PromiseEntries, StackEntries, close_parts, fail_all,
-    let_fall, reject_all,
+    EndOutput, FallCause, PromiseEntries, StackEntries, fail_all, let_fall, reject_all,
 };
-use ipdl_base::{Destroy, Items, Level, Side};
+use ipdl_base::{Items, Level, Side};
 use nesting_core::Head;
 use std::alloc::Global;
 use std::test::Fail;
@@ -39,24 +38,6 @@ fn fall(alloc: Global) -> Result<String, Fail> {
     lines_text(alloc, &mut out)
 }
 
-/// An end with one actor closes.
-fn closing(alloc: Global) -> Result<String, Fail> {
-    let mut out = EndOutput::new(alloc, Items::from_vec(Vec::new(alloc)))?;
-    let mut tree = Tree::new(alloc, 1)?;
-    let mut promises = PromiseEntries::new(alloc)?;
-    promises.make(1, TOP, ASK)?;
-    let mut names = NameEntries::new(alloc);
-    close_parts(
-        Side::Parent,
-        Destroy::NormalShutdown,
-        &mut tree,
-        &mut promises,
-        &mut names,
-        &mut out,
-    );
-    lines_text(alloc, &mut out)
-}
-
 /// A wait fails.
 fn failure(alloc: Global) -> Result<String, Fail> {
     let mut out = EndOutput::new(alloc, Items::from_vec(Vec::new(alloc)))?;
@@ -79,8 +60,6 @@ fn closings_of_an_end(rt: HostRuntime) -> Result<(), Fail> {
     check(&rt, "a rejection", &found, "rejected rejected ");
     let found = fall(alloc)?;
     check(&rt, "a fall", &found, "rejected fall ");
-    let found = closing(alloc)?;
-    check(&rt, "a closing", &found, "rejected fall ");
     let found = failure(alloc)?;
     check(&rt, "a failure", &found, "fails ");
     Ok(())

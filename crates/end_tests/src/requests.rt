@@ -4,9 +4,9 @@ use super::checks::{answer_text, check, number_text, refusal_text, what_text};
 use super::schemas::{ASK, CALL, TOP, the_schema};
 use actor_tree::Tree;
 use end_parts::{
-    ActorTest, AnsweredRequest, CopiedAnswer, PromiseEntries, StackEntries, answer_refusal,
-    await_reply, first_actor, id_of, lives_as, lives_otherwise, next_request, receive_answer,
-    reply_to, resume_line, send_line, send_refusal, seq_of, wrong_actor,
+    ActorTest, AnsweredRequest, CopiedAnswer, StackEntries, answer_refusal, first_actor, id_of,
+    lives_as, lives_otherwise, next_request, receive_answer, reply_to, resume_line, send_line,
+    send_refusal, seq_of, wrong_actor,
 };
 use ipdl_base::{Body, MessageRow, Schema, Side, Value, Values, returns_of_row};
 use nesting_core::Answer;
@@ -39,21 +39,15 @@ fn request_text(
     requires { IsSound schema.now }
 {
     let tree = the_tree(alloc)?;
-    let mut stack = StackEntries::new(alloc)?;
-    let mut promises = PromiseEntries::new(alloc)?;
+    let stack = StackEntries::new(alloc)?;
     let values = one_actor(alloc, id)?;
     let message = next_request(alloc, Side::Child, 2, 0, &stack, row, route, &values)?;
     let wrong = number_text(alloc, wrong_actor(schema, &tree, row, &message))?;
     let closed = refusal_text(send_refusal(false, schema, &tree, &stack, row, &message, &values));
     let refusal = refusal_text(send_refusal(true, schema, &tree, &stack, row, &message, &values));
-    await_reply(row, &message, &mut stack, &mut promises)?;
     let seq = message.seq;
     let line = send_line(row, &message, values);
-    Ok(format!(in alloc;
-        "{wrong} {closed} {refusal} {seq} {} {}",
-        what_text(&line),
-        stack.has_wait()
-    )?)
+    Ok(format!(in alloc; "{wrong} {closed} {refusal} {seq} {}", what_text(&line))?)
 }
 
 /// What the refusals of an answer with an actor are.
@@ -156,9 +150,9 @@ fn requests_of_an_end(rt: HostRuntime) -> Result<(), Fail> {
         &rt,
         "a sync message",
         &called,
-        "none Closed none -3 call true
-none Closed DeadValue -3 call true
-6 Closed DeadActor -3 call true
+        "none Closed none -3 call
+none Closed DeadValue -3 call
+6 Closed DeadActor -3 call
 65541 DeadActor Closed none
 65541 DeadActor Closed DeadValue
 ok resume ok none
@@ -168,9 +162,9 @@ ok resume ok none",
         &rt,
         "an async message",
         &asked,
-        "none Closed none -3 send false
-none Closed DeadValue -3 send false
-6 Closed DeadActor -3 send false
+        "none Closed none -3 send
+none Closed DeadValue -3 send
+6 Closed DeadActor -3 send
 65541 DeadActor Closed none
 65541 DeadActor Closed none
 ok resume ok none

@@ -1,4 +1,4 @@
-ghost use Rattle.std.specs.Prelude.{◌≡◌, ◌<◌, ◌≤◌, ◌+◌, ◌++◌, min, Err, OnOk, OnErr, IfErr};
+ghost use Rattle.std.specs.Prelude.{◌≡◌, ◌<◌, ◌≤◌, ◌+◌, ◌++◌, min, Err, OnOk, OnErr, IfOk, IfErr};
 ghost use Rattle.ipdl_base.specs.Sound.{IsSound};
 ghost use Rattle.value_types.specs.declared.layout.TheConstants.{NEW};
 ghost use Rattle.value_types.specs.Fits.{Fits};
@@ -41,6 +41,24 @@ pub fn frame_size(schema: &Schema, message: &Message) -> usize
     payload_size(schema, NEW, message).saturating_add(NEW.header)
 }
 
+/// The frame of a message in the new layout (docs/frames.md), in one buffer of its size. A payload
+/// of more than 4,096 bytes is `TooLarge`, which takes no memory.
+pub fn new_frame(alloc: Global, schema: &Schema, message: &Message) -> Result<Vec<u8>, EncodeFault>
+    requires sound { IsSound schema.now }
+    requires fits { Fits schema.now message.now }
+    ensures frame { IfOk result (λ frame. frame.items ≡ frame_bytes NEW schema.now message.now) }
+    ensures spelling { OnOk result (FrameOf NEW schema.now message.now (frame_bytes NEW schema.now message.now)) }
+    ensures refused { IfErr result (λ fault. IsRefused NEW.most_payload (size.payload_size NEW schema.now message.now) fault) }
+    ensures large { let payload = size.payload_size NEW schema.now message.now in NEW.most_payload < payload → result ≡ Err (EncodeFault.TooLarge (min payload size.greatest_size)) }
+{
+    let size = payload_size(schema, NEW, message);
+    if size > NEW.most_payload {
+        return Err(EncodeFault::TooLarge(size));
+    }
+    let frame = frame_of(alloc, NEW, schema, message, size as u32)?;
+    Ok(frame)
+}
+
 /// Appends the frame of a message in the new layout (docs/frames.md). A payload of more than 4,096
 /// bytes is `TooLarge`, which takes no memory. An error leaves `out` as it was.
 pub fn encode(
@@ -57,11 +75,7 @@ pub fn encode(
     ensures large { let payload = size.payload_size NEW schema.now message.now in NEW.most_payload < payload → result ≡ Err (EncodeFault.TooLarge (min payload size.greatest_size)) }
     ensures unchanged { OnErr result (out.new.items ≡ out.old.items) }
 {
-    let size = payload_size(schema, NEW, message);
-    if size > NEW.most_payload {
-        return Err(EncodeFault::TooLarge(size));
-    }
-    let frame = frame_of(alloc, NEW, schema, message, size as u32)?;
+    let frame = new_frame(alloc, schema, message)?;
     out.extend_from_slice(&frame)?;
     Ok(())
 }

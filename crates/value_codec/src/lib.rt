@@ -14,4 +14,4 @@ mod values;
 mod writing;
 
 pub use decoding::{Decoded, decode, decode_old};
-pub use encoding::{EncodeFault, encode, frame_size};
+pub use encoding::{EncodeFault, encode, frame_size, new_frame};

@@ -1,14 +1,23 @@
-use Rattle.std.proofs.Common.{List, sym, ap, ◌∙◌}
-use Rattle.std.specs.List.{list_any}
+use Rattle.std.proofs.Common.{◌≡◌, List, Option, sym, ap, ◌∙◌}
+use Rattle.std.specs.Map.{lookup}
+use Rattle.std.specs.Ordering.{int_eq}
 use Rattle.channel_model.specs.Ends.{PromiseEntry}
-use Rattle.channel_model.specs.Refusals.{is_replied_to}
 use Rattle.end_parts.specs.declared.reply.RequestKey.{RequestKey}
 use Rattle.end_parts.specs.Replies.{is_promised_in}
-use Rattle.end_parts.proofs.RequestLemmas.{promised-entries}
+use Rattle.end_parts.proofs.RequestLemmas.{promised-entries, is_that_of}
 use Rattle.end_parts.proofs.promise_entries.PromiseEntries.is_promised.Goals as goal
+use Rattle.end_parts.proofs.promise_entries.PromiseEntries.is_promised.Goals.{After-get}
 
-pub returns : goal.returns
-returns c =
-    let m = c.args.reply.now in
-    c.is_any_replied_to.ensures ∙ ap (λ (rs : List RequestKey). list_any (λ r. is_replied_to m r.seq r.number r.route) rs) c.as_slice.ensures.value
-    ∙ sym (promised-entries m c.self.inside.promises c.self.inside.requests.items c.self.invariant.0) ∙ ap (λ (es : List PromiseEntry). is_promised_in es m) c.self.view_is
+-- what is found says whether it is promised
+promised : (c : After-get) → is_promised_in c.args.self.now c.args.reply.now ≡ is_that_of c.args.reply.now (lookup (int_eq c.args.reply.now.seq) c.self.inside.requests.entries)
+promised c =
+    ap (λ (es : List PromiseEntry). is_promised_in es c.args.reply.now) (sym c.self.view_is)
+    ∙ promised-entries c.args.reply.now c.self.inside.promises c.self.inside.requests.entries c.self.invariant.0 c.self.invariant.1 c.self.invariant.2
+
+pub returns-in-None : goal.returns-in-None
+returns-in-None c =
+    sym (promised (goal.at.returns-in-None c).After-get ∙ ap (λ (found : Option RequestKey). is_that_of c.args.reply.now found) (sym c.in-None.ensures.value))
+
+pub returns-in-Some : goal.returns-in-Some
+returns-in-Some c =
+    c.is_replied_to.ensures ∙ sym (promised (goal.at.returns-in-Some c).After-get ∙ ap (λ (found : Option RequestKey). is_that_of c.args.reply.now found) (sym c.in-Some.ensures.value))

@@ -1,0 +1,13 @@
+use Rattle.std.proofs.Common.{List, ℕ, ap, ◌∙◌}
+use Rattle.ipdl_base.specs.declared.value.Values.{Values}
+use Rattle.channel_model.specs.Sends.{send_line}
+use Rattle.end_parts.specs.declared.packet.Packet.TheVariants.{Bytes}
+use Rattle.channel_core.proofs.FrameLemmas.{plain_framed}
+use Rattle.channel_core.proofs.ready_request.make_ready.Goals as goal
+
+pub returns-clause-ready : goal.returns-clause-ready
+returns-clause-ready c = record {
+  line = c.send_line-what.ensures ∙ ap (λ (vs : Values). send_line c.args.row.now c.args.message.now vs) c.in_ok-copy.ensures;
+  frame = ap (λ (bytes : List ℕ). Bytes bytes) c.in_ok-frame.ensures.frame;
+  framed = plain_framed c.args.schema.now c.args.message.now c.in_ok-frame.frame c.in_ok-frame.ensures.spelling;
+}

@@ -1,0 +1,12 @@
+pub mod EndView
+pub mod Steps
+pub mod Room
+pub mod Inside
+pub mod Tracks
+pub mod Answers
+pub mod Delivered
+pub mod Taken
+pub mod Sending
+pub mod NextItems
+pub mod ResolverReplies
+pub mod NewNames

@@ -1,7 +1,0 @@
-use Rattle.channel_tests.proofs.lists.Reader.+values.Given as goal
-
-abbrev pub decreases-value : goal.decreases-value
-decreases-value l = l.depth
-
-abbrev pub decreases-values : goal.decreases-values
-decreases-values l = l.depth

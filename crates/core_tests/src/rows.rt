@@ -1,0 +1,210 @@
+ghost use Rattle.ipdl_base.specs.Sound.{IsSound};
+
+use super::actor_rows::{ACTOR_COUNT, ACTOR_ROWS};
+use super::calls::TestedEnd;
+use super::nesting_rows::{NESTING_COUNT, NESTING_ROWS};
+use super::packet_rows::{PACKET_COUNT, PACKET_ROWS};
+use super::resolver_rows::{RESOLVER_COUNT, RESOLVER_ROWS};
+use history::{History, history_text};
+use history_of_text::schema_of;
+use ipdl_base::{Schema, Side};
+use std::alloc::Global;
+use std::test::Fail;
+
+/// Two ends, and what was written of them.
+#[derive(Drop)]
+struct Scene<'s> {
+    alloc: Global,
+    parent: TestedEnd<'s>,
+    child: TestedEnd<'s>,
+    lines: History,
+    log: String,
+}
+
+/// Does a call at an end, and writes its answer and the count of its packets. A call that finds no
+/// memory is done once more: it has changed nothing.
+fn call(
+    alloc: Global,
+    end: &mut TestedEnd,
+    other: &mut TestedEnd,
+    lines: &mut History,
+    log: &mut String,
+    text: &str,
+) -> Result<(), Fail> {
+    let first = end.call(text)?;
+    let answer = match first {
+        Some(answer) => answer,
+        None => again(alloc, end, text)?,
+    };
+    let packets = end.hand_over(other)?;
+    end.drain(lines)?;
+    writeln!(log, " = {answer} +{packets}")?;
+    Ok(())
+}
+
+/// A call that has found no memory once.
+fn again(alloc: Global, end: &mut TestedEnd, text: &str) -> Result<String, Fail> {
+    match end.call(text)? {
+        Some(answer) => Ok(answer),
+        None => Ok(String::from_str(alloc, "no memory")?),
+    }
+}
+
+/// Does the call of a line, which begins with its side and ends before ` = `.
+fn call_line(scene: &mut Scene, line: &str) -> Result<(), Fail> {
+    let (text, _) = line.split_once(" = ").ok_or("a call without its answer")?;
+    write!(scene.log, "{text}")?;
+    let (side, text) = text.split_once(" ").ok_or("a side alone")?;
+    match side {
+        "parent" => call(
+            scene.alloc,
+            &mut scene.parent,
+            &mut scene.child,
+            &mut scene.lines,
+            &mut scene.log,
+            text,
+        ),
+        "child" => call(
+            scene.alloc,
+            &mut scene.child,
+            &mut scene.parent,
+            &mut scene.lines,
+            &mut scene.log,
+            text,
+        ),
+        _ => Err("no side".into()),
+    }
+}
+
+/// What a row gives: each of its calls with its answer, and the lines that both ends print.
+fn played(alloc: Global, schema: &Schema, top: u32, calls: &str) -> Result<String, Fail>
+    requires { IsSound schema.now }
+{
+    let mut scene = Scene {
+        alloc,
+        parent: TestedEnd::open(alloc, Side::Parent, schema, top)?,
+        child: TestedEnd::open(alloc, Side::Child, schema, top)?,
+        lines: History::new(alloc),
+        log: String::new(alloc),
+    };
+    let done = play(&mut scene, calls);
+    let Scene {
+        alloc: _alloc,
+        parent,
+        child,
+        lines,
+        log,
+    } = scene;
+    drop(parent);
+    drop(child);
+    done?;
+    with_lines(alloc, schema, &lines, log)
+}
+
+/// Plays the calls of a row.
+fn play(scene: &mut Scene, calls: &str) -> Result<(), Fail> {
+    for line in calls.lines() {
+        call_line(scene, line)?;
+    }
+    Ok(())
+}
+
+/// The log with the text of the lines behind it.
+fn with_lines(alloc: Global, schema: &Schema, lines: &History, log: String) -> Result<String, Fail>
+    requires { IsSound schema.now }
+{
+    let mut log = log;
+    let text = history_text(alloc, schema, lines)?;
+    writeln!(log, "--")?;
+    write!(log, "{}", str::from_utf8(text.as_slice())?)?;
+    Ok(log)
+}
+
+/// A text in which each `%N` is so many letters.
+fn expanded(alloc: Global, text: &str) -> Result<String, Fail> {
+    let mut whole = String::new(alloc);
+    let mut pieces = text.split("%");
+    if let Some(first) = pieces.next() {
+        whole.push_str(first)?;
+    }
+    for piece in pieces {
+        let (count, rest) = piece.split_once("\"").ok_or("no count of letters")?;
+        for _ in 0..count.parse::<u32>()? {
+            whole.push('a')?;
+        }
+        whole.push('"')?;
+        whole.push_str(rest)?;
+    }
+    Ok(whole)
+}
+
+/// What a row gives, where its head names the file and the number of the top protocol.
+fn given(alloc: Global, head: &str, calls: &str) -> Result<String, Fail> {
+    let (word, rest) = head.split_once(" ").ok_or("a row without its file")?;
+    let (top, _) = rest
+        .split_once(" ")
+        .ok_or("a row without its top protocol")?;
+    let schema = schema_of(alloc, word)?;
+    played(alloc, &schema, top.parse::<u32>()?, calls)
+}
+
+/// Notes a row that gives something else than it says.
+fn check(alloc: Global, row: &str, wrong: &mut String) -> Result<(), Fail> {
+    let whole = expanded(alloc, row)?;
+    let (head, wanted) = whole
+        .as_str()
+        .split_once("\n")
+        .ok_or("a row without calls")?;
+    let (calls, _) = wanted.split_once("--\n").ok_or("a row without lines")?;
+    let found = given(alloc, head, calls)?;
+    if found.as_str() != wanted {
+        writeln!(wrong, "{head}\n{found}")?;
+    }
+    Ok(())
+}
+
+/// Of some rows, those that give something else than they say, and how many there are. A row has the
+/// file of its protocol, the number of the top protocol and what it shows; then calls, each with what
+/// it answers and how many packets it puts; and behind `--` the lines that both ends print. `%N`
+/// stands for N letters, and `====` between two rows.
+fn checked(alloc: Global, rows: &str) -> Result<String, Fail> {
+    let mut shown = String::new(alloc);
+    let mut count = 0u32;
+    for row in rows.split("====\n") {
+        check(alloc, row, &mut shown)?;
+        count = count.wrapping_add(1);
+    }
+    write!(shown, "{count}")?;
+    Ok(shown)
+}
+
+/// Rows on resolvers, names, and ends that have closed.
+#[test]
+fn resolver_calls(rt: HostRuntime) -> Result<(), Fail> {
+    assert_eq!(rt;
+        checked(rt.alloc(), RESOLVER_ROWS)?.as_str(),
+        RESOLVER_COUNT
+    );
+    Ok(())
+}
+
+/// Rows on actors, their values, and what arrives and waits.
+#[test]
+fn actor_calls(rt: HostRuntime) -> Result<(), Fail> {
+    assert_eq!(rt; checked(rt.alloc(), ACTOR_ROWS)?.as_str(), ACTOR_COUNT);
+    Ok(())
+}
+
+/// Rows on calls inside calls, and ends that close or die under them.
+#[test]
+fn nesting_calls(rt: HostRuntime) -> Result<(), Fail> {
+    assert_eq!(rt; checked(rt.alloc(), NESTING_ROWS)?.as_str(), NESTING_COUNT);
+    Ok(())
+}
+
+/// Rows on packets of any bytes, and frames.
+#[test]
+fn packet_calls(rt: HostRuntime) -> Result<(), Fail> {
+    assert_eq!(rt; checked(rt.alloc(), PACKET_ROWS)?.as_str(), PACKET_COUNT);
+    Ok(())
+}

@@ -1,0 +1,10 @@
+pub mod Choosing
+pub mod Counting
+pub mod Playing
+pub mod Rest
+pub mod Shown
+pub mod StepLines
+pub mod TurnChoices
+pub mod Words
+pub mod WorkedScripts
+pub mod WorkedStops

@@ -1,0 +1,5 @@
+pub mod Choices
+pub mod Laws
+pub mod NextEvent
+pub mod Progress
+pub mod Turns
