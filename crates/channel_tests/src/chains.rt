@@ -2,8 +2,8 @@ ghost use Rattle.ipdl_base.specs.Sound.{IsSound};
 
 use super::chain_rows::{CHAINS, CHAINS_COUNT};
 use super::given::note;
-use history_of_text::{history_of, schema_of};
 use history::History;
+use history_of_text::{history_of, schema_of};
 use ipdl_base::{Schema, Side};
 use law_checks::{Held, can_read, chain};
 use std::alloc::{AllocError, Global};

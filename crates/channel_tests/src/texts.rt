@@ -1,7 +1,7 @@
 use super::given::{laws, note};
 use super::run_rows::{RUNS, RUNS_COUNT};
-use history_of_text::{history_of, schema_of};
 use history::history_text;
+use history_of_text::{history_of, schema_of};
 use std::alloc::Global;
 use std::test::Fail;
 

@@ -74,9 +74,9 @@ passes-plain : (l : Law) (schema : Schema) (reading : Reading) (line : Line) (be
 unfolding passes
 passes-plain l schema reading line behind =
     ap (λ (b : Bool). b && (moment_before l schema (plain_reading reading) (plain_what line.what) && line_test l schema line.side (end_reading_of line.side (plain_reading reading)) (other_of line.side (plain_reading reading)) (plain_what line.what) (map plain_line behind)))
-      (readable-plain schema reading line)
+    (readable-plain schema reading line)
     ∙ (ap (λ (b : Bool). is_readable schema reading line && (b && line_test l schema line.side (end_reading_of line.side (plain_reading reading)) (other_of line.side (plain_reading reading)) (plain_what line.what) (map plain_line behind)))
-      (before-plain l schema reading line.what)
+    (before-plain l schema reading line.what)
     ∙ (ap (λ (x : EndReading). is_readable schema reading line && (moment_before l schema reading line.what && line_test l schema line.side x (other_of line.side (plain_reading reading)) (plain_what line.what) (map plain_line behind))) (own-reading line.side reading)
     ∙ (ap (λ (x : EndReading). is_readable schema reading line && (moment_before l schema reading line.what && line_test l schema line.side (plain_end (end_reading_of line.side reading)) x (plain_what line.what) (map plain_line behind))) (other-reading line.side reading)
     ∙ ap (λ (b : Bool). is_readable schema reading line && (moment_before l schema reading line.what && b)) (test-plain l schema line.side (end_reading_of line.side reading) (other_of line.side reading) line.what behind))))
@@ -97,9 +97,9 @@ each_passes-plain l schema lines =
 pub laws_see_no_box : LawsSeeNoBox
 laws_see_no_box = record {
   readable = λ schema lines.
-    each-plain (λ before line behind. is_readable schema (read schema before) line) (λ before line behind. is_readable schema (read schema before) line)
-    (λ before line behind. ap (λ (r : Reading). is_readable schema r (plain_line line)) (read-plain schema before) ∙ readable-plain schema (read schema before) line) [] lines;
+      each-plain (λ before line behind. is_readable schema (read schema before) line) (λ before line behind. is_readable schema (read schema before) line)
+      (λ before line behind. ap (λ (r : Reading). is_readable schema r (plain_line line)) (read-plain schema before) ∙ readable-plain schema (read schema before) line) [] lines;
   holds = λ l schema lines.
-    ap (λ (b : Bool). b && moment_test l schema (read schema (map plain_line lines))) (each_passes-plain l schema lines)
-    ∙ ap (λ (b : Bool). each_passes l schema lines && b) (ap (moment_test l schema) (read-plain schema lines) ∙ moment-plain l schema (read schema lines));
+      ap (λ (b : Bool). b && moment_test l schema (read schema (map plain_line lines))) (each_passes-plain l schema lines)
+      ∙ ap (λ (b : Bool). each_passes l schema lines && b) (ap (moment_test l schema) (read-plain schema lines) ∙ moment-plain l schema (read schema lines));
 }

@@ -92,7 +92,7 @@ prefix-plain schema own other what.DeliverBroken = next-plain other.sent (length
 prefix-plain schema own other (what.Take n route number vs) =
     ap (λ b. is_there own n && b)
     (asked (λ (r : Request). is_for route number r && is_nulled schema (lives own) (params_of schema number) r.values (plain_values vs)) (λ (r : Request). is_for route number r && is_nulled schema (lives own) (params_of schema number) r.values vs) false
-      (λ r. ap (λ b. is_for route number r && b) (is_nulled-plain schema (lives own) (params_of schema number) r.values vs)) other n)
+    (λ r. ap (λ b. is_for route number r && b) (is_nulled-plain schema (lives own) (params_of schema number) r.values vs)) other n)
 prefix-plain schema own other (what.Drop n route number id) = ap (λ b. is_there own n && b) (asked (is_for route number) (is_for route number) false (λ r. refl) other n)
 prefix-plain schema own other (what.TakeReply n) = refl
 prefix-plain schema own other (what.Send n route number vs) = refl
@@ -306,8 +306,8 @@ unfolding says_fallen resolves_missing
 destroyed-plain schema own other n =
     ap (λ b. if b then true else resolves_missing schema (plain_end own) (plain_end other) n) (says-plain (is_fault reason.ActorDestroyed) (is_fault reason.ActorDestroyed) (fault-plain reason.ActorDestroyed) other.sent n)
     ∙ ap (λ b. if says_fallen other n then true else b)
-      (says-plain (is_resolved_missing schema (plain_end own) (own_returns schema (plain_end own) n)) (is_resolved_missing schema own (own_returns schema (plain_end own) n)) (resolved_missing-plain schema own (own_returns schema (plain_end own) n)) other.sent n
-      ∙ ap (λ types. says (is_resolved_missing schema own types) other.sent n) (returns-plain schema own n))
+    (says-plain (is_resolved_missing schema (plain_end own) (own_returns schema (plain_end own) n)) (is_resolved_missing schema own (own_returns schema (plain_end own) n)) (resolved_missing-plain schema own (own_returns schema (plain_end own) n)) other.sent n
+    ∙ ap (λ types. says (is_resolved_missing schema own types) other.sent n) (returns-plain schema own n))
 
 cause-plain : (schema : Schema) (end : Side) (own other : EndReading) (n : ℤ) (behind : List Line) (r : Reason) → is_cause schema end (plain_end own) (plain_end other) n (map plain_line behind) r ≡ is_cause schema end own other n behind r
 unfolding is_destroyed

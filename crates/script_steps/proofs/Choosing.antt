@@ -163,8 +163,8 @@ plays-one setting choice state next c sided =
     record {
       sides = subst HaveSides (sym h.world) (sides-after choice.side c.event h.output state.world (p.side ∙ own) sided);
       choices =
-        ap choices_of h.lines ∙ filter_map-append choice_of state.lines h.output.lines
-        ∙ ap (λ cs. choices_of state.lines ++ cs)
+          ap choices_of h.lines ∙ filter_map-append choice_of state.lines h.output.lines
+          ∙ ap (λ cs. choices_of state.lines ++ cs)
           (prints-choice e c.event h.output p
           ∙ ap (λ (s : Side). (record { side = s; delivers = is_delivery c.event }) ∷ []) own
           ∙ ap (λ (b : Bool). (record { side = choice.side; delivers = b }) ∷ []) (event-delivers setting choice state c.event c.has));

@@ -167,17 +167,17 @@ counted-next : (setting : Setting) (side : Side) (state next : RunState) (event 
     → (progress_of side state.lines).events < setting.limit → CountedSides setting state → CountedSides setting next
 counted-next setting sides.Parent state next event h p own within c = record {
   parent =
-    moves-on setting state next sides.Parent (progress_of sides.Parent state.lines).events (progress_of sides.Parent next.lines).events state.world.parent h.output.end refl refl refl (ap (λ (w : World). w.parent) h.world) within
-    (events-next setting sides.Parent sides.Parent state next event h p own) (counts_grow setting.schema state.world.parent state.world.to_parent event h.output h.is).0 c.parent;
+      moves-on setting state next sides.Parent (progress_of sides.Parent state.lines).events (progress_of sides.Parent next.lines).events state.world.parent h.output.end refl refl refl (ap (λ (w : World). w.parent) h.world) within
+      (events-next setting sides.Parent sides.Parent state next event h p own) (counts_grow setting.schema state.world.parent state.world.to_parent event h.output h.is).0 c.parent;
   child =
-    stays-on setting state next sides.Child (events-next setting sides.Parent sides.Child state next event h p own ∙ plus-none (progress_of sides.Child state.lines).events) (ap (λ (w : World). w.child) h.world) c.child;
+      stays-on setting state next sides.Child (events-next setting sides.Parent sides.Child state next event h p own ∙ plus-none (progress_of sides.Child state.lines).events) (ap (λ (w : World). w.child) h.world) c.child;
 }
 counted-next setting sides.Child state next event h p own within c = record {
   parent =
-    stays-on setting state next sides.Parent (events-next setting sides.Child sides.Parent state next event h p own ∙ plus-none (progress_of sides.Parent state.lines).events) (ap (λ (w : World). w.parent) h.world) c.parent;
+      stays-on setting state next sides.Parent (events-next setting sides.Child sides.Parent state next event h p own ∙ plus-none (progress_of sides.Parent state.lines).events) (ap (λ (w : World). w.parent) h.world) c.parent;
   child =
-    moves-on setting state next sides.Child (progress_of sides.Child state.lines).events (progress_of sides.Child next.lines).events state.world.child h.output.end refl refl refl (ap (λ (w : World). w.child) h.world) within
-    (events-next setting sides.Child sides.Child state next event h p own) (counts_grow setting.schema state.world.child state.world.to_child event h.output h.is).0 c.child;
+      moves-on setting state next sides.Child (progress_of sides.Child state.lines).events (progress_of sides.Child next.lines).events state.world.child h.output.end refl refl refl (ap (λ (w : World). w.child) h.world) within
+      (events-next setting sides.Child sides.Child state next event h p own) (counts_grow setting.schema state.world.child state.world.to_child event h.output h.is).0 c.child;
 }
 
 counted-all : (setting : Setting) (choices : List Choice) (from last : RunState) → played setting choices from ≡ Some last → HaveSides from.world → CountedSides setting from → CountedSides setting last
@@ -191,7 +191,7 @@ counted-all setting (choice ∷ more) from last h sided c =
     let own : (end_of choice.side from.world).side ≡ choice.side = side-of from.world choice.side sided in
     counted-all setting more p.next last p.rest (plays-one setting choice from p.next one sided).sides
     (counted-next setting choice.side from p.next one.event made (step-prints setting.schema (end_of choice.side from.world) (link_to choice.side from.world) one.event made.output made.is) own
-      (below (progress_of choice.side from.lines).events setting.limit one.within) c)
+    (below (progress_of choice.side from.lines).events setting.limit one.within) c)
 
 nothing-counted : (setting : Setting) (side : Side) → IsCountedBy setting (beginning_of setting) side
 nothing-counted setting sides.Parent = record { limit = omega arith; sent = omega arith; delivered = omega arith }

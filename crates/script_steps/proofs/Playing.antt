@@ -65,8 +65,8 @@ run-move setting choice state next last c r =
       moves = move ∷ r.moves;
       world = ap (λ (x : RunState). (run setting.schema r.moves x.world).world) (sym c.is) ∙ r.world;
       lines =
-        sym (append_assoc state.lines first.lines (run setting.schema r.moves first.world).lines)
-        ∙ ap (λ (x : RunState). x.lines ++ (run setting.schema r.moves x.world).lines) (sym c.is) ∙ r.lines;
+          sym (append_assoc state.lines first.lines (run setting.schema r.moves first.world).lines)
+          ∙ ap (λ (x : RunState). x.lines ++ (run setting.schema r.moves x.world).lines) (sym c.is) ∙ r.lines;
     }
 
 pub runs-from : (setting : Setting) (choices : List Choice) (from last : RunState) → played setting choices from ≡ Some last → IsRunFrom setting from last

@@ -80,7 +80,6 @@ tp = record { side = side.Parent; only_deliver = true }
 abbrev tc : Turn
 tc = record { side = side.Child; only_deliver = true }
 
-
 abbrev death_under_nested_waits_schema : Schema
 death_under_nested_waits_schema = record {
   protocols = (
