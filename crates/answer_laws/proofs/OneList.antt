@@ -8,8 +8,8 @@ use Rattle.ipdl_base.specs.Sound.{IsSound}
 use Rattle.value_types.specs.declared.layout.TheConstants.{MARK, NEW, OLD}
 use Rattle.value_codec.specs.Decoding.{FrameBegins}
 use Rattle.value_codec.specs.Frames.{header_size}
-use Rattle.codec_laws.specs.Laws.{AreBytes, HasLengths, ThreeCases}
-use Rattle.codec_laws.proofs.Cases.{three_cases}
+use Rattle.value_codec.specs.Laws.{AreBytes, HasLengths, ThreeCases}
+use Rattle.value_codec.proofs.Cases.{three_cases}
 use Rattle.frame_list.specs.declared.list.FrameListFault.{FrameListFault}
 use Rattle.frame_list.specs.declared.list.FrameListFault.TheVariants.{Short, Broken}
 use Rattle.frame_list.specs.declared.list.PlacedMessage.{PlacedMessage}

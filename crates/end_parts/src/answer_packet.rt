@@ -16,9 +16,9 @@ use crate::end_output::EndOutput;
 use crate::packet::Packet;
 use crate::packet_reading::frame_of;
 use crate::reply::{AnsweredRequest, reply_to};
-use codec_laws::frames_look_at_no_box;
 use ipdl_base::{Body, Items, Line, Message, Reason, Schema, Side, What};
 use std::alloc::{AllocError, Global};
+use value_codec::frames_look_at_no_box;
 use value_types::boxes_say_nothing;
 
 /// The answer to a request: its line and its frame.

@@ -8,10 +8,9 @@ ghost use Rattle.value_types.specs.Fits.{Fits};
 ghost use Rattle.end_parts.specs.PacketReading.{IsReading, packet_read};
 
 use crate::packet::Packet;
-use codec_laws::frames_look_at_no_box;
 use ipdl_base::{Body, Items, Message, Schema};
 use std::alloc::{AllocError, Global};
-use value_codec::{Decoded, decode, new_frame};
+use value_codec::{Decoded, decode, frames_look_at_no_box, new_frame};
 use value_types::NEW;
 
 /// What a packet is.

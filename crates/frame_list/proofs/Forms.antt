@@ -3,7 +3,7 @@ use Rattle.std.proofs.Common.{◌≡◌, sym}
 use Rattle.ipdl_base.specs.declared.schema.Schema.{Schema}
 use Rattle.value_types.specs.declared.layout.TheConstants.{NEW}
 use Rattle.value_types.specs.Laws.{BoxesSayNothing}
-use Rattle.codec_laws.proofs.PlainFrames.{frame_plain}
+use Rattle.value_codec.proofs.PlainFrames.{frame_plain}
 use Rattle.frame_list.specs.declared.list.PlacedMessage.{PlacedMessage}
 use Rattle.frame_list.specs.declared.told.Form.{Form}
 use Rattle.frame_list.specs.declared.told.Form.TheVariants.{Line, NewFrame}

@@ -8,7 +8,7 @@ use Rattle.value_types.specs.declared.layout.TheConstants.{NEW, OLD}
 use Rattle.value_types.specs.Laws.{BoxesSayNothing, NewIsAtMostFourTimes}
 use Rattle.value_types.specs.Sizes.{payload_size}
 use Rattle.value_codec.specs.Decoding.{FrameBegins}
-use Rattle.codec_laws.proofs.PlainFrames.{frame_plain}
+use Rattle.value_codec.proofs.PlainFrames.{frame_plain}
 use Rattle.frame_list.specs.declared.list.PlacedMessage.{PlacedMessage}
 use Rattle.frame_list.specs.Converted.{new_frame, new_frames}
 use Rattle.frame_list.specs.Frames.{all_plain, layout_at, plain_placed}

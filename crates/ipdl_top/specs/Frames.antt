@@ -2,7 +2,7 @@
 use Rattle.std.specs.Prelude.{◌≡◌, ℕ, ◌≤◌, ◌<◌, ◌⊎◌, Bool, if◌then◌else◌, List, [], ◌++◌, length, Option, Some, None, codes}
 use Rattle.ipdl_base.specs.declared.schema.Schema.{Schema}
 use Rattle.ipdl_base.specs.Sound.{IsSound}
-use Rattle.codec_laws.specs.Laws.{AreBytes}
+use Rattle.value_codec.specs.Laws.{AreBytes}
 use Rattle.frame_list.specs.declared.list.FrameListFault.{FrameListFault}
 use Rattle.frame_list.specs.declared.list.PlacedMessage.{PlacedMessage}
 use Rattle.frame_list.specs.Converted.{new_frames}

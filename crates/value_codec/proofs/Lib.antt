@@ -14,3 +14,5 @@ pub mod Types
 pub mod Fielded
 pub mod Said
 pub mod Framed
+pub mod Cases
+pub mod PlainFrames

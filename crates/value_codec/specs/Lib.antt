@@ -3,3 +3,4 @@ pub mod Reading
 pub mod Frames
 pub mod Decoding
 pub mod Encoding
+pub mod Laws

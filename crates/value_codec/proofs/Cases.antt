@@ -13,7 +13,7 @@ use Rattle.value_codec.specs.Decoding.{begins}
 use Rattle.value_codec.specs.Spelling.{mark_of, body_flags, fields_bytes, message_header, payload_bytes, frame_bytes, FrameOf}
 use Rattle.value_codec.proofs.Framed.{IsTold, begins_told, short_begins, bad_begins, frame_again, frame_begins}
 use Rattle.value_codec.proofs.Lengths.{payload_length}
-use Rattle.codec_laws.specs.Laws.{AreBytes, OneSpelling, ReadAgain, SomeBegins, OneOfThreeBegins, OldHasNew}
+use Rattle.value_codec.specs.Laws.{AreBytes, OneSpelling, ReadAgain, SomeBegins, OneOfThreeBegins, OldHasNew}
 
 pub one_spelling : OneSpelling
 one_spelling = record {

@@ -1,4 +1,4 @@
-ghost use Rattle.codec_laws.specs.Laws.{FramesLookAtNoBox, OneSpelling, ReadAgain, OneOfThreeBegins, OldHasNew};
+ghost use Rattle.value_codec.specs.Laws.{FramesLookAtNoBox, OneSpelling, ReadAgain, OneOfThreeBegins, OldHasNew};
 
 /// The law of the spelling: a message has at most one frame in a layout, and it has as many bytes as
 /// its size says.
