@@ -1,0 +1,4 @@
+pub mod Contexts
+pub mod Handlers
+pub mod Allowed
+pub mod Laws

@@ -1,0 +1,26 @@
+ghost use Rattle.script_runs.specs.Laws.{AnswersComeOnce, CaseHistoriesObeyAllLaws, CaseWorldsFit, CasesHaveRoom, HandledAreDispatched, HandlersStand, RestOfCasesIsStill, ScriptEventsArePossible, TermsStandForValues};
+
+/// The law of terms: those that fit stand for values of the types.
+pub fn terms_stand_for_values()
+    ensures { TermsStandForValues }
+{}
+
+/// The law of fitting: what ends keep and send fits, and is not refused.
+pub fn case_worlds_fit()
+    ensures { CaseWorldsFit }
+{}
+
+/// The law of rest: where nothing is left to do nothing can happen but acts, and no end waits.
+pub fn rest_of_cases_is_still()
+    ensures { RestOfCasesIsStill }
+{}
+
+/// The law of laws: the histories of a script can be read and obey all five.
+pub fn case_histories_obey_all_laws()
+    ensures { CaseHistoriesObeyAllLaws }
+{}
+
+/// The law of room: how much a side has said and sent for its events.
+pub fn cases_have_room()
+    ensures { CasesHaveRoom }
+{}
