@@ -5,3 +5,7 @@ pub mod Room
 pub mod Leaves
 pub mod Shows
 pub mod NextSteps
+pub mod ValidBlocks
+pub mod Progressing
+pub mod Handlers
+pub mod KeptRuns

@@ -1,5 +1,5 @@
 -- The handlers that run at an end: by its stack, and by what the lines of its side tell.
-use Rattle.std.specs.Prelude.{◌≡◌, ℕ, Bool, true, false, List, [], ◌∷◌, filter, take, slice_get, Some}
+use Rattle.std.specs.Prelude.{◌≡◌, Bool, true, false, List, [], filter, take, slice_get, Some}
 use Rattle.std.specs.List.{list_any}
 use Rattle.std.specs.Option.{option_map_or}
 use Rattle.handler_script.specs.declared.action.Action.{Action}
@@ -21,13 +21,6 @@ use Rattle.script_steps.specs.Progress.{HandledRequest}
 -- the dispatches of a stack, the innermost first
 abbrev pub dispatches : List StackEntry → List StackEntry
 dispatches stack = filter (λ entry. is_dispatch entry.frame) stack
-
--- Dispatches and requests, as many of the one as of the other, that are related place by place.
-abbrev pub AreRelated : (StackEntry → HandledRequest → Type 0) → List StackEntry → List HandledRequest → Type 0
-AreRelated P [] [] = Unit {0}
-AreRelated P [] (request ∷ requests) = ⊥
-AreRelated P (entry ∷ entries) [] = ⊥
-AreRelated P (entry ∷ entries) (request ∷ requests) = P entry request × AreRelated P entries requests
 
 -- a dispatch is that of a request: of its number and its message
 abbrev pub IsDispatchOf : StackEntry → HandledRequest → Type 0

@@ -1,6 +1,6 @@
 -- What every run of a script keeps.
 use Rattle.std.specs.Prelude.{◌≡◌, ℕ, ◌+◌, ◌*◌, ◌<◌, ◌≤◌, true, false, List, [], ◌∷◌, length, Some, None}
-use Rattle.std.specs.List.{AllByRecursion}
+use Rattle.std.specs.List.{AllByRecursion, AllZip}
 use Rattle.handler_script.specs.declared.action.Action.{Action}
 use Rattle.handler_script.specs.declared.script.Script.{Script}
 use Rattle.handler_script.specs.declared.term.Terms.{Terms}
@@ -34,7 +34,7 @@ use Rattle.script_steps.specs.Progress.{HandledRequest, progress_of, lines_of}
 use Rattle.script_steps.specs.Turns.{turn_choice, led_to, is_quiet}
 use Rattle.script_runs.specs.Allowed.{IsAllowed}
 use Rattle.script_runs.specs.Contexts.{FitsContext}
-use Rattle.script_runs.specs.Handlers.{dispatches, AreRelated, IsDispatchOf, has_answered, IsHandlerOf}
+use Rattle.script_runs.specs.Handlers.{dispatches, IsDispatchOf, has_answered, IsHandlerOf}
 
 -- Terms that fit a block stand for values of the types, where what they are seen with fits the block.
 abbrev pub TermsStandForValues : Type 0
@@ -50,7 +50,7 @@ AnswersComeOnce =
 -- The requests whose handlers run, as the lines of a side tell, are the dispatches of its end's stack, by number and
 -- message, in order. At a dead end there is none.
 pub record AreDispatched (setting : Setting) (state : RunState) (side : Side) : Type 0 where
-  pub handled : AreRelated IsDispatchOf (dispatches (end_of side state.world).stack) (progress_of side state.lines).handled
+  pub handled : AllZip IsDispatchOf (dispatches (end_of side state.world).stack) (progress_of side state.lines).handled
   pub dead : is_dead_end (end_of side state.world).state ≡ true → (progress_of side state.lines).handled ≡ []
 
 abbrev pub HandledAreDispatched : Type 0
@@ -61,11 +61,11 @@ HandledAreDispatched =
 abbrev pub HasLimit : Setting → Type 0
 HasLimit setting = setting.limit < 268435456
 
--- And each of them stands as it was taken, with its resolver as long as its handler has not answered.
+-- And where the script is valid each of them stands as it was taken, with its resolver as long as its handler has not answered.
 abbrev pub HandlersStand : Type 0
 HandlersStand =
-    (setting : Setting) (choices : List Choice) (state : RunState) → IsSound setting.schema → HasLimit setting → played setting choices (beginning_of setting) ≡ Some state
-    → (side : Side) → AreRelated (IsHandlerOf setting.schema setting.script side (end_of side state.world)) (dispatches (end_of side state.world).stack) (progress_of side state.lines).handled
+    (setting : Setting) (choices : List Choice) (state : RunState) → IsSound setting.schema → IsValid setting.schema setting.script → HasLimit setting → played setting choices (beginning_of setting) ≡ Some state
+    → (side : Side) → AllZip (IsHandlerOf setting.schema setting.script side (end_of side state.world)) (dispatches (end_of side state.world).stack) (progress_of side state.lines).handled
 
 -- What ends keep and send in a run of a script fits the schema, and an open end does not refuse the packet that comes next.
 pub record FitsCase (setting : Setting) (state : RunState) (side : Side) : Type 0 where

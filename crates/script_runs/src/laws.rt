@@ -1,8 +1,23 @@
-ghost use Rattle.script_runs.specs.Laws.{AnswersComeOnce, CaseHistoriesObeyAllLaws, CaseWorldsFit, CasesHaveRoom, HandledAreDispatched, HandlersStand, RestOfCasesIsStill, ScriptEventsArePossible, TermsStandForValues};
+ghost use Rattle.script_runs.specs.Laws.{AnswersComeOnce, CaseHistoriesObeyAllLaws, CaseWorldsFit, CasesHaveRoom, HandledAreDispatched, HandlersStand, RestOfCasesIsStill, TermsStandForValues};
 
 /// The law of terms: those that fit stand for values of the types.
 pub fn terms_stand_for_values()
     ensures { TermsStandForValues }
+{}
+
+/// The law of answers: an action that answers its request comes behind none that does.
+pub fn answers_come_once()
+    ensures { AnswersComeOnce }
+{}
+
+/// The law of handlers: those that lines tell of are the dispatches of the stack.
+pub fn handled_are_dispatched()
+    ensures { HandledAreDispatched }
+{}
+
+/// The law of handled requests: each stands as it was taken.
+pub fn handlers_stand()
+    ensures { HandlersStand }
 {}
 
 /// The law of fitting: what ends keep and send fits, and is not refused.

@@ -5,6 +5,6 @@
 mod laws;
 
 pub use laws::{
-    case_histories_obey_all_laws, case_worlds_fit, cases_have_room, rest_of_cases_is_still,
-    terms_stand_for_values,
+    answers_come_once, case_histories_obey_all_laws, case_worlds_fit, cases_have_room,
+    handled_are_dispatched, handlers_stand, rest_of_cases_is_still, terms_stand_for_values,
 };
