@@ -61,7 +61,7 @@ use Rattle.script_runs.proofs.NextSteps.{IsNext}
 use Rattle.script_runs.proofs.NextSteps as next
 use Rattle.script_runs.proofs.Progressing.{effects-stay, acted, act-handled, act-takes, whats-back, first-is}
 use Rattle.script_runs.proofs.Shows.{Behind, Passes, ShowsAct, ShowsPassing, ShowsHandling, Shows, built_lines}
-use Rattle.script_runs.proofs.ValidBlocks.{IsHandlerAction, handler-action, action-in, none-more}
+use Rattle.script_runs.proofs.ValidBlocks.{IsHandlerAction, handler-action, action-in, none-more, answering-row}
 
 -- What stays known of a request whose handler runs: its values and what it made, where there is a limit; and its
 -- resolver, where the script is valid.
@@ -131,12 +131,6 @@ one-left n x xs h k =
     let z : one_if (owes_answer n x) ≡ 1 = ap one_if h in
     omega (arith, z, k)
 
--- an async message with returns makes promises
-promises-async : (s : Semantics) (types : Option (List ParamRow)) (row : MessageRow) → row.semantics ≡ s → row.returns ≡ types → (resolves row ≡ None → ⊥) → makes_promise row ≡ true
-promises-async Async None row s r h = absurd (h (ap (λ (x : Semantics). resolves (record row { semantics = x })) s ∙ r))
-promises-async Async (Some types) row s r h = ap (λ (x : Semantics). makes_promise (record row { semantics = x })) s ∙ ap (λ o. makes_promise (record row { semantics = Async; returns = o })) r
-promises-async Sync types row s r h = absurd (h (ap (λ (x : Semantics). resolves (record row { semantics = x })) s))
-
 module _ (setting : Setting) (e : End) (p : Progress) (known : IsCaseEnd setting.schema e) (fits : HasLimit setting → IsFitting setting.schema e) (related : AllZip (IsKept setting e.side) (dispatches e.stack) p.handled) where
   Kept : StackEntry → HandledRequest → Type 0
   Kept = IsKept setting e.side
@@ -204,19 +198,6 @@ module _ (setting : Setting) (e : End) (p : Progress) (known : IsCaseEnd setting
           subst (λ (es : List StackEntry). AllZip (IsKept setting e.side) es (r ∷ rs)) (sym (released-frame (has_resolver seq x) x (released seq xs) true is)) (kept-released (has_resolver seq x) seq x r refl (λ v. (none v).0) k.0, rec rs k.1)
       by false is rest k rec = subst (λ (es : List StackEntry). AllZip (IsKept setting e.side) es rest) (sym (released-frame (has_resolver seq x) x (released seq xs) false is)) (rec rest k)
 
-  -- the message of an action that answers makes promises
-  answering-row : (row : MessageRow) (a : Action) → answers_handled a ≡ true → IsValidAction setting.schema (in_handler e.side row) a → makes_promise row ≡ true
-  answering-row row (action.Resolve values) h v = promises-async row.semantics row.returns row refl refl (λ none. subst (λ (o : Option (List ParamRow)). IsSomeAnd o (λ types. EachTermFits setting.schema (in_handler e.side row) types values)) none v)
-  answering-row row action.Reject h v = promises-async row.semantics row.returns row refl refl (λ none. true≢false (sym v ∙ ap is_some none))
-  answering-row row (action.Keep name) h v = promises-async row.semantics row.returns row refl refl (λ none. true≢false (sym v.1 ∙ ap is_some none))
-  answering-row row (action.Send who number values) h v = cc
-  answering-row row (action.New name who number values) h v = cc
-  answering-row row (action.Let name who) h v = cc
-  answering-row row (action.ResolveNamed name number values) h v = cc
-  answering-row row (action.RejectNamed name number) h v = cc
-  answering-row row action.Close h v = cc
-  answering-row row action.Die h v = cc
-
   module _ (head : Head) (request : HandledRequest) (rest : List HandledRequest) (t : HasDispatchOnTop e.stack head) (is : p.handled ≡ request ∷ rest) (a : Action) (found : handler_action setting.script e.side request ≡ Some a) where
     on-top : AllZip (IsKept setting e.side) (t.entry ∷ dispatches t.below) (request ∷ rest)
     on-top = subst (λ (hs : List HandledRequest). AllZip (IsKept setting e.side) (t.entry ∷ dispatches t.below) hs) is (subst (λ (es : List StackEntry). AllZip (IsKept setting e.side) es p.handled) t.entries related)
@@ -230,7 +211,7 @@ module _ (setting : Setting) (e : End) (p : Progress) (known : IsCaseEnd setting
     owes-it answers v =
         let h : IsHandlerAction setting.schema setting.script e.side request a = handler-action setting.schema setting.script e.side request a v found in
         owes-all (is_dispatch t.entry.frame) t.entry.resolves (head_of t.entry.frame).sync (int_eq (head_of t.entry.frame).seq request.seq) (ap is_dispatch t.frame)
-        (on-top.0.unused v h.row h.found (answering-row h.row a answers h.valid) (h.once answers))
+        (on-top.0.unused v h.row h.found (answering-row setting.schema e.side h.row a answers h.valid) (h.once answers))
         (ap (λ n. int_eq n request.seq) on-top.0.dispatch.0 ∙ int-same request.seq)
 
     none-below : answers_handled a ≡ true → IsValid setting.schema setting.script → AllByRecursion (λ x. has_resolver request.seq x ≡ false) t.below

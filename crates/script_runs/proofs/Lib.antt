@@ -9,3 +9,5 @@ pub mod ValidBlocks
 pub mod Progressing
 pub mod Handlers
 pub mod KeptRuns
+pub mod Contexts
+pub mod Possible

@@ -1,9 +1,9 @@
 -- What a valid script says of the actions and replies that a run comes to.
 use Rattle.std.proofs.Common.{◌≡◌, ℕ, zero, suc, ◌+◌, ◌≤◌, ◌==◌, Bool, true, false, ◌&&◌, ◌||◌, cond, if◌then◌else◌, List, [], ◌∷◌, filter, Option, Some, None, ◌⊎◌, inl, inr, refl, sym, ap, subst, ◌∙◌, arith}
-use Rattle.std.specs.Prelude.{IsTrue, IsSome, IsSomeAnd, IfSome, option_and_then, take, slice_get, count_by, All}
+use Rattle.std.specs.Prelude.{is_some, IsTrue, IsSome, IsSomeAnd, IfSome, option_and_then, take, slice_get, count_by, All}
 use Rattle.std.specs.List.{AllByRecursion, list_any}
 use Rattle.std.specs.Option.{option_map_or}
-use Rattle.std.proofs.lemmas.Bool.{eq-eqb}
+use Rattle.std.proofs.lemmas.Bool.{eq-eqb, true≢false}
 use Rattle.std.proofs.lemmas.Bool.Decides.{Decides-eqb}
 use Rattle.std.proofs.lemmas.List.Elements.{recursion_from_All}
 use Rattle.std.proofs.lemmas.List.Recursion.{is_count_by}
@@ -14,16 +14,19 @@ use Rattle.handler_script.specs.declared.script.Point.TheVariants as point
 use Rattle.handler_script.specs.declared.script.Script.{Script}
 use Rattle.handler_script.specs.declared.term.Terms.{Terms}
 use Rattle.handler_script.specs.Blocks.{BlockContext, in_main, in_handler, handled_in}
-use Rattle.handler_script.specs.Messages.{replies}
+use Rattle.handler_script.specs.Messages.{resolves, replies}
 use Rattle.handler_script.specs.ScriptOf.{blocks_for, action_at, reply_at}
 use Rattle.handler_script.specs.Served.{serves, is_side, is_number}
 use Rattle.handler_script.specs.Valid.{EachTermFits, IsValidAction, IsValidIn, IsHandledBy, IsValidBlock, IsValid, answers_handled}
 use Rattle.ipdl_base.specs.declared.kinds.Side.{Side}
 use Rattle.ipdl_base.specs.declared.kinds.Side.TheVariants as sides
 use Rattle.ipdl_base.specs.declared.schema.MessageRow.{MessageRow}
+use Rattle.ipdl_base.specs.declared.schema.ParamRow.{ParamRow}
 use Rattle.ipdl_base.specs.declared.schema.Schema.{Schema}
+use Rattle.ipdl_base.specs.declared.kinds.Semantics.{Semantics}
+use Rattle.ipdl_base.specs.declared.kinds.Semantics.TheVariants.{Async, Sync}
 use Rattle.ipdl_base.specs.Sound.{message_of}
-use Rattle.channel_model.specs.Numbers.{request_row}
+use Rattle.channel_model.specs.Numbers.{makes_promise, request_row}
 use Rattle.channel_model.proofs.FittingEnds.{all-at}
 use Rattle.script_steps.specs.NextEvent.{block_for, handler_action}
 use Rattle.script_steps.specs.Progress.{HandledRequest}
@@ -202,3 +205,22 @@ reply-found schema script side number at ts v (Some block) is h =
 
 pub handler-reply : (schema : Schema) (script : Script) (side : Side) (number at : ℕ) (ts : Terms) → IsValid schema script → reply_at script side number at ≡ Some ts → IsHandlerReply schema side number ts
 handler-reply schema script side number at ts v h = reply-found schema script side number at ts v (slice_get (blocks_for script side (Some number)) at) refl h
+
+-- an async message with returns makes promises
+promises-async : (s : Semantics) (types : Option (List ParamRow)) (row : MessageRow) → row.semantics ≡ s → row.returns ≡ types → (resolves row ≡ None → ⊥) → makes_promise row ≡ true
+promises-async Async None row s r h = absurd (h (ap (λ (x : Semantics). resolves (record row { semantics = x })) s ∙ r))
+promises-async Async (Some types) row s r h = ap (λ (x : Semantics). makes_promise (record row { semantics = x })) s ∙ ap (λ o. makes_promise (record row { semantics = Async; returns = o })) r
+promises-async Sync types row s r h = absurd (h (ap (λ (x : Semantics). resolves (record row { semantics = x })) s))
+
+-- the message of an action that answers makes promises
+pub answering-row : (schema : Schema) (side : Side) (row : MessageRow) (a : Action) → answers_handled a ≡ true → IsValidAction schema (in_handler side row) a → makes_promise row ≡ true
+answering-row schema side row (action.Resolve values) h v = promises-async row.semantics row.returns row refl refl (λ none. subst (λ (o : Option (List ParamRow)). IsSomeAnd o (λ types. EachTermFits schema (in_handler side row) types values)) none v)
+answering-row schema side row action.Reject h v = promises-async row.semantics row.returns row refl refl (λ none. true≢false (sym v ∙ ap is_some none))
+answering-row schema side row (action.Keep name) h v = promises-async row.semantics row.returns row refl refl (λ none. true≢false (sym v.1 ∙ ap is_some none))
+answering-row schema side row (action.Send who number values) h v = cc
+answering-row schema side row (action.New name who number values) h v = cc
+answering-row schema side row (action.Let name who) h v = cc
+answering-row schema side row (action.ResolveNamed name number values) h v = cc
+answering-row schema side row (action.RejectNamed name number) h v = cc
+answering-row schema side row action.Close h v = cc
+answering-row schema side row action.Die h v = cc

@@ -1,4 +1,4 @@
-ghost use Rattle.script_runs.specs.Laws.{AnswersComeOnce, CaseHistoriesObeyAllLaws, CaseWorldsFit, CasesHaveRoom, HandledAreDispatched, HandlersStand, RestOfCasesIsStill, TermsStandForValues};
+ghost use Rattle.script_runs.specs.Laws.{AnswersComeOnce, CaseHistoriesObeyAllLaws, CaseWorldsFit, CasesHaveRoom, HandledAreDispatched, HandlersStand, RestOfCasesIsStill, ScriptEventsArePossible, TermsStandForValues};
 
 /// The law of terms: those that fit stand for values of the types.
 pub fn terms_stand_for_values()
@@ -23,6 +23,11 @@ pub fn handlers_stand()
 /// The law of fitting: what ends keep and send fits, and is not refused.
 pub fn case_worlds_fit()
     ensures { CaseWorldsFit }
+{}
+
+/// The law of events: what a side does next is possible, and so is each delivery.
+pub fn script_events_are_possible()
+    ensures { ScriptEventsArePossible }
 {}
 
 /// The law of rest: where nothing is left to do nothing can happen but acts, and no end waits.
