@@ -53,7 +53,8 @@ use Rattle.script_steps.specs.Choices.{Setting}
 use Rattle.script_steps.specs.NextEvent.{context_of, event_of, handler_action}
 use Rattle.script_steps.specs.Progress.{HandledRequest, Progress, after_line, after_lines}
 use Rattle.script_steps.proofs.StepLines.{Prints}
-use Rattle.script_runs.specs.Handlers.{dispatches, IsDispatchOf, actions_for, has_answered}
+use Rattle.script_runs.specs.Dispatches.{dispatches}
+use Rattle.script_runs.specs.Handlers.{IsDispatchOf, actions_for, has_answered}
 use Rattle.script_runs.specs.Laws.{HasLimit}
 use Rattle.script_runs.proofs.CaseRuns.{IsCaseEnd}
 use Rattle.script_runs.proofs.Leaves.{NameNoNulls}
@@ -116,17 +117,17 @@ owes-resolver true true s q h = h
 owes-resolver true false s q h = refl
 owes-resolver false r s q h = refl
 
-owes-all : (d r s q : Bool) → d ≡ true → r ≡ true → q ≡ true → (d && ((r || s) && q)) ≡ true
+pub owes-all : (d r s q : Bool) → d ≡ true → r ≡ true → q ≡ true → (d && ((r || s) && q)) ≡ true
 owes-all true true s true hd hr hq = refl
 owes-all true true s false hd hr hq = cc
 owes-all true false s q hd hr hq = cc
 owes-all false r s q hd hr hq = cc
 
-none-owe : (n : ℤ) (xs : List StackEntry) → AllByRecursion (λ x. owes_answer n x ≡ false) xs → AllByRecursion (λ x. has_resolver n x ≡ false) xs
+pub none-owe : (n : ℤ) (xs : List StackEntry) → AllByRecursion (λ x. owes_answer n x ≡ false) xs → AllByRecursion (λ x. has_resolver n x ≡ false) xs
 none-owe n [] h = tt
 none-owe n (x ∷ xs) h = (owes-resolver (is_dispatch x.frame) x.resolves (head_of x.frame).sync (int_eq (head_of x.frame).seq n) h.0, none-owe n xs h.1)
 
-one-left : (n : ℤ) (x : StackEntry) (xs : List StackEntry) → owes_answer n x ≡ true → how_many (owes_answer n) (x ∷ xs) ≤ 1 → how_many (owes_answer n) xs ≡ 0
+pub one-left : (n : ℤ) (x : StackEntry) (xs : List StackEntry) → owes_answer n x ≡ true → how_many (owes_answer n) (x ∷ xs) ≤ 1 → how_many (owes_answer n) xs ≡ 0
 one-left n x xs h k =
     let z : one_if (owes_answer n x) ≡ 1 = ap one_if h in
     omega (arith, z, k)
@@ -334,7 +335,7 @@ module _ (setting : Setting) (e : End) (p : Progress) (known : IsCaseEnd setting
   next-kept _ output (next.acts head request below a on_top is found) shows pr = handler-acts head request below (dispatch-top e.stack head on_top) is a found output pr shows
   next-kept _ output (next.returns head request below on_top is) shows pr = finish output (what.Return shows.0) (dispatches (drop 1 e.stack)) (drop 1 p.handled) shows.1 pr refl refl (return-zip head (dispatch-top e.stack head on_top))
   next-kept _ output (next.returns_none head on_top) shows pr = finish output (what.Return shows.0) (dispatches (drop 1 e.stack)) (drop 1 p.handled) shows.1 pr refl refl (return-zip head (dispatch-top e.stack head on_top))
-  next-kept _ output (next.takes some) (inl shows) pr = finish-passing output (dispatches e.stack) shows pr related
+  next-kept _ output (next.takes some) (inl shows) pr = finish-passing output (dispatches e.stack) shows.0 pr related
   next-kept _ output (next.takes some) (inr shows) pr = handling-kept shows pr
   next-kept _ output (next.acts_in_main a on_top opened is) shows pr = main-acts a (empty-top e.stack on_top) output pr shows
   next-kept _ output (next.resumes head on_top) shows pr = finish-passing output (dispatches (drop 1 e.stack)) shows pr (subst (λ (es : List StackEntry). AllZip (IsKept setting e.side) es p.handled) (sym (answered-top e.stack head on_top)) related)
@@ -354,7 +355,7 @@ names-kept schema e (event.name name id) output shows n = shows.2.names n
 names-kept schema e event.close output shows n = shows.2.names n
 names-kept schema e event.die output shows n = shows.names n
 names-kept schema e event.deliver output shows n = shows.2.names n
-names-kept schema e event.take output (inl shows) n = shows.2.names n
+names-kept schema e event.take output (inl shows) n = shows.0.2.names n
 names-kept schema e event.take output (inr shows) n = shows.names n
 names-kept schema e (event.return vs) output shows n = shows.1.names n
 names-kept schema e event.resume output shows n = shows.2.names n

@@ -32,7 +32,8 @@ use Rattle.script_steps.proofs.Choosing.{Happens, choice-happens, HaveSides, sid
 use Rattle.script_steps.proofs.Counting.{progress-append, lines_of-own}
 use Rattle.script_steps.proofs.Playing.{Chooses, chooses, PlaysOn, plays_on}
 use Rattle.script_steps.proofs.StepLines.{Prints, step-prints}
-use Rattle.script_runs.specs.Handlers.{dispatches, IsDispatchOf, IsHandlerOf}
+use Rattle.script_runs.specs.Dispatches.{dispatches}
+use Rattle.script_runs.specs.Handlers.{IsDispatchOf, IsHandlerOf}
 use Rattle.script_runs.specs.Laws.{AreDispatched, HandledAreDispatched, HasLimit, HandlersStand}
 use Rattle.script_runs.proofs.CaseRuns.{IsCase, case-next, IsCaseEnd, case-end, case-fits}
 use Rattle.script_runs.proofs.Handlers.{IsKept, next-kept, delivery-kept, names-kept}
@@ -186,7 +187,7 @@ handled_are_dispatched setting choices state sound h side =
 
 -- The law of handled requests
 
-resolver-is : (n : ℤ) (x : StackEntry) → is_dispatch x.frame ≡ true → x.resolves ≡ true → int_eq (head_of x.frame).seq n ≡ true → has_resolver n x ≡ true
+pub resolver-is : (n : ℤ) (x : StackEntry) → is_dispatch x.frame ≡ true → x.resolves ≡ true → int_eq (head_of x.frame).seq n ≡ true → has_resolver n x ≡ true
 resolver-is n x d r q = ap (λ b. b && (x.resolves && int_eq (head_of x.frame).seq n)) d ∙ ap (λ b. true && (b && int_eq (head_of x.frame).seq n)) r ∙ q
 
 owes-if : (d r s q : Bool) → (d && (r && q)) ≡ true → (d && ((r || s) && q)) ≡ true

@@ -23,7 +23,7 @@ use Rattle.channel_model.specs.Numbers.{top_id, makes_promise, is_sync_row, coun
 use Rattle.channel_model.specs.Outputs.{Output, Change, unchanged, ◌▷◌, when, on_end, line, lines, line_at, put, is_open, when_open, AnsweredRequest, answered, destroyed, answer_line, body_of, reply_to, resolver_answered}
 use Rattle.channel_model.specs.Sends as send
 use Rattle.channel_model.proofs.Known.{all-append, all-filter}
-use Rattle.script_runs.specs.Handlers.{dispatches}
+use Rattle.script_runs.specs.Dispatches.{dispatches}
 
 -- what a name holds is not null
 abbrev pub HoldsNoNull : NameContent → Type 0

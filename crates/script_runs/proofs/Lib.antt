@@ -11,3 +11,5 @@ pub mod Handlers
 pub mod KeptRuns
 pub mod Contexts
 pub mod Possible
+pub mod Changes
+mod Worked

@@ -57,7 +57,8 @@ use Rattle.script_steps.specs.Turns.{leads, exceeds, outcome, outcome_by, turn_c
 use Rattle.script_steps.proofs.TurnChoices.{turns_are_choices}
 use Rattle.script_runs.specs.Allowed.{IsAllowed}
 use Rattle.script_runs.specs.Contexts.{FitsContext}
-use Rattle.script_runs.specs.Handlers.{dispatches, IsHandlerOf}
+use Rattle.script_runs.specs.Dispatches.{dispatches}
+use Rattle.script_runs.specs.Handlers.{IsHandlerOf}
 use Rattle.script_runs.specs.Laws.{HasLimit, EventsArePossible, ScriptEventsArePossible}
 use Rattle.script_runs.proofs.CaseRuns.{IsCase, case-fits}
 use Rattle.script_runs.proofs.Contexts.{main-context, handler-context}

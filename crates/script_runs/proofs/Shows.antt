@@ -55,7 +55,7 @@ use Rattle.channel_model.proofs.Provided.{provided-gives, found-gives}
 use Rattle.channel_model.proofs.Tests.{and-right}
 use Rattle.promise_table.specs.declared.promise.Outcome.{Outcome}
 use Rattle.script_steps.specs.Progress.{Progress, is_act, after_line}
-use Rattle.script_runs.specs.Handlers.{dispatches}
+use Rattle.script_runs.specs.Dispatches.{dispatches, request_dispatch, body_dispatch, item_dispatch}
 use Rattle.script_runs.proofs.Leaves.{NameNoNulls, NamesNoNull, Leads, Leaves, leads-same, leads-on, leaves-unchanged, leaves-both, leaves-when, leaves-end, leaves-line, leaves-lines, leaves-put, leaves-open, leaves-answered, leaves-destroyed, IsNoNull, leaves-renamed, leaves-deletes, leaves-closed, leaves-constructs, NamesSome, behind_line, leaves-sent}
 
 -- An output behind a first line, with these dispatches.
@@ -86,6 +86,10 @@ built_lines id Normal = []
 built_lines id (Constructor protocol) = what.Built id protocol ∷ []
 built_lines id Delete = []
 
+-- the dispatch that a take adds, if it adds one
+abbrev pub taken_dispatch : Schema → End → Option StackEntry
+taken_dispatch schema e = option_and_then (item_dispatch schema e) (takes.taken_next e)
+
 -- A request is handled.
 pub record ShowsHandling (schema : Schema) (e : End) (output : Output) : Type 0 where
   pub m : Message
@@ -98,6 +102,7 @@ pub record ShowsHandling (schema : Schema) (e : End) (output : Output) : Type 0 
   pub found : message_of schema m.number ≡ Some row
   pub lines : output.lines ≡ map (line_at e.side) (what.Take m.seq m.route m.number (nulled schema e.actors row.params vs) ∷ built_lines m.made row.kind)
   pub stack : dispatches output.end.stack ≡ takes.dispatch_of row m ∷ dispatches e.stack
+  pub adds : taken_dispatch schema e ≡ Some (takes.dispatch_of row m)
   pub names : NameNoNulls e → NameNoNulls output.end
 
 -- what an event shows
@@ -110,7 +115,7 @@ Shows schema e (event.name name id) output = ShowsAct e (dispatches e.stack) out
 Shows schema e event.close output = ShowsAct e (dispatches e.stack) output
 Shows schema e event.die output = Behind e what.Die [] output
 Shows schema e event.deliver output = ShowsPassing e (dispatches e.stack) output
-Shows schema e event.take output = ShowsPassing e (dispatches e.stack) output ⊎ ShowsHandling schema e output
+Shows schema e event.take output = (ShowsPassing e (dispatches e.stack) output × (taken_dispatch schema e ≡ None)) ⊎ ShowsHandling schema e output
 Shows schema e (event.return vs) output = (n : ℤ) × Behind e (what.Return n) (dispatches (drop 1 e.stack)) output
 Shows schema e event.resume output = ShowsPassing e (dispatches (drop 1 e.stack)) output
 Shows schema e event.flush output = ShowsPassing e (dispatches e.stack) output
@@ -295,15 +300,15 @@ leaves-taken schema m a row o =
 abbrev left : End → End
 left e = record e { arrived = without_first (is_free (takes.holding_of e)) e.arrived }
 
-abbrev TakeShows : Schema → End → Output → Type 0
-TakeShows schema e output = ShowsPassing e (dispatches e.stack) output ⊎ ShowsHandling schema e output
+abbrev pub TakeShows : Schema → End → Output → Type 0
+TakeShows schema e output = (ShowsPassing e (dispatches e.stack) output × (taken_dispatch schema e ≡ None)) ⊎ ShowsHandling schema e output
 
 passing : (e : End) (w : What) (c : Change) → Passes w → Leaves c → ShowsPassing e (dispatches e.stack) (c (line w (beginning (left e))))
 passing e w c p h = let k = h (line w (beginning (left e))) in (w, p, record { more = k.more; lines = k.lines; stack = k.stack; names = k.names })
 
-handling : (schema : Schema) (e : End) (m : Message) (sync : Bool) (level : Level) (row : MessageRow) (vs : Values) (kind : Kind) → row.kind ≡ kind → takes.taken_next e ≡ Some (item.Message m sync level) → m.body ≡ Request vs → message_of schema m.number ≡ Some row
+handling : (schema : Schema) (e : End) (m : Message) (sync : Bool) (level : Level) (row : MessageRow) (vs : Values) (kind : Kind) → row.kind ≡ kind → takes.taken_next e ≡ Some (item.Message m sync level) → m.body ≡ Request vs → message_of schema m.number ≡ Some row → taken_dispatch schema e ≡ Some (takes.dispatch_of row m)
     → ShowsHandling schema e (send.constructs m.made m.route kind (record { end = record (left e) { stack = takes.dispatch_of row m ∷ e.stack }; lines = line_at e.side (what.Take m.seq m.route m.number (nulled schema e.actors row.params vs)) ∷ []; packets = [] }))
-handling schema e m sync level row vs Normal is next body found = record {
+handling schema e m sync level row vs Normal is next body found adds = record {
   m = m;
   sync = sync;
   level = level;
@@ -314,9 +319,10 @@ handling schema e m sync level row vs Normal is next body found = record {
   found = found;
   lines = ap (λ (k : Kind). map (line_at e.side) (what.Take m.seq m.route m.number (nulled schema e.actors row.params vs) ∷ built_lines m.made k)) (sym is);
   stack = refl;
+  adds = adds;
   names = λ n. n;
 }
-handling schema e m sync level row vs (Constructor protocol) is next body found = record {
+handling schema e m sync level row vs (Constructor protocol) is next body found adds = record {
   m = m;
   sync = sync;
   level = level;
@@ -327,9 +333,10 @@ handling schema e m sync level row vs (Constructor protocol) is next body found 
   found = found;
   lines = ap (λ (k : Kind). map (line_at e.side) (what.Take m.seq m.route m.number (nulled schema e.actors row.params vs) ∷ built_lines m.made k)) (sym is);
   stack = refl;
+  adds = adds;
   names = λ n. n;
 }
-handling schema e m sync level row vs Delete is next body found = record {
+handling schema e m sync level row vs Delete is next body found adds = record {
   m = m;
   sync = sync;
   level = level;
@@ -340,32 +347,38 @@ handling schema e m sync level row vs Delete is next body found = record {
   found = found;
   lines = ap (λ (k : Kind). map (line_at e.side) (what.Take m.seq m.route m.number (nulled schema e.actors row.params vs) ∷ built_lines m.made k)) (sym is);
   stack = refl;
+  adds = adds;
   names = λ n. n;
 }
 
 request-shows : (schema : Schema) (e : End) (m : Message) (sync : Bool) (level : Level) (row : MessageRow) (vs : Values) → takes.taken_next e ≡ Some (item.Message m sync level) → m.body ≡ Request vs → message_of schema m.number ≡ Some row
-    → (gone : Option ℤ) → TakeShows schema e (takes.dropped_or_handled gone row m (nulled schema e.actors row.params vs) (beginning (left e)))
-request-shows schema e m sync level row vs next body found None = inr (handling schema e m sync level row vs row.kind refl next body found)
-request-shows schema e m sync level row vs next body found (Some id) =
+    → taken_dispatch schema e ≡ request_dispatch schema e m vs row → (gone : Option ℤ) → takes.dropped_for schema e row m vs ≡ gone → TakeShows schema e (takes.dropped_or_handled gone row m (nulled schema e.actors row.params vs) (beginning (left e)))
+request-shows schema e m sync level row vs next body found adds None is =
+    inr (handling schema e m sync level row vs row.kind refl next body found (adds ∙ ap (λ o. option_map_or (λ id. None) o (Some (takes.dispatch_of row m))) is))
+request-shows schema e m sync level row vs next body found adds (Some id) is =
     let reply : Change = answered (request_answered m) (answer.Fault reason.ActorDestroyed) in
-    inl (passing e (what.Drop m.seq m.route m.number id) (when (is_sync_row row || makes_promise row) reply) (λ p. (refl, refl)) (leaves-when (is_sync_row row || makes_promise row) reply (leaves-answered (request_answered m) (answer.Fault reason.ActorDestroyed))))
+    inl (
+      passing e (what.Drop m.seq m.route m.number id) (when (is_sync_row row || makes_promise row) reply) (λ p. (refl, refl)) (leaves-when (is_sync_row row || makes_promise row) reply (leaves-answered (request_answered m) (answer.Fault reason.ActorDestroyed))),
+      adds ∙ ap (λ o. option_map_or (λ id. None) o (Some (takes.dispatch_of row m))) is,
+    )
 
-row-shows : (schema : Schema) (e : End) (m : Message) (sync : Bool) (level : Level) (vs : Values) → takes.taken_next e ≡ Some (item.Message m sync level) → m.body ≡ Request vs → (found : Option MessageRow) → message_of schema m.number ≡ found
-    → TakeShows schema e (option_map_or (takes.request_taken schema m vs) found (line (what.Drop m.seq m.route m.number m.route)) (beginning (left e)))
-row-shows schema e m sync level vs next body None found = inl (passing e (what.Drop m.seq m.route m.number m.route) unchanged (λ p. (refl, refl)) leaves-unchanged)
-row-shows schema e m sync level vs next body (Some row) found = request-shows schema e m sync level row vs next body found (takes.dropped_for schema (left e) row m vs)
+row-shows : (schema : Schema) (e : End) (m : Message) (sync : Bool) (level : Level) (vs : Values) → takes.taken_next e ≡ Some (item.Message m sync level) → m.body ≡ Request vs → taken_dispatch schema e ≡ option_and_then (request_dispatch schema e m vs) (message_of schema m.number)
+    → (found : Option MessageRow) → message_of schema m.number ≡ found → TakeShows schema e (option_map_or (takes.request_taken schema m vs) found (line (what.Drop m.seq m.route m.number m.route)) (beginning (left e)))
+row-shows schema e m sync level vs next body adds None found = inl (passing e (what.Drop m.seq m.route m.number m.route) unchanged (λ p. (refl, refl)) leaves-unchanged, adds ∙ ap (option_and_then (request_dispatch schema e m vs)) found)
+row-shows schema e m sync level vs next body adds (Some row) found = request-shows schema e m sync level row vs next body found (adds ∙ ap (option_and_then (request_dispatch schema e m vs)) found) (takes.dropped_for schema e row m vs) refl
 
-taken-shows : (schema : Schema) (e : End) (m : Message) (sync : Bool) (level : Level) (body : Body) → takes.taken_next e ≡ Some (item.Message m sync level) → m.body ≡ body → TakeShows schema e (takes.body_taken schema m body (beginning (left e)))
-taken-shows schema e m sync level (Request vs) next is = row-shows schema e m sync level vs next is (message_of schema m.number) refl
-taken-shows schema e m sync level (Reply vs) next is =
-    inl (passing e (what.TakeReply m.seq) (delivery.by_row schema m (takes.reply_taken schema m (answer.Ok vs)) unchanged) (λ p. (refl, refl)) (leaves-row schema m (takes.reply_taken schema m (answer.Ok vs)) unchanged (leaves-taken schema m (answer.Ok vs)) leaves-unchanged))
-taken-shows schema e m sync level (Fault why) next is =
-    inl (passing e (what.TakeReply m.seq) (delivery.by_row schema m (takes.reply_taken schema m (answer.Fault why)) unchanged) (λ p. (refl, refl)) (leaves-row schema m (takes.reply_taken schema m (answer.Fault why)) unchanged (leaves-taken schema m (answer.Fault why)) leaves-unchanged))
-taken-shows schema e m sync level Goodbye next is = inl (passing e what.ShutNormal (falls.closed destroy.NormalShutdown) (λ p. (refl, refl)) (leaves-closed destroy.NormalShutdown))
+taken-shows : (schema : Schema) (e : End) (m : Message) (sync : Bool) (level : Level) (body : Body) → takes.taken_next e ≡ Some (item.Message m sync level) → m.body ≡ body → taken_dispatch schema e ≡ body_dispatch schema e m body → TakeShows schema e (takes.body_taken schema m body (beginning (left e)))
+taken-shows schema e m sync level (Request vs) next is adds = row-shows schema e m sync level vs next is adds (message_of schema m.number) refl
+taken-shows schema e m sync level (Reply vs) next is adds =
+    inl (passing e (what.TakeReply m.seq) (delivery.by_row schema m (takes.reply_taken schema m (answer.Ok vs)) unchanged) (λ p. (refl, refl)) (leaves-row schema m (takes.reply_taken schema m (answer.Ok vs)) unchanged (leaves-taken schema m (answer.Ok vs)) leaves-unchanged), adds)
+taken-shows schema e m sync level (Fault why) next is adds =
+    inl (passing e (what.TakeReply m.seq) (delivery.by_row schema m (takes.reply_taken schema m (answer.Fault why)) unchanged) (λ p. (refl, refl)) (leaves-row schema m (takes.reply_taken schema m (answer.Fault why)) unchanged (leaves-taken schema m (answer.Fault why)) leaves-unchanged), adds)
+taken-shows schema e m sync level Goodbye next is adds = inl (passing e what.ShutNormal (falls.closed destroy.NormalShutdown) (λ p. (refl, refl)) (leaves-closed destroy.NormalShutdown), adds)
 
 take-shows : (schema : Schema) (e : End) (taken : Item) → takes.taken_next e ≡ Some taken → TakeShows schema e (takes.take schema taken (beginning e))
-take-shows schema e (item.Message m sync level) next = taken-shows schema e m sync level m.body next refl
-take-shows schema e item.Broken next = inl (passing e what.ShutAbnormal (falls.closed destroy.AbnormalShutdown) (λ p. (refl, refl)) (leaves-closed destroy.AbnormalShutdown))
+take-shows schema e (item.Message m sync level) next = taken-shows schema e m sync level m.body next refl (ap (option_and_then (item_dispatch schema e)) next)
+take-shows schema e item.Broken next =
+    inl (passing e what.ShutAbnormal (falls.closed destroy.AbnormalShutdown) (λ p. (refl, refl)) (leaves-closed destroy.AbnormalShutdown), ap (option_and_then (item_dispatch schema e)) next)
 
 -- Returns, calls that go on, and flushes
 

@@ -1,5 +1,5 @@
 -- The handlers that run at an end: by its stack, and by what the lines of its side tell.
-use Rattle.std.specs.Prelude.{◌≡◌, Bool, true, false, List, [], filter, take, slice_get, Some}
+use Rattle.std.specs.Prelude.{◌≡◌, Bool, true, false, List, [], take, slice_get, Some}
 use Rattle.std.specs.List.{list_any}
 use Rattle.std.specs.Option.{option_map_or}
 use Rattle.handler_script.specs.declared.action.Action.{Action}
@@ -9,7 +9,7 @@ use Rattle.handler_script.specs.Valid.{answers_handled}
 use Rattle.ipdl_base.specs.declared.kinds.Side.{Side}
 use Rattle.ipdl_base.specs.declared.schema.MessageRow.{MessageRow}
 use Rattle.ipdl_base.specs.declared.schema.Schema.{Schema}
-use Rattle.nesting_core.specs.Frames.{head_of, is_dispatch}
+use Rattle.nesting_core.specs.Frames.{head_of}
 use Rattle.value_types.specs.Fits.{IsLivingId, IsMadeBy}
 use Rattle.value_types.specs.HasType.{HaveTypes}
 use Rattle.channel_model.specs.Answers.{handled_resolver, resolver_in}
@@ -17,10 +17,6 @@ use Rattle.channel_model.specs.Ends.{End, StackEntry}
 use Rattle.channel_model.specs.Numbers.{makes_promise, request_row}
 use Rattle.script_steps.specs.NextEvent.{block_for}
 use Rattle.script_steps.specs.Progress.{HandledRequest}
-
--- the dispatches of a stack, the innermost first
-abbrev pub dispatches : List StackEntry → List StackEntry
-dispatches stack = filter (λ entry. is_dispatch entry.frame) stack
 
 -- a dispatch is that of a request: of its number and its message
 abbrev pub IsDispatchOf : StackEntry → HandledRequest → Type 0

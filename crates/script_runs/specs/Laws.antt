@@ -15,17 +15,20 @@ use Rattle.ipdl_base.specs.Sound.{IsSound}
 use Rattle.value_types.specs.HasType.{HaveTypes}
 use Rattle.history_reading.specs.declared.law.Law.{Law}
 use Rattle.history_reading.specs.Holds.{Holds, IsReadable}
+use Rattle.nesting_core.specs.Frames.{head_of}
 use Rattle.channel_model.specs.Bounds.{unsettled}
-use Rattle.channel_model.specs.Ends.{Packet, end_of, link_to}
+use Rattle.channel_model.specs.Answers.{released}
+use Rattle.channel_model.specs.Ends.{End, Packet, StackEntry, end_of, link_to}
 use Rattle.channel_model.specs.Events.{Event}
 use Rattle.channel_model.specs.Events as event
 use Rattle.channel_model.specs.Fitting.{IsFitting, FitsPacket}
 use Rattle.channel_model.specs.Numbers.{other}
-use Rattle.channel_model.specs.Outputs.{is_open, is_dead_end}
+use Rattle.channel_model.specs.Outputs.{Output, is_open, is_dead_end}
 use Rattle.channel_model.specs.Refusals.{packet_refusal}
 use Rattle.channel_model.specs.Runs.{RunState, is_still}
 use Rattle.channel_model.specs.Sends.{frames_of}
 use Rattle.channel_model.specs.States.{IsAnswered}
+use Rattle.channel_model.specs.Steps.{step}
 use Rattle.channel_laws.specs.BoundedRuns.{delivered_at, waiting_of}
 use Rattle.script_steps.specs.declared.turn.Turn.{Turn}
 use Rattle.script_steps.specs.Choices.{Setting, Choice, beginning_of, own_event, may_deliver, is_within, is_doable, chosen, played, IsCaseHistory}
@@ -34,7 +37,8 @@ use Rattle.script_steps.specs.Progress.{HandledRequest, progress_of, lines_of}
 use Rattle.script_steps.specs.Turns.{turn_choice, led_to, is_quiet}
 use Rattle.script_runs.specs.Allowed.{IsAllowed}
 use Rattle.script_runs.specs.Contexts.{FitsContext}
-use Rattle.script_runs.specs.Handlers.{dispatches, IsDispatchOf, has_answered, IsHandlerOf}
+use Rattle.script_runs.specs.Dispatches.{dispatches, dispatches_after}
+use Rattle.script_runs.specs.Handlers.{IsDispatchOf, has_answered, IsHandlerOf}
 
 -- Terms that fit a block stand for values of the types, where what they are seen with fits the block.
 abbrev pub TermsStandForValues : Type 0
@@ -66,6 +70,17 @@ abbrev pub HandlersStand : Type 0
 HandlersStand =
     (setting : Setting) (choices : List Choice) (state : RunState) → IsSound setting.schema → IsValid setting.schema setting.script → HasLimit setting → played setting choices (beginning_of setting) ≡ Some state
     → (side : Side) → AllZip (IsHandlerOf setting.schema setting.script side (end_of side state.world)) (dispatches (end_of side state.world).stack) (progress_of side state.lines).handled
+
+-- What a step makes of the dispatches of an end.
+abbrev pub StepsChangeDispatches : Type 0
+StepsChangeDispatches = (schema : Schema) (e : End) (link : List Packet) (event : Event) (output : Output) → step schema e link event ≡ Some output → dispatches output.end.stack ≡ dispatches_after schema e event
+
+-- In a run no two dispatches have the resolver of one request: where that of the innermost one is used or kept, the others
+-- stay as they are.
+abbrev pub ResolversAreApart : Type 0
+ResolversAreApart =
+    (setting : Setting) (choices : List Choice) (state : RunState) → IsSound setting.schema → played setting choices (beginning_of setting) ≡ Some state
+    → (side : Side) (top : StackEntry) (below : List StackEntry) → dispatches (end_of side state.world).stack ≡ top ∷ below → top.resolves ≡ true → released (head_of top.frame).seq (top ∷ below) ≡ record top { resolves = false } ∷ below
 
 -- What ends keep and send in a run of a script fits the schema, and an open end does not refuse the packet that comes next.
 pub record FitsCase (setting : Setting) (state : RunState) (side : Side) : Type 0 where

@@ -1,4 +1,4 @@
-ghost use Rattle.script_runs.specs.Laws.{AnswersComeOnce, CaseHistoriesObeyAllLaws, CaseWorldsFit, CasesHaveRoom, HandledAreDispatched, HandlersStand, RestOfCasesIsStill, ScriptEventsArePossible, TermsStandForValues};
+ghost use Rattle.script_runs.specs.Laws.{AnswersComeOnce, CaseHistoriesObeyAllLaws, CaseWorldsFit, CasesHaveRoom, HandledAreDispatched, HandlersStand, ResolversAreApart, RestOfCasesIsStill, ScriptEventsArePossible, StepsChangeDispatches, TermsStandForValues};
 
 /// The law of terms: those that fit stand for values of the types.
 pub fn terms_stand_for_values()
@@ -18,6 +18,16 @@ pub fn handled_are_dispatched()
 /// The law of handled requests: each stands as it was taken.
 pub fn handlers_stand()
     ensures { HandlersStand }
+{}
+
+/// The law of dispatches: which an end has behind a step.
+pub fn steps_change_dispatches()
+    ensures { StepsChangeDispatches }
+{}
+
+/// The law of resolvers: no two dispatches have that of one request.
+pub fn resolvers_are_apart()
+    ensures { ResolversAreApart }
 {}
 
 /// The law of fitting: what ends keep and send fits, and is not refused.

@@ -6,6 +6,6 @@ mod laws;
 
 pub use laws::{
     answers_come_once, case_histories_obey_all_laws, case_worlds_fit, cases_have_room,
-    handled_are_dispatched, handlers_stand, rest_of_cases_is_still, script_events_are_possible,
-    terms_stand_for_values,
+    handled_are_dispatched, handlers_stand, resolvers_are_apart, rest_of_cases_is_still,
+    script_events_are_possible, steps_change_dispatches, terms_stand_for_values,
 };
