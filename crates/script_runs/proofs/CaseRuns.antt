@@ -1,6 +1,6 @@
 -- What is known of the worlds to which choices lead, since they are runs.
-use Rattle.std.proofs.Common.{◌≡◌, ℕ, ◌<◌, ◌≤◌, true, false, List, [], ◌∷◌, ◌++◌, Some, None, refl, sym, ap, subst, ◌∙◌, arith}
-use Rattle.std.specs.Prelude.{Option, option_and_then, if◌then◌else◌}
+use Rattle.std.proofs.Common.{◌≡◌, ℕ, ◌<◌, ◌≤◌, true, List, [], ◌∷◌, ◌++◌, Some, None, refl, sym, ap, subst, ◌∙◌, arith}
+use Rattle.std.specs.Prelude.{option_and_then}
 use Rattle.std.specs.List.{AllByRecursion}
 use Rattle.ipdl_base.specs.declared.kinds.EndState.{EndState}
 use Rattle.ipdl_base.specs.declared.kinds.EndState.TheVariants.{Open, Draining, Closed, Dead}
@@ -9,18 +9,16 @@ use Rattle.ipdl_base.specs.declared.kinds.Side.TheVariants as sides
 use Rattle.ipdl_base.specs.declared.line.Line.{Line}
 use Rattle.ipdl_base.specs.declared.schema.Schema.{Schema}
 use Rattle.ipdl_base.specs.Sound.{IsSound}
-use Rattle.history_reading.specs.declared.law.Law.{Law}
 use Rattle.history_reading.specs.EndReading.{EndReading}
-use Rattle.history_reading.specs.Holds.{Holds, IsReadable}
 use Rattle.history_reading.specs.Reading.{read}
-use Rattle.channel_model.specs.Ends.{End, World, Packet, end_of, link_to, opening}
+use Rattle.channel_model.specs.Ends.{End, World, end_of, link_to, opening}
 use Rattle.channel_model.specs.Events.{Move}
 use Rattle.channel_model.specs.Fitting.{IsFitting, FitsPacket}
-use Rattle.channel_model.specs.Outputs.{is_open, is_dead_end}
+use Rattle.channel_model.specs.Outputs.{is_open}
 use Rattle.channel_model.specs.Refusals.{packet_refusal}
 use Rattle.channel_model.specs.Runs.{RunState, run, history_of}
 use Rattle.channel_model.specs.States.{IsInState}
-use Rattle.channel_laws.specs.AnswersOnce.{owes_answer, AnswersOnce}
+use Rattle.channel_laws.specs.AnswersOnce.{owes_answer}
 use Rattle.channel_laws.specs.Counts.{how_many}
 use Rattle.channel_laws.specs.FittingWorlds.{IsFittingWorld, IsShort}
 use Rattle.channel_laws.specs.Laws.{world_of}
@@ -30,7 +28,7 @@ use Rattle.channel_laws.proofs.FittingRuns.{worlds_fit_in_runs}
 use Rattle.channel_laws.proofs.HonestRuns.{honest_packets_are_accepted}
 use Rattle.channel_laws.proofs.Readable.{histories_are_readable}
 use Rattle.channel_laws.proofs.WorldReading.{reading_is_world}
-use Rattle.script_steps.specs.Choices.{Setting, Choice, beginning_of, chosen, played, IsCaseHistory}
+use Rattle.script_steps.specs.Choices.{Setting, Choice, beginning_of, chosen, played}
 use Rattle.script_steps.specs.Laws.{IsRunOf, IsCountedBy}
 use Rattle.script_steps.specs.Progress.{progress_of}
 use Rattle.script_steps.proofs.Counting.{choices_are_counted}

@@ -1,49 +1,33 @@
 -- Which dispatches an end has behind a step, and that no two of them have one resolver.
-use Rattle.std.proofs.Common.{◌≡◌, ◌⊎◌, inl, inr, ℕ, ◌+◌, ◌≤◌, ℤ, Bool, true, false, not, ◌&&◌, ◌||◌, cond, if◌then◌else◌, List, [], ◌∷◌, map, filter, drop, Option, Some, None, option_and_then, refl, sym, ap, subst, ◌∙◌, arith}
+use Rattle.std.proofs.Common.{◌≡◌, inl, inr, ◌≤◌, ℤ, Bool, true, false, not, cond, if◌then◌else◌, List, [], ◌∷◌, drop, Option, Some, None, option_and_then, refl, sym, ap, subst, ◌∙◌, arith}
 use Rattle.std.specs.List.{AllByRecursion, cons_option}
 use Rattle.std.specs.Option.{option_map_or}
 use Rattle.std.specs.Ordering.{int_eq}
-use Rattle.ipdl_base.specs.declared.kinds.Destroy.TheVariants as destroy
-use Rattle.ipdl_base.specs.declared.kinds.Level.{Level}
-use Rattle.ipdl_base.specs.declared.kinds.Reason.TheVariants as reason
 use Rattle.ipdl_base.specs.declared.kinds.SendRefusal.{SendRefusal}
 use Rattle.ipdl_base.specs.declared.kinds.SendRefusal.TheVariants as refusal
-use Rattle.ipdl_base.specs.declared.line.What.TheVariants as what
-use Rattle.ipdl_base.specs.declared.message.Body.{Body}
-use Rattle.ipdl_base.specs.declared.message.Body.TheVariants.{Request, Reply, Fault, Goodbye}
-use Rattle.ipdl_base.specs.declared.message.Message.{Message}
 use Rattle.ipdl_base.specs.declared.schema.MessageRow.{MessageRow}
 use Rattle.ipdl_base.specs.declared.schema.Schema.{Schema}
 use Rattle.ipdl_base.specs.declared.value.Values.{Values}
-use Rattle.ipdl_base.specs.Sound.{IsSound, message_of}
 use Rattle.nesting_core.specs.declared.frame.StackFrame.{StackFrame}
 use Rattle.nesting_core.specs.declared.frame.StackFrame.TheVariants.{Dispatch, Wait}
-use Rattle.nesting_core.specs.declared.frame.Answer.TheVariants as answer
 use Rattle.nesting_core.specs.Frames.{head_of, is_dispatch}
-use Rattle.pending_queue.specs.declared.item.Item.{Item}
-use Rattle.pending_queue.specs.declared.item.Item.TheVariants as item
 use Rattle.channel_model.specs.Answers as answering
 use Rattle.channel_model.specs.Answers.{has_resolver, released}
-use Rattle.channel_model.specs.Ends.{End, Packet, StackEntry, Resolver, end_of}
+use Rattle.channel_model.specs.Ends.{End, StackEntry, Resolver, end_of}
 use Rattle.channel_model.specs.Events.{Answering, Event, handled, kept}
 use Rattle.channel_model.specs.Events as event
-use Rattle.channel_model.specs.Falls as falls
-use Rattle.channel_model.specs.Numbers.{request_row, is_sync_row, makes_promise}
+use Rattle.channel_model.specs.Numbers.{request_row}
 use Rattle.channel_model.specs.Outputs.{Output, beginning, is_open}
 use Rattle.channel_model.specs.Returns as returns
-use Rattle.channel_model.specs.Runs.{RunState}
-use Rattle.channel_model.specs.Steps.{step, provided}
-use Rattle.channel_model.specs.Takes as takes
-use Rattle.channel_model.specs.ValueActors.{nulled}
+use Rattle.channel_model.specs.Steps.{provided}
 use Rattle.channel_model.proofs.Provided.{provided-gives, found-gives}
 use Rattle.channel_laws.specs.AnswersOnce.{owes_answer}
-use Rattle.channel_laws.specs.Counts.{how_many, one_if}
+use Rattle.channel_laws.specs.Counts.{how_many}
 use Rattle.channel_laws.proofs.Answering.{filter-fewer}
 use Rattle.channel_laws.proofs.Counting.{none-passes, int-same}
-use Rattle.script_steps.specs.Choices.{Setting, Choice}
-use Rattle.script_runs.specs.Dispatches.{dispatches, request_dispatch, body_dispatch, item_dispatch, dispatches_after}
+use Rattle.script_runs.specs.Dispatches.{dispatches, dispatches_after}
 use Rattle.script_runs.specs.Laws.{StepsChangeDispatches, ResolversAreApart}
-use Rattle.script_runs.proofs.CaseRuns.{IsCase, case-end}
+use Rattle.script_runs.proofs.CaseRuns.{case-end}
 use Rattle.script_runs.proofs.Handlers.{none-owe, owes-all, one-left}
 use Rattle.script_runs.proofs.KeptRuns.{resolver-is}
 use Rattle.script_runs.proofs.Shows.{ShowsAct, TakeShows, taken_dispatch, step-shows}

@@ -1,11 +1,11 @@
 -- What terms are seen with in a run fits their block.
-use Rattle.std.proofs.Common.{◌≡◌, ◌≢◌, ℕ, ℤ, pos, negsuc, Bool, true, false, cond, List, [], ◌∷◌, find, Option, Some, None, option_and_then, refl, sym, ap, subst, ◌∙◌}
+use Rattle.std.proofs.Common.{◌≡◌, ◌≢◌, ℕ, ℤ, pos, true, false, List, [], ◌∷◌, find, Option, Some, None, option_and_then, refl, sym, subst}
 use Rattle.std.specs.Prelude.{option_map, unwrap_or}
 use Rattle.std.specs.List.{AllByRecursion}
 use Rattle.handler_script.specs.Blocks.{in_main, in_handler}
 use Rattle.handler_script.specs.Messages.{is_constructor}
 use Rattle.handler_script.specs.Valid.{MayName, is_param}
-use Rattle.handler_script.specs.ValueOf.{no_id, top_id, id_of}
+use Rattle.handler_script.specs.ValueOf.{no_id, id_of}
 use Rattle.ipdl_base.specs.declared.kinds.Side.{Side}
 use Rattle.ipdl_base.specs.declared.schema.Kind.{Kind}
 use Rattle.ipdl_base.specs.declared.schema.Kind.TheVariants.{Normal, Constructor, Delete}
@@ -18,7 +18,7 @@ use Rattle.value_types.specs.HasType.{HaveTypes}
 use Rattle.channel_model.specs.Ends.{End, StackEntry, NameContent, actor, resolver, Naming}
 use Rattle.channel_model.specs.Names.{has_name, held_by_name}
 use Rattle.channel_model.proofs.FittingValues.{found-in}
-use Rattle.script_steps.specs.NextEvent.{actor_in, actor_named, route_on_top, context_of}
+use Rattle.script_steps.specs.NextEvent.{actor_in, route_on_top, context_of}
 use Rattle.script_steps.specs.Progress.{HandledRequest}
 use Rattle.script_runs.specs.Contexts.{FitsContext}
 use Rattle.script_runs.proofs.Leaves.{HoldsNoNull, NamesNoNull, NameNoNulls}

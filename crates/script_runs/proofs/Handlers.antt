@@ -1,17 +1,13 @@
 -- The handlers that lines tell of stay those that the stack has, as they were taken.
-use Rattle.std.proofs.Common.{◌≡◌, ◌≢◌, ◌⊎◌, inl, inr, ℕ, suc, ◌+◌, ◌≤◌, ℤ, pos, Bool, true, false, ◌==◌, ◌&&◌, ◌||◌, cond, if◌then◌else◌, List, [], ◌∷◌, ◌++◌, map, drop, Option, Some, None, option_and_then, refl, sym, ap, subst, ◌∙◌, arith}
-use Rattle.std.specs.Prelude.{take, is_some, IsSomeAnd}
+use Rattle.std.proofs.Common.{◌≡◌, inl, inr, ℕ, suc, ◌+◌, ◌≤◌, ℤ, pos, Bool, true, false, ◌==◌, ◌&&◌, ◌||◌, cond, if◌then◌else◌, List, [], ◌∷◌, map, drop, Some, None, option_and_then, refl, sym, ap, subst, ◌∙◌, arith}
+use Rattle.std.specs.Prelude.{take}
 use Rattle.std.specs.List.{AllByRecursion, AllZip, list_any}
 use Rattle.std.specs.Ordering.{int_eq}
 use Rattle.std.proofs.lemmas.Bool.{true≢false}
 use Rattle.handler_script.specs.declared.action.Action.{Action}
 use Rattle.handler_script.specs.declared.action.Action.TheVariants as action
-use Rattle.handler_script.specs.Valid.{EachTermFits, IsValidAction, IsValid, answers_handled}
-use Rattle.handler_script.specs.Blocks.{in_handler}
-use Rattle.handler_script.specs.Messages.{resolves}
+use Rattle.handler_script.specs.Valid.{IsValid, answers_handled}
 use Rattle.handler_script.specs.ValueOf.{no_id}
-use Rattle.ipdl_base.specs.declared.kinds.Semantics.{Semantics}
-use Rattle.ipdl_base.specs.declared.kinds.Semantics.TheVariants.{Async, Sync}
 use Rattle.ipdl_base.specs.declared.kinds.Side.{Side}
 use Rattle.ipdl_base.specs.declared.line.Line.{Line}
 use Rattle.ipdl_base.specs.declared.line.What.{What}
@@ -19,7 +15,6 @@ use Rattle.ipdl_base.specs.declared.line.What.TheVariants as what
 use Rattle.ipdl_base.specs.declared.schema.Kind.{Kind}
 use Rattle.ipdl_base.specs.declared.schema.Kind.TheVariants.{Normal, Constructor, Delete}
 use Rattle.ipdl_base.specs.declared.schema.MessageRow.{MessageRow}
-use Rattle.ipdl_base.specs.declared.schema.ParamRow.{ParamRow}
 use Rattle.ipdl_base.specs.declared.schema.Schema.{Schema}
 use Rattle.ipdl_base.specs.declared.value.Values.{Values}
 use Rattle.ipdl_base.specs.Sound.{message_of}
@@ -38,9 +33,8 @@ use Rattle.channel_model.specs.Events.{handled, kept, Event}
 use Rattle.channel_model.specs.Events as event
 use Rattle.channel_model.specs.Fitting.{IsFitting}
 use Rattle.channel_model.specs.Numbers.{makes_promise, request_row}
-use Rattle.channel_model.specs.Outputs.{Output, line_at}
+use Rattle.channel_model.specs.Outputs.{Output}
 use Rattle.channel_model.specs.Takes.{dispatch_of}
-use Rattle.channel_model.specs.Typed.{have_types}
 use Rattle.channel_model.specs.ValueActors.{nulled}
 use Rattle.channel_model.proofs.FittingEnds.{taken-fits}
 use Rattle.channel_model.proofs.FittingRequests.{request-of}
@@ -61,7 +55,7 @@ use Rattle.script_runs.proofs.Leaves.{NameNoNulls}
 use Rattle.script_runs.proofs.NextSteps.{IsNext}
 use Rattle.script_runs.proofs.NextSteps as next
 use Rattle.script_runs.proofs.Progressing.{effects-stay, acted, act-handled, act-takes, whats-back, first-is}
-use Rattle.script_runs.proofs.Shows.{Behind, Passes, ShowsAct, ShowsPassing, ShowsHandling, Shows, built_lines}
+use Rattle.script_runs.proofs.Shows.{Behind, ShowsAct, ShowsPassing, ShowsHandling, Shows, built_lines}
 use Rattle.script_runs.proofs.ValidBlocks.{IsHandlerAction, handler-action, action-in, none-more, answering-row}
 
 -- What stays known of a request whose handler runs: its values and what it made, where there is a limit; and its

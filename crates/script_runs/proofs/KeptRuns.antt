@@ -1,32 +1,27 @@
 -- In every run of a script the handlers that lines tell of are the dispatches of the stack, as they were taken.
-use Rattle.std.proofs.Common.{◌≡◌, ◌⊎◌, inl, inr, ℕ, ◌+◌, ◌≤◌, ℤ, Bool, true, false, ◌&&◌, ◌||◌, cond, if◌then◌else◌, List, [], ◌∷◌, ◌++◌, map, find, Option, Some, None, option_and_then, refl, sym, ap, subst, ◌∙◌, append_assoc, arith}
+use Rattle.std.proofs.Common.{◌≡◌, ◌⊎◌, inl, inr, ◌≤◌, ℤ, Bool, true, false, ◌&&◌, ◌||◌, cond, if◌then◌else◌, List, [], ◌∷◌, ◌++◌, find, Some, None, refl, sym, ap, subst, ◌∙◌, append_assoc, arith}
 use Rattle.std.specs.Prelude.{option_map}
 use Rattle.std.specs.List.{AllByRecursion, AllZip}
 use Rattle.std.specs.Ordering.{int_eq}
-use Rattle.std.proofs.lemmas.List.{append-nil}
 use Rattle.handler_script.specs.Valid.{IsValid}
 use Rattle.ipdl_base.specs.declared.kinds.Side.{Side}
 use Rattle.ipdl_base.specs.declared.kinds.Side.TheVariants as sides
-use Rattle.ipdl_base.specs.declared.line.Line.{Line}
-use Rattle.ipdl_base.specs.declared.line.What.{What}
 use Rattle.ipdl_base.specs.declared.message.Body.TheVariants.{Goodbye}
-use Rattle.ipdl_base.specs.declared.schema.MessageRow.{MessageRow}
-use Rattle.ipdl_base.specs.declared.schema.Schema.{Schema}
 use Rattle.ipdl_base.specs.Lines.{same_side}
 use Rattle.ipdl_base.specs.Sound.{IsSound}
 use Rattle.nesting_core.specs.Frames.{head_of, is_dispatch}
-use Rattle.channel_model.specs.Answers.{has_resolver, resolver_in, handled_resolver}
+use Rattle.channel_model.specs.Answers.{has_resolver, resolver_in}
 use Rattle.channel_model.specs.Ends.{End, World, StackEntry, end_of, link_to}
 use Rattle.channel_model.specs.Events.{Event}
 use Rattle.channel_model.specs.Events as event
 use Rattle.channel_model.specs.Fitting.{IsFitting, FitsEntry}
 use Rattle.channel_model.specs.Numbers.{request_row}
-use Rattle.channel_model.specs.Outputs.{Output, is_dead_end, line_at}
-use Rattle.channel_model.specs.Runs.{RunState, world_after}
+use Rattle.channel_model.specs.Outputs.{Output}
+use Rattle.channel_model.specs.Runs.{RunState}
 use Rattle.channel_laws.specs.AnswersOnce.{owes_answer}
 use Rattle.channel_laws.specs.Counts.{how_many, one_if}
 use Rattle.channel_laws.proofs.Counting.{many-middle, int-same}
-use Rattle.script_steps.specs.Choices.{Setting, Choice, beginning_of, own_event, may_deliver, event_by, chosen, played}
+use Rattle.script_steps.specs.Choices.{Setting, Choice, beginning_of, own_event, may_deliver, played}
 use Rattle.script_steps.specs.Progress.{HandledRequest, Progress, after_lines, lines_of, progress_of}
 use Rattle.script_steps.proofs.Choosing.{Happens, choice-happens, HaveSides, side-of, HasPlayed, plays-one, begin-sides}
 use Rattle.script_steps.proofs.Counting.{progress-append, lines_of-own}
@@ -34,11 +29,11 @@ use Rattle.script_steps.proofs.Playing.{Chooses, chooses, PlaysOn, plays_on}
 use Rattle.script_steps.proofs.StepLines.{Prints, step-prints}
 use Rattle.script_runs.specs.Dispatches.{dispatches}
 use Rattle.script_runs.specs.Handlers.{IsDispatchOf, IsHandlerOf}
-use Rattle.script_runs.specs.Laws.{AreDispatched, HandledAreDispatched, HasLimit, HandlersStand}
+use Rattle.script_runs.specs.Laws.{HandledAreDispatched, HasLimit, HandlersStand}
 use Rattle.script_runs.proofs.CaseRuns.{IsCase, case-next, IsCaseEnd, case-end, case-fits}
 use Rattle.script_runs.proofs.Handlers.{IsKept, next-kept, delivery-kept, names-kept}
 use Rattle.script_runs.proofs.Leaves.{NameNoNulls}
-use Rattle.script_runs.proofs.NextSteps.{IsNext, next-is}
+use Rattle.script_runs.proofs.NextSteps.{next-is}
 use Rattle.script_runs.proofs.Shows.{Shows, step-shows}
 
 -- What stays of a side.

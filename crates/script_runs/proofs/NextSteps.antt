@@ -1,12 +1,12 @@
 -- What an event is that a side does next, case by case.
-use Rattle.std.proofs.Common.{◌≡◌, ℕ, Bool, true, false, if◌then◌else◌, List, [], ◌∷◌, map, Option, Some, None, is_some, refl, sym, ap, subst, ◌∙◌}
+use Rattle.std.proofs.Common.{◌≡◌, Bool, true, false, if◌then◌else◌, List, [], ◌∷◌, Option, Some, None, is_some, refl, subst}
 use Rattle.std.specs.Prelude.{option_map}
 use Rattle.std.specs.Option.{option_map_or}
 use Rattle.handler_script.specs.declared.action.Action.{Action}
 use Rattle.handler_script.specs.declared.script.Point.TheVariants as point
 use Rattle.handler_script.specs.declared.script.Script.{Script}
 use Rattle.handler_script.specs.ScriptOf.{action_at}
-use Rattle.handler_script.specs.ValueOf.{TermContext, no_id}
+use Rattle.handler_script.specs.ValueOf.{no_id}
 use Rattle.nesting_core.specs.declared.frame.Head.{Head}
 use Rattle.nesting_core.specs.declared.frame.StackTop.{StackTop}
 use Rattle.nesting_core.specs.declared.frame.StackTop.TheVariants as top

@@ -1,5 +1,5 @@
 -- In a run of a valid script what a side does next is possible.
-use Rattle.std.proofs.Common.{◌≡◌, ℕ, ◌==◌, ℤ, Bool, true, false, not, ◌&&◌, ◌||◌, if◌then◌else◌, List, [], ◌∷◌, map, Option, Some, None, is_some, is_none, option_and_then, refl, sym, ap, subst, ◌∙◌, ◌⊎◌, inl, inr}
+use Rattle.std.proofs.Common.{◌≡◌, ℕ, ◌==◌, ℤ, Bool, true, false, not, ◌&&◌, ◌||◌, if◌then◌else◌, List, [], ◌∷◌, map, Option, Some, None, is_some, is_none, option_and_then, refl, sym, ap, subst, ◌∙◌}
 use Rattle.std.specs.Prelude.{IsTrue, IsSomeAnd, option_map}
 use Rattle.std.specs.List.{AllByRecursion, AllZip}
 use Rattle.std.specs.Option.{option_map_or}
@@ -39,7 +39,7 @@ use Rattle.channel_model.specs.Ends.{End, Packet, StackEntry, Resolver, end_of, 
 use Rattle.channel_model.specs.Events.{Event, handled, kept}
 use Rattle.channel_model.specs.Events as event
 use Rattle.channel_model.specs.Fitting.{FitsEntry, IsFitting}
-use Rattle.channel_model.specs.Numbers.{sends, is_constructor, makes_promise, request_row, is_sync_row}
+use Rattle.channel_model.specs.Numbers.{sends, is_constructor, makes_promise, request_row}
 use Rattle.channel_model.specs.Outputs.{Output, Change, is_open, is_dead_end}
 use Rattle.channel_model.specs.Returns.{AnsweredWait, dispatch_on_top, may_return, return, answered_wait_on_top, resume, may_flush, flush}
 use Rattle.channel_model.specs.Runs.{RunState}
@@ -49,9 +49,9 @@ use Rattle.channel_model.specs.Takes.{taken_next, take}
 use Rattle.channel_model.specs.Typed.{have_types}
 use Rattle.channel_model.proofs.TypesDecided.{decides_types}
 use Rattle.script_steps.specs.declared.turn.Turn.{Turn}
-use Rattle.script_steps.specs.Choices.{Setting, Choice, own_event, may_deliver, is_within, event_by, is_doable, chosen}
+use Rattle.script_steps.specs.Choices.{Setting, Choice, own_event, may_deliver, is_within, is_doable, chosen}
 use Rattle.script_steps.specs.Laws.{TurnIsChoice}
-use Rattle.script_steps.specs.NextEvent.{context_of, event_of, return_of, block_for, handler_action}
+use Rattle.script_steps.specs.NextEvent.{context_of, event_of, block_for, handler_action}
 use Rattle.script_steps.specs.Progress.{HandledRequest, Progress, progress_of}
 use Rattle.script_steps.specs.Turns.{leads, exceeds, outcome, outcome_by, turn_choice, led_to}
 use Rattle.script_steps.proofs.TurnChoices.{turns_are_choices}

@@ -1,17 +1,16 @@
 -- How much the sides of a run of a script say and send.
-use Rattle.std.proofs.Common.{◌≡◌, ℕ, ◌+◌, ◌*◌, ◌≤◌, Bool, true, false, not, ◌&&◌, cond, if◌then◌else◌, List, [], ◌∷◌, ◌++◌, length, map, filter, fold, refl, sym, ap, subst, ◌∙◌, arith}
+use Rattle.std.proofs.Common.{◌≡◌, ◌+◌, ◌*◌, ◌≤◌, Bool, true, false, not, ◌&&◌, cond, List, [], ◌∷◌, length, map, filter, refl, subst, ◌∙◌, arith}
 use Rattle.ipdl_base.specs.declared.kinds.Side.{Side}
 use Rattle.ipdl_base.specs.declared.line.Line.{Line}
 use Rattle.ipdl_base.specs.declared.line.What.{What}
 use Rattle.ipdl_base.specs.Lines.{same_side, is_effect}
-use Rattle.ipdl_base.specs.Sound.{IsSound}
 use Rattle.channel_model.specs.Bounds.{unsettled}
 use Rattle.channel_model.specs.Ends.{end_of}
 use Rattle.channel_model.specs.Numbers.{other}
 use Rattle.channel_model.specs.Runs.{RunState}
 use Rattle.channel_laws.specs.BoundedRuns.{IsBoundedRun, events_of, delivered_at, waiting_of}
 use Rattle.channel_laws.specs.BoundedRuns as bounded
-use Rattle.channel_laws.specs.Counts.{how_many, one_if}
+use Rattle.channel_laws.specs.Counts.{one_if}
 use Rattle.channel_laws.proofs.BoundedRuns.{histories_are_bounded}
 use Rattle.script_steps.specs.Choices.{Setting}
 use Rattle.script_steps.specs.Laws.{IsRunOf, IsCountedBy}

@@ -1,9 +1,7 @@
 -- What each event does to the dispatches of a stack, and what the line is by which it shows.
-use Rattle.std.proofs.Common.{◌≡◌, ◌≢◌, ◌⊎◌, inl, inr, ℕ, zero, suc, ◌+◌, ◌*◌, ℤ, pos, Bool, true, false, not, ◌&&◌, ◌||◌, cond, if◌then◌else◌, List, [], ◌∷◌, ◌++◌, map, filter, drop, length, Option, Some, None, is_none, option_and_then, refl, sym, ap, subst, ◌∙◌, arith}
-use Rattle.std.specs.List.{AllByRecursion}
+use Rattle.std.proofs.Common.{◌≡◌, ◌≢◌, ◌⊎◌, inl, inr, ℕ, zero, suc, ◌+◌, ◌*◌, ℤ, pos, Bool, true, false, not, ◌&&◌, ◌||◌, if◌then◌else◌, List, [], ◌∷◌, map, drop, length, Option, Some, None, is_none, option_and_then, refl, sym, ap, ◌∙◌, arith}
 use Rattle.std.specs.Option.{option_map_or}
 use Rattle.ipdl_base.specs.declared.kinds.Destroy.TheVariants as destroy
-use Rattle.ipdl_base.specs.declared.kinds.EndState.TheVariants.{Dead}
 use Rattle.ipdl_base.specs.declared.kinds.Reason.TheVariants as reason
 use Rattle.ipdl_base.specs.declared.kinds.SendRefusal.{SendRefusal}
 use Rattle.ipdl_base.specs.declared.kinds.SendRefusal.TheVariants as refusal
@@ -36,13 +34,13 @@ use Rattle.pending_queue.specs.Holding.{is_free, without_first}
 use Rattle.channel_model.specs.Acts as acts
 use Rattle.channel_model.specs.Answers as answering
 use Rattle.channel_model.specs.Deliveries as delivery
-use Rattle.channel_model.specs.Ends.{End, Packet, message, mark, StackEntry, Resolver, NameContent, actor, resolver, Naming}
+use Rattle.channel_model.specs.Ends.{End, Packet, message, mark, StackEntry, Resolver, NameContent, actor, resolver}
 use Rattle.channel_model.specs.Events.{Answering, handled, kept, Event}
 use Rattle.channel_model.specs.Events as event
 use Rattle.channel_model.specs.Falls as falls
-use Rattle.channel_model.specs.Names.{without_name, has_name, renamed}
+use Rattle.channel_model.specs.Names.{has_name, renamed}
 use Rattle.channel_model.specs.Numbers.{id_of, sends, is_sync_row, is_constructor, makes_promise, request_row}
-use Rattle.channel_model.specs.Outputs.{Output, Change, beginning, unchanged, ◌▷◌, when, on_end, line, lines, line_at, put, is_open, when_open, answered, destroyed, request_answered}
+use Rattle.channel_model.specs.Outputs.{Output, Change, beginning, unchanged, ◌▷◌, when, on_end, line, line_at, put, is_open, answered, destroyed, request_answered}
 use Rattle.channel_model.specs.Returns as returns
 use Rattle.channel_model.specs.Sends as send
 use Rattle.channel_model.specs.Steps.{step, provided, first_packet}
@@ -56,7 +54,7 @@ use Rattle.channel_model.proofs.Tests.{and-right}
 use Rattle.promise_table.specs.declared.promise.Outcome.{Outcome}
 use Rattle.script_steps.specs.Progress.{Progress, is_act, after_line}
 use Rattle.script_runs.specs.Dispatches.{dispatches, request_dispatch, body_dispatch, item_dispatch}
-use Rattle.script_runs.proofs.Leaves.{NameNoNulls, NamesNoNull, Leads, Leaves, leads-same, leads-on, leaves-unchanged, leaves-both, leaves-when, leaves-end, leaves-line, leaves-lines, leaves-put, leaves-open, leaves-answered, leaves-destroyed, IsNoNull, leaves-renamed, leaves-deletes, leaves-closed, leaves-constructs, NamesSome, behind_line, leaves-sent}
+use Rattle.script_runs.proofs.Leaves.{NameNoNulls, NamesNoNull, Leaves, leads-same, leaves-unchanged, leaves-both, leaves-when, leaves-end, leaves-line, leaves-put, leaves-open, leaves-answered, leaves-destroyed, IsNoNull, leaves-renamed, leaves-deletes, leaves-closed, NamesSome, behind_line, leaves-sent}
 
 -- An output behind a first line, with these dispatches.
 pub record Behind (e : End) (w : What) (entries : List StackEntry) (output : Output) : Type 0 where

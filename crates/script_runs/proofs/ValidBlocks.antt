@@ -1,6 +1,6 @@
 -- What a valid script says of the actions and replies that a run comes to.
-use Rattle.std.proofs.Common.{◌≡◌, ℕ, zero, suc, ◌+◌, ◌≤◌, ◌==◌, Bool, true, false, ◌&&◌, ◌||◌, cond, if◌then◌else◌, List, [], ◌∷◌, filter, Option, Some, None, ◌⊎◌, inl, inr, refl, sym, ap, subst, ◌∙◌, arith}
-use Rattle.std.specs.Prelude.{is_some, IsTrue, IsSome, IsSomeAnd, IfSome, option_and_then, take, slice_get, count_by, All}
+use Rattle.std.proofs.Common.{◌≡◌, ℕ, zero, suc, ◌+◌, ◌≤◌, ◌==◌, Bool, true, false, ◌&&◌, ◌||◌, cond, if◌then◌else◌, List, [], ◌∷◌, filter, Option, Some, None, refl, sym, ap, subst, ◌∙◌, arith}
+use Rattle.std.specs.Prelude.{is_some, IsSomeAnd, IfSome, option_and_then, take, slice_get, count_by}
 use Rattle.std.specs.List.{AllByRecursion, list_any}
 use Rattle.std.specs.Option.{option_map_or}
 use Rattle.std.proofs.lemmas.Bool.{eq-eqb, true≢false}
@@ -13,7 +13,7 @@ use Rattle.handler_script.specs.declared.action.Block.{Block}
 use Rattle.handler_script.specs.declared.script.Point.TheVariants as point
 use Rattle.handler_script.specs.declared.script.Script.{Script}
 use Rattle.handler_script.specs.declared.term.Terms.{Terms}
-use Rattle.handler_script.specs.Blocks.{BlockContext, in_main, in_handler, handled_in}
+use Rattle.handler_script.specs.Blocks.{in_main, in_handler}
 use Rattle.handler_script.specs.Messages.{resolves, replies}
 use Rattle.handler_script.specs.ScriptOf.{blocks_for, action_at, reply_at}
 use Rattle.handler_script.specs.Served.{serves, is_side, is_number}

@@ -1,5 +1,5 @@
 -- The dispatches of an end, and those that it has behind a step.
-use Rattle.std.specs.Prelude.{ℤ, Bool, List, [], ◌∷◌, filter, drop, Option, Some, None, option_and_then}
+use Rattle.std.specs.Prelude.{List, [], filter, drop, Option, Some, None, option_and_then}
 use Rattle.std.specs.List.{cons_option}
 use Rattle.std.specs.Option.{option_map_or}
 use Rattle.ipdl_base.specs.declared.message.Body.{Body}

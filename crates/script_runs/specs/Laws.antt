@@ -1,5 +1,5 @@
 -- What every run of a script keeps.
-use Rattle.std.specs.Prelude.{◌≡◌, ℕ, ◌+◌, ◌*◌, ◌<◌, ◌≤◌, true, false, List, [], ◌∷◌, length, Some, None}
+use Rattle.std.specs.Prelude.{◌≡◌, ◌+◌, ◌*◌, ◌<◌, ◌≤◌, true, false, List, [], ◌∷◌, length, Some, None}
 use Rattle.std.specs.List.{AllByRecursion, AllZip}
 use Rattle.handler_script.specs.declared.action.Action.{Action}
 use Rattle.handler_script.specs.declared.script.Script.{Script}
