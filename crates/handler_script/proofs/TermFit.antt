@@ -61,11 +61,11 @@ is_below a b h = by_lt_z b a (λ lt. absurd (h (λ le. let no : ⊥ = omega (ari
 
 -- one who fits as a value stands for a term
 who_fits : (schema : Schema) (b : BlockContext) (shape : Shape) (w : Who) → ¬ ¬ WhoFits (given_in b) shape w → (is_main b ≡ true → is_of_handler w ≡ false) → (is_of_constructor b ≡ false → is_made w ≡ false) → IsNamed w → TermFits schema b shape (who_term w)
-who_fits schema b shape whos.Top h m k n = (is_true (is_actor shape) h, tt)
-who_fits schema b shape whos.This h m k n = (is_true (is_actor shape) h, may_name b whos.This m k n (λ i e. let no : ⊥ = cc in absurd no))
-who_fits schema b shape whos.Made h m k n = (is_true (is_actor shape) h, may_name b whos.Made m k n (λ i e. let no : ⊥ = cc in absurd no))
+who_fits schema b shape whos.Top h m k n = (is_true (is_actor shape) h, refl, tt)
+who_fits schema b shape whos.This h m k n = (is_true (is_actor shape) h, refl, may_name b whos.This m k n (λ i e. let no : ⊥ = cc in absurd no))
+who_fits schema b shape whos.Made h m k n = (is_true (is_actor shape) h, refl, may_name b whos.Made m k n (λ i e. let no : ⊥ = cc in absurd no))
 who_fits schema b shape (whos.Param i) h m k n = some_part (λ (param : ParamRow). StandsFor param.shape shape) (λ param. StandsFor param.shape shape) (param_at (given_in b) i) h (λ param e s. stands param.shape shape s)
-who_fits schema b shape (whos.Name name) h m k n = (is_true (is_actor shape) h, n)
+who_fits schema b shape (whos.Name name) h m k n = (is_true (is_actor shape) h, refl, n)
 
 -- bits of four and of eight bytes
 

@@ -39,7 +39,12 @@ MayName block whos.Made = IsSomeAnd (handled_in block) (λ message. IsTrue (is_c
 MayName block (whos.Param n) = IsSomeAnd (param_at (given_in block) n) (λ param. IsTrue (is_actor param.shape))
 MayName block (whos.Name name) = IsName name
 
--- A term stands for values of a type in a block.
+-- whether one who is spoken of is a parameter
+abbrev pub is_param : Who → Bool
+is_param (whos.Param n) = true
+is_param _ = false
+
+-- A term stands for values of a type in a block: a parameter by its own type, and every other actor by any.
 abbrev mutual
   pub TermFits : Schema → BlockContext → Shape → Term → Type 0
   TermFits schema block shape (term.Bool b) = builtin_of shape ≡ Some builtin.Bool
@@ -53,7 +58,7 @@ abbrev mutual
   TermFits schema block shape (Maybe' held) = IsSomeAnd (held_by shape) (λ inner. HeldTermFits schema block inner held)
   TermFits schema block shape (term.Actor id) = (id ≡ pos 0) × IsActorOf shape id
   TermFits schema block shape (term.Param n) = IsSomeAnd (param_at (given_in block) n) (λ param. StandsFor param.shape shape)
-  TermFits schema block shape (term.Who w) = IsTrue (is_actor shape) × MayName block w
+  TermFits schema block shape (term.Who w) = IsTrue (is_actor shape) × (is_param w ≡ false) × MayName block w
 
   -- nothing, or a term of the type
   pub HeldTermFits : Schema → BlockContext → Shape → Held-Term-Maybe-0 → Type 0

@@ -1,0 +1,5 @@
+pub mod Contexts
+pub mod Dispatches
+pub mod Handlers
+pub mod Allowed
+pub mod Laws
