@@ -1,0 +1,10 @@
+-- Each law holds of a readable list of lines exactly where its statement does.
+use Rattle.std.specs.Prelude.{◌↔◌, List}
+use Rattle.ipdl_base.specs.declared.line.Line.{Line}
+use Rattle.ipdl_base.specs.declared.schema.Schema.{Schema}
+use Rattle.history_reading.specs.declared.law.Law.TheVariants as law
+use Rattle.history_reading.specs.Holds.{Holds, IsReadable}
+use Rattle.law_statements.specs.Prefix.{Prefix}
+
+abbrev pub DecidesPrefix : Type 0
+DecidesPrefix = (schema : Schema) (lines : List Line) → IsReadable schema lines → (Holds law.Prefix schema lines ↔ Prefix schema lines)
