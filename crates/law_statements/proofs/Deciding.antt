@@ -1,7 +1,9 @@
 -- Tests that decide what is said of parts.
-use Rattle.std.proofs.Common.{◌≡◌, ◌⊎◌, inl, inr, Bool, true, false, not, ◌&&◌, if◌then◌else◌, IsTrue, List, [], ◌∷◌, ◌++◌, Option, Some, None, refl, sym, ap, subst, ◌∙◌}
+use Rattle.std.proofs.Common.{◌≡◌, ◌⊎◌, inl, inr, ℤ, Bool, true, false, not, ◌&&◌, if◌then◌else◌, IsTrue, List, [], ◌∷◌, ◌++◌, Option, Some, None, refl, sym, ap, subst, ◌∙◌}
 use Rattle.std.specs.Bool.{Decides}
 use Rattle.std.specs.Option.{option_map_or}
+use Rattle.std.specs.Ordering.{int_eq}
+use Rattle.std.proofs.lemmas.Bool.Decides.{Decides-int_eq}
 use Rattle.std.proofs.lemmas.Bool.{and_parts, and_from, false≢true, not-true}
 use Rattle.ipdl_base.specs.declared.line.Line.{Line}
 use Rattle.std.proofs.lemmas.List.{append-nil}
@@ -45,3 +47,12 @@ through-from lines P next front (line ∷ mid) behind p e =
 pub through : (lines : List Line) (P : List Line → Type 0) → P [] → ((before : List Line) (line : Line) (behind : List Line) → lines ≡ before ++ line ∷ behind → P before → P (before ++ line ∷ []))
     → (before behind : List Line) → lines ≡ before ++ behind → P before
 through lines P first next before behind e = through-from lines P next [] before behind first e
+
+-- a test that must fail first
+pub fails-then : {P : Type 0} (a b : Bool) → Decides b P → Decides (if a then false else b) ((a ≡ false) × P)
+fails-then true b p = (λ e. cc, λ e. cc (e.0))
+fails-then false b p = (λ e. (refl, p.0 e), λ e. p.1 e.1)
+
+pub is-this : (o : Option ℤ) (id : ℤ) → Decides (option_map_or (λ first. int_eq first id) o false) (o ≡ Some id)
+is-this None id = (λ e. cc, λ e. cc)
+is-this (Some x) id = (λ e. ap (λ (y : ℤ). Some y) ((Decides-int_eq x id).0 e), λ e. (Decides-int_eq x id).1 cc)

@@ -146,7 +146,7 @@ sent-read schema end lines = (along schema (SentRead schema) (record { ended = r
 
 -- The last event, and the actors that were built
 
-pub kind_of : What → EventKind
+abbrev pub kind_of : What → EventKind
 kind_of (what.Send n route number values) = event.Sends n route
 kind_of (what.Call n transaction route number values) = event.Sends n route
 kind_of (what.Take n route number values) = event.Takes n route
@@ -161,7 +161,6 @@ abbrev pub last_kind : List What → EventKind
 last_kind said = option_map_or kind_of (last_event said) event.Other
 
 event-step : (schema : Schema) (place : ℕ) (w : What) (own : EndReading) → (after_what schema place w own).event ≡ (if is_event w then kind_of w else own.event)
-unfolding kind_of
 event-step schema place what.Die own = refl
 event-step schema place _ own = refl
 
@@ -178,7 +177,6 @@ pub event-read : (schema : Schema) (end : Side) (lines : List Line) → (end_rea
 event-read schema end lines = along schema (λ own said. own.event ≡ last_kind said) refl (event-more schema) end lines
 
 actor-of : (w : What) → route_of (kind_of w) ≡ event_actor w
-unfolding kind_of
 actor-of what.Die = refl
 actor-of _ = refl
 

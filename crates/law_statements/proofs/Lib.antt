@@ -4,4 +4,8 @@ pub mod Ends
 pub mod Fields
 pub mod Fronts
 pub mod Lists
+pub mod LivingLaw
 pub mod PrefixLaw
+pub mod Replies
+pub mod SettledLaw
+pub mod Unended

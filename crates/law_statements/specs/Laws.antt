@@ -4,7 +4,15 @@ use Rattle.ipdl_base.specs.declared.line.Line.{Line}
 use Rattle.ipdl_base.specs.declared.schema.Schema.{Schema}
 use Rattle.history_reading.specs.declared.law.Law.TheVariants as law
 use Rattle.history_reading.specs.Holds.{Holds, IsReadable}
+use Rattle.law_statements.specs.Living.{Living}
 use Rattle.law_statements.specs.Prefix.{Prefix}
+use Rattle.law_statements.specs.Settled.{Settled}
 
 abbrev pub DecidesPrefix : Type 0
 DecidesPrefix = (schema : Schema) (lines : List Line) → IsReadable schema lines → (Holds law.Prefix schema lines ↔ Prefix schema lines)
+
+abbrev pub DecidesLiving : Type 0
+DecidesLiving = (schema : Schema) (lines : List Line) → IsReadable schema lines → (Holds law.Living schema lines ↔ Living schema lines)
+
+abbrev pub DecidesSettled : Type 0
+DecidesSettled = (schema : Schema) (lines : List Line) → IsReadable schema lines → (Holds law.Settled schema lines ↔ Settled schema lines)

@@ -4,4 +4,5 @@ pub mod Actors
 pub mod Prefix
 pub mod Living
 pub mod Settled
+pub mod Stack
 pub mod Laws
