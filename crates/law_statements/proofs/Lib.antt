@@ -1,4 +1,5 @@
 pub mod Along
+pub mod Answering
 pub mod Deciding
 pub mod Ends
 pub mod Fields
@@ -8,4 +9,6 @@ pub mod LivingLaw
 pub mod PrefixLaw
 pub mod Replies
 pub mod SettledLaw
+pub mod StackRead
+pub mod Stacks
 pub mod Unended

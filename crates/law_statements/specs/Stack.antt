@@ -1,5 +1,5 @@
 -- The stack of an end by the lines: what was taken or called, and has not ended.
-use Rattle.std.specs.Prelude.{ℕ, ℤ, Bool, true, false, not, ◌&&◌, leb, if◌then◌else◌, List, [], ◌∷◌, ◌++◌, length, map, count_by, Option, Some, None, option_to_list}
+use Rattle.std.specs.Prelude.{ℕ, ℤ, Bool, true, false, not, ◌&&◌, leb, if◌then◌else◌, List, [], ◌∷◌, ◌++◌, ◌+◌, map, count_by, Option, Some, None, option_to_list}
 use Rattle.std.specs.List.{list_all, list_any}
 use Rattle.std.specs.Option.{option_map_or}
 use Rattle.std.specs.Ordering.{int_eq}
@@ -67,20 +67,21 @@ abbrev pub wait_frame : Bool → Call → CallFrame
 wait_frame true call = frame.Unanswered call
 wait_frame false call = frame.Answered call
 
-abbrev pub frame_of : Schema → List What → List What → ℕ → What → Option CallFrame
-frame_of schema own behind place (what.Take n route number values) = Some (frame.Dispatch (record { seq = n; route = route; number = number }))
-frame_of schema own behind place (what.Call n transaction route number values) =
-    Some (wait_frame (waits (is_sync_of schema own n) n behind) (record { seq = n; transaction = transaction; number = number; place = place }))
-frame_of schema own behind place _ = None
+abbrev pub frame_of : (ℤ → Bool) → List What → ℕ → What → Option CallFrame
+frame_of sync behind place (what.Take n route number values) = Some (frame.Dispatch (record { seq = n; route = route; number = number }))
+frame_of sync behind place (what.Call n transaction route number values) = Some (wait_frame (waits (sync n) n behind) (record { seq = n; transaction = transaction; number = number; place = place }))
+frame_of sync behind place _ = None
 
-abbrev pub frame_at : Schema → Side → List Line → Line → List Line → Option CallFrame
-frame_at schema end before line behind =
-    if same_side line.side end then (if stays (said_by end behind) then frame_of schema (said_by end (before ++ line ∷ [])) (said_by end behind) (length before) line.what else None) else None
+abbrev pub frame_with : (ℤ → Bool) → List What → ℕ → What → Option CallFrame
+frame_with sync behind place what = if stays behind then frame_of sync behind place what else None
 
--- the frames that stay, the innermost first
-abbrev pub stack_from : Schema → Side → List Line → List Line → List CallFrame
-stack_from schema end before [] = []
-stack_from schema end before (line ∷ behind) = stack_from schema end (before ++ line ∷ []) behind ++ option_to_list (frame_at schema end before line behind)
+-- the frames of an end that stay, of lines of which the first stands at this place, the innermost first
+abbrev pub frame_at : (ℤ → Bool) → Side → ℕ → Line → List Line → Option CallFrame
+frame_at sync end place line behind = if same_side line.side end then frame_with sync (said_by end behind) place line.what else None
+
+abbrev pub stack_from : (ℤ → Bool) → Side → ℕ → List Line → List CallFrame
+stack_from sync end place [] = []
+stack_from sync end place (line ∷ behind) = stack_from sync end (place + 1) behind ++ option_to_list (frame_at sync end place line behind)
 
 abbrev pub stack : Schema → Side → List Line → List CallFrame
-stack schema end lines = stack_from schema end [] lines
+stack schema end lines = stack_from (is_sync_of schema (said_by end lines)) end 0 lines
