@@ -187,9 +187,9 @@ actor-if (Some w) = actor-of w
 pub actor-read : (schema : Schema) (end : Side) (lines : List Line) → route_of (end_reading_of end (read schema lines)).event ≡ last_actor (said_by end lines)
 actor-read schema end lines = ap route_of (event-read schema end lines) ∙ actor-if (last_event (said_by end lines))
 
-record BuiltRead (own : EndReading) (said : List What) : Type 0 where
-  event : own.event ≡ last_kind said
-  built : own.built ≡ built said
+pub record BuiltRead (own : EndReading) (said : List What) : Type 0 where
+  pub event : own.event ≡ last_kind said
+  pub built : own.built ≡ built said
 
 built-step : (schema : Schema) (place : ℕ) (w : What) (own : EndReading) (said : List What) → own.event ≡ last_kind said → (after_what schema place w own).built ≡ add own.built (built_at said w)
 built-step schema place (what.Built id protocol) own said p =
@@ -206,7 +206,7 @@ built-add said w =
     ap (λ (xs : List BuiltActor). record { id = pos 2147483647; manager = pos 0 } ∷ xs) (made-add built_at [] said w)
     ∙ add-under (record { id = pos 2147483647; manager = pos 0 }) (made_of built_at [] said) (built_at said w)
 
-built-more : (schema : Schema) (place : ℕ) (own : EndReading) (said : List What) (w : What) → BuiltRead own said → BuiltRead (after_what schema place w own) (said ++ w ∷ [])
+pub built-more : (schema : Schema) (place : ℕ) (own : EndReading) (said : List What) (w : What) → BuiltRead own said → BuiltRead (after_what schema place w own) (said ++ w ∷ [])
 built-more schema place own said w p = record {
   event = event-more schema place own said w p.event;
   built = built-step schema place w own said p.event ∙ ap (λ xs. add xs (built_at said w)) p.built ∙ sym (built-add said w);

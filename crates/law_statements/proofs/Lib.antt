@@ -2,6 +2,7 @@ pub mod Along
 pub mod Answering
 pub mod Deciding
 pub mod Ends
+pub mod FallenLaw
 pub mod Fields
 pub mod Fronts
 pub mod Lists

@@ -53,7 +53,7 @@ nil-of : {A : Type 0} (xs : List A) → length xs ≡ 0 → xs ≡ []
 nil-of [] e = refl
 nil-of (x ∷ xs) e = absurd (omega (arith, e))
 
-side-own : (s : Side) → same_side s s ≡ true
+pub side-own : (s : Side) → same_side s s ≡ true
 side-own side.Parent = refl
 side-own side.Child = refl
 
@@ -298,11 +298,11 @@ ends-no-wait schema (frame.Unanswered c ∷ below) (what.ResumeOk n values) r e 
 ends-no-wait schema (frame.Unanswered c ∷ below) (what.ResumeFault n reason) r e = cc
 ends-no-wait schema (frame.Unanswered c ∷ below) _ r e = cc
 
-own-after : (schema : Schema) (s : Side) (w : What) (r : Reading) → end_reading_of s (after_at schema s w r) ≡ after_what schema r.lines w (end_reading_of s r)
+pub own-after : (schema : Schema) (s : Side) (w : What) (r : Reading) → end_reading_of s (after_at schema s w r) ≡ after_what schema r.lines w (end_reading_of s r)
 own-after schema side.Parent w r = refl
 own-after schema side.Child w r = refl
 
-other-after : (schema : Schema) (s : Side) (w : What) (r : Reading) → end_reading_of (other_end s) (after_at schema s w r) ≡ end_reading_of (other_end s) r
+pub other-after : (schema : Schema) (s : Side) (w : What) (r : Reading) → end_reading_of (other_end s) (after_at schema s w r) ≡ end_reading_of (other_end s) r
 other-after schema side.Parent w r = refl
 other-after schema side.Child w r = refl
 

@@ -4,6 +4,7 @@ use Rattle.ipdl_base.specs.declared.line.Line.{Line}
 use Rattle.ipdl_base.specs.declared.schema.Schema.{Schema}
 use Rattle.history_reading.specs.declared.law.Law.TheVariants as law
 use Rattle.history_reading.specs.Holds.{Holds, IsReadable}
+use Rattle.law_statements.specs.Fallen.{Fallen}
 use Rattle.law_statements.specs.Living.{Living}
 use Rattle.law_statements.specs.Prefix.{Prefix}
 use Rattle.law_statements.specs.Settled.{Settled}
@@ -16,3 +17,6 @@ DecidesLiving = (schema : Schema) (lines : List Line) → IsReadable schema line
 
 abbrev pub DecidesSettled : Type 0
 DecidesSettled = (schema : Schema) (lines : List Line) → IsReadable schema lines → (Holds law.Settled schema lines ↔ Settled schema lines)
+
+abbrev pub DecidesFallen : Type 0
+DecidesFallen = (schema : Schema) (lines : List Line) → IsReadable schema lines → (Holds law.Fallen schema lines ↔ Fallen schema lines)

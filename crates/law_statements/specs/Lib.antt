@@ -5,4 +5,5 @@ pub mod Prefix
 pub mod Living
 pub mod Settled
 pub mod Stack
+pub mod Fallen
 pub mod Laws

@@ -1,4 +1,4 @@
-ghost use Rattle.law_statements.specs.Laws.{DecidesLiving, DecidesPrefix, DecidesSettled};
+ghost use Rattle.law_statements.specs.Laws.{DecidesFallen, DecidesLiving, DecidesPrefix, DecidesSettled};
 
 /// The law Prefix holds of readable lines exactly where its statement does.
 pub fn decides_prefix()
@@ -13,4 +13,9 @@ pub fn decides_living()
 /// The law Settled holds of readable lines exactly where its statement does.
 pub fn decides_settled()
     ensures { DecidesSettled }
+{}
+
+/// The law Fallen holds of readable lines exactly where its statement does.
+pub fn decides_fallen()
+    ensures { DecidesFallen }
 {}

@@ -4,4 +4,4 @@
 
 mod laws;
 
-pub use laws::{decides_living, decides_prefix, decides_settled};
+pub use laws::{decides_fallen, decides_living, decides_prefix, decides_settled};
