@@ -15,7 +15,7 @@ use Rattle.history_reading.specs.Reading.{Reading, after, after_at, after_what, 
 use Rattle.law_statements.specs.Said.{is_moment, line_of, said_by, said_in}
 use Rattle.law_statements.proofs.Lists.{add, filter-add}
 
-fold-more : (schema : Schema) (xs ys : List Line) (r : Reading) → fold (after schema) r (xs ++ ys) ≡ fold (after schema) (fold (after schema) r xs) ys
+pub fold-more : (schema : Schema) (xs ys : List Line) (r : Reading) → fold (after schema) r (xs ++ ys) ≡ fold (after schema) (fold (after schema) r xs) ys
 fold-more schema [] ys r = refl
 fold-more schema (x ∷ xs) ys r = fold-more schema xs ys (after schema r x)
 

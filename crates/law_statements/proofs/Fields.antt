@@ -30,7 +30,7 @@ alike : {X : Type 0} (field : EndReading → X) (b : Bool) (x y : EndReading) �
 alike field true x y e = e
 alike field false x y e = refl
 
-of-reply : {X : Type 0} (field : EndReading → X) (n : ℤ) (own : EndReading) → field (answering n (delivering (seen.Reply n) own)) ≡ field (arriving (seen.Reply n) own)
+pub of-reply : {X : Type 0} (field : EndReading → X) (n : ℤ) (own : EndReading) → field (answering n (delivering (seen.Reply n) own)) ≡ field (arriving (seen.Reply n) own)
     → field (if is_sync_request own n then answering n (delivering (seen.Reply n) own) else arriving (seen.Reply n) own) ≡ field (arriving (seen.Reply n) own)
 of-reply field n own e = alike field (is_sync_request own n) (answering n (delivering (seen.Reply n) own)) (arriving (seen.Reply n) own) e
 
@@ -112,10 +112,10 @@ made-step schema place _ own = refl
 
 -- What was sent
 
-record SentRead (schema : Schema) (own : EndReading) (said : List What) : Type 0 where
-  ended : own.ended ≡ list_any is_farewell said
-  made : own.made ≡ count_by (constructs schema) said
-  sent : own.sent ≡ sent schema said
+pub record SentRead (schema : Schema) (own : EndReading) (said : List What) : Type 0 where
+  pub ended : own.ended ≡ list_any is_farewell said
+  pub made : own.made ≡ count_by (constructs schema) said
+  pub sent : own.sent ≡ sent schema said
 
 sent-request : (schema : Schema) (n transaction route : ℤ) (number : ℕ) (values : Values) (own : EndReading) (count : ℕ) → own.made ≡ count
     → (sending schema n transaction route number values own).sent
@@ -134,7 +134,7 @@ sent-step schema place what.Die own said p = sent-mark own.ended own.sent ∙ ap
 sent-step schema place (what.DeliverReply n) own said p = of-reply (λ o. o.sent) n own refl
 sent-step schema place _ own said p = refl
 
-sent-more : (schema : Schema) (place : ℕ) (own : EndReading) (said : List What) (w : What) → SentRead schema own said → SentRead schema (after_what schema place w own) (said ++ w ∷ [])
+pub sent-more : (schema : Schema) (place : ℕ) (own : EndReading) (said : List What) (w : What) → SentRead schema own said → SentRead schema (after_what schema place w own) (said ++ w ∷ [])
 sent-more schema place own said w p = record {
   ended = ended-step schema place w own ∙ ap (λ (b : Bool). if is_farewell w then true else b) p.ended ∙ sym (any-add is_farewell said w);
   made = made-step schema place w own ∙ ap (λ (m : ℕ). if constructs schema w then m + 1 else m) p.made ∙ sym (count-add (constructs schema) said w);

@@ -1,4 +1,5 @@
 pub mod Along
+pub mod Arrivals
 pub mod Answering
 pub mod Deciding
 pub mod Ends
@@ -8,8 +9,11 @@ pub mod Fronts
 pub mod Lists
 pub mod LivingLaw
 pub mod PrefixLaw
+pub mod ReadableLines
 pub mod Replies
 pub mod SettledLaw
 pub mod StackRead
 pub mod Stacks
 pub mod Unended
+pub mod WaitingCalls
+pub mod WaitsLaw

@@ -343,13 +343,13 @@ readable-what : (schema : Schema) (before : List Line) (line : Line) → IsTrue 
 unfolding is_readable
 readable-what schema before line e = (and_parts (if is_effect line.what then is_of_event line.side (read schema before).last else true) (is_readable_what schema (end_reading_of line.side (read schema before)).stack line.what) e).1
 
-both-more : (schema : Schema) (before : List Line) (s : Side) (w : What) → is_readable_what schema (end_reading_of s (read schema before)).stack w ≡ true → ((end : Side) → StackRead schema end before) → (end : Side) → StackRead schema end (before ++ line_of s w ∷ [])
+pub both-more : (schema : Schema) (before : List Line) (s : Side) (w : What) → is_readable_what schema (end_reading_of s (read schema before)).stack w ≡ true → ((end : Side) → StackRead schema end before) → (end : Side) → StackRead schema end (before ++ line_of s w ∷ [])
 both-more schema before side.Parent w r p side.Parent = own-more schema side.Parent before w r (p side.Parent)
 both-more schema before side.Parent w r p side.Child = other-more schema side.Parent before w (p side.Child)
 both-more schema before side.Child w r p side.Parent = other-more schema side.Child before w (p side.Parent)
 both-more schema before side.Child w r p side.Child = own-more schema side.Child before w r (p side.Child)
 
-opens : (schema : Schema) (end : Side) → StackRead schema end []
+pub opens : (schema : Schema) (end : Side) → StackRead schema end []
 opens schema side.Parent = record { stack = refl; stand = tt }
 opens schema side.Child = record { stack = refl; stand = tt }
 

@@ -6,4 +6,8 @@ pub mod Living
 pub mod Settled
 pub mod Stack
 pub mod Fallen
+pub mod Arrived
+pub mod Waits
+pub mod Readable
+pub mod Calls
 pub mod Laws

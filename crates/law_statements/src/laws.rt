@@ -1,4 +1,4 @@
-ghost use Rattle.law_statements.specs.Laws.{DecidesFallen, DecidesLiving, DecidesPrefix, DecidesSettled};
+ghost use Rattle.law_statements.specs.Laws.{DecidesChain, DecidesFallen, DecidesLiving, DecidesPrefix, DecidesReadable, DecidesSettled, DecidesWaits};
 
 /// The law Prefix holds of readable lines exactly where its statement does.
 pub fn decides_prefix()
@@ -18,4 +18,19 @@ pub fn decides_settled()
 /// The law Fallen holds of readable lines exactly where its statement does.
 pub fn decides_fallen()
     ensures { DecidesFallen }
+{}
+
+/// The law Waits holds of readable lines exactly where its statement does.
+pub fn decides_waits()
+    ensures { DecidesWaits }
+{}
+
+/// Lines can be read exactly where the statement of that does.
+pub fn decides_readable()
+    ensures { DecidesReadable }
+{}
+
+/// The chain behind readable lines is the list of their calls that wait.
+pub fn decides_chain()
+    ensures { DecidesChain }
 {}

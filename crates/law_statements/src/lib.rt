@@ -4,4 +4,7 @@
 
 mod laws;
 
-pub use laws::{decides_fallen, decides_living, decides_prefix, decides_settled};
+pub use laws::{
+    decides_chain, decides_fallen, decides_living, decides_prefix, decides_readable,
+    decides_settled, decides_waits,
+};
