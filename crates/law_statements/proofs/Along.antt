@@ -128,3 +128,11 @@ passes-holds law schema lines r p =
     (moment-before (is_effect line.what) (moment_test law schema (read schema before)) (p.moments before (line ∷ behind) e))
     (p.places before line behind e))))
     (p.moments lines [] (sym (append-nil lines)) refl)
+
+-- no law holds of lines that cannot be read
+pub holds-readable : (law : Law) (schema : Schema) (lines : List Line) → Holds law schema lines → IsReadable schema lines
+unfolding passes
+holds-readable law schema lines h =
+    each-to (λ before line behind. is_readable schema (read schema before) line) [] lines (λ before line behind e.
+    (and_parts (is_readable schema (read schema before) line) (moment_before law schema (read schema before) line.what && line_test law schema line.side (end_reading_of line.side (read schema before)) (other_of line.side (read schema before)) line.what behind)
+    (passing law schema lines h before line behind e)).0)

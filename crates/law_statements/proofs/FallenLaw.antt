@@ -32,9 +32,10 @@ use Rattle.history_reading.specs.Reading.{Reading, actor_place, after_what, end_
 use Rattle.law_statements.specs.Said.{is_event, is_moment, line_of, other_end, said_by}
 use Rattle.law_statements.specs.Packets.{has_closed}
 use Rattle.law_statements.specs.Actors.{built, fallen, id_fallen, last_actor, lives}
-use Rattle.law_statements.specs.Fallen.{Fallen, LetsFall, MayFall, cause_at, cause_of, causes_from, event_falls, fall_at, falls_from, handled_cause, last_cause}
+use Rattle.law_statements.specs.Fallen.{Fallen, IsBelow, LetsFall, MayFall, cause_at, cause_of, causes_from, event_falls, fall_at, falls_from, handled_cause, last_cause}
 use Rattle.law_statements.specs.Stack.{stack}
 use Rattle.law_statements.proofs.Along.{Passes, along, holds-passes, passes-holds, read-more}
+use Rattle.law_statements.proofs.Below.{below}
 use Rattle.law_statements.proofs.Deciding.{both, itself, recast, through, untrue}
 use Rattle.law_statements.proofs.Fields.{actor-read, built-more, built-read, BuiltRead, fallen-read, lives-read, over-read}
 use Rattle.law_statements.proofs.Lists.{add}
@@ -194,25 +195,25 @@ destroy-same destroy.NormalShutdown destroy.NormalShutdown = (λ e. refl, λ e. 
 destroy-same destroy.AbnormalShutdown destroy.AbnormalShutdown = (λ e. refl, λ e. refl)
 destroy-same _ _ = (λ e. cc, λ e. cc)
 
-deleted : (actors : List BuiltActor) (top id : ℤ) (why : Destroy) → Decides (is_deleted actors top id why) (((why ≡ destroy.Deletion) × (id ≡ top)) ⊎ ((why ≡ destroy.AncestorDeletion) × IsTrue (is_below actors id top)))
+deleted : (actors : List BuiltActor) (top id : ℤ) (why : Destroy) → Decides (is_deleted actors top id why) (((why ≡ destroy.Deletion) × (id ≡ top)) ⊎ ((why ≡ destroy.AncestorDeletion) × IsBelow actors id top))
 deleted actors top id destroy.Deletion = (λ e. inl (refl, (Decides-int_eq id top).0 e), λ p. by p)
   where
-    by : ((destroy.Deletion ≡ destroy.Deletion) × (id ≡ top)) ⊎ ((destroy.Deletion ≡ destroy.AncestorDeletion) × IsTrue (is_below actors id top)) → int_eq id top ≡ true
+    by : ((destroy.Deletion ≡ destroy.Deletion) × (id ≡ top)) ⊎ ((destroy.Deletion ≡ destroy.AncestorDeletion) × IsBelow actors id top) → int_eq id top ≡ true
     by (inl q) = (Decides-int_eq id top).1 q.1
     by (inr q) = cc (q.0)
-deleted actors top id destroy.AncestorDeletion = (λ e. inr (refl, e), λ p. by p)
+deleted actors top id destroy.AncestorDeletion = (λ e. inr (refl, (below actors id top).0 e), λ p. by p)
   where
-    by : ((destroy.AncestorDeletion ≡ destroy.Deletion) × (id ≡ top)) ⊎ ((destroy.AncestorDeletion ≡ destroy.AncestorDeletion) × IsTrue (is_below actors id top)) → is_below actors id top ≡ true
+    by : ((destroy.AncestorDeletion ≡ destroy.Deletion) × (id ≡ top)) ⊎ ((destroy.AncestorDeletion ≡ destroy.AncestorDeletion) × IsBelow actors id top) → is_below actors id top ≡ true
     by (inl q) = cc (q.0)
-    by (inr q) = q.1
+    by (inr q) = (below actors id top).1 q.1
 deleted actors top id destroy.NormalShutdown = (λ e. cc, λ p. by p)
   where
-    by : ((destroy.NormalShutdown ≡ destroy.Deletion) × (id ≡ top)) ⊎ ((destroy.NormalShutdown ≡ destroy.AncestorDeletion) × IsTrue (is_below actors id top)) → false ≡ true
+    by : ((destroy.NormalShutdown ≡ destroy.Deletion) × (id ≡ top)) ⊎ ((destroy.NormalShutdown ≡ destroy.AncestorDeletion) × IsBelow actors id top) → false ≡ true
     by (inl q) = cc (q.0)
     by (inr q) = cc (q.0)
 deleted actors top id destroy.AbnormalShutdown = (λ e. cc, λ p. by p)
   where
-    by : ((destroy.AbnormalShutdown ≡ destroy.Deletion) × (id ≡ top)) ⊎ ((destroy.AbnormalShutdown ≡ destroy.AncestorDeletion) × IsTrue (is_below actors id top)) → false ≡ true
+    by : ((destroy.AbnormalShutdown ≡ destroy.Deletion) × (id ≡ top)) ⊎ ((destroy.AbnormalShutdown ≡ destroy.AncestorDeletion) × IsBelow actors id top) → false ≡ true
     by (inl q) = cc (q.0)
     by (inr q) = cc (q.0)
 

@@ -1,6 +1,7 @@
 pub mod Along
 pub mod Arrivals
 pub mod Answering
+pub mod Below
 pub mod Deciding
 pub mod Ends
 pub mod FallenLaw

@@ -15,7 +15,8 @@ use Rattle.history_reading.specs.declared.parts.CallFrame.{CallFrame}
 use Rattle.history_reading.specs.declared.parts.CallFrame.TheVariants as frame
 use Rattle.history_reading.specs.declared.parts.Cause.{Cause}
 use Rattle.history_reading.specs.declared.parts.Cause.TheVariants as cause
-use Rattle.history_reading.specs.Fallen.{is_below, is_younger}
+use Rattle.history_reading.specs.EndReading.{was_built}
+use Rattle.history_reading.specs.Fallen.{is_younger}
 use Rattle.history_reading.specs.Numbers.{has}
 use Rattle.history_reading.specs.Reading.{actor_place}
 use Rattle.history_reading.specs.Rows.{delete_cause}
@@ -59,10 +60,15 @@ causes_from schema end before (line ∷ behind) = causes_from schema end (before
 abbrev pub last_cause : Schema → Side → List Line → Cause
 last_cause schema end lines = unwrap_or (slice_get (causes_from schema end [] lines) 0) cause.Nobody
 
+-- an actor is below another: the latest that was built with its id has that manager, or a manager that was below it among those that were built earlier
+pub data IsBelow : List BuiltActor → ℤ → ℤ → Type 0 where
+  under : (actors earlier later : List BuiltActor) (a : BuiltActor) (id top : ℤ) → actors ≡ earlier ++ a ∷ later → a.id ≡ id → was_built later id ≡ false → a.manager ≡ top → IsBelow actors id top
+  further : (actors earlier later : List BuiltActor) (a : BuiltActor) (id top : ℤ) → actors ≡ earlier ++ a ∷ later → a.id ≡ id → was_built later id ≡ false → IsBelow earlier a.manager top → IsBelow actors id top
+
 -- a cause lets an actor fall for a reason: the destructor's actor by Deletion, those below it by AncestorDeletion, and all by that of a closing
 abbrev pub LetsFall : List BuiltActor → Cause → ℤ → Destroy → Type 0
 LetsFall actors cause.Nobody id why = IsTrue false
-LetsFall actors (cause.Delete top) id why = ((why ≡ destroy.Deletion) × (id ≡ top)) ⊎ ((why ≡ destroy.AncestorDeletion) × IsTrue (is_below actors id top))
+LetsFall actors (cause.Delete top) id why = ((why ≡ destroy.Deletion) × (id ≡ top)) ⊎ ((why ≡ destroy.AncestorDeletion) × IsBelow actors id top)
 LetsFall actors (cause.Closing reason) id why = why ≡ reason
 
 -- an actor may fall

@@ -2,6 +2,7 @@
 use Rattle.std.specs.Prelude.{◌≡◌, ◌↔◌, List}
 use Rattle.ipdl_base.specs.declared.line.Line.{Line}
 use Rattle.ipdl_base.specs.declared.schema.Schema.{Schema}
+use Rattle.history_reading.specs.declared.law.Law.{Law}
 use Rattle.history_reading.specs.declared.law.Law.TheVariants as law
 use Rattle.history_reading.specs.Chain.{chain_of}
 use Rattle.history_reading.specs.Holds.{Holds, IsReadable}
@@ -35,3 +36,7 @@ DecidesReadable = (schema : Schema) (lines : List Line) → IsReadable schema li
 -- behind readable lines the chain is the list of the calls that wait
 abbrev pub DecidesChain : Type 0
 DecidesChain = (schema : Schema) (lines : List Line) → IsReadable schema lines → chain_of schema lines ≡ waiting_calls schema lines
+
+-- no law holds of lines that cannot be read
+abbrev pub LawsWantReadable : Type 0
+LawsWantReadable = (l : Law) (schema : Schema) (lines : List Line) → Holds l schema lines → Readable schema lines

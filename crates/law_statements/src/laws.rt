@@ -1,4 +1,4 @@
-ghost use Rattle.law_statements.specs.Laws.{DecidesChain, DecidesFallen, DecidesLiving, DecidesPrefix, DecidesReadable, DecidesSettled, DecidesWaits};
+ghost use Rattle.law_statements.specs.Laws.{DecidesChain, DecidesFallen, DecidesLiving, DecidesPrefix, DecidesReadable, DecidesSettled, DecidesWaits, LawsWantReadable};
 
 /// The law Prefix holds of readable lines exactly where its statement does.
 pub fn decides_prefix()
@@ -33,4 +33,9 @@ pub fn decides_readable()
 /// The chain behind readable lines is the list of their calls that wait.
 pub fn decides_chain()
     ensures { DecidesChain }
+{}
+
+/// No law holds of lines that cannot be read.
+pub fn laws_want_readable_lines()
+    ensures { LawsWantReadable }
 {}

@@ -6,5 +6,5 @@ mod laws;
 
 pub use laws::{
     decides_chain, decides_fallen, decides_living, decides_prefix, decides_readable,
-    decides_settled, decides_waits,
+    decides_settled, decides_waits, laws_want_readable_lines,
 };
