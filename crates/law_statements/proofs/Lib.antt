@@ -18,3 +18,4 @@ pub mod Stacks
 pub mod Unended
 pub mod WaitingCalls
 pub mod WaitsLaw
+pub mod WorkedStatements
