@@ -87,7 +87,7 @@ or-right : (t u : Bool) → (t || u) ≡ false → u ≡ false
 or-right true u e = cc
 or-right false u e = e
 
-or-nothing : (b : Bool) → (b || false) ≡ b
+pub or-nothing : (b : Bool) → (b || false) ≡ b
 or-nothing true = refl
 or-nothing false = refl
 

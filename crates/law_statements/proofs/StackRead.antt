@@ -219,27 +219,22 @@ begun-line sync s before w d e h =
     none-plus : (n : ℕ) → 0 + n ≡ n
     none-plus n = omega arith
 
+and-false : (b : Bool) → (b && false) ≡ false
+and-false true = refl
+and-false false = refl
+
+-- a reply to a request of a number ends the waits of that number where the request is sync, and else none
+reply-ends : (sync : ℤ → Bool) (n m : ℤ) (b : Bool) → sync n ≡ b → ends_wait (sync m) m (what.DeliverReply n) ≡ (b && int_eq n m)
+reply-ends sync n m b y = by (int_eq n m) refl
+  where
+    by : (t : Bool) → int_eq n m ≡ t → (sync m && t) ≡ (b && t)
+    by true e = ap (λ (c : Bool). c && true) (ap sync (sym ((Decides-int_eq n m).0 e)) ∙ y)
+    by false e = and-false (sync m) ∙ sym (and-false b)
+
 reply-line : (sync : ℤ → Bool) (s : Side) (before : List Line) (n : ℤ) (st : List CallFrame) → st ≡ stack_from sync s 0 before → AllStand sync s before → (b : Bool) → sync n ≡ b
     → (if b then answered n st else st) ≡ stack_from sync s 0 (before ++ line_of s (what.DeliverReply n) ∷ [])
-reply-line sync s before n st is a true y =
-    ap (answered n) is ∙ sym (stack-answers sync s n 0 before (what.DeliverReply n) refl refl refl (λ m. refl) (λ m. by m (int_eq n m) refl) a)
-  where
-    by : (m : ℤ) (t : Bool) → int_eq n m ≡ t → (sync m && t) ≡ t
-    by m true e = ap (λ (b : Bool). b && true) (ap sync (sym ((Decides-int_eq n m).0 e)) ∙ y)
-    by m false e = none (sync m)
-      where
-        none : (b : Bool) → (b && false) ≡ false
-        none true = refl
-        none false = refl
-reply-line sync s before n st is a false y = is ∙ sym (quiet-line sync s before (what.DeliverReply n) refl refl refl (λ m. by m (int_eq n m) refl))
-  where
-    by : (m : ℤ) (t : Bool) → int_eq n m ≡ t → (sync m && t) ≡ false
-    by m true e = ap (λ (b : Bool). b && true) (ap sync (sym ((Decides-int_eq n m).0 e)) ∙ y)
-    by m false e = none (sync m)
-      where
-        none : (b : Bool) → (b && false) ≡ false
-        none true = refl
-        none false = refl
+reply-line sync s before n st is a true y = ap (answered n) is ∙ sym (stack-answers sync s n 0 before (what.DeliverReply n) refl refl refl (λ m. refl) (λ m. reply-ends sync n m true y) a)
+reply-line sync s before n st is a false y = is ∙ sym (quiet-line sync s before (what.DeliverReply n) refl refl refl (λ m. reply-ends sync n m false y))
 
 reply-stack : (n : ℤ) (own : EndReading) (b : Bool) → (if b then answering n (delivering (seen.Reply n) own) else arriving (seen.Reply n) own).stack ≡ (if b then answered n own.stack else own.stack)
 reply-stack n own true = refl

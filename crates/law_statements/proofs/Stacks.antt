@@ -86,9 +86,6 @@ pub at-same : (sync : ℤ → Bool) (end : Side) (k : ℕ) (x : Line) (xs : List
 at-same sync end k x xs w e =
     ap (λ (own : List What). if same_side x.side end then frame_with sync own k x.what else None) (said-own end xs w) ∙ ap (λ (f : Option CallFrame). if same_side x.side end then f else None) e
 
-plus-one : (k n : ℕ) → k + 1 + n ≡ k + (1 + n)
-plus-one k n = omega arith
-
 pub stack-keeps : (sync : ℤ → Bool) (end : Side) (k : ℕ) (xs : List Line) (w : What) → is_death w ≡ false → ends_frame w ≡ false → ((n : ℤ) → ends_wait (sync n) n w ≡ false)
     → stack_from sync end k (xs ++ line_of end w ∷ []) ≡ option_to_list (frame_at sync end (k + length xs) (line_of end w) []) ++ stack_from sync end k xs
 stack-keeps sync end k [] w d e h = ap (λ (m : ℕ). option_to_list (frame_at sync end m (line_of end w) [])) plus-none ∙ sym (append-nil (option_to_list (frame_at sync end (k + 0) (line_of end w) [])))

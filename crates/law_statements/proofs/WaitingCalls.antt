@@ -19,6 +19,7 @@ use Rattle.history_reading.specs.Reading.{Reading, end_reading_of, read}
 use Rattle.law_statements.specs.Said.{line_of, said_by}
 use Rattle.law_statements.specs.Calls.{is_waiting_call, waiting_call, waiting_calls, waiting_calls_from}
 use Rattle.law_statements.specs.Stack.{frame_at, frame_of, frame_with, is_sync_of, stack_from, stays, wait_frame, waits}
+use Rattle.law_statements.proofs.Answering.{or-nothing}
 use Rattle.law_statements.proofs.StackRead.{side-own, stack-read}
 
 -- Frames stand at their places
@@ -43,10 +44,6 @@ if-frame j false o e = refl
 at-elsewhere : (sync : ℤ → Bool) (end : Side) (j k : ℕ) (x : Line) (xs : List Line) → (k ≡ j → ⊥) → list_any (is_wait_from j) (option_to_list (frame_at sync end k x xs)) ≡ false
 at-elsewhere sync end j k x xs apart =
     if-frame j (same_side x.side end) (frame_with sync (said_by end xs) k x.what) (if-frame j (stays (said_by end xs)) (frame_of sync (said_by end xs) k x.what) (frame-elsewhere sync (said_by end xs) j k x.what apart))
-
-or-nothing : (b : Bool) → (b || false) ≡ b
-or-nothing true = refl
-or-nothing false = refl
 
 elsewhere : (sync : ℤ → Bool) (end : Side) (j k : ℕ) (x : Line) (xs : List Line) → (k ≡ j → ⊥) → list_any (is_wait_from j) (stack_from sync end k (x ∷ xs)) ≡ list_any (is_wait_from j) (stack_from sync end (k + 1) xs)
 elsewhere sync end j k x xs apart =
