@@ -19,7 +19,7 @@ use Rattle.history_reading.specs.Reading.{after_what, answering, arriving, deliv
 use Rattle.history_reading.specs.SentPacket.{Request, SentPacket, request_of}
 use Rattle.law_statements.specs.Said.{said_by}
 use Rattle.law_statements.specs.Packets.{sent}
-use Rattle.law_statements.specs.Arrived.{IsThere, Passing, arrives, gives_up, is_arrival, is_giving_up, is_leaving, leaves, passing, passings}
+use Rattle.law_statements.specs.Arrived.{IsArrived, Passing, arrives, gives_up, is_arrival, is_giving_up, is_leaving, leaves, passing, passings}
 use Rattle.law_statements.proofs.Along.{along}
 use Rattle.law_statements.proofs.Fields.{SentRead, sent-more}
 use Rattle.law_statements.proofs.Fronts.{same-kind}
@@ -261,14 +261,14 @@ none-most q = record { bound = none; front = []; behind = []; split = refl; kept
     none [] (x ∷ behind) e k = cc
     none (x ∷ front) behind e k = cc
 
-pub there : (schema : Schema) (end : Side) (lines : List Line) (q : PacketKind) → Decides (has_packet (end_reading_of end (read schema lines)).arrived q) (IsThere schema (said_by end lines) q)
+pub there : (schema : Schema) (end : Side) (lines : List Line) (q : PacketKind) → Decides (has_packet (end_reading_of end (read schema lines)).arrived q) (IsArrived schema (said_by end lines) q)
 there schema end lines q = (λ e. to ((held-any q (end_reading_of end (read schema lines)).arrived).0 e), λ t. (held-any q (end_reading_of end (read schema lines)).arrived).1 (from t))
   where
     most : Most q (passings schema (said_by end lines)) (held q (end_reading_of end (read schema lines)).arrived)
     most = (along schema (ArrivedRead schema q) (record { sent = record { ended = refl; made = refl; sent = refl }; most = none-most q }) (arrived-more schema q) end lines).most
 
-    to : 0 < held q (end_reading_of end (read schema lines)).arrived → IsThere schema (said_by end lines) q
+    to : 0 < held q (end_reading_of end (read schema lines)).arrived → IsArrived schema (said_by end lines) q
     to l = record { before = most.front; behind = most.behind; split = most.split; kept = most.kept; more = omega (arith, l, most.reached) }
 
-    from : IsThere schema (said_by end lines) q → 0 < held q (end_reading_of end (read schema lines)).arrived
+    from : IsArrived schema (said_by end lines) q → 0 < held q (end_reading_of end (read schema lines)).arrived
     from t = omega (arith, t.more, most.bound t.before t.behind t.split t.kept)

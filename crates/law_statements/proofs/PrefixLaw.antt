@@ -25,7 +25,7 @@ use Rattle.history_reading.specs.SentPacket.{Request, SentPacket, packet_kind, r
 use Rattle.law_statements.specs.Said.{line_of, other_end, said_by}
 use Rattle.law_statements.specs.Packets.{delivered, delivery, gone, replaced, replies, sent, sent_at}
 use Rattle.law_statements.specs.Actors as actors
-use Rattle.law_statements.specs.Prefix.{DeliversWhatWasSent, IsFront, IsWaiting, Prefix, WasSent, WasSentWith}
+use Rattle.law_statements.specs.Prefix.{DeliversWhatWasSent, IsFront, IsUntaken, Prefix, WasSent, WasSentWith}
 use Rattle.law_statements.proofs.Along.{Passes, holds-passes, passes-holds}
 use Rattle.law_statements.proofs.Deciding.{recast, both, found, itself, through, untrue}
 use Rattle.law_statements.proofs.Fields.{delivered-read, gone-read, lives-read, replaced-read, replies-read, sent-read}
@@ -35,9 +35,9 @@ use Rattle.law_statements.proofs.Ends.{other-read, said-own, said-other}
 
 -- Requests that wait, and what was sent
 
-waiting : (schema : Schema) (end : Side) (before : List Line) (n : ℤ) → Decides (is_there (end_reading_of end (read schema before)) n) (IsWaiting (said_by end before) n)
+waiting : (schema : Schema) (end : Side) (before : List Line) (n : ℤ) → Decides (is_there (end_reading_of end (read schema before)) n) (IsUntaken (said_by end before) n)
 waiting schema end before n =
-    subst (λ (b : Bool). Decides b (IsWaiting (said_by end before) n))
+    subst (λ (b : Bool). Decides b (IsUntaken (said_by end before) n))
     (ap (λ (ps : List PacketKind). has_packet ps (seen.Request n) && (not (has (replaced (said_by end before)) n) && not (has (gone (said_by end before)) n))) (sym (delivered-read schema end before))
     ∙ ap (λ (ns : List ℤ). has_packet (end_reading_of end (read schema before)).delivered (seen.Request n) && (not (has ns n) && not (has (gone (said_by end before)) n))) (sym (replaced-read schema end before))
     ∙ ap (λ (ns : List ℤ). has_packet (end_reading_of end (read schema before)).delivered (seen.Request n) && (not (has (end_reading_of end (read schema before)).replaced n) && not (has ns n))) (sym (gone-read schema end before)))

@@ -38,7 +38,7 @@ use Rattle.history_reading.specs.Waits.{block_each_other, blocks, is_answered, i
 use Rattle.law_statements.specs.Said.{is_moment, last_event, line_of, other_end, said_by}
 use Rattle.law_statements.specs.Packets.{delivered, failed, sent}
 use Rattle.law_statements.specs.Actors as actors
-use Rattle.law_statements.specs.Arrived.{IsThere, state_after, state_of}
+use Rattle.law_statements.specs.Arrived.{IsArrived, state_after, state_of}
 use Rattle.law_statements.specs.Stack.{is_sync_of, stack}
 use Rattle.law_statements.specs.Waits.{Blocks, HasAnswered, HasAnsweredMissing, HasFault, IsStillAt, NoneWaits, Waits, deferral, defers_kind, ends_channel, has_just_ended, head_in, inner_of, returns_for}
 use Rattle.law_statements.proofs.Along.{Passes, along, holds-passes, passes-holds}
@@ -171,10 +171,10 @@ still schema end before st =
     (no-delivery (state_of (said_by end before)) (length (delivered (said_by end before))) (length (sent schema (said_by (other_end end) before)))))))
     (subst (λ (fs : List CallFrame). Decides (can_take_now fs) (IsTrue (can_take_now (stack schema end before)))) (sym st) (itself (can_take_now (stack schema end before))))
     (subst (λ (s : EndState). Decides (not (takes_items s && some_is_free schema (end_reading_of (other_end end) (read schema before)) (deferral_of schema end (end_reading_of end (read schema before)) (end_reading_of (other_end end) (read schema before))) (end_reading_of end (read schema before)).arrived))
-    (IsTrue (takes_items (state_of (said_by end before))) → (packet : PacketKind) → IsThere schema (said_by end before) packet → IsTrue (defers_kind schema end before packet))) (sym (state-read schema end before))
+    (IsTrue (takes_items (state_of (said_by end before))) → (packet : PacketKind) → IsArrived schema (said_by end before) packet → IsTrue (defers_kind schema end before packet))) (sym (state-read schema end before))
     (unless (takes_items (state_of (said_by end before)))
     (some_is_free schema (end_reading_of (other_end end) (read schema before)) (deferral_of schema end (end_reading_of end (read schema before)) (end_reading_of (other_end end) (read schema before))) (end_reading_of end (read schema before)).arrived)
-    ((packet : PacketKind) → IsThere schema (said_by end before) packet → IsTrue (defers_kind schema end before packet))
+    ((packet : PacketKind) → IsArrived schema (said_by end before) packet → IsTrue (defers_kind schema end before packet))
     (recast (not (some_is_free schema (end_reading_of (other_end end) (read schema before)) (deferral_of schema end (end_reading_of end (read schema before)) (end_reading_of (other_end end) (read schema before))) (end_reading_of end (read schema before)).arrived))
     (none-free (defers_packet schema (end_reading_of (other_end end) (read schema before)) (deferral_of schema end (end_reading_of end (read schema before)) (end_reading_of (other_end end) (read schema before)))) (end_reading_of end (read schema before)).arrived)
     (λ h q t. sym (kind-read schema end before st q) ∙ h q ((there schema end before q).1 t)) (λ h q e. kind-read schema end before st q ∙ h q ((there schema end before q).0 e))))))

@@ -11,6 +11,7 @@ use Rattle.ipdl_base.specs.declared.kinds.Level.TheVariants as level
 use Rattle.ipdl_base.specs.declared.kinds.Reason.TheVariants as reason
 use Rattle.ipdl_base.specs.declared.kinds.Semantics.{Semantics}
 use Rattle.ipdl_base.specs.declared.kinds.Semantics.TheVariants.{Async, Sync}
+use Rattle.ipdl_base.specs.declared.kinds.Side.{Side}
 use Rattle.ipdl_base.specs.declared.kinds.Side.TheVariants as side
 use Rattle.ipdl_base.specs.declared.line.Line.{Line}
 use Rattle.ipdl_base.specs.declared.line.What.{What}
@@ -40,7 +41,8 @@ use Rattle.law_statements.specs.Living.{Living}
 use Rattle.law_statements.specs.Prefix.{Prefix, WasSentWith}
 use Rattle.law_statements.specs.Readable.{Readable}
 use Rattle.law_statements.specs.Settled.{Settled}
-use Rattle.law_statements.specs.Waits.{Waits}
+use Rattle.law_statements.specs.Waits.{IsStillAt, Waits}
+use Rattle.law_statements.proofs.Arrivals.{there}
 use Rattle.law_statements.proofs.FallenLaw.{fallen-to}
 use Rattle.law_statements.proofs.LivingLaw.{living-to}
 use Rattle.law_statements.proofs.PrefixLaw.{prefix-to}
@@ -168,6 +170,18 @@ called_twice = parent (what.Call (pos 1) (pos 1) top 0 (one (pos 7))) ∷ parent
 
 out_of_order : Waits schema (called_twice ++ parent (what.DeliverReply (pos 1)) ∷ []) → ⊥
 out_of_order w = cc (w.replies side.Parent (pos 1) called_twice [] refl refl)
+
+-- a call was handled and was not answered: nothing but acts is possible, and its end waits
+abbrev unanswered : List Line
+unanswered = called ++ child (what.Take (pos 1) top 0 (one (pos 7))) ∷ child (what.Return (pos 1)) ∷ []
+
+stuck : Waits schema unanswered → ⊥
+unfolding without_first
+stuck w = false≢true (sym (w.still unanswered [] refl refl at side.Parent))
+  where
+    at : (end : Side) → IsStillAt schema end unanswered
+    at side.Parent = record { delivered = λ o. omega arith; waiting = refl; deferred = λ t packet arrived. absurd (false≢true ((there schema side.Parent unanswered packet).1 arrived)) }
+    at side.Child = record { delivered = λ o. omega arith; waiting = refl; deferred = λ t packet arrived. absurd (false≢true ((there schema side.Child unanswered packet).1 arrived)) }
 
 -- a promise is settled twice, or not at all
 twice : Settled schema (closed_with (settles ∷ settles ∷ [])) → ⊥

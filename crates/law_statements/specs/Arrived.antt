@@ -53,7 +53,7 @@ is_giving_up (leaves p) = false
 is_giving_up gives_up = true
 
 -- a packet has arrived and not left: from some place on, where nothing is given up any more, it arrives more often than it leaves
-pub record IsThere (schema : Schema) (own : List What) (packet : PacketKind) : Type 0 where
+pub record IsArrived (schema : Schema) (own : List What) (packet : PacketKind) : Type 0 where
   pub before : List Passing
   pub behind : List Passing
   pub split : passings schema own ≡ before ++ behind

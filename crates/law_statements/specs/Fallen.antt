@@ -71,16 +71,22 @@ LetsFall actors cause.Nobody id why = IsTrue false
 LetsFall actors (cause.Delete top) id why = ((why ≡ destroy.Deletion) × (id ≡ top)) ⊎ ((why ≡ destroy.AncestorDeletion) × IsBelow actors id top)
 LetsFall actors (cause.Closing reason) id why = why ≡ reason
 
--- an actor may fall
+-- an actor may fall: it lives
 pub record MayFall (schema : Schema) (end : Side) (before : List Line) (id : ℤ) (why : Destroy) : Type 0 where
   pub alive : IsTrue (lives (said_by end before) id)
+  -- all that it manages have fallen
   pub managed : (a : BuiltActor) → Contains (built (said_by end before)) a → a.manager ≡ id → IsTrue (has (fallen (said_by end before)) a.id)
+  -- no younger one of its manager has fallen behind the last event
   pub oldest : list_any (is_younger (actor_place (built (said_by end before)) id)) (event_falls (said_by end before)) ≡ false
+  -- and that event lets it fall for this reason
   pub cause : LetsFall (built (said_by end before)) (last_cause schema end before) id why
 
 pub record Fallen (schema : Schema) (lines : List Line) : Type 0 where
+  -- nobody is built under an actor that has fallen
   pub builds : (end : Side) (id : ℤ) (protocol : ℕ) (before behind : List Line) → lines ≡ before ++ line_of end (what.Built id protocol) ∷ behind
       → has (fallen (said_by end before)) (last_actor (said_by end before)) ≡ false
+  -- an actor that falls may do so
   pub falls : (end : Side) (id : ℤ) (why : Destroy) (before behind : List Line) → lines ≡ before ++ line_of end (what.Fall id why) ∷ behind → MayFall schema end before id why
+  -- at each moment all actors of an end that has closed have fallen
   pub closings : (end : Side) (a : BuiltActor) (before behind : List Line) → lines ≡ before ++ behind → IsTrue (is_moment behind) → IsTrue (has_closed (said_by end before))
       → Contains (built (said_by end before)) a → IsTrue (has (fallen (said_by end before)) a.id)

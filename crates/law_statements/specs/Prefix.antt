@@ -24,7 +24,7 @@ abbrev pub DeliversWhatWasSent : Schema → Side → List Line → Type 0
 DeliversWhatWasSent schema end before = IsFront (delivered (said_by end before)) (map packet_kind (sent schema (said_by (other_end end) before)))
 
 -- a request was delivered, and has neither been replaced nor taken or dropped
-pub record IsWaiting (own : List What) (n : ℤ) : Type 0 where
+pub record IsUntaken (own : List What) (n : ℤ) : Type 0 where
   pub delivered : IsTrue (has_packet (delivered own) (seen.Request n))
   pub kept : has (replaced own) n ≡ false
   pub first : has (gone own) n ≡ false
@@ -41,10 +41,14 @@ pub record WasSentWith (schema : Schema) (own other : List What) (n id : ℤ) (m
   pub nulled : IsTrue (is_nulled schema (lives own) (params_of schema message) r.values values)
 
 pub record Prefix (schema : Schema) (lines : List Line) : Type 0 where
+  -- at each place what was delivered to an end is a front of what the other has sent
   pub fronts : (end : Side) (before behind : List Line) → lines ≡ before ++ behind → DeliversWhatWasSent schema end before
+  -- a request that is taken is untaken, and is the other end's request of its number, with these values
   pub takes : (end : Side) (n route : ℤ) (number : ℕ) (values : Values) (before behind : List Line) → lines ≡ before ++ line_of end (what.Take n route number values) ∷ behind
-      → IsWaiting (said_by end before) n × ((r : Request) × WasSentWith schema (said_by end before) (said_by (other_end end) before) n route number values r)
+      → IsUntaken (said_by end before) n × ((r : Request) × WasSentWith schema (said_by end before) (said_by (other_end end) before) n route number values r)
+  -- so is one that is dropped, whatever its values
   pub drops : (end : Side) (n route : ℤ) (number : ℕ) (id : ℤ) (before behind : List Line) → lines ≡ before ++ line_of end (what.Drop n route number id) ∷ behind
-      → IsWaiting (said_by end before) n × ((r : Request) × WasSent schema (said_by (other_end end) before) n route number r)
+      → IsUntaken (said_by end before) n × ((r : Request) × WasSent schema (said_by (other_end end) before) n route number r)
+  -- a reply that is taken was delivered, and was not taken before
   pub replies : (end : Side) (n : ℤ) (before behind : List Line) → lines ≡ before ++ line_of end (what.TakeReply n) ∷ behind
       → IsTrue (has_packet (delivered (said_by end before)) (seen.Reply n)) × (has (replies (said_by end before)) n ≡ false)

@@ -54,9 +54,12 @@ HasCause schema end before behind n r reason.ActorDestroyed =
     HasSaid schema (said_by (other_end end) before) n (fault reason.ActorDestroyed) ⊎ (HasResolvedMissing schema (said_by end before) (said_by (other_end end) before) n r ⊎ FallsNext end r.route behind)
 
 pub record Settled (schema : Schema) (lines : List Line) : Type 0 where
+  -- what is settled with values is pending, and the other end has resolved it with these
   pub resolves : (end : Side) (n : ℤ) (values : Values) (before behind : List Line) → lines ≡ before ++ line_of end (what.Resolved n values) ∷ behind
       → (r : Request) × IsPending schema (said_by end before) n r × HasResolved schema (said_by end before) (said_by (other_end end) before) n r values
+  -- what is rejected is pending, and the rejection has its cause
   pub rejects : (end : Side) (n : ℤ) (why : Reason) (before behind : List Line) → lines ≡ before ++ line_of end (what.Rejected n why) ∷ behind
       → (r : Request) × IsPending schema (said_by end before) n r × HasCause schema end before behind n r why
+  -- at each moment an end that has closed has settled all its promises
   pub closings : (end : Side) (r : Request) (before behind : List Line) → lines ≡ before ++ behind → IsTrue (is_moment behind) → IsTrue (has_closed (said_by end before))
       → Contains (sent schema (said_by end before)) (request r) → IsTrue r.wants → IsTrue (has (settled (said_by end before)) r.seq)

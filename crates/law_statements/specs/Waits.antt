@@ -29,7 +29,7 @@ use Rattle.law_statements.specs.Said.{is_moment, last_event, line_of, other_end,
 use Rattle.law_statements.specs.Packets.{delivered, failed, sent}
 use Rattle.law_statements.specs.Actors.{lives}
 use Rattle.law_statements.specs.Stack.{is_sync_of, stack}
-use Rattle.law_statements.specs.Arrived.{IsThere, state_of}
+use Rattle.law_statements.specs.Arrived.{IsArrived, state_of}
 
 -- whether the last event is the delivery of the end of the other end
 abbrev pub ends_channel : What → Bool
@@ -87,21 +87,28 @@ Blocks schema end lines = IsTrue (defers_request_head (deferral schema end lines
 pub record IsStillAt (schema : Schema) (end : Side) (lines : List Line) : Type 0 where
   pub delivered : state_of (said_by end lines) ≡ state.Open → length (sent schema (said_by (other_end end) lines)) ≤ length (delivered (said_by end lines))
   pub waiting : IsTrue (can_take_now (stack schema end lines))
-  pub deferred : IsTrue (takes_items (state_of (said_by end lines))) → (packet : PacketKind) → IsThere schema (said_by end lines) packet → IsTrue (defers_kind schema end lines packet)
+  pub deferred : IsTrue (takes_items (state_of (said_by end lines))) → (packet : PacketKind) → IsArrived schema (said_by end lines) packet → IsTrue (defers_kind schema end lines packet)
 
 -- no call of an end waits for its answer
 abbrev pub NoneWaits : Schema → Side → List Line → Type 0
 NoneWaits schema end lines = has_unanswered (stack schema end lines) ≡ false
 
 pub record Waits (schema : Schema) (lines : List Line) : Type 0 where
+  -- the reply to a sync request finds its wait innermost
   pub replies : (end : Side) (n : ℤ) (before behind : List Line) → lines ≡ before ++ line_of end (what.DeliverReply n) ∷ behind
       → IsTrue (is_sync_of schema (said_by end before) n) → awaited (stack schema end before) ≡ Some n
+  -- a call fails where its wait is innermost and the end of the other end has just been delivered
   pub fails : (end : Side) (n : ℤ) (before behind : List Line) → lines ≡ before ++ line_of end (what.Fails n) ∷ behind
       → (awaited (stack schema end before) ≡ Some n) × IsTrue (has_just_ended (said_by end before))
+  -- a call goes on with values that the other end has answered
   pub answers : (end : Side) (n : ℤ) (values : Values) (before behind : List Line) → lines ≡ before ++ line_of end (what.ResumeOk n values) ∷ behind
       → HasAnswered schema (said_by end before) (said_by (other_end end) before) n values
+  -- or with a fault that the other end has said, or that came of itself
   pub faults : (end : Side) (n : ℤ) (why : Reason) (before behind : List Line) → lines ≡ before ++ line_of end (what.ResumeFault n why) ∷ behind
       → HasFault schema (said_by end before) (said_by (other_end end) before) n why
+  -- at no moment does each end defer the call for which the other waits
   pub no_block : (before behind : List Line) → lines ≡ before ++ behind → IsTrue (is_moment behind) → Blocks schema side.Parent before → Blocks schema side.Child before → IsTrue false
+  -- at each moment where the end of the other end was delivered last, nobody waits
   pub ended : (end : Side) (before behind : List Line) → lines ≡ before ++ behind → IsTrue (is_moment behind) → IsTrue (has_just_ended (said_by end before)) → NoneWaits schema end before
+  -- at each moment where nothing but acts is possible, nobody waits
   pub still : (before behind : List Line) → lines ≡ before ++ behind → IsTrue (is_moment behind) → ((end : Side) → IsStillAt schema end before) → (end : Side) → NoneWaits schema end before
