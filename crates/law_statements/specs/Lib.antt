@@ -1,0 +1,13 @@
+pub mod Said
+pub mod Packets
+pub mod Actors
+pub mod Prefix
+pub mod Living
+pub mod Settled
+pub mod Stack
+pub mod Fallen
+pub mod Arrived
+pub mod Waits
+pub mod Readable
+pub mod Calls
+pub mod Laws
