@@ -1,7 +1,9 @@
 //! What is promised of the histories of channels, in one place: the lines of a history and its text; the five laws, and
-//! the functions that decide them (docs/laws.md); and the theorems that every run of a channel obeys them and leaves no
-//! end waiting. No function of its own.
+//! the functions that decide them, and their statements (docs/laws.md); and the theorems that every run of a channel obeys
+//! them and leaves no end waiting. No function that runs is its own.
 #![tactic(auto)]
+
+mod laws;
 
 pub use channel_laws::{
     histories_are_readable, histories_obey_all_laws, histories_obey_fallen, histories_obey_living,
@@ -10,3 +12,4 @@ pub use channel_laws::{
 };
 pub use history::{History, Line, What, history_text};
 pub use law_checks::{Held, Law, can_read, chain, holds};
+pub use laws::histories_are_lawful;
