@@ -157,6 +157,10 @@ other_values p = by ((p.takes side.Child (pos 1) top 0 (one (pos 9)) called [] r
 taken_twice : Prefix schema (called ++ child (what.Take (pos 1) top 0 (one (pos 7))) ∷ child (what.Drop (pos 1) top 0 top) ∷ []) → ⊥
 taken_twice p = false≢true (sym ((p.drops side.Child (pos 1) top 0 top (called ++ child (what.Take (pos 1) top 0 (one (pos 7))) ∷ []) [] refl).0.first))
 
+-- a reply is taken that was not delivered
+no_reply : Prefix schema (asked ++ parent (what.TakeReply (pos 2)) ∷ []) → ⊥
+no_reply p = false≢true ((p.replies side.Parent (pos 2) asked [] refl).0)
+
 -- an actor is asked that was never built, and one is built that no event makes
 not_built : Living schema (parent (what.Send (pos 1) (pos 6) 65536 Nothing) ∷ []) → ⊥
 not_built l = false≢true (l.sends side.Parent (pos 1) (pos 6) 65536 Nothing [] [] refl)
@@ -164,12 +168,23 @@ not_built l = false≢true (l.sends side.Parent (pos 1) (pos 6) 65536 Nothing []
 wrong_id : Living schema (parent (what.Send (pos 1) top 2 Nothing) ∷ parent (what.Built (pos 10) 1) ∷ []) → ⊥
 wrong_id l = cc ((l.builds side.Parent (pos 10) 1 (parent (what.Send (pos 1) top 2 Nothing) ∷ []) [] refl).1)
 
+-- a request is dropped for an actor that lives
+dropped_alive : Living schema (called ++ child (what.Drop (pos 1) top 0 top) ∷ []) → ⊥
+dropped_alive l = false≢true (sym ((l.drops side.Child (pos 1) top 0 top called [] refl).0))
+
 -- the outer wait is answered before the inner one, and a call goes on with what was not answered
 abbrev called_twice : List Line
 called_twice = parent (what.Call (pos 1) (pos 1) top 0 (one (pos 7))) ∷ parent (what.Call (pos 2) (pos 1) top 0 (one (pos 7))) ∷ []
 
 out_of_order : Waits schema (called_twice ++ parent (what.DeliverReply (pos 1)) ∷ []) → ⊥
 out_of_order w = cc (w.replies side.Parent (pos 1) called_twice [] refl refl)
+
+-- a call fails while the other end is there, or does not where its end is delivered
+fails_early : Waits schema (called ++ parent (what.Fails (pos 1)) ∷ []) → ⊥
+fails_early w = false≢true ((w.fails side.Parent (pos 1) called [] refl).1)
+
+left_waiting : Waits schema (called ++ parent what.DeliverBroken ∷ []) → ⊥
+left_waiting w = false≢true (sym (w.ended side.Parent (called ++ parent what.DeliverBroken ∷ []) [] refl refl refl))
 
 -- a call was handled and was not answered: nothing but acts is possible, and its end waits
 abbrev unanswered : List Line
@@ -201,3 +216,10 @@ no_cause f = false≢true ((f.falls side.Parent (pos 6) destroy.NormalShutdown a
 -- what was not taken returns, and an effect stands first
 not_taken : Readable schema (parent (what.Return (pos 1)) ∷ []) → ⊥
 not_taken r = let top_one : _ = r.returns side.Parent (pos 1) [] [] refl in cc (top_one.2)
+
+no_event : Readable schema (parent (what.Built (pos 6) 1) ∷ []) → ⊥
+no_event r = by ((r.effects side.Parent (what.Built (pos 6) 1) [] [] refl refl).before) ((r.effects side.Parent (what.Built (pos 6) 1) [] [] refl refl).split)
+  where
+    by : (before : List Line) → [] ≡ before ++ line_of side.Parent ((r.effects side.Parent (what.Built (pos 6) 1) [] [] refl refl).event) ∷ (r.effects side.Parent (what.Built (pos 6) 1) [] [] refl refl).effects → ⊥
+    by [] e = cc
+    by (x ∷ xs) e = cc
