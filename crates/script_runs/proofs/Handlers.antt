@@ -126,6 +126,11 @@ one-left n x xs h k =
     let z : one_if (owes_answer n x) ≡ 1 = ap one_if h in
     omega (arith, z, k)
 
+-- what is related to nothing is nothing
+pub zip-empty : {A B : Type 0} (R : A → B → Type 0) (ys : List B) → AllZip R [] ys → ys ≡ []
+zip-empty R [] h = refl
+zip-empty R (y ∷ ys) h = absurd h
+
 module _ (setting : Setting) (e : End) (p : Progress) (known : IsCaseEnd setting.schema e) (fits : HasLimit setting → IsFitting setting.schema e) (related : AllZip (IsKept setting e.side) (dispatches e.stack) p.handled) where
   Kept : StackEntry → HandledRequest → Type 0
   Kept = IsKept setting e.side
@@ -242,10 +247,6 @@ module _ (setting : Setting) (e : End) (p : Progress) (known : IsCaseEnd setting
         by action.Die same output pr shows = finish output what.Die [] [] shows pr refl refl tt
 
   -- Acts of a main, under which nothing is handled
-
-  zip-empty : {A B : Type 0} (R : A → B → Type 0) (ys : List B) → AllZip R [] ys → ys ≡ []
-  zip-empty R [] h = refl
-  zip-empty R (y ∷ ys) h = absurd h
 
   none-handled : e.stack ≡ [] → p.handled ≡ []
   none-handled is = zip-empty (IsKept setting e.side) p.handled (subst (λ (xs : List StackEntry). AllZip (IsKept setting e.side) (dispatches xs) p.handled) is related)

@@ -31,7 +31,7 @@ use Rattle.script_runs.specs.Dispatches.{dispatches}
 use Rattle.script_runs.specs.Handlers.{IsDispatchOf, IsHandlerOf}
 use Rattle.script_runs.specs.Laws.{HandledAreDispatched, HasLimit, HandlersStand}
 use Rattle.script_runs.proofs.CaseRuns.{IsCase, case-next, IsCaseEnd, case-end, case-fits}
-use Rattle.script_runs.proofs.Handlers.{IsKept, next-kept, delivery-kept, names-kept}
+use Rattle.script_runs.proofs.Handlers.{zip-empty, IsKept, next-kept, delivery-kept, names-kept}
 use Rattle.script_runs.proofs.Leaves.{NameNoNulls}
 use Rattle.script_runs.proofs.NextSteps.{next-is}
 use Rattle.script_runs.proofs.Shows.{Shows, step-shows}
@@ -165,10 +165,6 @@ zip-map P Q [] (y ∷ ys) f h = h
 zip-map P Q (x ∷ xs) [] f h = h
 zip-map P Q (x ∷ xs) (y ∷ ys) f h = (f x y h.0, zip-map P Q xs ys f h.1)
 
-zip-none : {A B : Type 0} (R : A → B → Type 0) (ys : List B) → AllZip R [] ys → ys ≡ []
-zip-none R [] h = refl
-zip-none R (y ∷ ys) h = absurd h
-
 pub handled_are_dispatched : HandledAreDispatched
 handled_are_dispatched setting choices state sound h side =
     let c : IsCase setting state = record { choices = choices; plays = h } in
@@ -177,7 +173,7 @@ handled_are_dispatched setting choices state sound h side =
       handled = zip-map (IsKept setting side) IsDispatchOf (dispatches (end_of side state.world).stack) (progress_of side state.lines).handled (λ x y kept. kept.dispatch) k.handled;
       dead = λ dead.
           let empty : (end_of side state.world).stack ≡ [] = (case-end setting state side sound c).state.stack dead in
-          zip-none (IsKept setting side) (progress_of side state.lines).handled (subst (λ (xs : List StackEntry). AllZip (IsKept setting side) (dispatches xs) (progress_of side state.lines).handled) empty k.handled);
+          zip-empty (IsKept setting side) (progress_of side state.lines).handled (subst (λ (xs : List StackEntry). AllZip (IsKept setting side) (dispatches xs) (progress_of side state.lines).handled) empty k.handled);
     }
 
 -- The law of handled requests

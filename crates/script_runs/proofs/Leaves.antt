@@ -20,7 +20,7 @@ use Rattle.channel_model.specs.Ends.{End, Packet, message, Resolver, NameContent
 use Rattle.channel_model.specs.Falls as falls
 use Rattle.channel_model.specs.Names.{has_name, held_by_name, without_name, without_resolvers, is_actor, let_go, holding, renamed}
 use Rattle.channel_model.specs.Numbers.{top_id, makes_promise, is_sync_row, counting}
-use Rattle.channel_model.specs.Outputs.{Output, Change, unchanged, ◌▷◌, when, on_end, line, lines, line_at, put, is_open, when_open, AnsweredRequest, answered, destroyed, answer_line, body_of, reply_to, resolver_answered}
+use Rattle.channel_model.specs.Outputs.{Output, Change, unchanged, ◌▷◌, when, on_end, line, line_at, put, is_open, when_open, AnsweredRequest, answered, destroyed, answer_line, body_of, reply_to, resolver_answered}
 use Rattle.channel_model.specs.Sends as send
 use Rattle.channel_model.proofs.Known.{all-append, all-filter}
 use Rattle.script_runs.specs.Dispatches.{dispatches}
@@ -77,9 +77,6 @@ leaves-names f h o = record { more = []; lines = sym (append-nil o.lines); stack
 
 pub leaves-line : (w : What) → Leaves (line w)
 leaves-line w o = record { more = line_at o.end.side w ∷ []; lines = refl; stack = refl; names = λ n. n }
-
-pub leaves-lines : (ws : List What) → Leaves (lines ws)
-leaves-lines ws o = record { more = map (line_at o.end.side) ws; lines = refl; stack = refl; names = λ n. n }
 
 pub leaves-put : (packet : Packet) → Leaves (put packet)
 leaves-put packet o = record { more = []; lines = sym (append-nil o.lines); stack = refl; names = λ n. n }

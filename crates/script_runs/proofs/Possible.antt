@@ -1,9 +1,8 @@
 -- In a run of a valid script what a side does next is possible.
-use Rattle.std.proofs.Common.{◌≡◌, ℕ, ◌==◌, ℤ, Bool, true, false, not, ◌&&◌, ◌||◌, if◌then◌else◌, List, [], ◌∷◌, map, Option, Some, None, is_some, is_none, option_and_then, refl, sym, ap, subst, ◌∙◌}
+use Rattle.std.proofs.Common.{◌≡◌, ℕ, ℤ, Bool, true, false, not, ◌&&◌, ◌||◌, if◌then◌else◌, List, [], ◌∷◌, map, Option, Some, None, is_some, is_none, option_and_then, refl, sym, ap, subst, ◌∙◌}
 use Rattle.std.specs.Prelude.{IsTrue, IsSomeAnd, option_map}
 use Rattle.std.specs.List.{AllByRecursion, AllZip}
 use Rattle.std.specs.Option.{option_map_or}
-use Rattle.std.proofs.lemmas.Bool.{eq-eqb}
 use Rattle.handler_script.specs.declared.action.Action.{Action}
 use Rattle.handler_script.specs.declared.action.Action.TheVariants as action
 use Rattle.handler_script.specs.declared.term.Terms.{Terms}
@@ -67,8 +66,9 @@ use Rattle.script_runs.proofs.KeptRuns.{case-keeps, case-side, case-stands}
 use Rattle.script_runs.proofs.Leaves.{NameNoNulls}
 use Rattle.script_runs.proofs.NextSteps.{IsNext, next-is}
 use Rattle.script_runs.proofs.NextSteps as next
+use Rattle.script_runs.proofs.Rest.{and-true, all-true}
 use Rattle.script_runs.proofs.Terms.{terms_stand_for_values}
-use Rattle.script_runs.proofs.ValidBlocks.{IsHandlerAction, handler-action, main-action, IsHandlerReply, handler-reply, answering-row}
+use Rattle.script_runs.proofs.ValidBlocks.{same-row, row-found, IsHandlerAction, handler-action, main-action, IsHandlerReply, handler-reply, answering-row}
 
 -- What is allowed is possible
 
@@ -120,23 +120,8 @@ same-constructor Normal = refl
 same-constructor (Constructor p) = refl
 same-constructor Delete = refl
 
-same-row : (b : Bool) (row : MessageRow) → b ≡ true → (if b then Some row else None) ≡ Some row
-same-row true row h = refl
-same-row false row h = cc
-
-row-found : (schema : Schema) (number : ℕ) (row : MessageRow) → message_of schema number ≡ Some row → row.number ≡ number → request_row schema number ≡ Some row
-row-found schema number row found is = ap (option_and_then (λ (r : MessageRow). if r.number == number then Some r else None)) found ∙ same-row (row.number == number) row (eq-eqb row.number number is)
-
 one-row : (o : Option MessageRow) (row other : MessageRow) → o ≡ Some row → o ≡ Some other → row ≡ other
 one-row o row other h k = let both : Some row ≡ Some other = sym h ∙ k in cc
-
-all-five : (a b c d x : Bool) → a ≡ true → b ≡ true → c ≡ true → d ≡ true → x ≡ true → (a && (b && (c && (d && x)))) ≡ true
-all-five a b c d x ha hb hc hd hx =
-    ap (λ z. z && (b && (c && (d && x)))) ha ∙ ap (λ z. true && (z && (c && (d && x)))) hb ∙ ap (λ z. true && (true && (z && (d && x)))) hc
-    ∙ ap (λ z. true && (true && (true && (z && x)))) hd ∙ ap (λ z. true && (true && (true && (true && z)))) hx
-
-both-true : (a b : Bool) → a ≡ true → b ≡ true → (a && b) ≡ true
-both-true a b ha hb = ap (λ z. z && b) ha ∙ hb
 
 -- Acts
 
@@ -169,7 +154,7 @@ module _ (schema : Schema) (e : End) (block : BlockContext) (context : TermConte
   sends-row who number ts name row found s named = (
     row,
     row-found schema number row found s.0,
-    all-five (may_act e) row.carried (sends e.side row.direction) (have_types schema row.params (values_of context ts)) (is_none name || is_constructor row.kind) may s.2
+    all-true (may_act e) row.carried (sends e.side row.direction) (have_types schema row.params (values_of context ts)) (is_none name || is_constructor row.kind) may s.2
         (ap (λ side. sends side row.direction) (sym own) ∙ sym (same-sends (side_of block) row.direction) ∙ s.1) (typed row.params ts s.3) named,
   )
 
@@ -193,18 +178,18 @@ module _ (schema : Schema) (e : End) (block : BlockContext) (context : TermConte
   named-resolves name number ts (Some row) is h = (
     row,
     named-row number row is h.0 (promises row row.semantics row.returns refl refl (some-of (λ types. EachTermFits schema block types ts) (resolves row) h.1)) name,
-    both-true (may_act e) _ may (resolved-types row.semantics row.returns ts h.1),
+    and-true (may_act e) _ may (resolved-types row.semantics row.returns ts h.1),
   )
 
   named-rejects : (name : List ℕ) (number : ℕ) (found : Option MessageRow) → message_of schema number ≡ found → IsSomeAnd found (λ row. (row.number ≡ number) × (is_some (resolves row) ≡ true)) → IsAllowed schema e (event.answer (kept name number) None)
   named-rejects name number None is h = absurd h
-  named-rejects name number (Some row) is h = (row, named-row number row is h.0 (promises row row.semantics row.returns refl refl h.1) name, both-true (may_act e) true may refl)
+  named-rejects name number (Some row) is h = (row, named-row number row is h.0 (promises row row.semantics row.returns refl refl h.1) name, and-true (may_act e) true may refl)
 
   handled-resolves : (seq : ℤ) (ts : Terms) (row : MessageRow) → HasResolverOf seq row → IsSomeAnd (option_and_then resolves (handled_in block)) (λ types. EachTermFits schema block types ts) → IsAllowed schema e (event.answer (handled seq) (Some (values_of context ts)))
   handled-resolves seq ts row r h = (
     row,
     r.answers,
-    both-true (may_act e) _ may (resolved-types row.semantics row.returns ts (subst (λ (o : Option MessageRow). IsSomeAnd (option_and_then resolves o) (λ types. EachTermFits schema block types ts)) r.handles h)),
+    and-true (may_act e) _ may (resolved-types row.semantics row.returns ts (subst (λ (o : Option MessageRow). IsSomeAnd (option_and_then resolves o) (λ types. EachTermFits schema block types ts)) r.handles h)),
   )
 
   action-allowed : (seq : ℤ) (a : Action) → IsValidAction schema block a → (answers_handled a ≡ true → (row : MessageRow) × HasResolverOf seq row) → IsAllowed schema e (event_of context seq a)
@@ -213,8 +198,8 @@ module _ (schema : Schema) (e : End) (block : BlockContext) (context : TermConte
       sends-found (id_of context who) number ts (Some name) (λ row. IsSendable schema block number ts row × IsTrue (messages.is_constructor row.kind)) (message_of schema number) refl (λ row s. (s.0, sym (same-constructor row.kind) ∙ s.1)) v.2
   action-allowed seq (action.Let name who) v r = may
   action-allowed seq (action.Resolve ts) v r = let x = r refl in handled-resolves seq ts x.0 x.1 v
-  action-allowed seq action.Reject v r = let x = r refl in (x.0, x.1.answers, both-true (may_act e) true may refl)
-  action-allowed seq (action.Keep name) v r = let x = r refl in both-true (may_act e) (is_some (handled_resolver e seq)) may x.1.there
+  action-allowed seq action.Reject v r = let x = r refl in (x.0, x.1.answers, and-true (may_act e) true may refl)
+  action-allowed seq (action.Keep name) v r = let x = r refl in and-true (may_act e) (is_some (handled_resolver e seq)) may x.1.there
   action-allowed seq (action.ResolveNamed name number ts) v r = named-resolves name number ts (message_of schema number) refl v.1
   action-allowed seq (action.RejectNamed name number) v r = named-rejects name number (message_of schema number) refl v.1
   action-allowed seq action.Close v r = may
@@ -240,7 +225,7 @@ none-returned row schema = refl
 module _ (setting : Setting) (e : End) (p : Progress) (valid : IsValid setting.schema setting.script) (fits : IsFitting setting.schema e) (names : NameNoNulls e) (stands : AllZip (IsHandlerOf setting.schema setting.script e.side e) (dispatches e.stack) p.handled)
     (alive : is_dead_end e.state ≡ false) where
   may-act-on : (found : StackTop) → top_of (frames_of e) ≡ found → is_wait_on_top found ≡ false → may_act e ≡ true
-  may-act-on found is none = both-true (not (is_dead_end e.state)) (not (is_wait_on_top (top_of (frames_of e)))) (ap not alive) (ap (λ (t : StackTop). not (is_wait_on_top t)) is ∙ ap not none)
+  may-act-on found is none = and-true (not (is_dead_end e.state)) (not (is_wait_on_top (top_of (frames_of e)))) (ap not alive) (ap (λ (t : StackTop). not (is_wait_on_top t)) is ∙ ap not none)
 
   -- no main has a message to answer
   main-answers : (a : Action) → IsValidAction setting.schema (in_main e.side) a → answers_handled a ≡ true → ⊥

@@ -140,12 +140,12 @@ delivered-none b change e None h = refl
 delivered-none true change e (Some packet) h = cc
 delivered-none false change e (Some packet) h = refl
 
-and-true : (a b : Bool) → a ≡ true → b ≡ true → (a && b) ≡ true
+pub and-true : (a b : Bool) → a ≡ true → b ≡ true → (a && b) ≡ true
 and-true true true h k = refl
 and-true true false h k = cc
 and-true false b h k = cc
 
-all-true : (a b c d x : Bool) → a ≡ true → b ≡ true → c ≡ true → d ≡ true → x ≡ true → (a && (b && (c && (d && x)))) ≡ true
+pub all-true : (a b c d x : Bool) → a ≡ true → b ≡ true → c ≡ true → d ≡ true → x ≡ true → (a && (b && (c && (d && x)))) ≡ true
 all-true a b c d x ha hb hc hd hx = and-true a (b && (c && (d && x))) ha (and-true b (c && (d && x)) hb (and-true c (d && x) hc (and-true d x hd hx)))
 
 still-at : (schema : Schema) (world : World) (side : Side) → HasNoWork (end_of side world) → may_deliver side world ≡ false → is_still_at schema world side ≡ true

@@ -1,6 +1,7 @@
 -- What each event does to the dispatches of a stack, and what the line is by which it shows.
-use Rattle.std.proofs.Common.{◌≡◌, ◌≢◌, ◌⊎◌, inl, inr, ℕ, zero, suc, ◌+◌, ◌*◌, ℤ, pos, Bool, true, false, not, ◌&&◌, ◌||◌, if◌then◌else◌, List, [], ◌∷◌, map, drop, length, Option, Some, None, is_none, option_and_then, refl, sym, ap, ◌∙◌, arith}
+use Rattle.std.proofs.Common.{◌≡◌, ◌≢◌, ◌⊎◌, inl, inr, ℕ, zero, suc, ◌+◌, ◌*◌, ℤ, pos, Bool, true, false, not, ◌&&◌, ◌||◌, if◌then◌else◌, List, [], ◌∷◌, ◌++◌, map, drop, length, Option, Some, None, is_none, option_and_then, refl, sym, ap, ◌∙◌, arith}
 use Rattle.std.specs.Option.{option_map_or}
+use Rattle.std.proofs.lemmas.List.{append-nil}
 use Rattle.ipdl_base.specs.declared.kinds.Destroy.TheVariants as destroy
 use Rattle.ipdl_base.specs.declared.kinds.Reason.TheVariants as reason
 use Rattle.ipdl_base.specs.declared.kinds.SendRefusal.{SendRefusal}
@@ -54,7 +55,7 @@ use Rattle.channel_model.proofs.Tests.{and-right}
 use Rattle.promise_table.specs.declared.promise.Outcome.{Outcome}
 use Rattle.script_steps.specs.Progress.{Progress, is_act, after_line}
 use Rattle.script_runs.specs.Dispatches.{dispatches, request_dispatch, body_dispatch, item_dispatch}
-use Rattle.script_runs.proofs.Leaves.{NameNoNulls, NamesNoNull, Leaves, leads-same, leaves-unchanged, leaves-both, leaves-when, leaves-end, leaves-line, leaves-put, leaves-open, leaves-answered, leaves-destroyed, IsNoNull, leaves-renamed, leaves-deletes, leaves-closed, NamesSome, behind_line, leaves-sent}
+use Rattle.script_runs.proofs.Leaves.{leaves-constructs, NameNoNulls, NamesNoNull, Leaves, leads-same, leaves-unchanged, leaves-both, leaves-when, leaves-end, leaves-line, leaves-put, leaves-open, leaves-answered, leaves-destroyed, IsNoNull, leaves-renamed, leaves-deletes, leaves-closed, NamesSome, behind_line, leaves-sent}
 
 -- An output behind a first line, with these dispatches.
 pub record Behind (e : End) (w : What) (entries : List StackEntry) (output : Output) : Type 0 where
@@ -304,55 +305,22 @@ TakeShows schema e output = (ShowsPassing e (dispatches e.stack) output × (take
 passing : (e : End) (w : What) (c : Change) → Passes w → Leaves c → ShowsPassing e (dispatches e.stack) (c (line w (beginning (left e))))
 passing e w c p h = let k = h (line w (beginning (left e))) in (w, p, record { more = k.more; lines = k.lines; stack = k.stack; names = k.names })
 
-handling : (schema : Schema) (e : End) (m : Message) (sync : Bool) (level : Level) (row : MessageRow) (vs : Values) (kind : Kind) → row.kind ≡ kind → takes.taken_next e ≡ Some (item.Message m sync level) → m.body ≡ Request vs → message_of schema m.number ≡ Some row → taken_dispatch schema e ≡ Some (takes.dispatch_of row m)
-    → ShowsHandling schema e (send.constructs m.made m.route kind (record { end = record (left e) { stack = takes.dispatch_of row m ∷ e.stack }; lines = line_at e.side (what.Take m.seq m.route m.number (nulled schema e.actors row.params vs)) ∷ []; packets = [] }))
-handling schema e m sync level row vs Normal is next body found adds = record {
-  m = m;
-  sync = sync;
-  level = level;
-  row = row;
-  vs = vs;
-  next = next;
-  body = body;
-  found = found;
-  lines = ap (λ (k : Kind). map (line_at e.side) (what.Take m.seq m.route m.number (nulled schema e.actors row.params vs) ∷ built_lines m.made k)) (sym is);
-  stack = refl;
-  adds = adds;
-  names = λ n. n;
-}
-handling schema e m sync level row vs (Constructor protocol) is next body found adds = record {
-  m = m;
-  sync = sync;
-  level = level;
-  row = row;
-  vs = vs;
-  next = next;
-  body = body;
-  found = found;
-  lines = ap (λ (k : Kind). map (line_at e.side) (what.Take m.seq m.route m.number (nulled schema e.actors row.params vs) ∷ built_lines m.made k)) (sym is);
-  stack = refl;
-  adds = adds;
-  names = λ n. n;
-}
-handling schema e m sync level row vs Delete is next body found adds = record {
-  m = m;
-  sync = sync;
-  level = level;
-  row = row;
-  vs = vs;
-  next = next;
-  body = body;
-  found = found;
-  lines = ap (λ (k : Kind). map (line_at e.side) (what.Take m.seq m.route m.number (nulled schema e.actors row.params vs) ∷ built_lines m.made k)) (sym is);
-  stack = refl;
-  adds = adds;
-  names = λ n. n;
-}
+constructs-lines : (id route : ℤ) (kind : Kind) (o : Output) → (send.constructs id route kind o).lines ≡ o.lines ++ map (line_at o.end.side) (built_lines id kind)
+constructs-lines id route Normal o = sym (append-nil o.lines)
+constructs-lines id route (Constructor protocol) o = refl
+constructs-lines id route Delete o = sym (append-nil o.lines)
+
+handling : (schema : Schema) (e : End) (m : Message) (sync : Bool) (level : Level) (row : MessageRow) (vs : Values) → takes.taken_next e ≡ Some (item.Message m sync level) → m.body ≡ Request vs → message_of schema m.number ≡ Some row → taken_dispatch schema e ≡ Some (takes.dispatch_of row m)
+    → ShowsHandling schema e (takes.handled row m (nulled schema e.actors row.params vs) (beginning (left e)))
+handling schema e m sync level row vs next body found adds =
+    let o : Output = record { end = record (left e) { stack = takes.dispatch_of row m ∷ e.stack }; lines = line_at e.side (what.Take m.seq m.route m.number (nulled schema e.actors row.params vs)) ∷ []; packets = [] } in
+    let k = leaves-constructs m.made m.route row.kind o in
+    record { m = m; sync = sync; level = level; row = row; vs = vs; next = next; body = body; found = found; lines = constructs-lines m.made m.route row.kind o; stack = k.stack; adds = adds; names = k.names }
 
 request-shows : (schema : Schema) (e : End) (m : Message) (sync : Bool) (level : Level) (row : MessageRow) (vs : Values) → takes.taken_next e ≡ Some (item.Message m sync level) → m.body ≡ Request vs → message_of schema m.number ≡ Some row
     → taken_dispatch schema e ≡ request_dispatch schema e m vs row → (gone : Option ℤ) → takes.dropped_for schema e row m vs ≡ gone → TakeShows schema e (takes.dropped_or_handled gone row m (nulled schema e.actors row.params vs) (beginning (left e)))
 request-shows schema e m sync level row vs next body found adds None is =
-    inr (handling schema e m sync level row vs row.kind refl next body found (adds ∙ ap (λ o. option_map_or (λ id. None) o (Some (takes.dispatch_of row m))) is))
+    inr (handling schema e m sync level row vs next body found (adds ∙ ap (λ o. option_map_or (λ id. None) o (Some (takes.dispatch_of row m))) is))
 request-shows schema e m sync level row vs next body found adds (Some id) is =
     let reply : Change = answered (request_answered m) (answer.Fault reason.ActorDestroyed) in
     inl (

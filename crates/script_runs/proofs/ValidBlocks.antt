@@ -126,15 +126,18 @@ pub record Handles (schema : Schema) (side : Side) (number : ℕ) (block : Block
   pub found : request_row schema number ≡ Some row
   pub valid : IsValidIn schema (in_handler side row) block
 
-same-row : (b : Bool) (row : MessageRow) → b ≡ true → (if b then Some row else None) ≡ Some row
+pub same-row : (b : Bool) (row : MessageRow) → b ≡ true → (if b then Some row else None) ≡ Some row
 same-row true row h = refl
 same-row false row h = cc
+
+pub row-found : (schema : Schema) (number : ℕ) (row : MessageRow) → message_of schema number ≡ Some row → row.number ≡ number → request_row schema number ≡ Some row
+row-found schema number row found is = ap (option_and_then (λ (r : MessageRow). if r.number == number then Some r else None)) found ∙ same-row (row.number == number) row (eq-eqb row.number number is)
 
 handles-row : (schema : Schema) (side : Side) (number : ℕ) (block : Block) → block.side ≡ side → (found : Option MessageRow) → message_of schema number ≡ found → IsSomeAnd found (IsHandledBy schema block number) → Handles schema side number block
 handles-row schema side number block own None is h = absurd h
 handles-row schema side number block own (Some row) is h = record {
   row = row;
-  found = ap (option_and_then (λ (r : MessageRow). if r.number == number then Some r else None)) is ∙ same-row (row.number == number) row (eq-eqb row.number number h.0);
+  found = row-found schema number row is h.0;
   valid = subst (λ (s : Side). IsValidIn schema (in_handler s row) block) own h.3;
 }
 
