@@ -1,0 +1,5 @@
+pub mod LeastLists
+pub mod SoundValues
+pub mod SchemaRows
+pub mod Looks
+pub mod Complete
