@@ -197,14 +197,31 @@ frames_commands laws seen words one other x y =
     let whole : Of x.list x.path x.file x.frames x.convert = subst (λ (c : Bool). Of x.list x.path x.file x.frames c) same.4 framed in
     compilations laws (SaysFrames x.frames x.convert (seen.frames x.frames)) (frames_one laws x.frames x.convert (seen.frames x.frames)) (given_by seen.files x.path (x.file ∷ [])) seen.list x.list one other x.compilation whole
 
+-- and the one that lists what may interrupt a wait
+waits_commands : TheLaws → (seen : FileViews) (words : List (List ℕ)) (one other : CommandAnswer) → IsWaitsAnswer seen words one → IsWaitsAnswer seen words other → one ≡ other
+waits_commands laws seen words one other x y =
+    let same = (laws.command words).waits y.list x.list y.path x.path y.file x.file y.command x.command in
+    let Of : Option (List ℕ) → List (List ℕ) → List ℕ → Type 0 = λ list path file. IsCompilation (SaysWaits file) (given_by seen.files path (file ∷ [])) seen.list list other in
+    let listed : Of x.list y.path y.file = subst (λ (l : Option (List ℕ)). Of l y.path y.file) same.0 y.compilation in
+    let found : Of x.list x.path y.file = subst (λ (p : List (List ℕ)). Of x.list p y.file) same.1 listed in
+    let named : Of x.list x.path x.file = subst (λ (f : List ℕ). Of x.list x.path f) same.2 found in
+    compilations laws (SaysWaits x.file) (waits_one laws x.file) (given_by seen.files x.path (x.file ∷ [])) seen.list x.list one other x.compilation named
+
 -- words are one command or none
 pub answer_is_determined : TheLaws → OneAnswer
 answer_is_determined laws seen words one other (inl x) (inl y) = commands laws seen words one other x y
 answer_is_determined laws seen words one other (inl x) (inr (inl y)) = absurd ((laws.command words).apart x.list y.list x.path y.path x.names y.file y.frames y.convert x.command y.command)
-answer_is_determined laws seen words one other (inl x) (inr (inr y)) = absurd (y.0.0 x.list x.path x.names x.command)
+answer_is_determined laws seen words one other (inl x) (inr (inr (inl y))) = absurd ((laws.command words).waits_compile x.list y.list x.path y.path x.names y.file x.command y.command)
+answer_is_determined laws seen words one other (inl x) (inr (inr (inr y))) = absurd (y.0.0 x.list x.path x.names x.command)
 answer_is_determined laws seen words one other (inr (inl x)) (inl y) = absurd ((laws.command words).apart y.list x.list y.path x.path y.names x.file x.frames x.convert y.command x.command)
 answer_is_determined laws seen words one other (inr (inl x)) (inr (inl y)) = frames_commands laws seen words one other x y
-answer_is_determined laws seen words one other (inr (inl x)) (inr (inr y)) = absurd (y.0.1 x.list x.path x.file x.frames x.convert x.command)
-answer_is_determined laws seen words one other (inr (inr x)) (inl y) = absurd (x.0.0 y.list y.path y.names y.command)
-answer_is_determined laws seen words one other (inr (inr x)) (inr (inl y)) = absurd (x.0.1 y.list y.path y.file y.frames y.convert y.command)
-answer_is_determined laws seen words one other (inr (inr x)) (inr (inr y)) = x.1 ∙ sym y.1
+answer_is_determined laws seen words one other (inr (inl x)) (inr (inr (inl y))) = absurd ((laws.command words).waits_frames x.list y.list x.path y.path x.file y.file x.frames x.convert x.command y.command)
+answer_is_determined laws seen words one other (inr (inl x)) (inr (inr (inr y))) = absurd (y.0.1 x.list x.path x.file x.frames x.convert x.command)
+answer_is_determined laws seen words one other (inr (inr (inl x))) (inl y) = absurd ((laws.command words).waits_compile y.list x.list y.path x.path y.names x.file y.command x.command)
+answer_is_determined laws seen words one other (inr (inr (inl x))) (inr (inl y)) = absurd ((laws.command words).waits_frames y.list x.list y.path x.path y.file x.file y.frames y.convert y.command x.command)
+answer_is_determined laws seen words one other (inr (inr (inl x))) (inr (inr (inl y))) = waits_commands laws seen words one other x y
+answer_is_determined laws seen words one other (inr (inr (inl x))) (inr (inr (inr y))) = absurd (y.0.2 x.list x.path x.file x.command)
+answer_is_determined laws seen words one other (inr (inr (inr x))) (inl y) = absurd (x.0.0 y.list y.path y.names y.command)
+answer_is_determined laws seen words one other (inr (inr (inr x))) (inr (inl y)) = absurd (x.0.1 y.list y.path y.file y.frames y.convert y.command)
+answer_is_determined laws seen words one other (inr (inr (inr x))) (inr (inr (inl y))) = absurd (x.0.2 y.list y.path y.file y.command)
+answer_is_determined laws seen words one other (inr (inr (inr x))) (inr (inr (inr y))) = x.1 ∙ sym y.1
