@@ -2,8 +2,12 @@
 //! message, by the schema alone (docs/waits.md). It knows nothing of how a channel works.
 #![tactic(auto)]
 
+mod known;
+mod least;
 mod pair;
 mod report;
+mod roles;
+mod rounds;
 
 pub use pair::{Pair, Pairs};
 pub use report::pairs;
