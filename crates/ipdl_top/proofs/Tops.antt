@@ -122,11 +122,13 @@ top-of given schema file front (e ∷ rest) words ends is whole of =
     let keyed = (whole.entries 0 e refl).keyed in
     let there = has-protocol e keyed.kind (keyed.front, keyed.key) (subst (λ k. HasKind k file_kind.Protocol) (sym key) (protocol-key file front ends)) keyed.unit in
     let p = some-protocol e there in
-    let row = row-bears given e rest p.0 schema is p.1 of in
-    (position_or_len (bears_name file) schema.protocols, record {
-      there = first-there (bears_name file) schema.protocols row.0 row.1 row.2 (subst (λ k. bytes_eq (short_name row.1.name ++ codes ".ipdl") k ≡ true) key row.3);
-      first = refl;
-    })
+    let row = row-bears given e rest p.0 schema is p.1 of in (
+      position_or_len (bears_name file) schema.protocols,
+      record {
+        there = first-there (bears_name file) schema.protocols row.0 row.1 row.2 (subst (λ k. bytes_eq (short_name row.1.name ++ codes ".ipdl") k ≡ true) key row.3);
+        first = refl;
+      },
+    )
 
 -- Where the words are one file of a protocol, what was found of it has a protocol that bears its name.
 pub has_top : (given : LoadInput) (lists : FileMap) (list : Option (List ℕ)) (file front : List ℕ) → given.words ≡ file ∷ [] → file ≡ front ++ codes ".ipdl" → (checked : CheckResult) → IsChecked given lists list checked → HasTop file checked

@@ -1,6 +1,6 @@
 -- What is known is all: where nothing changes any more, each derivation is known.
-use Rattle.std.proofs.Common.{◌≡◌, ◌↔◌, ℕ, ◌+◌, ◌<◌, ◌≤◌, min, Bool, true, false, ◌&&◌, ◌||◌, cond, nat_le, List, [], ◌∷◌, length, Some, refl, sym, ap, subst, ◌∙◌, arith, inl, inr}
-use Rattle.std.specs.List.{Contains, slice_get, slice_index_or}
+use Rattle.std.proofs.Common.{◌≡◌, ◌↔◌, ℕ, ◌+◌, ◌≤◌, Bool, true, false, ◌&&◌, nat_le, List, [], ◌∷◌, ap, subst, ◌∙◌, arith, inl, inr}
+use Rattle.std.specs.List.{Contains}
 use Rattle.std.proofs.lemmas.Bool.Decides.{leb_tells}
 use Rattle.ipdl_base.specs.declared.schema.MessageRow.{MessageRow}
 use Rattle.ipdl_base.specs.declared.schema.ParamRow.{ParamRow}
@@ -10,11 +10,11 @@ use Rattle.ipdl_base.specs.declared.schema.TypeRow.TheVariants.{Struct, Union}
 use Rattle.value_types.specs.Sizes.{made_size}
 use Rattle.wait_report.specs.Sendable as sendable
 use Rattle.wait_report.specs.Sendable.{home_of, IsBuildable, is_top, constructed, IsSendable, fits, HasValueWithin, using_type, null, actor, array, maybe, unique, struct, union, HaveValuesWithin, nothing, first}
-use Rattle.wait_report.specs.Least.{too_many, is_built, least_of, sum_of, least_in, row_least, can_send, AreClosed, IsKnown}
+use Rattle.wait_report.specs.Least.{is_built, least_of, sum_of, least_in, can_send, AreClosed, IsKnown}
 use Rattle.wait_report.proofs.Looks.{sound-message}
 use Rattle.wait_report.proofs.SchemaRows.{contains-cases, none-in-nothing, of-protocol}
 
-both : (a b : Bool) → a ≡ true → b ≡ true → a && b ≡ true
+pub both : (a b : Bool) → a ≡ true → b ≡ true → a && b ≡ true
 both a b e f = ap (λ (x : Bool). x && b) e ∙ f
 
 at-most : (a b : ℕ) → a ≤ b → nat_le a b ≡ true
@@ -74,3 +74,7 @@ module _ (schema : Schema) (top : ℕ) (types : List ℕ) (built : List Bool) (h
 -- a message can be sent just where that is known
 pub known-exactly : (schema : Schema) (top : ℕ) (types : List ℕ) (built : List Bool) → IsKnown schema top types built → (row : MessageRow) → sendable.IsMessage schema row → (can_send types built row ≡ true) ↔ IsSendable schema top row
 known-exactly schema top types built h row found = (λ e. sound-message schema top types built row h.sound found e, λ s. message-known schema top types built h.closed row s)
+
+-- what can be sent is a message of the schema
+pub is-sendable-message : (schema : Schema) (top : ℕ) (row : MessageRow) → IsSendable schema top row → sendable.IsMessage schema row
+is-sendable-message schema top row (fits bytes found carried home values few) = found

@@ -1,9 +1,9 @@
 -- Sums and least values of lists, as loops find them.
-use Rattle.std.proofs.Common.{◌≡◌, ℕ, ◌+◌, ◌≤◌, min, Bool, List, [], ◌∷◌, drop, length, refl, sym, ap, subst, ◌∙◌, arith}
+use Rattle.std.proofs.Common.{◌≡◌, ℕ, ◌+◌, ◌≤◌, min, Bool, List, [], ◌∷◌, drop, length, subst, arith}
 use Rattle.std.proofs.lemmas.List.{drop_all}
 use Rattle.ipdl_base.specs.declared.schema.ParamRow.{ParamRow}
 use Rattle.ipdl_base.specs.declared.schema.Shape.{Shape}
-use Rattle.wait_report.specs.Least.{too_many, least_of, sum_of, least_in}
+use Rattle.wait_report.specs.Least.{too_many, sum_of, least_in}
 
 pub sum-few : (types : List ℕ) (built : List Bool) (fields : List ParamRow) → sum_of types built fields ≤ too_many
 sum-few types built [] = omega arith

@@ -3,3 +3,5 @@ pub mod SoundValues
 pub mod SchemaRows
 pub mod Looks
 pub mod Complete
+pub mod Sorting
+pub mod Whole

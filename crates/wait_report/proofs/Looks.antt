@@ -1,26 +1,25 @@
 -- What a round has come to, one look after another.
-use Rattle.std.proofs.Common.{◌≡◌, ◌≢◌, ◌⊎◌, inl, inr, ℕ, zero, suc, ◌+◌, ◌<◌, ◌≤◌, Bool, true, false, ◌&&◌, if◌then◌else◌, nat_le, List, [], ◌∷◌, length, take, get_or, Some, eqb, refl, sym, ap, subst, ◌∙◌, arith}
-use Rattle.std.specs.List.{Contains, slice_get, slice_set, slice_index_or, sum_by}
+use Rattle.std.proofs.Common.{◌≡◌, ◌≢◌, ◌⊎◌, inl, inr, ℕ, zero, suc, ◌+◌, ◌<◌, ◌≤◌, Bool, true, false, ◌&&◌, if◌then◌else◌, nat_le, List, [], ◌∷◌, length, take, get_or, eqb, refl, sym, ap, subst, ◌∙◌, arith}
+use Rattle.std.specs.List.{Contains, slice_set, slice_index_or}
 use Rattle.std.proofs.lemmas.Bool.{cases_lt}
 use Rattle.std.proofs.lemmas.Bool.Decides.{eqb_tells, leb_tells}
 use Rattle.std.proofs.lemmas.List.{get_or-set_same, get_or-set_other, length-set, take_more}
 use Rattle.std.proofs.lemmas.List.Elements.{Contains-append_cases}
 use Rattle.std.proofs.lemmas.Option.{slice_get_within}
 use Rattle.std.proofs.lemmas.List.Sums.{sum_by-set}
-use Rattle.ipdl_base.specs.declared.schema.Kind.{Kind}
 use Rattle.ipdl_base.specs.declared.schema.Kind.TheVariants.{Constructor}
 use Rattle.ipdl_base.specs.declared.schema.MessageRow.{MessageRow}
 use Rattle.ipdl_base.specs.declared.schema.Schema.{Schema}
 use Rattle.value_types.specs.Sizes.{made_size}
 use Rattle.wait_report.specs.Sendable.{home_of, IsMessage, IsBuildable, constructed, IsSendable, fits}
-use Rattle.wait_report.specs.Least.{too_many, is_built, sum_of, row_least, can_send, AreSound, IsClosedType, IsClosedMessage, IsRightMessage, IsMessageOf, unbuilt, known, TypeLooked, TypesLooked, MessagesLooked, LookedAround}
+use Rattle.wait_report.specs.Least.{too_many, is_built, sum_of, row_least, can_send, AreSound, IsClosedType, IsClosedMessage, IsRightMessage, IsMessageOf, unbuilt, TypeLooked, TypesLooked, MessagesLooked, LookedAround}
 use Rattle.wait_report.proofs.SoundValues.{sound-fields}
 
-both-left : (a b : Bool) → a && b ≡ true → a ≡ true
+pub both-left : (a b : Bool) → a && b ≡ true → a ≡ true
 both-left true b e = refl
 both-left false b e = cc
 
-both-right : (a b : Bool) → a && b ≡ true → b ≡ true
+pub both-right : (a b : Bool) → a && b ≡ true → b ≡ true
 both-right true b e = e
 both-right false b e = cc
 

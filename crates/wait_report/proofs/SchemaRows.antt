@@ -1,5 +1,5 @@
 -- The messages of a sound schema, as they stand in its protocols.
-use Rattle.std.proofs.Common.{◌≡◌, ◌≢◌, ◌⊎◌, inl, inr, ℕ, zero, suc, ◌+◌, ◌*◌, ◌/◌, ◌%◌, ◌<◌, ◌≤◌, Bool, true, false, cond, find, List, [], ◌∷◌, ◌++◌, length, get_or, Option, Some, None, refl, sym, ap, subst, ◌∙◌, arith}
+use Rattle.std.proofs.Common.{◌≡◌, ◌⊎◌, inl, inr, ℕ, zero, suc, ◌+◌, ◌*◌, ◌/◌, ◌%◌, ◌<◌, Bool, true, false, cond, find, List, [], ◌∷◌, length, Some, refl, sym, ap, subst, ◌∙◌, arith}
 use Rattle.std.specs.List.{All, Contains, flat_map, slice_get}
 use Rattle.std.proofs.lemmas.List.Elements.{All-contains, Contains-append_cases, Contains-append_left, Contains-append_right}
 use Rattle.std.proofs.lemmas.Option.{slice_get_within, slice_get-get_or, same_Some}
@@ -8,7 +8,7 @@ use Rattle.ipdl_base.specs.declared.schema.Kind.TheVariants.{Constructor}
 use Rattle.ipdl_base.specs.declared.schema.MessageRow.{MessageRow}
 use Rattle.ipdl_base.specs.declared.schema.ProtocolRow.{ProtocolRow}
 use Rattle.ipdl_base.specs.declared.schema.Schema.{Schema}
-use Rattle.ipdl_base.specs.Sound.{IsSound, IsSoundProtocol, IsSoundMessage, IsKindOf, has_number, message_of}
+use Rattle.ipdl_base.specs.Sound.{IsSound, IsSoundMessage, IsKindOf, has_number}
 use Rattle.ipdl_base.proofs.Numbers.{request_found}
 use Rattle.wait_report.specs.Sendable.{IsMessage}
 use Rattle.wait_report.specs.Least.{IsRightMessage, IsMessageOf}

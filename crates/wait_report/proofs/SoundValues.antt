@@ -1,6 +1,6 @@
 -- What is known of least values is so, and stays so where a lesser one is found.
-use Rattle.std.proofs.Common.{◌≡◌, ◌≢◌, ◌⊎◌, inl, inr, ℕ, zero, suc, ◌+◌, ◌<◌, ◌≤◌, min, Bool, true, false, ◌&&◌, if◌then◌else◌, cond, nat_le, List, [], ◌∷◌, length, get_or, Some, eqb, refl, sym, ap, subst, ◌∙◌, arith}
-use Rattle.std.specs.List.{Contains, slice_get, slice_set, slice_index_or, sum_by}
+use Rattle.std.proofs.Common.{◌≡◌, ◌≢◌, ◌⊎◌, inl, inr, ℕ, suc, ◌+◌, ◌<◌, ◌≤◌, Bool, true, false, cond, List, [], ◌∷◌, length, get_or, Some, eqb, refl, sym, ap, subst, ◌∙◌, arith}
+use Rattle.std.specs.List.{Contains, slice_get, slice_set, slice_index_or}
 use Rattle.std.proofs.lemmas.Bool.{cases_lt}
 use Rattle.std.proofs.lemmas.Option.{slice_get-get_or}
 use Rattle.std.proofs.lemmas.Bool.Decides.{eqb_tells}
@@ -15,7 +15,7 @@ use Rattle.ipdl_base.specs.declared.schema.TypeRow.TheVariants.{Struct, Union}
 use Rattle.ipdl_base.specs.Builtins.{is_carried}
 use Rattle.wait_report.specs.Sendable as sendable
 use Rattle.wait_report.specs.Sendable.{least_bytes, IsBuildable, is_top, HasValueWithin, using_type, null, actor, array, maybe, unique, struct, union, HaveValuesWithin, nothing, first}
-use Rattle.wait_report.specs.Least.{too_many, builtin_least, is_built, actor_least, least_of, sum_of, least_in, row_least, AreSound, IsClosedType, known, TypeLooked, TypesLooked}
+use Rattle.wait_report.specs.Least.{too_many, is_built, least_of, sum_of, least_in, row_least, AreSound, known, TypeLooked}
 
 -- A component of some, and a value of it.
 pub record HasComponent (schema : Schema) (top : ℕ) (components : List Shape) (bytes : ℕ) : Type 0 where

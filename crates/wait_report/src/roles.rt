@@ -32,9 +32,7 @@ fn may_wait(side: Side, row: &MessageRow) -> bool
     ensures { result ≡ may_wait side row.now }
 {
     match side {
-        Side::Parent => {
-            sends(Side::Parent, row.direction) && row.semantics == Semantics::Sync
-        }
+        Side::Parent => { sends(Side::Parent, row.direction) && row.semantics == Semantics::Sync }
         Side::Child => {
             sends(Side::Child, row.direction)
                 && row.semantics == Semantics::Sync
@@ -79,9 +77,7 @@ fn add_numbers(
     ensures { OnOk result (numbers.new.items ≡ numbers.old.items ++ listed.numbers_in known.now.types.items known.now.built.items role side rows.now) }
 {
     for row in rows {
-        if role.suits(side, row)
-            && can_send(row, known.types.as_slice(), known.built.as_slice())
-        {
+        if role.suits(side, row) && can_send(row, known.types.as_slice(), known.built.as_slice()) {
             numbers.push(row.number)?;
         }
     }
@@ -100,7 +96,13 @@ pub fn numbers_of(
 {
     let mut numbers = Vec::new(alloc);
     for protocol in protocols {
-        add_numbers(protocol.messages.as_slice(), known, role, side, &mut numbers)?;
+        add_numbers(
+            protocol.messages.as_slice(),
+            known,
+            role,
+            side,
+            &mut numbers,
+        )?;
     }
     Ok(numbers)
 }

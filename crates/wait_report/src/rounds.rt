@@ -37,7 +37,12 @@ pub fn look_at_types(schema: &Schema, types: &mut Vec<usize>, built: &[bool]) ->
 }
 
 /// Looks at a message: says whether it is now known that the protocol which it constructs can be built.
-fn look_at_message(schema: &Schema, row: &MessageRow, types: &[usize], built: &mut Vec<bool>) -> bool
+fn look_at_message(
+    schema: &Schema,
+    row: &MessageRow,
+    types: &[usize],
+    built: &mut Vec<bool>,
+) -> bool
     requires right { least.IsRightMessage schema.now built.old.items row.now }
     ensures { least.MessagesLooked schema.now types.now (λ seen. seen ≡ row.now) built.old.items built.new.items result }
 {
@@ -53,7 +58,12 @@ fn look_at_message(schema: &Schema, row: &MessageRow, types: &[usize], built: &m
 }
 
 /// Looks at the messages of a protocol: says whether more protocols are known to be built.
-fn look_at_messages(schema: &Schema, rows: &[MessageRow], types: &[usize], built: &mut Vec<bool>) -> bool
+fn look_at_messages(
+    schema: &Schema,
+    rows: &[MessageRow],
+    types: &[usize],
+    built: &mut Vec<bool>,
+) -> bool
     requires right { (row : _) → Contains rows.now row → least.IsRightMessage schema.now built.old.items row }
     ensures { least.MessagesLooked schema.now types.now (λ seen. Contains rows.now seen) built.old.items built.new.items result }
 {
@@ -67,7 +77,12 @@ fn look_at_messages(schema: &Schema, rows: &[MessageRow], types: &[usize], built
 }
 
 /// Looks at the messages of protocols: says whether more protocols are known to be built.
-pub fn look_at_protocols(schema: &Schema, protocols: &[ProtocolRow], types: &[usize], built: &mut Vec<bool>) -> bool
+pub fn look_at_protocols(
+    schema: &Schema,
+    protocols: &[ProtocolRow],
+    types: &[usize],
+    built: &mut Vec<bool>,
+) -> bool
     requires right { (row : _) → least.IsMessageOf protocols.now row → least.IsRightMessage schema.now built.old.items row }
     ensures { least.MessagesLooked schema.now types.now (λ seen. least.IsMessageOf protocols.now seen) built.old.items built.new.items result }
 {

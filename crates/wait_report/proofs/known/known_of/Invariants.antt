@@ -1,4 +1,4 @@
-use Rattle.std.proofs.Common.{◌≡◌, ◌+◌, Bool, true, length}
+use Rattle.std.proofs.Common.{◌≡◌, ◌+◌, true, length}
 use Rattle.wait_report.specs.Least as least
 use Rattle.wait_report.proofs.known.known_of.Given as goal
 

@@ -1,6 +1,3 @@
-use Rattle.std.proofs.Common.{◌≡◌, length, subst}
-use Rattle.std.specs.List.{slice_get}
-use Rattle.wait_report.specs.Least.{TypesLooked, MessagesLooked, IsMessageOf}
 use Rattle.wait_report.proofs.Looks.{around-same}
 use Rattle.wait_report.proofs.SchemaRows.{right-message}
 use Rattle.wait_report.proofs.known.look_around.Goals as goal

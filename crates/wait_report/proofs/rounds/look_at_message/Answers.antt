@@ -1,6 +1,6 @@
-use Rattle.std.proofs.Common.{◌≡◌, Bool, true, false, sym, ◌∙◌}
+use Rattle.std.proofs.Common.{◌≡◌, true, false, sym, ◌∙◌}
 use Rattle.wait_report.specs.Least.{is_built, can_send}
-use Rattle.wait_report.proofs.Looks.{message-built, message-known, message-other}
+use Rattle.wait_report.proofs.Looks.{message-built}
 use Rattle.wait_report.proofs.rounds.look_at_message.Goals as goal
 
 pub returns-then-can_send : goal.returns-then-can_send

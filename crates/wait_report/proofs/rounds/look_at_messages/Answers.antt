@@ -1,4 +1,4 @@
-use Rattle.std.proofs.Common.{◌≡◌, Bool, true, false, inl, inr, take, subst}
+use Rattle.std.proofs.Common.{inl, inr, subst}
 use Rattle.std.specs.List.{Contains}
 use Rattle.std.proofs.lemmas.List.{take_all}
 use Rattle.ipdl_base.specs.declared.schema.MessageRow.{MessageRow}

@@ -1,4 +1,4 @@
-use Rattle.std.proofs.Common.{◌≡◌, ◌⊎◌, ◌+◌, Bool, true, false, inl, inr, take, ap, subst, ◌∙◌}
+use Rattle.std.proofs.Common.{◌⊎◌, ◌+◌, inl, inr, take, subst}
 use Rattle.std.specs.List.{Contains}
 use Rattle.std.proofs.lemmas.List.{take_all}
 use Rattle.ipdl_base.specs.declared.schema.MessageRow.{MessageRow}
@@ -20,10 +20,10 @@ pub loop-protocol-preserved : goal.loop-protocol-preserved
 loop-protocol-preserved c =
     let protocol = c.protocol-item.result in
     let seen : (row : MessageRow) → IsMessageOf (take (c.loop-protocol.protocol-index + 1) c.args.protocols.now) row → IsMessageOf (take c.loop-protocol.protocol-index c.args.protocols.now) row ⊎ Contains c.as_slice.result.now row =
-        λ row of. elim (seen-more c.args.protocols.now c.loop-protocol.protocol-index protocol of.0 c.loop-protocol-test.true c.protocol-item.is of.1) [
-          | inl before ↦ inl (of.0, before, of.2)
-          | inr one ↦ inr (rw c.as_slice.ensures (subst (λ (p : ProtocolRow). Contains p.messages row) one of.2))
-        ] in
+    λ row of. elim (seen-more c.args.protocols.now c.loop-protocol.protocol-index protocol of.0 c.loop-protocol-test.true c.protocol-item.is of.1) [
+      | inl before ↦ inl (of.0, before, of.2)
+      | inr one ↦ inr (rw c.as_slice.ensures (subst (λ (p : ProtocolRow). Contains p.messages row) one of.2))
+    ] in
     messages-then c.args.schema.now c.args.types.now _ _ _ c.args.built.now.items c.loop-protocol.built.items c.look_at_messages.new.built.items c.loop-protocol.changed c.look_at_messages.result c.if-look_at_messages.changed c.loop-protocol.invariant c.look_at_messages.ensures
     seen
     (elim c.if-look_at_messages.branch [ then-look_at_messages w ↦ inl (w.if-look_at_messages.true, w.changed-is) | else-look_at_messages w ↦ inr (w.if-look_at_messages.false, w.changed-is) ])

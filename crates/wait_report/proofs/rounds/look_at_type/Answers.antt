@@ -1,6 +1,5 @@
 use Rattle.std.proofs.Common.{◌≡◌, ◌<◌, length, Some, arith}
 use Rattle.std.specs.List.{slice_get}
-use Rattle.wait_report.specs.Least.{row_least}
 use Rattle.wait_report.proofs.SoundValues.{lower-by, same-by, read-there}
 use Rattle.wait_report.proofs.rounds.look_at_type.Goals as goal
 

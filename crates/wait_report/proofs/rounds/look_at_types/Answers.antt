@@ -1,4 +1,4 @@
-use Rattle.wait_report.proofs.Looks.{types-none, types-changed, types-same}
+use Rattle.wait_report.proofs.Looks.{types-none}
 use Rattle.wait_report.proofs.rounds.look_at_types.Goals as goal
 
 pub loop-number-init : goal.loop-number-init
