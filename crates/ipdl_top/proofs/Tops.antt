@@ -35,7 +35,7 @@ use Rattle.ipdl_top.specs.Waits.{IsTop, bears_name}
 
 -- Places
 
-position-cons : {X : Type 0} (p : X → Bool) (x : X) (xs : List X) → position_or_len p (x ∷ xs) ≡ cond (p x) 0 (1 + position_or_len p xs)
+pub position-cons : {X : Type 0} (p : X → Bool) (x : X) (xs : List X) → position_or_len p (x ∷ xs) ≡ cond (p x) 0 (1 + position_or_len p xs)
 position-cons p x xs = elim (cases_Bool (p x)) [ inl t ↦ rw t refl | inr f ↦ rw f refl ]
 
 -- where one passes, the first that passes is there
