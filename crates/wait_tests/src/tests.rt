@@ -62,3 +62,42 @@ fn constructors(rt: HostRuntime) -> Result<(), Fail> {
     }
     Ok(())
 }
+
+/// A message of a chain of so many structs, of which each holds the next, told of from the first or from the last on.
+fn chain(alloc: Global, structs: u32, from_last: bool) -> Result<String, Fail> {
+    let mut text = String::from_str(alloc, "@ PS.ipdl\n")?;
+    for at in 0..structs {
+        let number = if from_last {
+            structs.wrapping_sub(at).wrapping_sub(1)
+        } else {
+            at
+        };
+        let next = number.wrapping_add(1);
+        if next == structs {
+            text.push_str(format!(in alloc; "struct S{number} {{ bool b; }};\n")?.as_str())?;
+        } else {
+            text.push_str(format!(in alloc; "struct S{number} {{ S{next} s; }};\n")?.as_str())?;
+        }
+    }
+    text.push_str(
+        "[NestedUpTo=inside_sync] sync protocol PS {\nparent: sync Ask();\nchild: [Nested=inside_sync] sync C(S0 s);\n};\n",
+    )?;
+    Ok(text)
+}
+
+#[test]
+fn chains(rt: HostRuntime) -> Result<(), Fail> {
+    let alloc = rt.alloc();
+    for (structs, from_last, lines) in [
+        (1023u32, false, "child waits PS.Ask takes PS.C\n"),
+        (1023, true, "child waits PS.Ask takes PS.C\n"),
+        (1024, false, ""),
+        (1024, true, ""),
+        (8000, false, ""),
+    ] {
+        let text = chain(alloc, structs, from_last)?;
+        let found = report(alloc, text.as_str(), "PS")?;
+        assert_eq!(rt; found.as_str(), lines, "{structs} structs");
+    }
+    Ok(())
+}
