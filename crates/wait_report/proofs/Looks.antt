@@ -1,7 +1,6 @@
 -- What a round has come to, one look after another.
 use Rattle.std.proofs.Common.{◌≡◌, ◌≢◌, ◌⊎◌, inl, inr, ℕ, zero, suc, ◌+◌, ◌<◌, ◌≤◌, Bool, true, false, ◌&&◌, if◌then◌else◌, nat_le, List, [], ◌∷◌, length, take, get_or, eqb, refl, sym, ap, subst, ◌∙◌, arith}
 use Rattle.std.specs.List.{Contains, slice_set, slice_index_or}
-use Rattle.std.proofs.lemmas.Bool.{cases_lt}
 use Rattle.std.proofs.lemmas.Bool.Decides.{eqb_tells, leb_tells}
 use Rattle.std.proofs.lemmas.List.{get_or-set_same, get_or-set_other, length-set, take_more}
 use Rattle.std.proofs.lemmas.List.Elements.{Contains-append_cases}
@@ -12,7 +11,7 @@ use Rattle.ipdl_base.specs.declared.schema.MessageRow.{MessageRow}
 use Rattle.ipdl_base.specs.declared.schema.Schema.{Schema}
 use Rattle.value_types.specs.Sizes.{made_size}
 use Rattle.wait_report.specs.Sendable.{home_of, IsMessage, IsBuildable, constructed, IsSendable, fits}
-use Rattle.wait_report.specs.Least.{too_many, is_built, sum_of, row_least, can_send, AreSound, IsClosedType, IsClosedMessage, IsRightMessage, IsMessageOf, unbuilt, TypeLooked, TypesLooked, MessagesLooked, LookedAround}
+use Rattle.wait_report.specs.Least.{too_many, is_built, sum_of, row_least, can_send, AreSound, IsClosedType, IsClosedMessage, IsRightMessage, IsMessageOf, unbuilt, TypesLooked, MessagesLooked, LookedAround}
 use Rattle.wait_report.proofs.SoundValues.{sound-fields}
 
 pub both-left : (a b : Bool) → a && b ≡ true → a ≡ true
@@ -30,26 +29,6 @@ at-most a b e = elim (leb_tells a b) [ inl yes_so ↦ yes_so.1 | inr not_so ↦ 
 
 pub types-none : (schema : Schema) (built : List Bool) (old : List ℕ) → TypesLooked schema built 0 old old false
 types-none schema built old = record { size = refl; sound = λ top h. h; lower = omega arith; less = λ e. cc; same = λ e. refl; closed = λ e t below. absurd (omega (arith, below)) }
-
-pub types-changed : (schema : Schema) (built : List Bool) (n : ℕ) (old mid new : List ℕ) (changed : Bool) → TypesLooked schema built n old mid changed → TypeLooked schema built n mid new true → TypesLooked schema built (n + 1) old new true
-types-changed schema built n old mid new changed a b =
-    let less = b.less refl in
-    record { size = b.size ∙ a.size; sound = λ top h. b.sound top (a.sound top h); lower = omega (arith, a.lower, b.lower); less = λ e. omega (arith, a.lower, less); same = λ e. cc; closed = λ e. cc }
-
-pub types-same : (schema : Schema) (built : List Bool) (n : ℕ) (old mid new : List ℕ) (changed : Bool) → TypesLooked schema built n old mid changed → TypeLooked schema built n mid new false → TypesLooked schema built (n + 1) old new changed
-types-same schema built n old mid new changed a b = record {
-  size = b.size ∙ a.size;
-  sound = λ top h. b.sound top (a.sound top h);
-  lower = omega (arith, a.lower, b.lower);
-  less = λ e. let less = a.less e in omega (arith, less, b.lower);
-  same = λ e. b.same refl ∙ a.same e;
-  closed = λ e t below. elim (cases_lt t n) [
-    | inl less ↦ a.closed e t less
-    | inr more ↦
-        let here : t ≡ n = omega (arith, below, more) in
-        subst (λ (k : ℕ). IsClosedType schema old built k) (sym here) (subst (λ (l : List ℕ). IsClosedType schema l built n) (a.same e) (b.closed refl))
-  ];
-}
 
 -- Messages
 
@@ -132,10 +111,6 @@ module _ (schema : Schema) (types : List ℕ) (old : List Bool) (row : MessageRo
 
       closed : (seen : MessageRow) → seen ≡ row → IsClosedMessage types old seen
       closed seen same = subst (IsClosedMessage types old) (sym same) at-row
-
--- another message constructs nothing
-pub message-other : (schema : Schema) (types : List ℕ) (old : List Bool) (row : MessageRow) → ((protocol : ℕ) → row.kind ≢ Constructor protocol) → MessagesLooked schema types (λ (seen : MessageRow). seen ≡ row) old old false
-message-other schema types old row none = messages-none schema types (λ (seen : MessageRow). seen ≡ row) old (λ seen same p is e. absurd (none p (ap (λ (r : MessageRow). r.kind) (sym same) ∙ is)))
 
 -- a message stays right where no fewer protocols are told of
 pub right-on : (schema : Schema) (old new : List Bool) (row : MessageRow) → length new ≡ length old → IsRightMessage schema old row → IsRightMessage schema new row

@@ -1,5 +1,5 @@
 -- What is known of least values is so, and stays so where a lesser one is found.
-use Rattle.std.proofs.Common.{◌≡◌, ◌≢◌, ◌⊎◌, inl, inr, ℕ, suc, ◌+◌, ◌<◌, ◌≤◌, Bool, true, false, cond, List, [], ◌∷◌, length, get_or, Some, eqb, refl, sym, ap, subst, ◌∙◌, arith}
+use Rattle.std.proofs.Common.{◌≡◌, ◌≢◌, ◌⊎◌, inl, inr, ℕ, suc, ◌+◌, ◌<◌, ◌≤◌, min, Bool, true, false, cond, List, [], ◌∷◌, length, get_or, Some, eqb, refl, sym, ap, subst, ◌∙◌, arith}
 use Rattle.std.specs.List.{Contains, slice_get, slice_set, slice_index_or}
 use Rattle.std.proofs.lemmas.Bool.{cases_lt}
 use Rattle.std.proofs.lemmas.Option.{slice_get-get_or}
@@ -7,6 +7,7 @@ use Rattle.std.proofs.lemmas.Bool.Decides.{eqb_tells}
 use Rattle.std.proofs.lemmas.List.{get_or-set_same, get_or-set_other, get_or_default, length-set, get_or-replicate, length-replicate}
 use Rattle.std.proofs.Math.ListN.{replicate, get_or-eq_default}
 use Rattle.std.proofs.lemmas.List.Sums.{sum_by-set}
+use Rattle.ipdl_base.specs.declared.schema.MessageRow.{MessageRow}
 use Rattle.ipdl_base.specs.declared.schema.ParamRow.{ParamRow}
 use Rattle.ipdl_base.specs.declared.schema.Schema.{Schema}
 use Rattle.ipdl_base.specs.declared.schema.Shape.{Shape, Builtin, Using, Actor, Named, Array', Maybe', Unique', Endpoint}
@@ -15,7 +16,7 @@ use Rattle.ipdl_base.specs.declared.schema.TypeRow.TheVariants.{Struct, Union}
 use Rattle.ipdl_base.specs.Builtins.{is_carried}
 use Rattle.wait_report.specs.Sendable as sendable
 use Rattle.wait_report.specs.Sendable.{least_bytes, IsBuildable, is_top, HasValueWithin, using_type, null, actor, array, maybe, unique, struct, union, HaveValuesWithin, nothing, first}
-use Rattle.wait_report.specs.Least.{too_many, is_built, least_of, sum_of, least_in, row_least, AreSound, known, TypeLooked}
+use Rattle.wait_report.specs.Least.{too_many, is_built, least_of, sum_of, least_in, row_least, AreSound, known, TypeLooked, MessagesLooked, Spreads}
 
 -- A component of some, and a value of it.
 pub record HasComponent (schema : Schema) (top : ℕ) (components : List Shape) (bytes : ℕ) : Type 0 where
@@ -67,6 +68,22 @@ module _ (schema : Schema) (top : ℕ) (types : List ℕ) (built : List Bool) (h
       let found = sound-in components (omega (arith, few)) in
       union name components found.component (least_in types built components) is found.there found.value (omega (arith, few))
 
+-- A lesser value of a type is found
+
+pub gain-sound : (schema : Schema) (built : List Bool) (t : ℕ) (old : List ℕ) (bytes : ℕ) → t < length old → (top : ℕ) → AreSound schema top old built → (bytes ≤ 4096 → HasValueWithin schema top (Named t) bytes) → AreSound schema top (slice_set old t bytes) built
+gain-sound schema built t old bytes within top h value = record { values = values; protocols = h.protocols }
+  where
+    values : (k : ℕ) → slice_index_or (slice_set old t bytes) k too_many ≤ 4096 → HasValueWithin schema top (Named k) (slice_index_or (slice_set old t bytes) k too_many)
+    values k few = go (eqb_tells k t)
+      where
+        go : ((eqb k t ≡ true) × (k ≡ t)) ⊎ ((eqb k t ≡ false) × (k ≢ t)) → HasValueWithin schema top (Named k) (slice_index_or (slice_set old t bytes) k too_many)
+        go (inl e) =
+            let here : slice_index_or (slice_set old t bytes) k too_many ≡ bytes = ap (λ (n : ℕ). slice_index_or (slice_set old t bytes) n too_many) e.1 ∙ get_or-set_same old t bytes too_many within in
+            subst (HasValueWithin schema top (Named k)) (sym here) (subst (λ (n : ℕ). HasValueWithin schema top (Named n) bytes) (sym e.1) (value (subst (λ (n : ℕ). n ≤ 4096) here few)))
+        go (inr ne) =
+            let there : slice_index_or (slice_set old t bytes) k too_many ≡ slice_index_or old k too_many = get_or-set_other old t k bytes too_many ne.1 in
+            subst (HasValueWithin schema top (Named k)) (sym there) (h.values k (subst (λ (n : ℕ). n ≤ 4096) there few))
+
 -- A type is looked at
 
 module _ (schema : Schema) (built : List Bool) (t : ℕ) (old : List ℕ) (row : TypeRow) (is : slice_get schema.types t ≡ Some row) (within : t < length old) where
@@ -74,18 +91,7 @@ module _ (schema : Schema) (built : List Bool) (t : ℕ) (old : List ℕ) (row :
   next = slice_set old t (row_least old built row)
 
   lower-sound : (top : ℕ) → AreSound schema top old built → AreSound schema top (slice_set old t (row_least old built row)) built
-  lower-sound top h = record { values = values; protocols = h.protocols }
-    where
-      values : (k : ℕ) → slice_index_or (slice_set old t (row_least old built row)) k too_many ≤ 4096 → HasValueWithin schema top (Named k) (slice_index_or (slice_set old t (row_least old built row)) k too_many)
-      values k few = go (eqb_tells k t)
-        where
-          go : ((eqb k t ≡ true) × (k ≡ t)) ⊎ ((eqb k t ≡ false) × (k ≢ t)) → HasValueWithin schema top (Named k) (slice_index_or (slice_set old t (row_least old built row)) k too_many)
-          go (inl e) =
-              let here : slice_index_or (slice_set old t (row_least old built row)) k too_many ≡ row_least old built row = ap (λ (n : ℕ). slice_index_or (slice_set old t (row_least old built row)) n too_many) e.1 ∙ get_or-set_same old t (row_least old built row) too_many within in
-              subst (HasValueWithin schema top (Named k)) (sym here) (subst (λ (n : ℕ). HasValueWithin schema top (Named n) (row_least old built row)) (sym e.1) (sound-row schema top old built h t row is (subst (λ (n : ℕ). n ≤ 4096) here few)))
-          go (inr ne) =
-              let there : slice_index_or (slice_set old t (row_least old built row)) k too_many ≡ slice_index_or old k too_many = get_or-set_other old t k (row_least old built row) too_many ne.1 in
-              subst (HasValueWithin schema top (Named k)) (sym there) (h.values k (subst (λ (n : ℕ). n ≤ 4096) there few))
+  lower-sound top h = gain-sound schema built t old (row_least old built row) within top h (λ few. sound-row schema top old built h t row is few)
 
   looked-lower : row_least old built row < slice_index_or old t too_many → TypeLooked schema built t old (slice_set old t (row_least old built row)) true
   looked-lower less =
@@ -147,3 +153,27 @@ first-sound schema top n m types built none nobody = record { values = values; p
             let dead : is_built (slice_set built top true) protocol ≡ false = get_or-set_other built top protocol true false other.1 ∙ (ap (λ (l : List Bool). is_built l protocol) nobody ∙ all-same m protocol false) in
             let both : true ≡ false = sym live ∙ dead in
             cc
+
+-- Looks, one after another
+
+pub spreads-none : (schema : Schema) (types : List ℕ) (built : List Bool) → Spreads schema types built types built
+spreads-none schema types built = record { size = refl; count = refl; sound = λ top h. h; kept = λ p h. h }
+
+pub spreads-then : (schema : Schema) (types : List ℕ) (built : List Bool) (mid : List ℕ) (among : List Bool) (types_after : List ℕ) (built_after : List Bool) → Spreads schema types built mid among → Spreads schema mid among types_after built_after → Spreads schema types built types_after built_after
+spreads-then schema types built mid among types_after built_after a b = record { size = b.size ∙ a.size; count = b.count ∙ a.count; sound = λ top h. b.sound top (a.sound top h); kept = λ p h. b.kept p (a.kept p h) }
+
+pub type-spreads : (schema : Schema) (built : List Bool) (t : ℕ) (old new : List ℕ) (changed : Bool) → TypeLooked schema built t old new changed → Spreads schema old built new built
+type-spreads schema built t old new changed a = record { size = a.size; count = refl; sound = a.sound; kept = λ p h. h }
+
+pub message-spreads : (schema : Schema) (types : List ℕ) (Seen : MessageRow → Type 0) (old new : List Bool) (changed : Bool) → MessagesLooked schema types Seen old new changed → Spreads schema types old types new
+message-spreads schema types Seen old new changed a = record { size = refl; count = a.size; sound = a.sound; kept = a.kept }
+
+-- a union is looked at through one component
+pub component-spreads : (schema : Schema) (built : List Bool) (t : ℕ) (old : List ℕ) (name : List ℕ) (components : List Shape) (component : Shape) (bytes : ℕ) → slice_get schema.types t ≡ Some (Union name components) → Contains components component → t < length old
+    → bytes ≡ min too_many (4 + least_of old built component) → Spreads schema old built (slice_set old t bytes) built
+component-spreads schema built t old name components component bytes is there within e = record {
+  size = length-set old t bytes;
+  count = refl;
+  sound = λ top h. gain-sound schema built t old bytes within top h (λ few. union name components component (least_of old built component) is there (sound-shape schema top old built h component (omega (arith, e, few))) (omega (arith, e, few)));
+  kept = λ p h. h;
+}

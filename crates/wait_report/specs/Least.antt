@@ -1,4 +1,4 @@
--- The least values of types as they are found, in rounds: what the code knows on its way.
+-- The least values of types as they are found, one look after another: what the code knows on its way.
 use Rattle.std.specs.Prelude.{◌≡◌, ℕ, ◌+◌, ◌<◌, ◌≤◌, nat_le, min, Bool, true, false, ◌&&◌, if◌then◌else◌, List, [], ◌∷◌, length, slice_get, Some}
 use Rattle.std.specs.List.{Contains, slice_index_or, sum_by}
 use Rattle.ipdl_base.specs.declared.builtin.Builtin.{Builtin as BuiltinType}
@@ -116,6 +116,13 @@ pub record MessagesLooked (schema : Schema) (types : List ℕ) (Seen : MessageRo
   pub less : changed ≡ true → unbuilt new < unbuilt old
   pub same : changed ≡ false → new ≡ old
   pub closed : changed ≡ false → (row : MessageRow) → Seen row → IsClosedMessage types old row
+
+-- Some looks, in any order: what is known is so where it was.
+pub record Spreads (schema : Schema) (types : List ℕ) (built : List Bool) (types_after : List ℕ) (built_after : List Bool) : Type 0 where
+  pub size : length types_after ≡ length types
+  pub count : length built_after ≡ length built
+  pub sound : (top : ℕ) → AreSound schema top types built → AreSound schema top types_after built_after
+  pub kept : (protocol : ℕ) → is_built built protocol ≡ true → is_built built_after protocol ≡ true
 
 -- All is known: nothing changes any more.
 pub record AreClosed (schema : Schema) (top : ℕ) (types : List ℕ) (built : List Bool) : Type 0 where

@@ -33,7 +33,7 @@ pub fn is_built(built: &[bool], protocol: u32) -> bool
 }
 
 /// The bytes of the least value of a type that is known.
-fn least_of(shape: &Shape, types: &[usize], built: &[bool]) -> usize
+pub fn least_of(shape: &Shape, types: &[usize], built: &[bool]) -> usize
     ensures { result ≡ least.least_of types.now built.now shape.now }
 {
     match shape {
@@ -60,6 +60,9 @@ fn sum_of(fields: &[ParamRow], types: &[usize], built: &[bool]) -> usize
 {
     let mut bytes: usize = 0;
     for field in fields {
+        if bytes == TOO_MANY {
+            return TOO_MANY;
+        }
         bytes = bytes
             .saturating_add(least_of(&field.shape, types, built))
             .min(TOO_MANY);

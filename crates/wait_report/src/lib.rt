@@ -8,6 +8,7 @@ mod pair;
 mod report;
 mod roles;
 mod rounds;
+mod spread;
 
 pub use pair::{Pair, Pairs};
 pub use report::pairs;

@@ -60,8 +60,8 @@ fn add_side(
 }
 
 /// For each sync message the messages that may be handled while its sender waits, where `top` is the top protocol: each pair
-/// once, by side, then by the message that is waited for, then by the other. Takes time in proportion to the pairs and, for
-/// each round in which more is found of what can be sent, to the schema. The only error is want of memory.
+/// once, by side, then by the message that is waited for, then by the other. Takes time in proportion to the schema and the
+/// pairs. The only error is want of memory.
 pub fn pairs(alloc: Global, schema: &Schema, top: u32) -> Result<Pairs, AllocError>
     requires sound { IsSound schema.now }
     requires there { top < length schema.now.protocols }

@@ -8,7 +8,7 @@ use ipdl_base::{Kind, MessageRow, ProtocolRow, Schema};
 use std::alloc::{AllocError, Global};
 
 /// Looks at a struct or a union: says whether a lesser value of it is known than before.
-fn look_at_type(schema: &Schema, number: usize, types: &mut Vec<usize>, built: &[bool]) -> bool
+pub fn look_at_type(schema: &Schema, number: usize, types: &mut Vec<usize>, built: &[bool]) -> bool
     requires there { number < length schema.now.types }
     requires size { length types.old.items ≡ length schema.now.types }
     ensures { least.TypeLooked schema.now built.now number types.old.items types.new.items result }
@@ -37,7 +37,7 @@ pub fn look_at_types(schema: &Schema, types: &mut Vec<usize>, built: &[bool]) ->
 }
 
 /// Looks at a message: says whether it is now known that the protocol which it constructs can be built.
-fn look_at_message(
+pub fn look_at_message(
     schema: &Schema,
     row: &MessageRow,
     types: &[usize],
