@@ -1,5 +1,5 @@
 -- The report of what may interrupt a wait does not look at where the boxes of a schema lie, and there is one.
-use Rattle.std.proofs.Common.{◌≡◌, ◌∙◌, ℕ, ◌+◌, ◌≤◌, Bool, List, [], ◌∷◌, map, Option, Some, None, slice_get, refl, sym, ap, subst, Less}
+use Rattle.std.proofs.Common.{◌≡◌, ◌∙◌, ℕ, ◌+◌, ◌≤◌, Bool, true, List, [], ◌∷◌, map, Option, Some, None, slice_get, refl, sym, ap, subst, Less}
 use Rattle.std.specs.Prelude.{option_map, IsTrue}
 use Rattle.std.specs.Cmp.{IsTotalOrder}
 use Rattle.std.specs.List.{Contains}
@@ -22,10 +22,7 @@ use Rattle.program_schema.proofs.Lists.{in_place, place_in, same_ordered}
 use Rattle.wait_report.specs.declared.pair.Pair.{Pair}
 use Rattle.wait_report.specs.Pairs.{IsInterruption, IsReport, IsSendableOne, may_interrupt, may_wait, pair_cmp, side_rank}
 use Rattle.wait_report.specs.Sendable.{HasValueWithin, HaveValuesWithin, IsBuildable, IsMessage, IsSendable, home_of}
-use Rattle.wait_report.specs.Sendable.HasValueWithin as value
-use Rattle.wait_report.specs.Sendable.HaveValuesWithin as values
-use Rattle.wait_report.specs.Sendable.IsBuildable as buildable
-use Rattle.wait_report.specs.Sendable.IsSendable as sendable
+use Rattle.wait_report.specs.Sendable as send
 use Rattle.value_types.specs.Sizes.{made_size}
 use Rattle.history.specs.Text.{message_text}
 use Rattle.answer_laws.specs.Waits.{OneWaitReport, WaitsAlike}
@@ -48,27 +45,27 @@ component_there components component among =
 module _ (s : Schema) (top : ℕ) where
   mutual
     built_there : {protocol : ℕ} → IsBuildable s top protocol → IsBuildable (plain_schema s) top protocol
-    built_there buildable.is_top = buildable.is_top
-    built_there (buildable.constructed row sent kind) = buildable.constructed (plain_message_row row) (sent_there sent) kind
+    built_there send.is_top = send.is_top
+    built_there (send.constructed row sent kind) = send.constructed (plain_message_row row) (sent_there sent) kind
 
     sent_there : {row : MessageRow} → IsSendable s top row → IsSendable (plain_schema s) top (plain_message_row row)
-    sent_there {row} (sendable.fits bytes is carried home params small) = sendable.fits bytes (message_there s row is) carried (built_there home) (values_there params) small
+    sent_there {row} (send.fits bytes is carried home params small) = send.fits bytes (message_there s row is) carried (built_there home) (values_there params) small
 
     value_there : {shape : Shape} {bytes : ℕ} → HasValueWithin s top shape bytes → HasValueWithin (plain_schema s) top (plain_shape shape) bytes
-    value_there (value.builtin carried least) = value.builtin carried least
-    value_there (value.using_type least) = value.using_type least
-    value_there (value.null least) = value.null least
-    value_there (value.actor built least) = value.actor (built_there built) least
-    value_there (value.array least) = value.array least
-    value_there (value.maybe least) = value.maybe least
-    value_there (value.unique least) = value.unique least
-    value_there (value.struct {t} name fields inside at are least) = value.struct name (map plain_param_row fields) inside (type_there s t (Struct name fields) at) (values_there are) least
-    value_there (value.union {t} name components component inside at among is least) =
-        value.union name (map plain_shape components) (plain_shape component) inside (type_there s t (Union name components) at) (component_there components component among) (value_there is) least
+    value_there (send.builtin carried least) = send.builtin carried least
+    value_there (send.using_type least) = send.using_type least
+    value_there (send.null least) = send.null least
+    value_there (send.actor built least) = send.actor (built_there built) least
+    value_there (send.array least) = send.array least
+    value_there (send.maybe least) = send.maybe least
+    value_there (send.unique least) = send.unique least
+    value_there (send.struct {t} name fields inside at are least) = send.struct name (map plain_param_row fields) inside (type_there s t (Struct name fields) at) (values_there are) least
+    value_there (send.union {t} name components component inside at among is least) =
+        send.union name (map plain_shape components) (plain_shape component) inside (type_there s t (Union name components) at) (component_there components component among) (value_there is) least
 
     values_there : {fields : List ParamRow} {bytes : ℕ} → HaveValuesWithin s top fields bytes → HaveValuesWithin (plain_schema s) top (map plain_param_row fields) bytes
-    values_there values.nothing = values.nothing
-    values_there (values.first here others is are least) = values.first here others (value_there is) (values_there are) least
+    values_there send.nothing = send.nothing
+    values_there (send.first here others is are least) = send.first here others (value_there is) (values_there are) least
 
 -- And back
 
@@ -103,6 +100,78 @@ component_back components other among =
     shape_back None other e = absurd (let no : ⊥ = cc in no)
     shape_back (Some shape) other e = (shape, refl, let same : plain_shape shape ≡ other = cc in same)
 
+-- Types under their plain ones
+
+builtin_back : (shape : Shape) (b : _) → plain_shape shape ≡ Builtin b → shape ≡ Builtin b
+builtin_back (Builtin b') b e = e
+builtin_back (Using name') b e = absurd (let no : ⊥ = cc in no)
+builtin_back (Actor p' nullable') b e = absurd (let no : ⊥ = cc in no)
+builtin_back (Named t') b e = absurd (let no : ⊥ = cc in no)
+builtin_back (Array' at' element') b e = absurd (let no : ⊥ = cc in no)
+builtin_back (Maybe' at' held') b e = absurd (let no : ⊥ = cc in no)
+builtin_back (Unique' at' held') b e = absurd (let no : ⊥ = cc in no)
+builtin_back (Endpoint p' managed') b e = absurd (let no : ⊥ = cc in no)
+
+using_back : (shape : Shape) (name : _) → plain_shape shape ≡ Using name → shape ≡ Using name
+using_back (Builtin b') name e = absurd (let no : ⊥ = cc in no)
+using_back (Using name') name e = e
+using_back (Actor p' nullable') name e = absurd (let no : ⊥ = cc in no)
+using_back (Named t') name e = absurd (let no : ⊥ = cc in no)
+using_back (Array' at' element') name e = absurd (let no : ⊥ = cc in no)
+using_back (Maybe' at' held') name e = absurd (let no : ⊥ = cc in no)
+using_back (Unique' at' held') name e = absurd (let no : ⊥ = cc in no)
+using_back (Endpoint p' managed') name e = absurd (let no : ⊥ = cc in no)
+
+actor_back : (shape : Shape) (p : ℕ) (nullable : _) → plain_shape shape ≡ Actor p nullable → shape ≡ Actor p nullable
+actor_back (Builtin b') p nullable e = absurd (let no : ⊥ = cc in no)
+actor_back (Using name') p nullable e = absurd (let no : ⊥ = cc in no)
+actor_back (Actor p' nullable') p nullable e = e
+actor_back (Named t') p nullable e = absurd (let no : ⊥ = cc in no)
+actor_back (Array' at' element') p nullable e = absurd (let no : ⊥ = cc in no)
+actor_back (Maybe' at' held') p nullable e = absurd (let no : ⊥ = cc in no)
+actor_back (Unique' at' held') p nullable e = absurd (let no : ⊥ = cc in no)
+actor_back (Endpoint p' managed') p nullable e = absurd (let no : ⊥ = cc in no)
+
+named_back : (shape : Shape) (t : ℕ) → plain_shape shape ≡ Named t → shape ≡ Named t
+named_back (Builtin b') t e = absurd (let no : ⊥ = cc in no)
+named_back (Using name') t e = absurd (let no : ⊥ = cc in no)
+named_back (Actor p' nullable') t e = absurd (let no : ⊥ = cc in no)
+named_back (Named t') t e = e
+named_back (Array' at' element') t e = absurd (let no : ⊥ = cc in no)
+named_back (Maybe' at' held') t e = absurd (let no : ⊥ = cc in no)
+named_back (Unique' at' held') t e = absurd (let no : ⊥ = cc in no)
+named_back (Endpoint p' managed') t e = absurd (let no : ⊥ = cc in no)
+
+array_back : (shape : Shape) (at : _) (element : Shape) → plain_shape shape ≡ Array' at element → (at' : _) × (element' : Shape) × (shape ≡ Array' at' element')
+array_back (Builtin b') at element e = absurd (let no : ⊥ = cc in no)
+array_back (Using name') at element e = absurd (let no : ⊥ = cc in no)
+array_back (Actor p' nullable') at element e = absurd (let no : ⊥ = cc in no)
+array_back (Named t') at element e = absurd (let no : ⊥ = cc in no)
+array_back (Array' at' element') at element e = (at', element', refl)
+array_back (Maybe' at' held') at element e = absurd (let no : ⊥ = cc in no)
+array_back (Unique' at' held') at element e = absurd (let no : ⊥ = cc in no)
+array_back (Endpoint p' managed') at element e = absurd (let no : ⊥ = cc in no)
+
+maybe_back : (shape : Shape) (at : _) (held : Shape) → plain_shape shape ≡ Maybe' at held → (at' : _) × (held' : Shape) × (shape ≡ Maybe' at' held')
+maybe_back (Builtin b') at held e = absurd (let no : ⊥ = cc in no)
+maybe_back (Using name') at held e = absurd (let no : ⊥ = cc in no)
+maybe_back (Actor p' nullable') at held e = absurd (let no : ⊥ = cc in no)
+maybe_back (Named t') at held e = absurd (let no : ⊥ = cc in no)
+maybe_back (Array' at' element') at held e = absurd (let no : ⊥ = cc in no)
+maybe_back (Maybe' at' held') at held e = (at', held', refl)
+maybe_back (Unique' at' held') at held e = absurd (let no : ⊥ = cc in no)
+maybe_back (Endpoint p' managed') at held e = absurd (let no : ⊥ = cc in no)
+
+unique_back : (shape : Shape) (at : _) (held : Shape) → plain_shape shape ≡ Unique' at held → (at' : _) × (held' : Shape) × (shape ≡ Unique' at' held')
+unique_back (Builtin b') at held e = absurd (let no : ⊥ = cc in no)
+unique_back (Using name') at held e = absurd (let no : ⊥ = cc in no)
+unique_back (Actor p' nullable') at held e = absurd (let no : ⊥ = cc in no)
+unique_back (Named t') at held e = absurd (let no : ⊥ = cc in no)
+unique_back (Array' at' element') at held e = absurd (let no : ⊥ = cc in no)
+unique_back (Maybe' at' held') at held e = absurd (let no : ⊥ = cc in no)
+unique_back (Unique' at' held') at held e = (at', held', refl)
+unique_back (Endpoint p' managed') at held e = absurd (let no : ⊥ = cc in no)
+
 -- A message under its plain one that can be sent.
 record IsSentUnder (s : Schema) (top : ℕ) (other : MessageRow) : Type 0 where
   pub row : MessageRow
@@ -112,42 +181,46 @@ record IsSentUnder (s : Schema) (top : ℕ) (other : MessageRow) : Type 0 where
 module _ (s : Schema) (top : ℕ) where
   mutual
     built_back : {protocol : ℕ} → IsBuildable (plain_schema s) top protocol → IsBuildable s top protocol
-    built_back buildable.is_top = buildable.is_top
-    built_back (buildable.constructed {protocol} other sent kind) =
+    built_back send.is_top = send.is_top
+    built_back (send.constructed {protocol = protocol} other sent kind) =
         let under = sent_back sent in
-        buildable.constructed under.row under.sent (subst (λ (r : MessageRow). r.kind ≡ Constructor protocol) (sym under.plain) kind)
+        send.constructed under.row under.sent (subst (λ (r : MessageRow). r.kind ≡ Constructor protocol) (sym under.plain) kind)
 
     sent_back : {other : MessageRow} → IsSendable (plain_schema s) top other → IsSentUnder s top other
-    sent_back {other} (sendable.fits bytes is carried home params small) =
+    sent_back {other} (send.fits bytes is carried home params small) =
         let found = message_back (message_of s other.number) other (sym (message_alike s other.number) ∙ is) in
         record {
           row = found.0;
           plain = found.2;
-          sent = sendable.fits bytes (subst (λ n. message_of s n ≡ Some found.0) (sym (ap (λ (r : MessageRow). r.number) found.2)) found.1)
+          sent = send.fits bytes (subst (λ n. message_of s n ≡ Some found.0) (sym (ap (λ (r : MessageRow). r.number) found.2)) found.1)
               (subst (λ (r : MessageRow). IsTrue r.carried) (sym found.2) carried) (subst (λ (r : MessageRow). IsBuildable s top (home_of r)) (sym found.2) (built_back home))
-              (values_back found.0.params (subst (λ (r : MessageRow). HaveValuesWithin (plain_schema s) top r.params bytes) (sym found.2) params))
-              (subst (λ (r : MessageRow). made_size r.kind + bytes ≤ 4096) (sym found.2) small);
+              (values_back params found.0.params (ap (λ (r : MessageRow). r.params) found.2)) (subst (λ (r : MessageRow). made_size r.kind + bytes ≤ 4096) (sym found.2) small);
         }
 
-    value_back : (shape : Shape) {bytes : ℕ} → HasValueWithin (plain_schema s) top (plain_shape shape) bytes → HasValueWithin s top shape bytes
-    value_back (Builtin b) (value.builtin carried least) = value.builtin carried least
-    value_back (Using name) (value.using_type least) = value.using_type least
-    value_back (Actor p nullable) (value.null least) = value.null least
-    value_back (Actor p nullable) (value.actor built least) = value.actor (built_back built) least
-    value_back (Array' _ element) (value.array least) = value.array least
-    value_back (Maybe' _ held) (value.maybe least) = value.maybe least
-    value_back (Unique' _ held) (value.unique least) = value.unique least
-    value_back (Named t) (value.struct name others inside at are least) =
+    value_back : {other : Shape} {bytes : ℕ} → HasValueWithin (plain_schema s) top other bytes → (shape : Shape) → plain_shape shape ≡ other → HasValueWithin s top shape bytes
+    value_back {other} {bytes} (send.builtin {b = b} carried least) shape e = subst (λ (x : Shape). HasValueWithin s top x bytes) (sym (builtin_back shape b e)) (send.builtin carried least)
+    value_back {other} {bytes} (send.using_type {name = name} least) shape e = subst (λ (x : Shape). HasValueWithin s top x bytes) (sym (using_back shape name e)) (send.using_type least)
+    value_back {other} {bytes} (send.null {protocol = p} least) shape e = subst (λ (x : Shape). HasValueWithin s top x bytes) (sym (actor_back shape p true e)) (send.null least)
+    value_back {other} {bytes} (send.actor {protocol = p} {nullable = nullable} built least) shape e = subst (λ (x : Shape). HasValueWithin s top x bytes) (sym (actor_back shape p nullable e)) (send.actor (built_back built) least)
+    value_back {other} {bytes} (send.array {at = at} {element = element} least) shape e = subst (λ (x : Shape). HasValueWithin s top x bytes) (sym (array_back shape at element e).2) (send.array least)
+    value_back {other} {bytes} (send.maybe {at = at} {held = held} least) shape e = subst (λ (x : Shape). HasValueWithin s top x bytes) (sym (maybe_back shape at held e).2) (send.maybe least)
+    value_back {other} {bytes} (send.unique {at = at} {held = held} least) shape e = subst (λ (x : Shape). HasValueWithin s top x bytes) (sym (unique_back shape at held e).2) (send.unique least)
+    value_back {other} {bytes} (send.struct {t = t} name others inside at are least) shape e =
         let found = struct_back (slice_get s.types t) name others (sym (type_alike s t) ∙ at) in
-        value.struct name found.0 inside found.1 (values_back found.0 (subst (λ (fs : List ParamRow). HaveValuesWithin (plain_schema s) top fs inside) (sym found.2) are)) least
-    value_back (Named t) (value.union name others other inside at among is least) =
+        subst (λ (x : Shape). HasValueWithin s top x bytes) (sym (named_back shape t e)) (send.struct name found.0 inside found.1 (values_back are found.0 found.2) least)
+    value_back {other} {bytes} (send.union {t = t} name others component inside at among is least) shape e =
         let found = union_back (slice_get s.types t) name others (sym (type_alike s t) ∙ at) in
-        let component = component_back found.0 other (subst (λ (cs : List Shape). Contains cs other) (sym found.2) among) in
-        value.union name found.0 component.0 inside found.1 component.1 (value_back component.0 (subst (λ (c : Shape). HasValueWithin (plain_schema s) top c inside) (sym component.2) is)) least
+        let own = component_back found.0 component (subst (λ (cs : List Shape). Contains cs component) (sym found.2) among) in
+        subst (λ (x : Shape). HasValueWithin s top x bytes) (sym (named_back shape t e)) (send.union name found.0 own.0 inside found.1 own.1 (value_back is own.0 own.2) least)
 
-    values_back : (fields : List ParamRow) {bytes : ℕ} → HaveValuesWithin (plain_schema s) top (map plain_param_row fields) bytes → HaveValuesWithin s top fields bytes
-    values_back [] values.nothing = values.nothing
-    values_back (field ∷ fields) (values.first here others is are least) = values.first here others (value_back field.shape is) (values_back fields are) least
+    values_back : {others : List ParamRow} {bytes : ℕ} → HaveValuesWithin (plain_schema s) top others bytes → (fields : List ParamRow) → map plain_param_row fields ≡ others → HaveValuesWithin s top fields bytes
+    values_back send.nothing [] e = send.nothing
+    values_back send.nothing (field ∷ fields) e = absurd (let no : ⊥ = cc in no)
+    values_back (send.first here rest is are least) [] e = absurd (let no : ⊥ = cc in no)
+    values_back (send.first {field = other} {fields = others} here rest is are least) (field ∷ fields) e =
+        let head : plain_param_row field ≡ other = cc in
+        let tail : map plain_param_row fields ≡ others = cc in
+        send.first here rest (value_back is field.shape (ap (λ (r : ParamRow). r.shape) head)) (values_back are fields tail) least
 
 -- Interruptions
 
