@@ -11,7 +11,7 @@ use Rattle.ipdl_base.specs.declared.schema.MessageRow.{MessageRow}
 use Rattle.ipdl_base.specs.declared.schema.Schema.{Schema}
 use Rattle.value_types.specs.Sizes.{made_size}
 use Rattle.wait_report.specs.Sendable.{home_of, IsMessage, IsBuildable, constructed, IsSendable, fits}
-use Rattle.wait_report.specs.Least.{too_many, is_built, sum_of, row_least, can_send, AreSound, IsClosedType, IsClosedMessage, IsRightMessage, IsMessageOf, unbuilt, TypesLooked, MessagesLooked, LookedAround}
+use Rattle.wait_report.specs.Least.{too_many, is_built, sum_of, row_least, can_send, AreSound, IsClosedType, IsClosedMessage, IsRightMessage, IsMessageOf, unbuilt, TypesLook, MessagesLook, RoundLook}
 use Rattle.wait_report.proofs.SoundValues.{sound-fields}
 
 pub both-left : (a b : Bool) → a && b ≡ true → a ≡ true
@@ -27,20 +27,20 @@ at-most a b e = elim (leb_tells a b) [ inl yes_so ↦ yes_so.1 | inr not_so ↦ 
 
 -- Types
 
-pub types-none : (schema : Schema) (built : List Bool) (old : List ℕ) → TypesLooked schema built 0 old old false
+pub types-none : (schema : Schema) (built : List Bool) (old : List ℕ) → TypesLook schema built 0 old old false
 types-none schema built old = record { size = refl; sound = λ top h. h; lower = omega arith; less = λ e. cc; same = λ e. refl; closed = λ e t below. absurd (omega (arith, below)) }
 
 -- Messages
 
-pub messages-none : (schema : Schema) (types : List ℕ) (Seen : MessageRow → Type 0) (old : List Bool) → ((row : MessageRow) → Seen row → IsClosedMessage types old row) → MessagesLooked schema types Seen old old false
+pub messages-none : (schema : Schema) (types : List ℕ) (Seen : MessageRow → Type 0) (old : List Bool) → ((row : MessageRow) → Seen row → IsClosedMessage types old row) → MessagesLook schema types Seen old old false
 messages-none schema types Seen old closed = record { size = refl; sound = λ top h. h; kept = λ p h. h; lower = omega arith; less = λ e. cc; same = λ e. refl; closed = λ e. closed }
 
-pub messages-changed : (schema : Schema) (types : List ℕ) (First Then Seen : MessageRow → Type 0) (old mid new : List Bool) (changed : Bool) → MessagesLooked schema types First old mid changed → MessagesLooked schema types Then mid new true → MessagesLooked schema types Seen old new true
+pub messages-changed : (schema : Schema) (types : List ℕ) (First Then Seen : MessageRow → Type 0) (old mid new : List Bool) (changed : Bool) → MessagesLook schema types First old mid changed → MessagesLook schema types Then mid new true → MessagesLook schema types Seen old new true
 messages-changed schema types First Then Seen old mid new changed a b =
     let less = b.less refl in
     record { size = b.size ∙ a.size; sound = λ top h. b.sound top (a.sound top h); kept = λ p h. b.kept p (a.kept p h); lower = omega (arith, a.lower, b.lower); less = λ e. omega (arith, a.lower, less); same = λ e. cc; closed = λ e. cc }
 
-pub messages-same : (schema : Schema) (types : List ℕ) (First Then Seen : MessageRow → Type 0) (old mid new : List Bool) (changed : Bool) → MessagesLooked schema types First old mid changed → MessagesLooked schema types Then mid new false → ((row : MessageRow) → Seen row → First row ⊎ Then row) → MessagesLooked schema types Seen old new changed
+pub messages-same : (schema : Schema) (types : List ℕ) (First Then Seen : MessageRow → Type 0) (old mid new : List Bool) (changed : Bool) → MessagesLook schema types First old mid changed → MessagesLook schema types Then mid new false → ((row : MessageRow) → Seen row → First row ⊎ Then row) → MessagesLook schema types Seen old new changed
 messages-same schema types First Then Seen old mid new changed a b seen = record {
   size = b.size ∙ a.size;
   sound = λ top h. b.sound top (a.sound top h);
@@ -79,7 +79,7 @@ module _ (schema : Schema) (types : List ℕ) (old : List Bool) (row : MessageRo
       go (inl same) = ap (is_built (slice_set old protocol true)) same.1 ∙ get_or-set_same old protocol true false (right.within protocol kind)
       go (inr other) = get_or-set_other old protocol p true false other.1 ∙ e
 
-  pub message-built : is_built old protocol ≡ false → can_send types old row ≡ true → MessagesLooked schema types (λ (seen : MessageRow). seen ≡ row) old (slice_set old protocol true) true
+  pub message-built : is_built old protocol ≡ false → can_send types old row ≡ true → MessagesLook schema types (λ (seen : MessageRow). seen ≡ row) old (slice_set old protocol true) true
   message-built new is =
       let count : Bool → ℕ = λ b. if b then 0 else 1 in
       let moved : unbuilt (slice_set old protocol true) + count (get_or old protocol false) ≡ unbuilt old + count true = sum_by-set count old protocol true false (right.within protocol kind) in
@@ -100,7 +100,7 @@ module _ (schema : Schema) (types : List ℕ) (old : List Bool) (row : MessageRo
         closed = λ e. cc;
       }
 
-  pub message-known : (is_built old protocol ≡ true) ⊎ (can_send types old row ≡ false) → MessagesLooked schema types (λ (seen : MessageRow). seen ≡ row) old old false
+  pub message-known : (is_built old protocol ≡ true) ⊎ (can_send types old row ≡ false) → MessagesLook schema types (λ (seen : MessageRow). seen ≡ row) old old false
   message-known h = messages-none schema types (λ (seen : MessageRow). seen ≡ row) old closed
     where
       at-row : IsClosedMessage types old row
@@ -134,16 +134,16 @@ pub in-list : {A : Type 0} (xs : List A) (i : ℕ) (x : A) → i < length xs →
 in-list xs i x within is = (i, within, sym is)
 
 -- what a loop over messages or protocols has come to behind one more
-pub messages-then : (schema : Schema) (types : List ℕ) (First Then Seen : MessageRow → Type 0) (old mid new : List Bool) (before more changed : Bool) → MessagesLooked schema types First old mid before → MessagesLooked schema types Then mid new more → ((row : MessageRow) → Seen row → First row ⊎ Then row)
-    → ((more ≡ true) × (changed ≡ true)) ⊎ ((more ≡ false) × (changed ≡ before)) → MessagesLooked schema types Seen old new changed
+pub messages-then : (schema : Schema) (types : List ℕ) (First Then Seen : MessageRow → Type 0) (old mid new : List Bool) (before more changed : Bool) → MessagesLook schema types First old mid before → MessagesLook schema types Then mid new more → ((row : MessageRow) → Seen row → First row ⊎ Then row)
+    → ((more ≡ true) × (changed ≡ true)) ⊎ ((more ≡ false) × (changed ≡ before)) → MessagesLook schema types Seen old new changed
 messages-then schema types First Then Seen old mid new before more changed a b seen (inl (m, c)) =
-    subst (MessagesLooked schema types Seen old new) (sym c) (messages-changed schema types First Then Seen old mid new before a (subst (MessagesLooked schema types Then mid new) m b))
+    subst (MessagesLook schema types Seen old new) (sym c) (messages-changed schema types First Then Seen old mid new before a (subst (MessagesLook schema types Then mid new) m b))
 messages-then schema types First Then Seen old mid new before more changed a b seen (inr (m, c)) =
-    subst (MessagesLooked schema types Seen old new) (sym c) (messages-same schema types First Then Seen old mid new before a (subst (MessagesLooked schema types Then mid new) m b) seen)
+    subst (MessagesLook schema types Seen old new) (sym c) (messages-same schema types First Then Seen old mid new before a (subst (MessagesLook schema types Then mid new) m b) seen)
 
 -- A round in which no lesser value was found: what its messages have come to.
-pub around-same : (schema : Schema) (types types_after : List ℕ) (built built_after : List Bool) (more : Bool) → TypesLooked schema built (length schema.types) types types_after false → MessagesLooked schema types_after (IsMessageOf schema.protocols) built built_after more
-    → LookedAround schema types built types_after built_after more
+pub around-same : (schema : Schema) (types types_after : List ℕ) (built built_after : List Bool) (more : Bool) → TypesLook schema built (length schema.types) types types_after false → MessagesLook schema types_after (IsMessageOf schema.protocols) built built_after more
+    → RoundLook schema types built types_after built_after more
 around-same schema types types_after built built_after more a b = record {
   size = a.size;
   count = b.size;

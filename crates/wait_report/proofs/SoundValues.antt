@@ -16,7 +16,7 @@ use Rattle.ipdl_base.specs.declared.schema.TypeRow.TheVariants.{Struct, Union}
 use Rattle.ipdl_base.specs.Builtins.{is_carried}
 use Rattle.wait_report.specs.Sendable as sendable
 use Rattle.wait_report.specs.Sendable.{least_bytes, IsBuildable, is_top, HasValueWithin, using_type, null, actor, array, maybe, unique, struct, union, HaveValuesWithin, nothing, first}
-use Rattle.wait_report.specs.Least.{too_many, is_built, least_of, sum_of, least_in, row_least, AreSound, known, TypeLooked, MessagesLooked, Spreads}
+use Rattle.wait_report.specs.Least.{too_many, is_built, least_of, sum_of, least_in, row_least, AreSound, known, TypeLook, MessagesLook, Spreads}
 
 -- A component of some, and a value of it.
 pub record HasComponent (schema : Schema) (top : ℕ) (components : List Shape) (bytes : ℕ) : Type 0 where
@@ -93,7 +93,7 @@ module _ (schema : Schema) (built : List Bool) (t : ℕ) (old : List ℕ) (row :
   lower-sound : (top : ℕ) → AreSound schema top old built → AreSound schema top (slice_set old t (row_least old built row)) built
   lower-sound top h = gain-sound schema built t old (row_least old built row) within top h (λ few. sound-row schema top old built h t row is few)
 
-  looked-lower : row_least old built row < slice_index_or old t too_many → TypeLooked schema built t old (slice_set old t (row_least old built row)) true
+  looked-lower : row_least old built row < slice_index_or old t too_many → TypeLook schema built t old (slice_set old t (row_least old built row)) true
   looked-lower less =
       let moved : known (slice_set old t (row_least old built row)) + get_or old t too_many ≡ known old + row_least old built row = sum_by-set (λ bytes. bytes) old t (row_least old built row) too_many within in
       record {
@@ -105,7 +105,7 @@ module _ (schema : Schema) (built : List Bool) (t : ℕ) (old : List ℕ) (row :
         closed = λ e. cc;
       }
 
-  pub looked-same : slice_index_or old t too_many ≤ row_least old built row → TypeLooked schema built t old old false
+  pub looked-same : slice_index_or old t too_many ≤ row_least old built row → TypeLook schema built t old old false
   looked-same more = record {
     size = refl;
     sound = λ top h. h;
@@ -115,12 +115,12 @@ module _ (schema : Schema) (built : List Bool) (t : ℕ) (old : List ℕ) (row :
     closed = λ e r there. subst (λ (x : TypeRow). slice_index_or old t too_many ≤ row_least old built x) (let same : row ≡ r = cc in same) more;
   }
 
-  pub lower-by : (bytes before : ℕ) → bytes ≡ row_least old built row → before ≡ get_or old t before → bytes < before → TypeLooked schema built t old (slice_set old t bytes) true
+  pub lower-by : (bytes before : ℕ) → bytes ≡ row_least old built row → before ≡ get_or old t before → bytes < before → TypeLook schema built t old (slice_set old t bytes) true
   lower-by bytes before is was less =
-      subst (λ (n : ℕ). TypeLooked schema built t old (slice_set old t n) true) (sym is)
+      subst (λ (n : ℕ). TypeLook schema built t old (slice_set old t n) true) (sym is)
       (looked-lower (omega (arith, is, less, was ∙ get_or_default old t before too_many within)))
 
-  pub same-by : (bytes before : ℕ) → bytes ≡ row_least old built row → before ≡ get_or old t before → before ≤ bytes → TypeLooked schema built t old old false
+  pub same-by : (bytes before : ℕ) → bytes ≡ row_least old built row → before ≡ get_or old t before → before ≤ bytes → TypeLook schema built t old old false
   same-by bytes before is was more = looked-same (omega (arith, is, more, was ∙ get_or_default old t before too_many within))
 
 -- what is read at a place is there
@@ -162,10 +162,10 @@ spreads-none schema types built = record { size = refl; count = refl; sound = λ
 pub spreads-then : (schema : Schema) (types : List ℕ) (built : List Bool) (mid : List ℕ) (among : List Bool) (types_after : List ℕ) (built_after : List Bool) → Spreads schema types built mid among → Spreads schema mid among types_after built_after → Spreads schema types built types_after built_after
 spreads-then schema types built mid among types_after built_after a b = record { size = b.size ∙ a.size; count = b.count ∙ a.count; sound = λ top h. b.sound top (a.sound top h); kept = λ p h. b.kept p (a.kept p h) }
 
-pub type-spreads : (schema : Schema) (built : List Bool) (t : ℕ) (old new : List ℕ) (changed : Bool) → TypeLooked schema built t old new changed → Spreads schema old built new built
+pub type-spreads : (schema : Schema) (built : List Bool) (t : ℕ) (old new : List ℕ) (changed : Bool) → TypeLook schema built t old new changed → Spreads schema old built new built
 type-spreads schema built t old new changed a = record { size = a.size; count = refl; sound = a.sound; kept = λ p h. h }
 
-pub message-spreads : (schema : Schema) (types : List ℕ) (Seen : MessageRow → Type 0) (old new : List Bool) (changed : Bool) → MessagesLooked schema types Seen old new changed → Spreads schema types old types new
+pub message-spreads : (schema : Schema) (types : List ℕ) (Seen : MessageRow → Type 0) (old new : List Bool) (changed : Bool) → MessagesLook schema types Seen old new changed → Spreads schema types old types new
 message-spreads schema types Seen old new changed a = record { size = refl; count = a.size; sound = a.sound; kept = a.kept }
 
 -- a union is looked at through one component

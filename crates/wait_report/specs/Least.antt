@@ -77,7 +77,7 @@ abbrev pub IsClosedMessage : List ℕ → List Bool → MessageRow → Type 0
 IsClosedMessage types built row = (protocol : ℕ) → row.kind ≡ Constructor protocol → can_send types built row ≡ true → is_built built protocol ≡ true
 
 -- A type was looked at: what is known of it is so where all was, and where nothing changed, nothing can.
-pub record TypeLooked (schema : Schema) (built : List Bool) (t : ℕ) (old new : List ℕ) (changed : Bool) : Type 0 where
+pub record TypeLook (schema : Schema) (built : List Bool) (t : ℕ) (old new : List ℕ) (changed : Bool) : Type 0 where
   pub size : length new ≡ length old
   pub sound : (top : ℕ) → AreSound schema top old built → AreSound schema top new built
   pub lower : known new ≤ known old
@@ -86,7 +86,7 @@ pub record TypeLooked (schema : Schema) (built : List Bool) (t : ℕ) (old new :
   pub closed : changed ≡ false → IsClosedType schema old built t
 
 -- Types were looked at, up to a number: what is known of them is so where it was, and where nothing changed, nothing can.
-pub record TypesLooked (schema : Schema) (built : List Bool) (n : ℕ) (old new : List ℕ) (changed : Bool) : Type 0 where
+pub record TypesLook (schema : Schema) (built : List Bool) (n : ℕ) (old new : List ℕ) (changed : Bool) : Type 0 where
   pub size : length new ≡ length old
   pub sound : (top : ℕ) → AreSound schema top old built → AreSound schema top new built
   pub lower : known new ≤ known old
@@ -108,7 +108,7 @@ abbrev pub unbuilt : List Bool → ℕ
 unbuilt built = sum_by (λ b. if b then 0 else 1) built
 
 -- Messages were looked at in the same way.
-pub record MessagesLooked (schema : Schema) (types : List ℕ) (Seen : MessageRow → Type 0) (old new : List Bool) (changed : Bool) : Type 0 where
+pub record MessagesLook (schema : Schema) (types : List ℕ) (Seen : MessageRow → Type 0) (old new : List Bool) (changed : Bool) : Type 0 where
   pub size : length new ≡ length old
   pub sound : (top : ℕ) → AreSound schema top types old → AreSound schema top types new
   pub kept : (protocol : ℕ) → is_built old protocol ≡ true → is_built new protocol ≡ true
@@ -131,7 +131,7 @@ pub record AreClosed (schema : Schema) (top : ℕ) (types : List ℕ) (built : L
   pub all_messages : (row : MessageRow) → IsMessageOf schema.protocols row → IsClosedMessage types built row
 
 -- A round over all types and messages: what is known is so where it was, and where nothing changed, nothing can.
-pub record LookedAround (schema : Schema) (types : List ℕ) (built : List Bool) (types_after : List ℕ) (built_after : List Bool) (changed : Bool) : Type 0 where
+pub record RoundLook (schema : Schema) (types : List ℕ) (built : List Bool) (types_after : List ℕ) (built_after : List Bool) (changed : Bool) : Type 0 where
   pub size : length types_after ≡ length types
   pub count : length built_after ≡ length built
   pub sound : (top : ℕ) → AreSound schema top types built → AreSound schema top types_after built_after

@@ -8,9 +8,9 @@ use crate::spread::spread;
 use ipdl_base::Schema;
 use std::alloc::{AllocError, Global};
 
-/// What is known of a schema: the bytes of the least value of each struct and union, and which protocols can be built.
+/// What can be known of a schema: the bytes of the least value of each struct and union, and which protocols can be built.
 #[derive(Drop)]
-pub struct Known {
+pub struct LeastValues {
     pub types: Vec<usize>,
     pub built: Vec<bool>,
 }
@@ -20,7 +20,7 @@ fn look_around(schema: &Schema, types: &mut Vec<usize>, built: &mut Vec<bool>) -
     requires sound { IsSound schema.now }
     requires size { length types.old.items ≡ length schema.now.types }
     requires count { length built.old.items ≡ length schema.now.protocols }
-    ensures { least.LookedAround schema.now types.old.items built.old.items types.new.items built.new.items result }
+    ensures { least.RoundLook schema.now types.old.items built.old.items types.new.items built.new.items result }
 {
     let lesser = look_at_types(schema, types, built.as_slice());
     let more = look_at_protocols(schema, schema.protocols.as_slice(), types.as_slice(), built);
@@ -30,7 +30,7 @@ fn look_around(schema: &Schema, types: &mut Vec<usize>, built: &mut Vec<bool>) -
 /// What can be known of a schema with this top protocol. What speaks of a type or a protocol is looked at again when more is
 /// known of that, which takes time in proportion to the schema and to how often a type gets a lesser value, at most 1,024 times.
 /// The round behind that finds nothing more, and it is by this round that nothing is left out.
-pub fn known_of(alloc: Global, schema: &Schema, top: u32) -> Result<Known, AllocError>
+pub fn known_of(alloc: Global, schema: &Schema, top: u32) -> Result<LeastValues, AllocError>
     requires sound { IsSound schema.now }
     requires there { top < length schema.now.protocols }
     ensures { IfOk result (λ known. least.IsKnown schema.now top known.types.items known.built.items) }
@@ -40,5 +40,5 @@ pub fn known_of(alloc: Global, schema: &Schema, top: u32) -> Result<Known, Alloc
     built[top as usize] = true;
     spread(alloc, schema, &mut types, &mut built)?;
     while look_around(schema, &mut types, &mut built) {}
-    Ok(Known { types, built })
+    Ok(LeastValues { types, built })
 }

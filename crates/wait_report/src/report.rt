@@ -3,7 +3,7 @@ ghost use Rattle.ipdl_base.specs.Sound.{IsSound};
 ghost use Rattle.wait_report.specs.Listed as listed;
 ghost use Rattle.wait_report.specs.Pairs.{IsReport};
 
-use crate::known::{Known, known_of};
+use crate::known::{LeastValues, known_of};
 use crate::pair::{Pair, Pairs};
 use crate::roles::{Role, numbers_of};
 use ipdl_base::{Items, Schema, Side};
@@ -47,7 +47,7 @@ fn add_pairs(
 fn add_side(
     alloc: Global,
     schema: &Schema,
-    known: &Known,
+    known: &LeastValues,
     side: Side,
     pairs: &mut Vec<Pair>,
 ) -> Result<(), AllocError>

@@ -2,7 +2,7 @@ ghost use Rattle.std.specs.Prelude.{◌≡◌, ◌++◌, IfOk, OnOk};
 ghost use Rattle.wait_report.specs.Listed as listed;
 ghost use Rattle.wait_report.specs.Pairs.{may_wait, may_interrupt, sends};
 
-use crate::known::Known;
+use crate::known::LeastValues;
 use crate::least::can_send;
 use ipdl_base::{Direction, Level, MessageRow, ProtocolRow, Semantics, Side};
 use std::alloc::{AllocError, Global};
@@ -69,7 +69,7 @@ impl Role {
 /// Adds the numbers of the messages that have a role at the end of a side and can be sent.
 fn add_numbers(
     rows: &[MessageRow],
-    known: &Known,
+    known: &LeastValues,
     role: Role,
     side: Side,
     numbers: &mut Vec<u32>,
@@ -88,7 +88,7 @@ fn add_numbers(
 pub fn numbers_of(
     alloc: Global,
     protocols: &[ProtocolRow],
-    known: &Known,
+    known: &LeastValues,
     role: Role,
     side: Side,
 ) -> Result<Vec<u32>, AllocError>

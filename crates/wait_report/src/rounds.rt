@@ -11,7 +11,7 @@ use std::alloc::{AllocError, Global};
 pub fn look_at_type(schema: &Schema, number: usize, types: &mut Vec<usize>, built: &[bool]) -> bool
     requires there { number < length schema.now.types }
     requires size { length types.old.items ≡ length schema.now.types }
-    ensures { least.TypeLooked schema.now built.now number types.old.items types.new.items result }
+    ensures { least.TypeLook schema.now built.now number types.old.items types.new.items result }
 {
     let bytes = row_least(&schema.types.as_slice()[number], types.as_slice(), built);
     if bytes < types[number] {
@@ -25,7 +25,7 @@ pub fn look_at_type(schema: &Schema, number: usize, types: &mut Vec<usize>, buil
 /// Looks at all structs and unions: says whether a lesser value of one is known than before.
 pub fn look_at_types(schema: &Schema, types: &mut Vec<usize>, built: &[bool]) -> bool
     requires size { length types.old.items ≡ length schema.now.types }
-    ensures { least.TypesLooked schema.now built.now (length schema.now.types) types.old.items types.new.items result }
+    ensures { least.TypesLook schema.now built.now (length schema.now.types) types.old.items types.new.items result }
 {
     let mut changed = false;
     for number in 0..schema.types.len() {
@@ -44,7 +44,7 @@ pub fn look_at_message(
     built: &mut Vec<bool>,
 ) -> bool
     requires right { least.IsRightMessage schema.now built.old.items row.now }
-    ensures { least.MessagesLooked schema.now types.now (λ seen. seen ≡ row.now) built.old.items built.new.items result }
+    ensures { least.MessagesLook schema.now types.now (λ seen. seen ≡ row.now) built.old.items built.new.items result }
 {
     let Kind::Constructor(protocol) = row.kind else {
         return false;
@@ -65,7 +65,7 @@ fn look_at_messages(
     built: &mut Vec<bool>,
 ) -> bool
     requires right { (row : _) → Contains rows.now row → least.IsRightMessage schema.now built.old.items row }
-    ensures { least.MessagesLooked schema.now types.now (λ seen. Contains rows.now seen) built.old.items built.new.items result }
+    ensures { least.MessagesLook schema.now types.now (λ seen. Contains rows.now seen) built.old.items built.new.items result }
 {
     let mut changed = false;
     for row in rows {
@@ -84,7 +84,7 @@ pub fn look_at_protocols(
     built: &mut Vec<bool>,
 ) -> bool
     requires right { (row : _) → least.IsMessageOf protocols.now row → least.IsRightMessage schema.now built.old.items row }
-    ensures { least.MessagesLooked schema.now types.now (λ seen. least.IsMessageOf protocols.now seen) built.old.items built.new.items result }
+    ensures { least.MessagesLook schema.now types.now (λ seen. least.IsMessageOf protocols.now seen) built.old.items built.new.items result }
 {
     let mut changed = false;
     for protocol in protocols {

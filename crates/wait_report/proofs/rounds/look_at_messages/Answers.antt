@@ -2,7 +2,7 @@ use Rattle.std.proofs.Common.{inl, inr, subst}
 use Rattle.std.specs.List.{Contains}
 use Rattle.std.proofs.lemmas.List.{take_all}
 use Rattle.ipdl_base.specs.declared.schema.MessageRow.{MessageRow}
-use Rattle.wait_report.specs.Least.{MessagesLooked}
+use Rattle.wait_report.specs.Least.{MessagesLook}
 use Rattle.wait_report.proofs.Looks.{messages-then, right-on, seen-more, in-list}
 use Rattle.wait_report.proofs.rounds.look_at_messages.Goals as goal
 use Rattle.wait_report.proofs.rounds.look_at_messages.Goals.{then-look_at_message, else-look_at_message}
@@ -20,4 +20,4 @@ loop-row-preserved c =
     (elim c.if-look_at_message.branch [ then-look_at_message w ↦ inl (w.if-look_at_message.true, w.changed-is) | else-look_at_message w ↦ inr (w.if-look_at_message.false, w.changed-is) ])
 
 pub returns : goal.returns
-returns c = subst (λ (rows : _). MessagesLooked c.args.schema.now c.args.types.now (λ (seen : MessageRow). Contains rows seen) c.args.built.now.items c.loop-row.built.items c.loop-row.changed) (take_all c.loop-row.row-index c.args.rows.now c.loop-row-test.false) c.loop-row.invariant
+returns c = subst (λ (rows : _). MessagesLook c.args.schema.now c.args.types.now (λ (seen : MessageRow). Contains rows seen) c.args.built.now.items c.loop-row.built.items c.loop-row.changed) (take_all c.loop-row.row-index c.args.rows.now c.loop-row-test.false) c.loop-row.invariant

@@ -3,7 +3,7 @@ use Rattle.std.specs.List.{Contains}
 use Rattle.std.proofs.lemmas.List.{take_all}
 use Rattle.ipdl_base.specs.declared.schema.MessageRow.{MessageRow}
 use Rattle.ipdl_base.specs.declared.schema.ProtocolRow.{ProtocolRow}
-use Rattle.wait_report.specs.Least.{IsMessageOf, MessagesLooked}
+use Rattle.wait_report.specs.Least.{IsMessageOf, MessagesLook}
 use Rattle.wait_report.proofs.Looks.{messages-then, right-on, seen-more, in-list}
 use Rattle.wait_report.proofs.rounds.look_at_protocols.Goals as goal
 use Rattle.wait_report.proofs.rounds.look_at_protocols.Goals.{then-look_at_messages, else-look_at_messages}
@@ -29,4 +29,4 @@ loop-protocol-preserved c =
     (elim c.if-look_at_messages.branch [ then-look_at_messages w ↦ inl (w.if-look_at_messages.true, w.changed-is) | else-look_at_messages w ↦ inr (w.if-look_at_messages.false, w.changed-is) ])
 
 pub returns : goal.returns
-returns c = subst (λ (protocols : _). MessagesLooked c.args.schema.now c.args.types.now (λ (seen : MessageRow). IsMessageOf protocols seen) c.args.built.now.items c.loop-protocol.built.items c.loop-protocol.changed) (take_all c.loop-protocol.protocol-index c.args.protocols.now c.loop-protocol-test.false) c.loop-protocol.invariant
+returns c = subst (λ (protocols : _). MessagesLook c.args.schema.now c.args.types.now (λ (seen : MessageRow). IsMessageOf protocols seen) c.args.built.now.items c.loop-protocol.built.items c.loop-protocol.changed) (take_all c.loop-protocol.protocol-index c.args.protocols.now c.loop-protocol-test.false) c.loop-protocol.invariant
