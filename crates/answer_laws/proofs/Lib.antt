@@ -20,3 +20,4 @@ mod LinesAlike
 pub mod Alike
 pub mod OneList
 pub mod OneText
+pub mod WaitsAlike

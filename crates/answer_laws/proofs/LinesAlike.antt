@@ -80,7 +80,7 @@ module _ (s : Schema) where
       (λ i. option_map_or (λ message. message.name) (message_alike s n i) [])
       ∙ option_alike plain_message_row (λ message. message.name) (λ message. message.name) (λ message. refl) [] (message_of s n)
 
-  text_alike : (n : ℕ) → message_text (plain_schema s) n ≡ message_text s n
+  pub text_alike : (n : ℕ) → message_text (plain_schema s) n ≡ message_text s n
   text_alike n = λ i. protocol_alike (n / 65536) i ++ codes "." ++ name_alike n i
 
   addressed_alike : (word : List ℕ) (m : Message) → addressed (plain_schema s) word m ≡ addressed s word m

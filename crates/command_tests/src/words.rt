@@ -132,7 +132,23 @@ gen x.ipdl =>
 feed x.ipdl =>
 relay x.ipdl =>
 audit x.ipdl =>
-waits x.ipdl =>
+waits x.ipdl => none . ? x.ipdl
+waits =>
+waits -s l x.ipdl => =l . ? x.ipdl
+waits x.ipdl -sl --path d:e => =l d:e ? x.ipdl
+waits x.ipdl y.ipdl =>
+waits x.ipdlh =>
+waits x.ipdl x.ipdl =>
+waits waits =>
+waits waits.ipdl => none . ? waits.ipdl
+waits .ipdl => none . ? .ipdl
+waits -- x.ipdl => none . ? x.ipdl
+waits -x.ipdl =>
+waits -- -x.ipdl => none . ? -x.ipdl
+waits --to 2 x.ipdl =>
+waits --path a::b x.ipdl =>
+waits -s l -s m x.ipdl =>
+-s l waits x.ipdl =>
 run script.ids PA.ipdl =>
 frames PA.ipdl f.bin => none . PA.ipdl <- f.bin
 a/PX.ipdl b/PX.ipdl =>
@@ -194,6 +210,10 @@ fn push_command(line: &mut String, command: &Command) -> Result<(), AllocError> 
             push_shared(line, list, path.as_slice())?;
             let mark = if *convert { "<2" } else { "<-" };
             write!(line, "{file} {mark} {frames}")
+        }
+        Command::Waits { list, path, file } => {
+            push_shared(line, list, path.as_slice())?;
+            write!(line, "? {file}")
         }
     }
 }

@@ -13,7 +13,7 @@ use Rattle.command_words.proofs.Lookups.{some_none}
 use Rattle.command_words.proofs.Parsed.{said_found}
 use Rattle.command_words.proofs.Pieces.{dirs_are}
 
-abbrev Text : Type 0
+abbrev pub Text : Type 0
 Text = List ℕ
 
 some_is : (ws vs : List Text) → some_of ws ≡ some_of vs → ws ≡ vs

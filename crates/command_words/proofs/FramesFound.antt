@@ -8,11 +8,10 @@ use Rattle.command_words.specs.Options.{own_words, value_of}
 use Rattle.command_words.specs.Forms.{own_id}
 use Rattle.command_words.specs.Tables.{IsTable, by_letter}
 use Rattle.command_words.specs.Found.{IsFound}
-use Rattle.command_words.specs.Command.{IsNoCommand, IsOneCommand}
 use Rattle.command_words.specs.Compile.{IsCompile, IsPath, path_option}
 use Rattle.command_words.specs.Frames.{AreOperands, IsConversion, IsFrames, IsNoFrames, SaysFrames, frames_options, frames_word, to_option}
 use Rattle.command_words.proofs.Lookups.{some_none}
-use Rattle.command_words.proofs.Compiled.{list_ne, no_letter, one_compile, one_path, path_ne, same_value, same_words, some_list}
+use Rattle.command_words.proofs.Compiled.{list_ne, no_letter, one_path, path_ne, same_value, same_words, some_list}
 
 abbrev Text : Type 0
 Text = List ℕ
@@ -71,7 +70,7 @@ same_first a b c d e = cc
 same_second : (a b c d : Text) → a ∷ b ∷ [] ≡ c ∷ d ∷ [] → b ≡ d
 same_second a b c d e = cc
 
-one_frames : (words : List Text) (list list' : Option Text) (path path' : List Text) (file file' frames frames' : Text) (convert convert' : Bool)
+pub one_frames : (words : List Text) (list list' : Option Text) (path path' : List Text) (file file' frames frames' : Text) (convert convert' : Bool)
     → IsFrames words list path file frames convert → IsFrames words list' path' file' frames' convert'
     → (list ≡ list') × (path ≡ path') × (file ≡ file') × (frames ≡ frames') × (convert ≡ convert')
 one_frames [] list list' path path' file file' frames frames' convert convert' a b = absurd a
@@ -85,17 +84,9 @@ one_frames (word ∷ words) list list' path path' file file' frames frames' conv
       one_conversion (value_of (codes "to") b.said) convert convert' (subst (λ (v : Option Text). IsConversion v convert) (value (codes "to") to_ne) a.convert_is) b.convert_is,
     )
 
-never_both : (words : List Text) (list list' : Option Text) (path path' files : List Text) (file frames : Text) (convert : Bool) → IsCompile words list path files → ¬ IsFrames words list' path' file frames convert
+pub never_both : (words : List Text) (list list' : Option Text) (path path' files : List Text) (file frames : Text) (convert : Bool) → IsCompile words list path files → ¬ IsFrames words list' path' file frames convert
 never_both [] list list' path path' files file frames convert a b = absurd b
 never_both (word ∷ words) list list' path path' files file frames convert a b = absurd (a.chosen (inl (sym b.0)))
-
--- words are one command at most
-pub one_of : (words : List Text) → IsOneCommand words
-one_of words = record { compile = one_compile words; frames = one_frames words; apart = never_both words }
-
--- words that begin with the command's word and are no such command are none
-pub none_behind : (words rest : List Text) → words ≡ frames_word ∷ rest → IsNoFrames (frames_word ∷ rest) → IsNoCommand words
-none_behind words rest e none = subst IsNoCommand (sym e) (λ list path files h. h.chosen (inl refl), none)
 
 -- words that begin with another word are no such command
 pub none_of_others : (word : Text) (words : List Text) → word ≢ frames_word → IsNoFrames (word ∷ words)

@@ -13,3 +13,4 @@ pub mod Errors
 pub mod Twos
 pub mod Compiled
 pub mod FramesFound
+pub mod WaitsFound

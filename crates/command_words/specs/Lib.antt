@@ -4,5 +4,6 @@ pub mod Tables
 pub mod Found
 pub mod Compile
 pub mod Frames
+pub mod Waits
 pub mod Command
 pub mod Listed

@@ -7,6 +7,7 @@ ghost use Rattle.command_words.specs.Compile.{HasWord, unbuilt_commands};
 use crate::WordsFault;
 use crate::compile::compile;
 use crate::frames::frames;
+use crate::waits::waits;
 use std::alloc::Global;
 
 /// A command, with what its words say. docs/command_line.md states the forms of words.
@@ -34,10 +35,19 @@ pub enum Command {
         /// Whether the frames are written anew.
         convert: bool,
     },
+    /// List, for each message that is waited for, what may be handled meanwhile.
+    Waits {
+        /// The name of the sync list, where one is given.
+        list: Option<String>,
+        /// The folders in which files are looked for, in order.
+        path: Vec<String>,
+        /// The name of the file of the top protocol.
+        file: String,
+    },
 }
 
 /// The first words that will choose a command of their own which is not built yet.
-const UNBUILT_COMMANDS: [&str; 6] = ["run", "gen", "feed", "relay", "audit", "waits"];
+const UNBUILT_COMMANDS: [&str; 5] = ["run", "gen", "feed", "relay", "audit"];
 
 /// Whether the word is one of these.
 fn has_word(words: &[&str], word: &str) -> bool
@@ -62,6 +72,9 @@ pub fn read_words(alloc: Global, words: &[String]) -> Result<Command, WordsFault
     if let Some((first, rest)) = words.split_first() {
         if first.as_str() == "frames" {
             return frames(alloc, rest);
+        }
+        if first.as_str() == "waits" {
+            return waits(alloc, rest);
         }
         if is_unbuilt_command(first.as_str()) {
             return Err(WordsFault::Usage);

@@ -10,8 +10,8 @@ use crate::options::{Choice, read_options};
 use crate::texts::copy_of;
 use std::alloc::Global;
 
-/// The options of the command that compiles files.
-const COMPILE_OPTIONS: [Choice; 2] = [
+/// The options of the commands that compile files, or a file.
+pub const COMPILE_OPTIONS: [Choice; 2] = [
     Choice {
         name: "sync-msg-list",
         letter: Some('s'),

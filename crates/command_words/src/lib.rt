@@ -11,6 +11,7 @@ mod frames;
 mod laws;
 mod options;
 mod texts;
+mod waits;
 
 pub use command::{Command, read_words};
 pub use fault::WordsFault;

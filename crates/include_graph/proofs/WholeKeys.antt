@@ -49,7 +49,7 @@ no_slash_ending file.Protocol = refl
 no_slash_ending file.Header = refl
 
 -- the key of a word ends as the word does
-ends_so : (front : List ℕ) (kind : FileKind) → HasKind (key_of (front ++ ending kind)) kind
+pub ends_so : (front : List ℕ) (kind : FileKind) → HasKind (key_of (front ++ ending kind)) kind
 ends_so [] kind = ([], bare (ending kind) (no_slash_ending kind))
 ends_so (b ∷ front) kind = by_test (list_any slash (front ++ ending kind))
     (λ e. subst (λ k. HasKind k kind) (sym (picked e)) (ends_so front kind))

@@ -1,6 +1,7 @@
 -- Words have at most one answer with some files.
-use Rattle.std.proofs.Common.{◌≡◌, ℕ, zero, Bool, true, false, List, [], ◌∷◌, ◌++◌, map, length, refl, sym, ◌∙◌, ap, subst, inl, inr, arith}
-use Rattle.std.specs.Prelude.{Option, Some, None}
+use Rattle.std.proofs.Common.{◌≡◌, ℕ, zero, ◌+◌, Bool, true, false, cond, List, [], ◌∷◌, ◌++◌, map, length, refl, sym, ◌∙◌, ap, subst, inl, inr, arith}
+use Rattle.std.specs.Prelude.{Option, Some, None, codes}
+use Rattle.std.specs.List.{flat_map, position_or_len}
 use Rattle.std.proofs.lemmas.Option.{same_Some}
 use Rattle.ipdl_base.specs.Outside.{FileMap}
 use Rattle.ipdl_base.specs.declared.finding.Finding.{Finding}
@@ -13,28 +14,36 @@ use Rattle.include_graph.specs.Sources.{LoadInput, text_of}
 use Rattle.include_graph.proofs.OneReach.{one_reach}
 use Rattle.include_graph.proofs.OneUnit.{AtMostOne}
 use Rattle.answer_laws.specs.Programs.{BreakAlike, AreListedAlike, HaveSchemasAlike, AreProgramsAlike}
-use Rattle.program_schema.specs.Laws.{OneSchema, plain_schema}
+use Rattle.program_schema.specs.Laws.{OneSchema, plain_protocol_row, plain_schema}
 use Rattle.answer_laws.specs.Frames.{FramesAlike, OneListOfFrames}
+use Rattle.answer_laws.specs.Waits.{OneWaitReport, WaitsAlike}
 use Rattle.frame_list.specs.declared.list.PlacedMessage.{PlacedMessage}
 use Rattle.frame_list.specs.Converted.{new_frames}
 use Rattle.frame_list.specs.Frames.{Holds, all_plain}
 use Rattle.frame_list.specs.Lines.{frames_lines}
 use Rattle.frame_list.proofs.PlainFrames.{new_plain}
 use Rattle.frame_list.proofs.PlainLines.{plain_lines}
+use Rattle.ipdl_base.specs.declared.schema.ProtocolRow.{ProtocolRow}
 use Rattle.ipdl_base.specs.declared.schema.Schema.{Schema}
 use Rattle.value_types.specs.Laws.{BoxesSayNothing}
+use Rattle.wait_report.specs.declared.pair.Pair.{Pair}
+use Rattle.wait_report.specs.Pairs.{IsReport as IsWaitReport}
+use Rattle.history.specs.Text.{message_text}
+use Rattle.history.specs.Words.{side_word}
 use Rattle.sync_list.specs.declared.list.Section.{Section}
 use Rattle.sync_list.specs.Lists.{IsListOf}
 use Rattle.sync_list.specs.Laws.{OneList}
 use Rattle.ipdl_top.specs.declared.answer.CommandAnswer.{CommandAnswer}
-use Rattle.ipdl_top.specs.CommandAnswer.{IsBrokenFile, BreaksRules, IsFileReport, IsReading, IsRuleReport, IsSaidOf, IsCompilation, IsCommandAnswer, IsFramesAnswer, SaysTables, given_by, report_answer, table_answer}
+use Rattle.ipdl_top.specs.CommandAnswer.{IsBrokenFile, BreaksRules, IsFileReport, IsReading, IsRuleReport, IsSaidOf, IsCompilation, IsCommandAnswer, IsFramesAnswer, IsWaitsAnswer, SaysTables, given_by, report_answer, table_answer}
 use Rattle.ipdl_top.specs.Frames.{SaysBytes, SaysFrames, frames_answer, frames_out}
 use Rattle.ipdl_top.specs.Laws.{OneAnswer}
+use Rattle.ipdl_top.specs.Waits.{IsTop, SaysWaits, bears_name, pair_line, waits_text}
 use Rattle.ipdl_top.specs.Lists.{AreSections, list_names}
 use Rattle.ipdl_top.specs.FileViews.{FileViews}
 use Rattle.ipdl_top.proofs.Alike.{alike, same_keys}
 use Rattle.ipdl_top.proofs.Compilations.{names_called, no_fault}
 use Rattle.ipdl_top.proofs.TableTexts.{one_text}
+use Rattle.ipdl_top.proofs.Tops.{position-cons}
 
 -- the laws of what the program is made of
 pub record TheLaws : Type 0 where
@@ -48,6 +57,8 @@ pub record TheLaws : Type 0 where
   pub boxes : BoxesSayNothing
   pub frames_alike : FramesAlike
   pub frames : OneListOfFrames
+  pub waits_alike : WaitsAlike
+  pub wait_report : OneWaitReport
 
 -- Lists
 
@@ -152,6 +163,35 @@ frames_one laws name convert (Some bytes) a b same one other (inl x) (inr y) = a
 frames_one laws name convert (Some bytes) a b same one other (inr x) (inl y) = absurd (omega (arith, x.0, y.0))
 frames_one laws name convert (Some bytes) a b same one other (inr x) (inr y) = bytes_one laws name convert bytes a b same one other x.1 y.1
 
+-- the place of the first that passes, where all are as plain
+place_alike : (p : ProtocolRow → Bool) → ((row : ProtocolRow) → p (plain_protocol_row row) ≡ p row) → (rows : List ProtocolRow) → position_or_len p (map plain_protocol_row rows) ≡ position_or_len p rows
+place_alike p blind [] = refl
+place_alike p blind (row ∷ rows) =
+    position-cons p (plain_protocol_row row) (map plain_protocol_row rows) ∙ ap (λ (b : Bool). cond b 0 (1 + position_or_len p (map plain_protocol_row rows))) (blind row)
+    ∙ ap (λ (n : ℕ). cond (p row) 0 (1 + n)) (place_alike p blind rows) ∙ sym (position-cons p row rows)
+
+-- the top of a file
+one_top : (file : List ℕ) (a b : Schema) → plain_schema a ≡ plain_schema b → (top other : ℕ) → IsTop file a top → IsTop file b other → top ≡ other
+one_top file a b same top other x y =
+    sym x.first ∙ sym (place_alike (bears_name file) (λ row. refl) a.protocols) ∙ ap (λ (s : Schema). position_or_len (bears_name file) s.protocols) same
+    ∙ place_alike (bears_name file) (λ row. refl) b.protocols ∙ y.first
+
+-- the lines of pairs
+same_lines : TheLaws → (a b : Schema) → plain_schema a ≡ plain_schema b → (pairs : List Pair) → waits_text a pairs ≡ waits_text b pairs
+same_lines laws a b same pairs = ap (λ (f : Pair → List ℕ). flat_map f pairs) (λ i pair. pair_line_at pair i)
+  where
+    pair_line_at : (pair : Pair) → pair_line a pair ≡ pair_line b pair
+    pair_line_at pair =
+        ap (λ (name : List ℕ). side_word pair.side ++ codes " waits " ++ name ++ codes " takes " ++ message_text a pair.takes ++ codes "\n") (laws.waits_alike.names a b same pair.waits)
+        ∙ ap (λ (name : List ℕ). side_word pair.side ++ codes " waits " ++ message_text b pair.waits ++ codes " takes " ++ name ++ codes "\n") (laws.waits_alike.names a b same pair.takes)
+
+waits_one : TheLaws → (file : List ℕ) → SaysOne (SaysWaits file)
+waits_one laws file a b same one other x y =
+    let top : x.top ≡ y.top = one_top file a b same x.top y.top x.is_top y.is_top in
+    let moved : IsWaitReport b y.top x.pairs = subst (λ (t : ℕ). IsWaitReport b t x.pairs) top (laws.waits_alike.reports a b same x.top x.pairs x.report) in
+    let pairs : x.pairs ≡ y.pairs = laws.wait_report b y.top x.pairs y.pairs moved y.report in
+    x.says ∙ ap table_answer (same_lines laws a b same x.pairs ∙ ap (waits_text b) pairs) ∙ sym y.says
+
 -- and so of a program
 said : TheLaws → (Says : Schema → CommandAnswer → Type 0) → SaysOne Says → (given : LoadInput) (lists : FileMap) (list : Option (List ℕ)) (one other : CommandAnswer) → IsSaidOf Says given lists list one → IsSaidOf Says given lists list other → one ≡ other
 said laws Says unique given lists list one other x y =
@@ -197,14 +237,31 @@ frames_commands laws seen words one other x y =
     let whole : Of x.list x.path x.file x.frames x.convert = subst (λ (c : Bool). Of x.list x.path x.file x.frames c) same.4 framed in
     compilations laws (SaysFrames x.frames x.convert (seen.frames x.frames)) (frames_one laws x.frames x.convert (seen.frames x.frames)) (given_by seen.files x.path (x.file ∷ [])) seen.list x.list one other x.compilation whole
 
+-- and the one that lists what may interrupt a wait
+waits_commands : TheLaws → (seen : FileViews) (words : List (List ℕ)) (one other : CommandAnswer) → IsWaitsAnswer seen words one → IsWaitsAnswer seen words other → one ≡ other
+waits_commands laws seen words one other x y =
+    let same = (laws.command words).waits y.list x.list y.path x.path y.file x.file y.command x.command in
+    let Of : Option (List ℕ) → List (List ℕ) → List ℕ → Type 0 = λ list path file. IsCompilation (SaysWaits file) (given_by seen.files path (file ∷ [])) seen.list list other in
+    let listed : Of x.list y.path y.file = subst (λ (l : Option (List ℕ)). Of l y.path y.file) same.0 y.compilation in
+    let found : Of x.list x.path y.file = subst (λ (p : List (List ℕ)). Of x.list p y.file) same.1 listed in
+    let named : Of x.list x.path x.file = subst (λ (f : List ℕ). Of x.list x.path f) same.2 found in
+    compilations laws (SaysWaits x.file) (waits_one laws x.file) (given_by seen.files x.path (x.file ∷ [])) seen.list x.list one other x.compilation named
+
 -- words are one command or none
 pub answer_is_determined : TheLaws → OneAnswer
 answer_is_determined laws seen words one other (inl x) (inl y) = commands laws seen words one other x y
 answer_is_determined laws seen words one other (inl x) (inr (inl y)) = absurd ((laws.command words).apart x.list y.list x.path y.path x.names y.file y.frames y.convert x.command y.command)
-answer_is_determined laws seen words one other (inl x) (inr (inr y)) = absurd (y.0.0 x.list x.path x.names x.command)
+answer_is_determined laws seen words one other (inl x) (inr (inr (inl y))) = absurd ((laws.command words).waits_compile x.list y.list x.path y.path x.names y.file x.command y.command)
+answer_is_determined laws seen words one other (inl x) (inr (inr (inr y))) = absurd (y.0.0 x.list x.path x.names x.command)
 answer_is_determined laws seen words one other (inr (inl x)) (inl y) = absurd ((laws.command words).apart y.list x.list y.path x.path y.names x.file x.frames x.convert y.command x.command)
 answer_is_determined laws seen words one other (inr (inl x)) (inr (inl y)) = frames_commands laws seen words one other x y
-answer_is_determined laws seen words one other (inr (inl x)) (inr (inr y)) = absurd (y.0.1 x.list x.path x.file x.frames x.convert x.command)
-answer_is_determined laws seen words one other (inr (inr x)) (inl y) = absurd (x.0.0 y.list y.path y.names y.command)
-answer_is_determined laws seen words one other (inr (inr x)) (inr (inl y)) = absurd (x.0.1 y.list y.path y.file y.frames y.convert y.command)
-answer_is_determined laws seen words one other (inr (inr x)) (inr (inr y)) = x.1 ∙ sym y.1
+answer_is_determined laws seen words one other (inr (inl x)) (inr (inr (inl y))) = absurd ((laws.command words).waits_frames x.list y.list x.path y.path x.file y.file x.frames x.convert x.command y.command)
+answer_is_determined laws seen words one other (inr (inl x)) (inr (inr (inr y))) = absurd (y.0.1 x.list x.path x.file x.frames x.convert x.command)
+answer_is_determined laws seen words one other (inr (inr (inl x))) (inl y) = absurd ((laws.command words).waits_compile y.list x.list y.path x.path y.names x.file y.command x.command)
+answer_is_determined laws seen words one other (inr (inr (inl x))) (inr (inl y)) = absurd ((laws.command words).waits_frames y.list x.list y.path x.path y.file x.file y.frames y.convert y.command x.command)
+answer_is_determined laws seen words one other (inr (inr (inl x))) (inr (inr (inl y))) = waits_commands laws seen words one other x y
+answer_is_determined laws seen words one other (inr (inr (inl x))) (inr (inr (inr y))) = absurd (y.0.2 x.list x.path x.file x.command)
+answer_is_determined laws seen words one other (inr (inr (inr x))) (inl y) = absurd (x.0.0 y.list y.path y.names y.command)
+answer_is_determined laws seen words one other (inr (inr (inr x))) (inr (inl y)) = absurd (x.0.1 y.list y.path y.file y.frames y.convert y.command)
+answer_is_determined laws seen words one other (inr (inr (inr x))) (inr (inr (inl y))) = absurd (x.0.2 y.list y.path y.file y.command)
+answer_is_determined laws seen words one other (inr (inr (inr x))) (inr (inr (inr y))) = x.1 ∙ sym y.1

@@ -8,3 +8,4 @@ pub mod Alike
 pub mod AtMostOne
 pub mod Gathered
 pub mod Found
+pub mod Tops

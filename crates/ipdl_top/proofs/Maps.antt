@@ -49,3 +49,8 @@ for_frames None None P Q R e to (seen, h) (frames, k) = (record seen { frames = 
 for_frames None (Some map) P Q R e to h k = absurd (let no : ⊥ = cc in no)
 for_frames (Some map) None P Q R e to h k = absurd (let no : ⊥ = cc in no)
 for_frames (Some told) (Some again) P Q R e to h k = to (steady told) told h (subst Q (same_Some again told e) k)
+
+-- something is seen
+pub some_seen : (told : Option FileMap) (P : FileViews → Type 0) → ForMap told P → (seen : FileViews) × P seen
+some_seen None P h = h
+some_seen (Some told) P h = (steady told, h)

@@ -8,6 +8,7 @@ use Rattle.ipdl_syntax.specs.Programs.{IsProgram}
 use Rattle.command_words.specs.Command.{IsNoCommand}
 use Rattle.command_words.specs.Compile.{IsCompile}
 use Rattle.command_words.specs.Frames.{IsFrames}
+use Rattle.command_words.specs.Waits.{IsWaits}
 use Rattle.findings.specs.Report.{IsReport}
 use Rattle.include_graph.specs.Load.{IsProgramOf}
 use Rattle.include_graph.specs.Reach.{IsReach}
@@ -26,6 +27,7 @@ use Rattle.ipdl_top.specs.Frames.{SaysFrames}
 use Rattle.ipdl_top.specs.Lists.{IsFaultOfList, AreSections, list_names}
 use Rattle.ipdl_top.specs.Report.{report_text}
 use Rattle.ipdl_top.specs.FileViews.{FileViews}
+use Rattle.ipdl_top.specs.Waits.{SaysWaits}
 
 -- the answer that is a table
 abbrev pub table_answer : List ℕ → CommandAnswer
@@ -122,6 +124,14 @@ pub record IsFramesAnswer (seen : FileViews) (words : List (List ℕ)) (answer :
   pub command : IsFrames words list path file frames convert
   pub compilation : IsCompilation (SaysFrames frames convert (seen.frames frames)) (given_by seen.files path (file ∷ [])) seen.list list answer
 
+-- the answer of the command that lists what may interrupt a wait, where the words are it
+pub record IsWaitsAnswer (seen : FileViews) (words : List (List ℕ)) (answer : CommandAnswer) : Type 0 where
+  pub list : Option (List ℕ)
+  pub path : List (List ℕ)
+  pub file : List ℕ
+  pub command : IsWaits words list path file
+  pub compilation : IsCompilation (SaysWaits file) (given_by seen.files path (file ∷ [])) seen.list list answer
+
 -- The answer to words, with these files: that of the command that they are, or how the program is called where they are none.
 abbrev pub IsAnswer : FileViews → List (List ℕ) → CommandAnswer → Type 0
-IsAnswer seen words answer = IsCommandAnswer seen words answer ⊎ (IsFramesAnswer seen words answer ⊎ (IsNoCommand words × (answer ≡ usage_answer)))
+IsAnswer seen words answer = IsCommandAnswer seen words answer ⊎ (IsFramesAnswer seen words answer ⊎ (IsWaitsAnswer seen words answer ⊎ (IsNoCommand words × (answer ≡ usage_answer))))

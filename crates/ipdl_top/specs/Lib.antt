@@ -1,6 +1,7 @@
 pub mod CommandAnswer
 pub mod Codes
 pub mod Frames
+pub mod Waits
 pub mod Command
 pub mod Laws
 pub mod Lists

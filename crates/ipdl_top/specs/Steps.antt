@@ -18,6 +18,7 @@ use Rattle.ipdl_top.specs.declared.checked.CheckResult.TheVariants.{Report, Clea
 use Rattle.ipdl_top.specs.declared.frames.FramesFile.{FramesFile}
 use Rattle.ipdl_top.specs.declared.frames.FramesFile.TheVariants.{Absent, Larger, Bytes}
 use Rattle.ipdl_top.specs.CommandAnswer.{BreaksRules, IsFileReport, IsRuleReport, IsSchemaRead, report_answer}
+use Rattle.ipdl_top.specs.Waits.{IsTop}
 use Rattle.ipdl_top.specs.Lists.{AreSections, IsFaultOfList, IsLargeList, IsListFault, SpellsList, list_names}
 
 -- what a list that holds this was found to be, as the file of this number
@@ -99,3 +100,8 @@ pub record IsFilesAnswer (lists : FileMap) (list : Option (List ℕ)) (findings 
   pub listed : SyncListFile
   pub is_listed : IsListed lists list (length texts) listed
   pub reported : AreFilesReported findings listed (texts ++ list_names list) answer
+
+-- a schema that was found has a protocol that bears the name of a file
+abbrev pub HasTop : List ℕ → CheckResult → Type 0
+HasTop file (Report report) = Unit {0}
+HasTop file (Clean schema) = (top : ℕ) × IsTop file schema top

@@ -1,6 +1,9 @@
 ghost use Rattle.ipdl_top.specs.Laws.{OneAnswer};
 
-use answer_laws::{break_alike, frames_alike, listed_alike, one_list_of_frames, schemas_alike};
+use answer_laws::{
+    break_alike, frames_alike, listed_alike, one_list_of_frames, one_wait_report, schemas_alike,
+    waits_alike,
+};
 use command_words::one_command;
 use grammar_laws::one_tree;
 use ipdl_lex::one_answer;
@@ -24,4 +27,6 @@ pub fn answer_is_determined()
     boxes_say_nothing();
     frames_alike();
     one_list_of_frames();
+    waits_alike();
+    one_wait_report();
 }

@@ -11,6 +11,7 @@ mod program;
 mod report;
 mod rules;
 mod status;
+mod waits;
 mod write;
 
 pub use laws::answer_is_determined;

@@ -10,6 +10,7 @@ use crate::answer::{CommandAnswer, Failure};
 use crate::compile::compile;
 use crate::frames::{FramesRequest, frames};
 use crate::status::Status;
+use crate::waits::waits;
 use crate::write::write_answer;
 use command_words::{Command, WordsFault, read_words};
 use ipdl_base::{Files, Sink};
@@ -47,6 +48,9 @@ fn answer_to<F: Files>(
                 convert,
             };
             frames(alloc, files, &list, path.as_slice(), &file, &wanted)
+        }
+        Ok(Command::Waits { list, path, file }) => {
+            waits(alloc, files, &list, path.as_slice(), &file)
         }
         Err(WordsFault::Usage) => CommandAnswer::of_no_command(alloc),
         Err(WordsFault::NoMemory) => Err(Failure::NoMemory),

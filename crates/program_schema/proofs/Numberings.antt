@@ -16,7 +16,7 @@ pub some_of : {X : Type 0} (o : Option X) → IsSome o → (x : X) × (o ≡ Som
 some_of None is = cc
 some_of (Some x) is = (x, refl)
 
-not_both : {K : Type 0} {R : K → K → Ordering} → IsTotalOrder R → (x y : K) → R x y ≡ Less → ¬ (R y x ≡ Less)
+pub not_both : {K : Type 0} {R : K → K → Ordering} → IsTotalOrder R → (x y : K) → R x y ≡ Less → ¬ (R y x ≡ Less)
 not_both total x y before after =
     let turned : Less ≡ ordering_reverse Less = sym before ∙ total.antisymm x y ∙ ap ordering_reverse after in
     cc

@@ -1,4 +1,4 @@
-use Rattle.command_words.proofs.FramesFound.{one_of}
+use Rattle.command_words.proofs.WaitsFound.{one_of}
 use Rattle.command_words.proofs.laws.one_command.Goals as goal
 
 pub returns : goal.returns

@@ -13,4 +13,6 @@ returns c = law.answer_is_determined (record {
   boxes = c.boxes_say_nothing.ensures;
   frames_alike = c.frames_alike.ensures;
   frames = c.one_list_of_frames.ensures;
+  waits_alike = c.waits_alike.ensures;
+  wait_report = c.one_wait_report.ensures;
 })

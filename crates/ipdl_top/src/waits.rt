@@ -1,0 +1,127 @@
+ghost use Rattle.std.specs.Prelude.{◌≡◌, ◌++◌, ◌∷◌, [], ℕ, IfOk, List, MatchOption, OnOk, codes, map, option_map, string_bytes};
+ghost use Rattle.history.specs.Words as words;
+ghost use Rattle.ipdl_base.specs.Outside.{Rose};
+ghost use Rattle.ipdl_base.specs.Sound.{IsSound};
+ghost use Rattle.include_graph.specs.Keys.{AreFileWords};
+ghost use Rattle.ipdl_top.specs.CommandAnswer.{IsCompilation, given_by};
+ghost use Rattle.ipdl_top.specs.FileViews.{ForMap};
+ghost use Rattle.ipdl_top.specs.Steps.{HasTop, IsSoundChecked, IsToldOf};
+ghost use Rattle.ipdl_top.specs.Waits.{IsTop, SaysWaits, bears_name, pair_line, waits_text};
+
+use crate::answer::{CommandAnswer, Failure};
+use crate::checked::CheckResult;
+use crate::compile::checked;
+use history::push_message;
+use ipdl_base::{Files, PROTOCOL_ENDING, ProtocolRow, Schema, Side, key_of, short_name};
+use std::alloc::{AllocError, Global};
+use std::slice::from_ref;
+use wait_report::{Pair, pairs};
+
+/// Whether a protocol bears the name of a file.
+fn has_name(row: &ProtocolRow, file: &str) -> bool
+    ensures { result ≡ bears_name file.now row.now }
+{
+    match key_of(file.as_bytes()).strip_suffix(PROTOCOL_ENDING) {
+        Some(name) => short_name(row.name.as_slice()) == name,
+        None => false,
+    }
+}
+
+/// The number of the protocol of a file, which is the first that bears its name.
+fn top_of(schema: &Schema, file: &str) -> Option<u32>
+    requires { IsSound schema.now }
+    ensures { MatchOption result ((top : ℕ) → ¬ IsTop file.now schema.now top) (IsTop file.now schema.now) }
+{
+    let place = schema
+        .protocols
+        .as_slice()
+        .iter()
+        .position(|row| has_name(row, file))?;
+    Some(place as u32)
+}
+
+/// The word of a side.
+fn side_word(side: Side) -> &'static [u8]
+    ensures { result.now ≡ words.side_word side }
+{
+    match side {
+        Side::Parent => b"parent",
+        Side::Child => b"child",
+    }
+}
+
+/// Appends the line of a pair.
+fn push_pair(out: &mut Vec<u8>, schema: &Schema, pair: &Pair) -> Result<(), AllocError>
+    requires { IsSound schema.now }
+    ensures { OnOk result (out.new.items ≡ out.old.items ++ pair_line schema.now pair.now) }
+{
+    out.extend_from_slice(side_word(pair.side))?;
+    out.extend_from_slice(b" waits ")?;
+    push_message(out, schema, pair.waits)?;
+    out.extend_from_slice(b" takes ")?;
+    push_message(out, schema, pair.takes)?;
+    out.extend_from_slice(b"\n")
+}
+
+/// A line for each pair.
+fn text_of(alloc: Global, schema: &Schema, pairs: &[Pair]) -> Result<Vec<u8>, AllocError>
+    requires { IsSound schema.now }
+    ensures { IfOk result (λ text. text.items ≡ waits_text schema.now pairs.now) }
+{
+    let mut out = Vec::new(alloc);
+    for pair in pairs {
+        push_pair(&mut out, schema, pair)?;
+    }
+    Ok(out)
+}
+
+/// What is said of the schema of a file's program.
+fn waits_answer(alloc: Global, schema: &Schema, file: &str) -> Result<CommandAnswer, AllocError>
+    requires sound { IsSound schema.now }
+    requires top { (top : ℕ) × IsTop file.now schema.now top }
+    ensures { IfOk result (SaysWaits file.now schema.now) }
+{
+    let Some(top) = top_of(schema, file) else {
+        unreachable!();
+    };
+    let found = pairs(alloc, schema, top)?;
+    let text = text_of(alloc, schema, found.as_slice())?;
+    Ok(CommandAnswer::of_table(alloc, text))
+}
+
+/// The answer by what was found of a file.
+fn checked_answer(
+    alloc: Global,
+    checked: CheckResult,
+    file: &str,
+) -> Result<CommandAnswer, AllocError>
+    requires sound { IsSoundChecked checked }
+    requires top { HasTop file.now checked }
+    ensures { IfOk result (IsToldOf (SaysWaits file.now) checked) }
+{
+    match checked {
+        CheckResult::Report(report) => Ok(report),
+        CheckResult::Clean(schema) => waits_answer(alloc, &schema, file),
+    }
+}
+
+/// The command that lists what may interrupt a wait: the report on the file and on what it includes
+/// by the path, with this sync list, or the lines of the pairs.
+pub fn waits<F: Files>(
+    alloc: Global,
+    files: &mut F,
+    list: &Option<String>,
+    path: &[String],
+    file: &String,
+) -> Result<CommandAnswer, Failure>
+    requires words { AreFileWords (string_bytes file.now ∷ []) }
+    requires ending { (front : List ℕ) × (string_bytes file.now ≡ front ++ codes ".ipdl") }
+    ensures answer { ForMap (F.told files.old) (λ seen. IfOk result
+        (IsCompilation (SaysWaits (string_bytes file.now)) (given_by seen.files (map string_bytes path.now) (string_bytes file.now ∷ [])) seen.list (option_map string_bytes list.now))) }
+    ensures read_fault { result ≡ Err Failure.ReadFault → Rose (F.faults files.old) (F.faults files.new) }
+{
+    match checked(alloc, files, list, path, from_ref(file)) {
+        Ok(checked) => Ok(checked_answer(alloc, checked, file.as_str())?),
+        Err(failure) => Err(failure),
+    }
+}

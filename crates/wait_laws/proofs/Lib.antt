@@ -1,0 +1,6 @@
+pub mod LeastValues
+pub mod SendableParts
+pub mod SendableRuns
+pub mod Moments
+pub mod TakeLines
+pub mod Interruptions

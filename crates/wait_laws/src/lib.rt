@@ -1,0 +1,7 @@
+//! What may interrupt a wait in a run: in every legal history an end that waits for the reply to a sync message handles no
+//! request but those of the report of `wait_report` (docs/waits.md). No function that runs.
+#![tactic(auto)]
+
+mod laws;
+
+pub use laws::{only_reported_interrupt, reports_are_whole, sendable_in_every_run};

@@ -1,0 +1,4 @@
+pub mod Least
+pub mod Listed
+pub mod Pairs
+pub mod Sendable
