@@ -7,7 +7,6 @@ use Rattle.std.proofs.lemmas.Bool.Decides.{eqb_tells}
 use Rattle.std.proofs.lemmas.List.{get_or-set_same, get_or-set_other, get_or_default, length-set, get_or-replicate, length-replicate}
 use Rattle.std.proofs.Math.ListN.{replicate, get_or-eq_default}
 use Rattle.std.proofs.lemmas.List.Sums.{sum_by-set}
-use Rattle.ipdl_base.specs.declared.schema.MessageRow.{MessageRow}
 use Rattle.ipdl_base.specs.declared.schema.ParamRow.{ParamRow}
 use Rattle.ipdl_base.specs.declared.schema.Schema.{Schema}
 use Rattle.ipdl_base.specs.declared.schema.Shape.{Shape, Builtin, Using, Actor, Named, Array', Maybe', Unique', Endpoint}
@@ -16,7 +15,7 @@ use Rattle.ipdl_base.specs.declared.schema.TypeRow.TheVariants.{Struct, Union}
 use Rattle.ipdl_base.specs.Builtins.{is_carried}
 use Rattle.wait_report.specs.Sendable as sendable
 use Rattle.wait_report.specs.Sendable.{least_bytes, IsBuildable, is_top, HasValueWithin, using_type, null, actor, array, maybe, unique, struct, union, HaveValuesWithin, nothing, first}
-use Rattle.wait_report.specs.Least.{too_many, is_built, least_of, sum_of, least_in, row_least, AreSound, known, TypeLook, MessagesLook, Spreads}
+use Rattle.wait_report.specs.Least.{too_many, is_built, least_of, sum_of, least_in, row_least, AreSound, known, TypeLook, Spreads}
 
 -- A component of some, and a value of it.
 pub record HasComponent (schema : Schema) (top : ℕ) (components : List Shape) (bytes : ℕ) : Type 0 where
@@ -153,20 +152,6 @@ first-sound schema top n m types built none nobody = record { values = values; p
             let dead : is_built (slice_set built top true) protocol ≡ false = get_or-set_other built top protocol true false other.1 ∙ (ap (λ (l : List Bool). is_built l protocol) nobody ∙ all-same m protocol false) in
             let both : true ≡ false = sym live ∙ dead in
             cc
-
--- Looks, one after another
-
-pub spreads-none : (schema : Schema) (types : List ℕ) (built : List Bool) → Spreads schema types built types built
-spreads-none schema types built = record { size = refl; count = refl; sound = λ top h. h; kept = λ p h. h }
-
-pub spreads-then : (schema : Schema) (types : List ℕ) (built : List Bool) (mid : List ℕ) (among : List Bool) (types_after : List ℕ) (built_after : List Bool) → Spreads schema types built mid among → Spreads schema mid among types_after built_after → Spreads schema types built types_after built_after
-spreads-then schema types built mid among types_after built_after a b = record { size = b.size ∙ a.size; count = b.count ∙ a.count; sound = λ top h. b.sound top (a.sound top h); kept = λ p h. b.kept p (a.kept p h) }
-
-pub type-spreads : (schema : Schema) (built : List Bool) (t : ℕ) (old new : List ℕ) (changed : Bool) → TypeLook schema built t old new changed → Spreads schema old built new built
-type-spreads schema built t old new changed a = record { size = a.size; count = refl; sound = a.sound; kept = λ p h. h }
-
-pub message-spreads : (schema : Schema) (types : List ℕ) (Seen : MessageRow → Type 0) (old new : List Bool) (changed : Bool) → MessagesLook schema types Seen old new changed → Spreads schema types old types new
-message-spreads schema types Seen old new changed a = record { size = refl; count = a.size; sound = a.sound; kept = a.kept }
 
 -- a union is looked at through one component
 pub component-spreads : (schema : Schema) (built : List Bool) (t : ℕ) (old : List ℕ) (name : List ℕ) (components : List Shape) (component : Shape) (bytes : ℕ) → slice_get schema.types t ≡ Some (Union name components) → Contains components component → t < length old
