@@ -1,5 +1,6 @@
 use super::call_rows::{HELLO, LISTED, LISTS, NAMES, REACHES, REPORTS, WORDS};
 use super::frame_rows::{FLAG, FRAMES};
+use super::wait_rows::WAITS;
 use ipdl_base::{MemoryFiles, MemorySink};
 use ipdl_top::{Status, ipdl};
 use std::alloc::{AllocError, Global};
@@ -8,6 +9,7 @@ use std::test::Fail;
 const USAGE: &str = "usage: ipdl [-s LIST] [--path DIRS] FILES
        ipdl run [-s LIST] [--path DIRS] [--schedule WORD] [--limit N] SCRIPT FILE
        ipdl frames [-s LIST] [--path DIRS] [--to 2] FILE FRAMES
+       ipdl waits [-s LIST] [--path DIRS] FILE
 ";
 
 /// A file by its name.
@@ -175,6 +177,7 @@ fn calls(rt: HostRuntime) -> Result<(), Fail> {
     assert_eq!(rt; wrong_calls(alloc, REPORTS, "")?.as_str(), "");
     assert_eq!(rt; wrong_calls(alloc, NAMES, "")?.as_str(), "");
     assert_eq!(rt; wrong_calls(alloc, FRAMES, FLAG)?.as_str(), "");
+    assert_eq!(rt; wrong_calls(alloc, WAITS, "")?.as_str(), "");
     Ok(())
 }
 
