@@ -267,7 +267,7 @@ fn checked(alloc: Global) -> Result<String, Fail> {
 
 #[test]
 fn lists_of_words(rt: HostRuntime) -> Result<(), Fail> {
-    assert_eq!(rt; checked(rt.alloc())?.as_str(), "143");
+    assert_eq!(rt; checked(rt.alloc())?.as_str(), "159");
     Ok(())
 }
 
