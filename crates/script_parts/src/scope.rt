@@ -25,6 +25,7 @@ pub trait ActorNames {
 
 /// What terms are seen with in a handler: the actor of the handled message, the actor that it built,
 /// by their ids, and its values.
+#[derive(Clone, Copy)]
 pub struct TermScope<'a> {
     pub this: i32,
     pub made: i32,

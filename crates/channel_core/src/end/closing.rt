@@ -145,6 +145,13 @@ impl<'s> End<'s> {
         count as u32
     }
 
+    /// Whether something can be flushed. It takes no memory.
+    pub fn can_flush(&self) -> bool
+        ensures { result ≡ may_flush self.now.end }
+    {
+        is_open(self.state) && self.out.waiting() != 0
+    }
+
     /// The oldest packet that was not handed out; `None` where there is none. It takes no memory.
     pub fn outgoing(&mut self) -> Option<Packet>
         ensures { MatchOption result ((self.old.packets ≡ []) × (self.new ≡ self.old)) (λ packet. self.old ≡ record self.new { packets = packet ∷ self.new.packets }) }

@@ -1,11 +1,11 @@
-ghost use Rattle.std.specs.Prelude.{◌≡◌, ◌+◌, ◌<◌, ◌≤◌, true, ◌∷◌, Some, length, option_map, OnSome, OnOk, OnErr};
+ghost use Rattle.std.specs.Prelude.{◌≡◌, ◌+◌, ◌<◌, ◌≤◌, true, ◌∷◌, Some, is_some, length, option_map, OnSome, OnOk, OnErr};
 ghost use Rattle.actor_tree.specs.Tree.{without};
 ghost use Rattle.ipdl_base.specs.declared.message.Body.TheVariants as request;
 ghost use Rattle.ipdl_base.specs.Plain.{plain_body, plain_message, plain_values};
 ghost use Rattle.pending_queue.specs.Compression.{is_request};
 ghost use Rattle.channel_model.specs.Events as event;
 ghost use Rattle.end_parts.specs.PlainLines.{plain_what};
-ghost use Rattle.channel_model.specs.Takes.{dispatch_of, holding_of, takes_in_state};
+ghost use Rattle.channel_model.specs.Takes.{dispatch_of, holding_of, taken_next, takes_in_state};
 ghost use Rattle.channel_model.specs.ValueActors.{nulled};
 ghost use Rattle.end_parts.specs.BuiltActors.{with_built, IsFree};
 ghost use Rattle.channel_core.specs.NextItems.{farewell_line, farewell_reason, kind_of_item, resolver_by};
@@ -62,6 +62,13 @@ impl<'s> End<'s> {
             Some(ItemKind::Reply) => self.take_reply(),
             Some(ItemKind::Farewell(farewell)) => self.shut(farewell),
         }
+    }
+
+    /// Whether something can be taken. It takes no memory.
+    pub fn can_take(&self) -> bool
+        ensures { result ≡ is_some (taken_next self.now.end) }
+    {
+        self.next_kind().is_some()
     }
 
     // What the item is that is taken next; `None` where nothing can be taken.

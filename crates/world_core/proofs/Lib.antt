@@ -1,0 +1,14 @@
+mod Histories
+mod Chosen
+mod RestLoop
+mod WordLoop
+mod FirstLines
+mod StepProgress
+mod EventLines
+mod CountsLemmas
+mod HalfLemmas
+mod OwnSteps
+mod NextKinds
+mod Played
+mod Turning
+mod WorldTurns

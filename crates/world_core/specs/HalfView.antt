@@ -1,0 +1,36 @@
+-- What contracts see of one side of a run.
+use Rattle.std.specs.Prelude.{ℕ, List, [], map, Option}
+use Rattle.handler_script.specs.declared.script.Script.{Script}
+use Rattle.ipdl_base.specs.declared.line.Line.{Line}
+use Rattle.ipdl_base.specs.declared.line.What.{What}
+use Rattle.channel_core.specs.EndView.{EndView}
+use Rattle.script_steps.specs.declared.stop.Stop.{Stop}
+use Rattle.script_steps.specs.Choices.{Setting}
+use Rattle.script_steps.specs.Progress.{Progress}
+use Rattle.world_core.specs.CountsView.{CountsView}
+use Rattle.world_core.specs.Counted.{AreCountsOf}
+
+-- The end, with the lines and packets that were not appended to the link; the script, the stop and the limit; and the
+-- counts of its side.
+pub record HalfView : Type 0 where
+  pub end : EndView
+  pub script : Script
+  pub stop : Option Stop
+  pub limit : ℕ
+  pub counts : CountsView
+
+-- what the run of a half is about
+abbrev pub setting_of : HalfView → Setting
+setting_of half = record { schema = half.end.schema; script = half.script; stop = half.stop; limit = half.limit }
+
+-- a half has come as far as this progress
+abbrev pub IsCountedBy : HalfView → Progress → Type 0
+IsCountedBy half progress = AreCountsOf half.script half.end.end.side progress half.counts
+
+-- what lines say
+abbrev pub whats_of : List Line → List What
+whats_of lines = map (λ line. line.what) lines
+
+-- a half with nothing to append
+abbrev pub appended : HalfView → HalfView
+appended half = record half { end = record { end = half.end.end; schema = half.end.schema; lines = []; packets = [] } }

@@ -1,0 +1,11 @@
+pub mod CountsView
+pub mod Counted
+pub mod CountsSteps
+pub mod HalfView
+pub mod HalfSteps
+pub mod NextSteps
+pub mod LinkView
+pub mod WorldView
+pub mod Worlds
+pub mod Turns
+pub mod SideTurns

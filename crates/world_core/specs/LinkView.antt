@@ -1,0 +1,41 @@
+-- What contracts see of a link.
+use Rattle.std.specs.Prelude.{◌≡◌, ℕ, ◌-◌, ◌≤◌, List, ◌++◌, length}
+use Rattle.ipdl_base.specs.declared.kinds.Side.{Side}
+use Rattle.ipdl_base.specs.declared.kinds.Side.TheVariants as sides
+use Rattle.ipdl_base.specs.declared.line.Line.{Line}
+use Rattle.end_parts.specs.declared.packet.Packet.{Packet}
+
+-- The lines of both sides, with every box at one place, and how many more there is room for; and the packets that wait
+-- for each side, and for how many there is room in all.
+pub record LinkView : Type 0 where
+  pub lines : List Line
+  pub spare : ℕ
+  pub to_parent : List Packet
+  pub parent_room : ℕ
+  pub to_child : List Packet
+  pub child_room : ℕ
+
+-- the packets that wait for a side
+abbrev pub packets_to : Side → LinkView → List Packet
+packets_to sides.Parent link = link.to_parent
+packets_to sides.Child link = link.to_child
+
+-- for how many packets toward a side there is room in all
+abbrev pub room_to : Side → LinkView → ℕ
+room_to sides.Parent link = link.parent_room
+room_to sides.Child link = link.child_room
+
+-- a link with these packets toward a side
+abbrev pub with_packets_to : Side → List Packet → LinkView → LinkView
+with_packets_to sides.Parent packets link = record link { to_parent = packets }
+with_packets_to sides.Child packets link = record link { to_child = packets }
+
+-- There is room for so many more lines, and for so many more packets toward a side.
+pub record LinkHasRoom (link : LinkView) (lines : ℕ) (side : Side) (packets : ℕ) : Type 0 where
+  pub lines_fit : lines ≤ link.spare
+  pub packets_fit : packets ≤ room_to side link - length (packets_to side link)
+
+-- Lines, and packets toward a side, stand last on a link, which has no less room in all.
+pub record IsAppended (before : LinkView) (lines : List Line) (side : Side) (packets : List Packet) (after : LinkView) : Type 0 where
+  pub is : after ≡ record (with_packets_to side (packets_to side before ++ packets) before) { lines = before.lines ++ lines; spare = after.spare }
+  pub spare : before.spare - length lines ≤ after.spare

@@ -1,0 +1,18 @@
+-- What contracts see of a world.
+use Rattle.std.specs.Prelude.{List, unwrap_or}
+use Rattle.ipdl_base.specs.declared.line.Line.{Line}
+use Rattle.channel_model.specs.Runs.{RunState}
+use Rattle.script_steps.specs.Choices.{Setting, beginning_of, choices_of, played}
+
+-- What the run is about, and how far it has come.
+pub record WorldView : Type 0 where
+  pub setting : Setting
+  pub state : RunState
+
+-- a world as it begins
+abbrev pub opening_of : Setting → WorldView
+opening_of setting = record { setting = setting; state = beginning_of setting }
+
+-- the state of a run that lines tell of: the one to which their choices lead
+unfoldable pub state_of : Setting → List Line → RunState
+state_of setting lines = unwrap_or (played setting (choices_of lines) (beginning_of setting)) (beginning_of setting)

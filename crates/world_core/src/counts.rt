@@ -1,0 +1,146 @@
+use channel_core::Resolver;
+use handler_script::Script;
+use ipdl_base::{Side, Values};
+use script_parts::BlockTable;
+use std::alloc::{AllocError, Global};
+use std::marker::Model;
+
+/// A request whose handler runs.
+#[derive(Drop)]
+pub struct RunningRequest {
+    /// The block that serves it, by its place in the script.
+    pub block: Option<u32>,
+    /// How many acts the handler has done.
+    pub acts: u32,
+    /// Its values, as they were taken.
+    pub given: Values,
+    /// The id of the actor that it built, else 0.
+    pub made: i32,
+    /// The right to answer it, where it was neither used nor kept.
+    pub resolver: Option<Resolver>,
+}
+
+/// How far a side has come in its script.
+#[derive(Drop)]
+pub struct Counts {
+    pub(crate) events: u32,
+    pub(crate) main: u32,
+    pub(crate) table: BlockTable,
+    /// The innermost one last.
+    pub(crate) running: Vec<RunningRequest>,
+}
+
+impl Model for Counts {
+    ghost use Rattle.std.specs.Prelude.{◌≤◌, map, reverse};
+    ghost use Rattle.std.specs.List.{All};
+    ghost use Rattle.std.specs.Coded.{codes};
+    ghost use Rattle.indexmap.specs.Layout.{hash_map_code};
+    ghost use Rattle.ipdl_base.specs.contracts.value.Values as values;
+    ghost use Rattle.world_core.specs.CountsView.{CountsView, view_of};
+
+    ghost Value = { CountsView };
+
+    ghost coded = { Prim.hlevel (codes, hash_map_code, values.the_row.coded) };
+
+    ghost view = { λ a. record {
+      events = a.events;
+      main = a.main;
+      table = a.table;
+      running = map view_of (reverse a.running.items);
+    } };
+
+    ghost invariant = { λ a. (a.main ≤ a.events) × All (λ r. r.acts ≤ a.events) a.running.items };
+}
+
+impl Counts {
+    ghost use Rattle.std.specs.Prelude.{◌^◌, length, IfOk};
+    ghost use Rattle.script_steps.specs.Progress.{no_progress};
+    ghost use Rattle.world_core.specs.Counted.{AreCountsOf};
+    ghost use Rattle.std.specs.Prelude.{◌≡◌, ◌<◌, ℕ, List, None, filter, option_and_then, option_map, slice_get};
+    ghost use Rattle.handler_script.specs.declared.action.Block.{Block as ScriptBlock};
+    ghost use Rattle.handler_script.specs.Served.{serves};
+    ghost use Rattle.ipdl_base.specs.declared.kinds.Side.{Side as EndSide};
+    ghost use Rattle.script_parts.specs.Tables.{IsTableOf};
+    ghost use Rattle.handler_script.specs.ScriptOf.{first_of};
+    ghost use Rattle.world_core.specs.CountsView.{view_of};
+    ghost use Rattle.world_core.specs.CountsSteps.{with_act, with_death, with_event, with_return};
+
+    /// The counts of a side as it begins. The only error is want of memory.
+    pub(crate) fn new(alloc: Global, script: &Script, side: Side) -> Result<Counts, AllocError>
+        requires { length script.now.blocks < 2 ^ 32 }
+        ensures { IfOk result (AreCountsOf script.now side no_progress) }
+    {
+        Ok(Counts {
+            events: 0,
+            main: 0,
+            table: BlockTable::new(alloc, script, side)?,
+            running: Vec::new(alloc),
+        })
+    }
+
+    /// How many events the side has.
+    pub(crate) fn events(&self) -> u32
+        ensures { result ≡ self.now.events }
+    {
+        self.events
+    }
+
+    /// One more event.
+    pub(crate) fn count_event(&mut self)
+        requires { self.old.events < 4294967295 }
+        ensures { self.new ≡ with_event self.old }
+    {
+        self.events += 1;
+    }
+
+    /// One more act of the innermost handler, or of main where none runs.
+    pub(crate) fn count_act(&mut self)
+        requires { self.old.events < 4294967295 }
+        ensures { self.new ≡ with_act self.old }
+    {
+        self.events += 1;
+        match self.running.last_mut() {
+            None => self.main += 1,
+            Some(top) => top.acts += 1,
+        }
+    }
+
+    /// The innermost handler returns.
+    pub(crate) fn count_return(&mut self)
+        requires { self.old.events < 4294967295 }
+        ensures { self.new ≡ with_return self.old }
+    {
+        self.count_event();
+        let _ = self.running.pop();
+    }
+
+    /// All handlers end by a death.
+    pub(crate) fn count_death(&mut self)
+        requires { self.old.events < 4294967295 }
+        ensures { self.new ≡ with_death self.old }
+    {
+        self.count_event();
+        self.running.clear();
+    }
+
+    /// The request whose handler is the innermost one that runs.
+    pub(crate) fn innermost(&self) -> Option<&RunningRequest>
+        ensures { option_map (λ r. view_of r.now) result ≡ first_of self.now.running }
+    {
+        self.running.last()
+    }
+
+    /// How many acts main has done.
+    pub(crate) fn main(&self) -> u32
+        ensures { result ≡ self.now.main }
+    {
+        self.main
+    }
+
+    /// The block that is the side's main, by its place in the script.
+    pub(crate) fn main_block(&self) -> Option<u32>
+        ensures { (blocks : List ScriptBlock) (side : EndSide) (taken : List ℕ) → IsTableOf blocks side taken self.now.table → option_and_then (slice_get blocks) result ≡ slice_get (filter (serves side None) blocks) 0 }
+    {
+        self.table.main()
+    }
+}

@@ -1,0 +1,223 @@
+ghost use Rattle.std.specs.Prelude.{◌≡◌, ◌<◌, ◌^◌, IfOk, length};
+ghost use Rattle.channel_model.specs.Numbers.{other};
+ghost use Rattle.ipdl_base.specs.Sound.{IsSound};
+ghost use Rattle.script_steps.specs.Progress.{Progress};
+
+mod acting;
+mod ending;
+mod next;
+mod terms;
+
+use self::next::NextStep;
+use crate::answers::StepAnswer;
+use crate::counts::Counts;
+use crate::link::Link;
+use channel_core::{DeliverAnswer, End, EndState, Packet};
+use handler_script::Script;
+use ipdl_base::{Schema, Side};
+use script_steps::Stop;
+use std::alloc::{AllocError, Global};
+use std::marker::Model;
+
+/// One side of a run: its end, and how far it has come in the script. Its lines and packets are kept
+/// until they are appended to the link.
+#[derive(Drop)]
+pub struct Half<'s> {
+    alloc: Global,
+    schema: &'s Schema,
+    end: End<'s>,
+    script: &'s Script,
+    stop: Option<Stop>,
+    limit: u32,
+    counts: Counts,
+}
+
+impl<'s> Model for Half<'s> {
+    ghost use Rattle.std.specs.Prelude.{◌≡◌};
+    ghost use Rattle.std.specs.Coded.{codes};
+    ghost use Rattle.indexmap.specs.Layout.{hash_map_code};
+    ghost use Rattle.ipdl_base.specs.contracts.value.Values as values;
+    ghost use Rattle.ipdl_base.specs.contracts.schema.Shape as shape;
+    ghost use Rattle.handler_script.specs.contracts.term.Terms as terms;
+    ghost use Rattle.world_core.specs.HalfView.{HalfView};
+
+    ghost Value = { HalfView };
+
+    ghost coded = { Prim.hlevel (codes, hash_map_code, values.the_row.coded, shape.the_row.coded, terms.the_row.coded) };
+
+    ghost view = { λ a. record {
+      end = a.end;
+      script = a.script.now;
+      stop = a.stop;
+      limit = a.limit;
+      counts = a.counts;
+    } };
+
+    ghost invariant = { λ a. a.end.schema ≡ a.schema.now };
+}
+
+impl<'s> Half<'s> {
+    ghost use Rattle.channel_core.specs.EndView.{opened};
+    ghost use Rattle.channel_model.specs.Outputs.{is_open};
+    ghost use Rattle.script_steps.specs.Progress.{no_progress};
+    ghost use Rattle.std.specs.Prelude.{true, nat_lt, not};
+    ghost use Rattle.world_core.specs.declared.half.next.NextStep.TheVariants as next;
+    ghost use Rattle.world_core.specs.NextSteps.{IsDue};
+    ghost use Rattle.world_core.specs.HalfSteps.{MayGoOn, OwnGives, DeliveryGives};
+    ghost use Rattle.world_core.specs.HalfView.{IsCountedBy, appended};
+    ghost use Rattle.world_core.specs.LinkView.{IsAppended, LinkHasRoom};
+
+    /// A side of a run as it begins. The only error is want of memory.
+    pub(crate) fn open(
+        alloc: Global,
+        side: Side,
+        schema: &'s Schema,
+        script: &'s Script,
+        stop: Option<Stop>,
+        limit: u32,
+    ) -> Result<Half<'s>, AllocError>
+        requires sound { IsSound schema.now }
+        requires top { script.now.top < length schema.now.protocols }
+        requires few { length script.now.blocks < 2 ^ 32 }
+        ensures made { IfOk result (λ half. half ≡ record { end = opened side schema.entry.now script.entry.now.top; script = script.entry.now; stop = stop; limit = limit; counts = half.counts }) }
+        ensures counted { IfOk result (λ half. IsCountedBy half no_progress) }
+    {
+        Ok(Half {
+            alloc,
+            schema,
+            end: End::open(alloc, side, schema, script.top)?,
+            script,
+            stop,
+            limit,
+            counts: Counts::new(alloc, script, side)?,
+        })
+    }
+
+    /// One own step: what the end does next by its script. `Nothing` comes exactly where it does
+    /// nothing, and `Spent` exactly where it does something but has as many events as it may have.
+    pub fn own(&mut self) -> StepAnswer
+        ghost progress: { Progress }
+        requires { MayGoOn self.old progress }
+        ensures { OwnGives self.old progress result self.new }
+    {
+        match self.next_step() {
+            None => StepAnswer::Nothing,
+            Some(_) if !self.may_count() => StepAnswer::Spent(self.end.side()),
+            Some(step) => self.do_step(step),
+        }
+    }
+
+    // Does what is next.
+    fn do_step(&mut self, step: NextStep) -> StepAnswer
+        ghost progress: { Progress }
+        requires may { MayGoOn self.old progress }
+        requires due { IsDue self.old progress step }
+        ensures { OwnGives self.old progress result self.new }
+    {
+        match step {
+            NextStep::Die => self.die(),
+            NextStep::Resume => self.resume(),
+            NextStep::Flush => self.flush(),
+            NextStep::Take => StepAnswer::NoMemory,
+            NextStep::Main => self.do_main(),
+            NextStep::Handler => self.do_handler(),
+        }
+    }
+
+    // Does the next action of main.
+    fn do_main(&mut self) -> StepAnswer
+        ghost progress: { Progress }
+        requires may { MayGoOn self.old progress }
+        requires due { IsDue self.old progress next.Main }
+        ensures { OwnGives self.old progress result self.new }
+    {
+        if self.counts.innermost().is_some() {
+            return StepAnswer::NoMemory;
+        }
+        match self.main_action() {
+            None => StepAnswer::NoMemory,
+            Some(action) => self.act(action),
+        }
+    }
+
+    // Does the next action of the innermost handler.
+    fn do_handler(&mut self) -> StepAnswer
+        ghost progress: { Progress }
+        requires may { MayGoOn self.old progress }
+        requires due { IsDue self.old progress next.Handler }
+        ensures { OwnGives self.old progress result self.new }
+    {
+        match self.handler_action() {
+            None => StepAnswer::NoMemory,
+            Some(action) => self.act(action),
+        }
+    }
+
+    /// Whether the end is open.
+    pub(crate) fn is_open(&self) -> bool
+        ensures { result ≡ is_open self.now.end.end.state }
+    {
+        match self.end.state() {
+            EndState::Open => true,
+            EndState::Draining | EndState::Closed | EndState::Dead => false,
+        }
+    }
+
+    // Whether the side has fewer events than it may have.
+    fn may_count(&self) -> bool
+        ensures says { result ≡ nat_lt self.now.counts.events self.now.limit }
+        ensures room { nat_lt self.now.counts.events self.now.limit ≡ true → self.now.counts.events < 4294967295 }
+    {
+        self.counts.events() < self.limit
+    }
+
+    /// Whether the side has as many events as it may have.
+    pub(crate) fn is_spent(&self) -> bool
+        ensures { result ≡ not (nat_lt self.now.counts.events self.now.limit) }
+    {
+        self.counts.events() >= self.limit
+    }
+
+    /// Has a packet of the other side delivered.
+    pub(crate) fn deliver(&mut self, packet: &Packet) -> StepAnswer
+        ghost progress: { Progress }
+        requires counted { IsCountedBy self.old progress }
+        requires open { is_open self.old.end.end.state ≡ true }
+        requires few { self.old.end.end.delivered < 268435456 }
+        requires within { nat_lt self.old.counts.events self.old.limit ≡ true }
+        ensures { DeliveryGives self.old progress packet.now result self.new }
+    {
+        let _within = self.may_count();
+        match self.end.deliver(packet) {
+            DeliverAnswer::Done => {
+                self.counts.count_event();
+                StepAnswer::Did
+            }
+            DeliverAnswer::NoMemory
+            | DeliverAnswer::Bad(_, _)
+            | DeliverAnswer::Stray(_)
+            | DeliverAnswer::WrongActor(_, _) => StepAnswer::NoMemory,
+        }
+    }
+
+    /// Appends the lines and packets of the half to the link. It takes no memory, since the link has
+    /// room for them.
+    pub(crate) fn append(&mut self, link: &mut Link)
+        requires { LinkHasRoom link.old (length self.old.end.lines) (other self.old.end.end.side) (length self.old.end.packets) }
+        ensures half { self.new ≡ appended self.old }
+        ensures link { IsAppended link.old self.old.end.lines (other self.old.end.end.side) self.old.end.packets link.new }
+    {
+        let toward = other(self.end.side());
+        link.append(&mut self.end, toward);
+    }
+}
+
+/// The other side.
+pub(crate) fn other(side: Side) -> Side
+    ensures { result ≡ other side }
+{
+    match side {
+        Side::Parent => Side::Child,
+        Side::Child => Side::Parent,
+    }
+}

@@ -1,0 +1,18 @@
+//! A run of two ends by a handler script: step by step, by a word of turns, or by a driver
+//! (docs/scripts.md). The history of every run is one of the script.
+#![tactic(auto)]
+
+mod answers;
+mod counts;
+mod driver;
+mod half;
+mod link;
+mod side_turns;
+mod world;
+
+pub use answers::{RunAnswer, StepAnswer};
+pub use driver::{Driver, OneThread};
+pub use half::Half;
+pub use link::Link;
+pub use script_steps::{Stop, Turn};
+pub use world::World;

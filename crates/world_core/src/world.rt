@@ -1,0 +1,175 @@
+ghost use Rattle.std.specs.Prelude.{◌≡◌, ◌≤◌, [], map, IfOk};
+ghost use Rattle.end_parts.specs.PlainLines.{plain_line};
+ghost use Rattle.handler_script.specs.Valid.{IsValid};
+ghost use Rattle.history.specs.Text.{transcript_text};
+ghost use Rattle.ipdl_base.specs.Sound.{IsSound};
+
+use crate::answers::{RunAnswer, StepAnswer};
+use crate::half::{Half, other};
+use crate::link::Link;
+use crate::side_turns::turn_of;
+use handler_script::Script;
+use history::History;
+use ipdl_base::{Schema, Side};
+use script_steps::{Stop, Turn};
+use std::alloc::{AllocError, Global};
+use std::marker::Model;
+
+/// A run of two ends by a script (docs/scripts.md). Contracts see what it is about and how far it
+/// has come.
+#[derive(Drop)]
+pub struct World<'s> {
+    schema: &'s Schema,
+    script: &'s Script,
+    stop: Option<Stop>,
+    limit: u32,
+    parent: Half<'s>,
+    child: Half<'s>,
+    link: Link,
+}
+
+impl<'s> Model for World<'s> {
+    ghost use Rattle.std.specs.Coded.{codes};
+    ghost use Rattle.ipdl_base.specs.contracts.value.Values as values;
+    ghost use Rattle.ipdl_base.specs.contracts.schema.Shape as shape;
+    ghost use Rattle.handler_script.specs.contracts.term.Terms as terms;
+    ghost use Rattle.world_core.specs.WorldView.{WorldView, state_of};
+    ghost use Rattle.world_core.specs.Worlds.{IsWorld};
+
+    ghost Value = { WorldView };
+
+    ghost coded = { Prim.hlevel (codes, values.the_row.coded, shape.the_row.coded, terms.the_row.coded) };
+
+    ghost view = { λ a. record {
+      setting = record { schema = a.schema.now; script = a.script.now; stop = a.stop; limit = a.limit };
+      state = state_of (record { schema = a.schema.now; script = a.script.now; stop = a.stop; limit = a.limit }) a.link.lines;
+    } };
+
+    ghost invariant = { λ a. IsWorld
+        (record { schema = a.schema.now; script = a.script.now; stop = a.stop; limit = a.limit })
+        (state_of (record { schema = a.schema.now; script = a.script.now; stop = a.stop; limit = a.limit }) a.link.lines)
+        a.parent a.child a.link };
+}
+
+impl<'s> World<'s> {
+    ghost use Rattle.world_core.specs.Turns.{GrowsTo, IsSpentAt, StandsAs, TurnGives, WordGives};
+    ghost use Rattle.world_core.specs.WorldView.{opening_of};
+    ghost use Rattle.world_core.specs.Worlds.{IsCase, IsLawful, most_events};
+
+    /// The run as it begins, with room for all that may come. The only error is want of memory.
+    pub fn open(
+        alloc: Global,
+        schema: &'s Schema,
+        script: &'s Script,
+        stop: Option<Stop>,
+        limit: u32,
+    ) -> Result<World<'s>, AllocError>
+        requires sound { IsSound schema.now }
+        requires valid { IsValid schema.now script.now }
+        requires small { limit ≤ most_events }
+        ensures opened { IfOk result (λ w. w ≡ opening_of (record { schema = schema.entry.now; script = script.entry.now; stop = stop; limit = limit })) }
+        ensures case { IfOk result IsCase }
+        ensures laws { IfOk result IsLawful }
+    {
+        let _ = alloc;
+        let _ = schema;
+        let _ = script;
+        let _ = stop;
+        let _ = limit;
+        Err(AllocError)
+    }
+
+    /// One turn of a side. `Nothing` comes exactly where it does nothing, and `Spent` exactly where
+    /// it does something but the side has as many events as it may have.
+    pub fn step(&mut self, turn: Turn) -> StepAnswer
+        ensures gives { TurnGives self.old turn result self.new }
+        ensures case { IsCase self.new }
+        ensures laws { IsLawful self.new }
+    {
+        let answer = match turn.side {
+            Side::Parent => turn_of(&mut self.parent, &mut self.link, turn),
+            Side::Child => turn_of(&mut self.child, &mut self.link, turn),
+        };
+        self.is_lawful();
+        answer
+    }
+
+    /// The turns of a word, and behind it both sides in turn, the parent first, until neither has a
+    /// step or a delivery left: `Finished` comes exactly there, and no end waits for a reply.
+    pub fn run_schedule(&mut self, word: &[Turn]) -> RunAnswer
+        ensures gives { WordGives self.old word.now result self.new }
+        ensures same { self.new.setting ≡ self.old.setting }
+        ensures grows { GrowsTo self.old.state.lines self.new.state.lines }
+        ensures stands { StandsAs self.new result }
+        ensures case { IsCase self.new }
+        ensures laws { IsLawful self.new }
+    {
+        self.is_lawful();
+        for turn in word {
+            match self.step(*turn) {
+                StepAnswer::Did | StepAnswer::Nothing => {}
+                StepAnswer::Spent(side) => return RunAnswer::Spent(side),
+                StepAnswer::NoMemory => return RunAnswer::NoMemory,
+            }
+        }
+        let answer = self.run_to_rest();
+        self.is_lawful();
+        answer
+    }
+
+    // Both sides in turn, the parent first, until two turns in a row do nothing.
+    fn run_to_rest(&mut self) -> RunAnswer
+        ensures gives { WordGives self.old [] result self.new }
+        ensures same { self.new.setting ≡ self.old.setting }
+        ensures grows { GrowsTo self.old.state.lines self.new.state.lines }
+        ensures spent { IsSpentAt self.new result }
+        ensures case { IsCase self.new }
+        ensures laws { IsLawful self.new }
+    {
+        self.is_lawful();
+        let mut side = Side::Parent;
+        let mut left = 2u32;
+        while left > 0 {
+            let turn = Turn {
+                side,
+                only_deliver: false,
+            };
+            side = other(side);
+            match self.step(turn) {
+                StepAnswer::Did => left = 2,
+                StepAnswer::Nothing => left -= 1,
+                StepAnswer::Spent(at) => return RunAnswer::Spent(at),
+                StepAnswer::NoMemory => return RunAnswer::NoMemory,
+            }
+        }
+        RunAnswer::Finished
+    }
+
+    // The history is the script's own, and every law holds of it.
+    fn is_lawful(&self)
+        ensures sound { IsSound self.now.setting.schema }
+        ensures case { IsCase self.now }
+        ensures laws { IsLawful self.now }
+    {
+        let _limit = self.limit;
+    }
+
+    /// The history. It takes no memory.
+    pub fn history(&self) -> &History
+        ensures lines { map plain_line result.now.lines ≡ self.now.state.lines }
+        ensures case { IsCase self.now }
+        ensures laws { IsLawful self.now }
+    {
+        self.is_lawful();
+        self.link.history()
+    }
+
+    /// The text that a transcript prints of the history (docs/transcripts.md). The only error is want
+    /// of memory.
+    pub fn transcript(&self, alloc: Global) -> Result<Vec<u8>, AllocError>
+        ensures { IfOk result (λ text. text.items ≡ transcript_text self.now.setting.schema self.now.state.lines) }
+    {
+        let _ = alloc;
+        Err(AllocError)
+    }
+}
