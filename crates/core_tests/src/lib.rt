@@ -11,6 +11,8 @@ mod calls;
 #[cfg(test)]
 mod conditions;
 #[cfg(test)]
+mod interruptions;
+#[cfg(test)]
 mod nesting_rows;
 #[cfg(test)]
 mod packet_rows;

@@ -2,6 +2,7 @@ ghost use Rattle.ipdl_base.specs.Sound.{IsSound};
 
 use super::actor_rows::{ACTOR_COUNT, ACTOR_ROWS};
 use super::calls::TestedEnd;
+use super::interruptions::unlisted;
 use super::nesting_rows::{NESTING_COUNT, NESTING_ROWS};
 use super::packet_rows::{PACKET_COUNT, PACKET_ROWS};
 use super::resolver_rows::{RESOLVER_COUNT, RESOLVER_ROWS};
@@ -98,6 +99,9 @@ fn played(alloc: Global, schema: &Schema, top: u32, calls: &str) -> Result<Strin
     drop(parent);
     drop(child);
     done?;
+    if unlisted(alloc, schema, top, &lines)? > 0 {
+        return Err("a wait is interrupted by what the report does not list".into());
+    }
     with_lines(alloc, schema, &lines, log)
 }
 
