@@ -10,6 +10,7 @@ use Rattle.ipdl_top.specs.declared.status.Status.TheVariants.{Usage}
 use Rattle.ipdl_top.specs.CommandAnswer.{IsAnswer, IsCompilation, SaysTables, given_by, usage_answer}
 use Rattle.ipdl_top.specs.Frames.{SaysFrames, frames_answer, frames_out}
 use Rattle.ipdl_top.specs.FileViews.{FileViews, ForMap, steady}
+use Rattle.ipdl_top.specs.Waits.{SaysWaits}
 use Rattle.include_graph.specs.Sources.{LoadInput}
 
 status_of : (a b : CommandAnswer) → a ≡ b → a.status ≡ b.status
@@ -34,6 +35,9 @@ frames name convert None schema answer says = not_usage _ _ says (λ e. cc)
 frames name convert (Some bytes) schema answer (inl larger) = not_usage _ _ larger.1 (λ e. cc)
 frames name convert (Some bytes) schema answer (inr told) = not_usage _ _ told.1.says (listed name (frames_out convert schema told.1.frames) told.1.fault)
 
+waits : (file : List ℕ) (schema : Schema) (answer : CommandAnswer) → SaysWaits file schema answer → IsNoUsage answer
+waits file schema answer told = not_usage _ _ told.says (λ e. cc)
+
 -- nor is that of a compilation
 compiled : (Says : Schema → CommandAnswer → Type 0) → ((schema : Schema) (answer : CommandAnswer) → Says schema answer → IsNoUsage answer)
     → (given : LoadInput) (lists : FileMap) (list : Option (List ℕ)) (answer : CommandAnswer) → IsCompilation Says given lists list answer → IsNoUsage answer
@@ -45,14 +49,16 @@ compiled Says none given lists list answer (inr (inr h)) = none h.schema answer 
 pub of_no_command : (seen : FileViews) (words : List (List ℕ)) (answer : CommandAnswer) → IsNoCommand words → IsAnswer seen words answer → answer ≡ usage_answer
 of_no_command seen words answer none (inl h) = absurd (none.0 h.list h.path h.names h.command)
 of_no_command seen words answer none (inr (inl h)) = absurd (none.1 h.list h.path h.file h.frames h.convert h.command)
-of_no_command seen words answer none (inr (inr h)) = h.1
+of_no_command seen words answer none (inr (inr (inl h))) = absurd (none.2 h.list h.path h.file h.command)
+of_no_command seen words answer none (inr (inr (inr h))) = h.1
 
 -- and no others have it
 pub no_command_of : (seen : FileViews) (words : List (List ℕ)) (answer : CommandAnswer) → answer.status ≡ Usage → IsAnswer seen words answer → IsNoCommand words
 no_command_of seen words answer usage (inl h) = absurd (compiled SaysTables tables (given_by seen.files h.path h.names) seen.list h.list answer h.compilation usage)
 no_command_of seen words answer usage (inr (inl h)) =
     absurd (compiled (SaysFrames h.frames h.convert (seen.frames h.frames)) (frames h.frames h.convert (seen.frames h.frames)) (given_by seen.files h.path (h.file ∷ [])) seen.list h.list answer h.compilation usage)
-no_command_of seen words answer usage (inr (inr h)) = h.0
+no_command_of seen words answer usage (inr (inr (inl h))) = absurd (compiled (SaysWaits h.file) (waits h.file) (given_by seen.files h.path (h.file ∷ [])) seen.list h.list answer h.compilation usage)
+no_command_of seen words answer usage (inr (inr (inr h))) = h.0
 
 -- what follows whatever is seen, and does not speak of it
 pub for_any : (told : Option FileMap) (P : FileViews → Type 0) (Q : Type 0) → ((seen : FileViews) → P seen → Q) → ForMap told P → Q

@@ -1,13 +1,15 @@
 -- In a program that breaks no rule there is a protocol that bears the name of the command's file.
-use Rattle.std.proofs.Common.{◌≡◌, ◌≢◌, ◌∙◌, ◌<◌, ◌+◌, ℕ, zero, suc, Bool, true, false, cond, List, [], ◌∷◌, ◌++◌, map, filter, length, Option, Some, None, slice_get, refl, sym, ap, subst, arith, inl, inr, codes, true≢false}
-use Rattle.std.specs.Prelude.{IsSome, IsSomeAnd, option_and_then}
-use Rattle.std.specs.List.{Contains, position_or_len}
+use Rattle.std.proofs.Common.{◌≡◌, ◌≢◌, ◌∙◌, ◌<◌, ◌+◌, ◌-◌, ◌==◌, ◌&&◌, ℕ, zero, suc, Bool, true, false, cond, List, [], ◌∷◌, ◌++◌, take, drop, length, Option, Some, None, slice_get, refl, sym, ap, subst, arith, inl, inr, codes, true≢false}
+use Rattle.std.specs.Prelude.{IsSome, IsSomeAnd, nat_eq, nat_lt}
+use Rattle.std.specs.List.{Contains, position, position_or_len}
 use Rattle.std.specs.Str.{bytes_eq}
-use Rattle.std.proofs.lemmas.Bool.{cases_Bool}
-use Rattle.std.proofs.lemmas.Option.{slice_get_read}
+use Rattle.std.proofs.lemmas.Bool.{cases_Bool, lt-ltb, ltb-true}
+use Rattle.std.proofs.Math.Seq.{drop-append_seam}
+use Rattle.std.proofs.lemmas.List.{length-append, take-append-drop}
+use Rattle.std.proofs.lemmas.Slice.Eq.{bytes_eq-Decides}
+use Rattle.std.specs.Cmp.Lexicographic.{pointwise}
 use Rattle.ipdl_base.specs.Outside.{FileMap}
-use Rattle.ipdl_base.specs.declared.finding.Finding.{Finding}
-use Rattle.ipdl_base.specs.declared.rules.TheConstants as rule
+use Rattle.ipdl_base.specs.declared.finding.TheConstants.Rule as rule
 use Rattle.ipdl_base.specs.declared.schema.ProtocolRow.{ProtocolRow}
 use Rattle.ipdl_base.specs.declared.schema.Schema.{Schema}
 use Rattle.ipdl_base.specs.FileNames.{key_of}
@@ -16,20 +18,20 @@ use Rattle.ipdl_syntax.specs.declared.program.Entry.{Entry}
 use Rattle.ipdl_syntax.specs.declared.tree.FileKind.{FileKind}
 use Rattle.ipdl_syntax.specs.declared.tree.FileKind.TheVariants as file_kind
 use Rattle.ipdl_syntax.specs.declared.tree.ProtocolDecl.{ProtocolDecl}
-use Rattle.ipdl_syntax.specs.declared.tree.Unit.{Unit as FileUnit}
 use Rattle.ipdl_syntax.specs.Programs.{IsProgram}
 use Rattle.ipdl_syntax.specs.Units.{IsOfKind}
 use Rattle.include_graph.specs.Keys.{HasKind, word_keys}
 use Rattle.include_graph.specs.Load.{IsProgramOf, keys_of}
 use Rattle.include_graph.specs.Sources.{LoadInput}
-use Rattle.command_words.proofs.Comparisons.{same_text}
+use Rattle.command_words.proofs.Comparisons.{same_text, text_is}
 use Rattle.include_graph.proofs.OneUnit.{kind_one}
 use Rattle.include_graph.proofs.WholeKeys.{ends_so}
 use Rattle.name_table.specs.Decls.{protocol_of}
+use Rattle.program_schema.proofs.Lists.{place_in}
+use Rattle.program_schema.proofs.Numberings.{some_of}
 use Rattle.program_schema.specs.SchemaOf.{AreRows, IsProtocolRow, IsSchemaOf}
 use Rattle.ipdl_top.specs.declared.checked.CheckResult.{CheckResult}
 use Rattle.ipdl_top.specs.declared.checked.CheckResult.TheVariants.{Report, Clean}
-use Rattle.ipdl_top.specs.CommandAnswer.{IsSchemaRead}
 use Rattle.ipdl_top.specs.Steps.{HasTop, IsChecked}
 use Rattle.ipdl_top.specs.Waits.{IsTop, bears_name}
 
@@ -85,18 +87,11 @@ protocol-key file front ends = subst (λ f. HasKind (key_of f) file_kind.Protoco
 has-protocol : (e : Entry) (kind : FileKind) → HasKind e.key kind → HasKind e.key file_kind.Protocol → IsOfKind kind e.unit → IsSome e.unit.protocol
 has-protocol e kind is wanted unit = subst (λ k. IsOfKind k e.unit) (kind_one e.key kind file_kind.Protocol is wanted) unit
 
-some-protocol : (e : Entry) → IsSome e.unit.protocol → (p : ProtocolDecl) × (e.unit.protocol ≡ Some p)
-some-protocol e there = by e.unit.protocol there
-  where
-    by : (o : Option ProtocolDecl) → IsSome o → (p : ProtocolDecl) × (o ≡ Some p)
-    by None there = absurd there
-    by (Some p) there = (p, refl)
-
 -- which bears the name of the file, since no rule is broken
 bears : (given : LoadInput) (e : Entry) (rest : List Entry) (p : ProtocolDecl) → IsProgramOf given (e ∷ rest) → e.unit.protocol ≡ Some p → bytes_eq (short_name p.full ++ codes ".ipdl") e.key ≡ true
 bears given e rest p is protocol = elim (cases_Bool (bytes_eq (short_name p.full ++ codes ".ipdl") e.key)) [
   | inl t ↦ t
-  | inr f ↦ absurd (is.clean (record { place = p.place; rule = rule.MISNAMED_PROTOCOL }) (inr (inr (inr (inl (refl, 0, e.key, refl, e.unit, (is.entries 0 e refl).unit, misnamed f))))))
+  | inr f ↦ absurd (is.clean (record { place = p.place; rule = rule.MISNAMED_PROTOCOL }) (inr (inr (inr (inl (refl, (0, e.key, refl, (e.unit, (is.entries 0 e refl).unit, misnamed f))))))))
 ]
   where
     misnamed : bytes_eq (short_name p.full ++ codes ".ipdl") e.key ≡ false → IsSomeAnd e.unit.protocol (λ q. (q.place ≡ p.place) × (short_name q.full ++ codes ".ipdl" ≢ e.key))
@@ -109,11 +104,13 @@ bears given e rest p is protocol = elim (cases_Bool (bytes_eq (short_name p.full
 row-bears : (given : LoadInput) (e : Entry) (rest : List Entry) (p : ProtocolDecl) (schema : Schema) → IsProgramOf given (e ∷ rest) → e.unit.protocol ≡ Some p → IsSchemaOf (e ∷ rest) schema
     → (i : ℕ) × (row : ProtocolRow) × (slice_get schema.protocols i ≡ Some row) × (bytes_eq (short_name row.name ++ codes ".ipdl") e.key ≡ true)
 row-bears given e rest p schema is protocol of =
-    let listed : Contains of.numbering.files 0 = (of.files.exact 0).1 (subst IsSome (sym protocol) tt) in
-    let at : slice_get of.numbering.files listed.0 ≡ Some 0 = slice_get_read of.numbering.files (length of.numbering.files) listed.0 0 refl listed.1 listed.2 in
-    let beside = row-beside (λ number file row. IsSomeAnd (protocol_of (e ∷ rest) file) (λ q. IsProtocolRow (e ∷ rest) of.numbering schema.types number file q row)) 0 of.numbering.files schema.protocols of.protocols listed.0 0 at in
-    let row : IsProtocolRow (e ∷ rest) of.numbering schema.types listed.0 0 p beside.0 = subst (λ o. IsSomeAnd o (λ q. IsProtocolRow (e ∷ rest) of.numbering schema.types listed.0 0 q beside.0)) protocol beside.2 in
-    (listed.0, beside.0, beside.1, subst (λ name. bytes_eq (short_name name ++ codes ".ipdl") e.key ≡ true) (sym row.name) (bears given e rest p is protocol))
+    let listed : Contains of.numbering.files 0 = (of.files.exact 0).1 (subst IsSome (sym protocol) refl) in
+    let place = place_in of.numbering.files 0 listed in
+    let beside = row-beside (λ number file row. IsSomeAnd (protocol_of (e ∷ rest) file) (λ q. IsProtocolRow (e ∷ rest) of.numbering schema.types number file q row)) 0 of.numbering.files schema.protocols of.protocols place.0 0 place.1 in
+    let same : protocol_of (e ∷ rest) 0 ≡ Some p = protocol in
+    let row : IsSomeAnd (Some p) (λ q. IsProtocolRow (e ∷ rest) of.numbering schema.types (0 + place.0) 0 q beside.0) =
+    subst (λ (o : Option ProtocolDecl). IsSomeAnd o (λ q. IsProtocolRow (e ∷ rest) of.numbering schema.types (0 + place.0) 0 q beside.0)) same beside.2 in
+    (place.0, beside.0, beside.1, subst (λ name. bytes_eq (short_name name ++ codes ".ipdl") e.key ≡ true) (sym row.name) (bears given e rest p is protocol))
 
 top-of : (given : LoadInput) (schema : Schema) (file front : List ℕ) (program : List Entry) → given.words ≡ file ∷ [] → file ≡ front ++ codes ".ipdl" → IsProgramOf given program → IsProgram program → IsSchemaOf program schema → (top : ℕ) × IsTop file schema top
 top-of given schema file front [] words ends is whole of = absurd (no-program given file words is)
@@ -121,7 +118,7 @@ top-of given schema file front (e ∷ rest) words ends is whole of =
     let key = key-first given e rest file words is in
     let keyed = (whole.entries 0 e refl).keyed in
     let there = has-protocol e keyed.kind (keyed.front, keyed.key) (subst (λ k. HasKind k file_kind.Protocol) (sym key) (protocol-key file front ends)) keyed.unit in
-    let p = some-protocol e there in
+    let p = some_of e.unit.protocol there in
     let row = row-bears given e rest p.0 schema is p.1 of in (
       position_or_len (bears_name file) schema.protocols,
       record {
@@ -135,6 +132,61 @@ pub has_top : (given : LoadInput) (lists : FileMap) (list : Option (List ℕ)) (
 has_top given lists list file front words ends (Report answer) h = tt
 has_top given lists list file front words ends (Clean schema) h = top-of given schema file front h.0.program words ends h.0.reading.is_program h.0.reading.whole h.0.schema_of
 
--- the place of a row that bears the name, by what is tested
-pub no_top : (file : List ℕ) (schema : Schema) (top : ℕ) → position_or_len (bears_name file) schema.protocols ≡ length schema.protocols → ¬ IsTop file schema top
-no_top file schema top none is = omega (arith, none, is.there, is.first)
+-- The top, by the place that was found
+
+at-place : (place long : ℕ) (i : ℕ) → cond (nat_lt place long) (Some place) None ≡ Some i → (place < long) × (place ≡ i)
+at-place place long i e = elim (cases_Bool (nat_lt place long)) [
+  | inl t ↦ (ltb-true place long t, (let same : Some place ≡ Some i = sym (ap (λ (b : Bool). cond b (Some place) None) t) ∙ e in let is : place ≡ i = cc in is))
+  | inr f ↦ absurd (let none : None ≡ Some i = sym (ap (λ (b : Bool). cond b (Some place) None) f) ∙ e in let no : ⊥ = cc in no)
+]
+
+pub top_at : (file : List ℕ) (schema : Schema) (i : ℕ) → position (bears_name file) schema.protocols ≡ Some i → IsTop file schema i
+top_at file schema i e =
+    let found = at-place (position_or_len (bears_name file) schema.protocols) (length schema.protocols) i e in
+    record { there = subst (λ n. n < length schema.protocols) found.1 found.0; first = found.1 }
+
+pub no_top : (file : List ℕ) (schema : Schema) (top : ℕ) → position (bears_name file) schema.protocols ≡ None → ¬ IsTop file schema top
+no_top file schema top e is =
+    let place = position_or_len (bears_name file) schema.protocols in
+    let there : nat_lt place (length schema.protocols) ≡ true = lt-ltb place (length schema.protocols) (subst (λ n. n < length schema.protocols) (sym is.first) is.there) in
+    let some : Some place ≡ None = sym (ap (λ (b : Bool). cond b (Some place) None) there) ∙ e in
+    let no : ⊥ = cc in no
+
+-- Names
+
+unlike : (a b : List ℕ) → a ≢ b → bytes_eq a b ≡ false
+unlike a b differ = elim (cases_Bool (bytes_eq a b)) [ inl t ↦ absurd (differ (text_is a b t)) | inr f ↦ f ]
+
+shorter : (x : ℕ) (xs e : List ℕ) → e ≢ x ∷ xs ++ e
+shorter x xs e same =
+    let long : length e ≡ suc (length xs + length e) = ap length same ∙ ap suc (length-append xs e) in
+    omega (arith, long)
+
+-- two texts with one ending are the same where their fronts are
+pub ending-cancel : (xs ys e : List ℕ) → bytes_eq (xs ++ e) (ys ++ e) ≡ bytes_eq xs ys
+ending-cancel [] [] e = same_text e
+ending-cancel [] (y ∷ ys) e = unlike e (y ∷ ys ++ e) (shorter y ys e)
+ending-cancel (x ∷ xs) [] e = unlike (x ∷ xs ++ e) e (λ same. shorter x xs e (sym same))
+ending-cancel (x ∷ xs) (y ∷ ys) e = ap (λ (b : Bool). (x == y) && b) (ending-cancel xs ys e)
+
+-- a text with an ending is no text without it
+pub no-ending : (xs e text : List ℕ) → ((front : List ℕ) → text ≢ front ++ e) → bytes_eq (xs ++ e) text ≡ false
+no-ending xs e text none = unlike (xs ++ e) text (λ same. none xs (sym same))
+
+-- what is cut off at the end of a text, if it is there
+
+cut : (name text : List ℕ) → pointwise nat_eq (drop (length text - 5) text) (codes ".ipdl") ≡ true → name ≡ take (length text - 5) text → text ≡ name ++ codes ".ipdl"
+cut name text last front =
+    sym (take-append-drop (length text - 5) text) ∙ ap (λ xs. take (length text - 5) text ++ xs) ((bytes_eq-Decides (drop (length text - 5) text) (codes ".ipdl")).0 last) ∙ ap (λ xs. xs ++ codes ".ipdl") (sym front)
+
+pub bears-cut : (own name text : List ℕ) → pointwise nat_eq (drop (length text - 5) text) (codes ".ipdl") ≡ true → name ≡ take (length text - 5) text → bytes_eq own name ≡ bytes_eq (own ++ codes ".ipdl") text
+bears-cut own name text last front = sym (ending-cancel own name (codes ".ipdl")) ∙ ap (bytes_eq (own ++ codes ".ipdl")) (sym (cut name text last front))
+
+uncut : (text front : List ℕ) → text ≡ front ++ codes ".ipdl" → drop (length text - 5) text ≡ codes ".ipdl"
+uncut text front e =
+    let long : length text - 5 ≡ length front = (let whole : length text ≡ length front + 5 = ap length e ∙ length-append front (codes ".ipdl") in omega (arith, whole)) in
+    ap (λ n. drop n text) long ∙ ap (drop (length front)) e ∙ drop-append_seam front (codes ".ipdl")
+
+pub bears-none : (own text : List ℕ) → pointwise nat_eq (drop (length text - 5) text) (codes ".ipdl") ≡ false → false ≡ bytes_eq (own ++ codes ".ipdl") text
+bears-none own text differ =
+    sym (no-ending own (codes ".ipdl") text (λ front e. true≢false (sym ((bytes_eq-Decides (drop (length text - 5) text) (codes ".ipdl")).1 (uncut text front e)) ∙ differ)))

@@ -1,4 +1,5 @@
-ghost use Rattle.std.specs.Prelude.{◌≡◌, ◌++◌, ◌∷◌, [], ℕ, IfOk, List, MatchOption, OnOk, codes, map, option_map, string_bytes};
+ghost use Rattle.std.specs.Prelude.{◌≡◌, ◌<◌, ◌++◌, ◌∷◌, [], ℕ, IfOk, IfSome, IsOkUnless, List, MatchOption, OnOk, codes, length, map, option_map, string_bytes};
+ghost use Rattle.std.specs.List.{position};
 ghost use Rattle.history.specs.Words as words;
 ghost use Rattle.ipdl_base.specs.Outside.{Rose};
 ghost use Rattle.ipdl_base.specs.Sound.{IsSound};
@@ -27,17 +28,23 @@ fn has_name(row: &ProtocolRow, file: &str) -> bool
     }
 }
 
+/// The place of the first protocol that bears the name of a file.
+fn place_of(rows: &[ProtocolRow], file: &str) -> Option<usize>
+    ensures place { result ≡ position (bears_name file.now) rows.now }
+    ensures bound { IfSome result (λ i. i < length rows.now) }
+{
+    rows.iter().position(|row| has_name(row, file))
+}
+
 /// The number of the protocol of a file, which is the first that bears its name.
 fn top_of(schema: &Schema, file: &str) -> Option<u32>
     requires { IsSound schema.now }
     ensures { MatchOption result ((top : ℕ) → ¬ IsTop file.now schema.now top) (IsTop file.now schema.now) }
 {
-    let place = schema
-        .protocols
-        .as_slice()
-        .iter()
-        .position(|row| has_name(row, file))?;
-    Some(place as u32)
+    match place_of(schema.protocols.as_slice(), file) {
+        Some(place) => Some(place as u32),
+        None => None,
+    }
 }
 
 /// The word of a side.
@@ -90,18 +97,15 @@ fn waits_answer(alloc: Global, schema: &Schema, file: &str) -> Result<CommandAns
 }
 
 /// The answer by what was found of a file.
-fn checked_answer(
-    alloc: Global,
-    checked: CheckResult,
-    file: &str,
-) -> Result<CommandAnswer, AllocError>
+fn checked_answer(alloc: Global, checked: CheckResult, file: &str) -> Result<CommandAnswer, Failure>
     requires sound { IsSoundChecked checked }
     requires top { HasTop file.now checked }
-    ensures { IfOk result (IsToldOf (SaysWaits file.now) checked) }
+    ensures answer { IfOk result (IsToldOf (SaysWaits file.now) checked) }
+    ensures memory { IsOkUnless result Failure.NoMemory }
 {
     match checked {
         CheckResult::Report(report) => Ok(report),
-        CheckResult::Clean(schema) => waits_answer(alloc, &schema, file),
+        CheckResult::Clean(schema) => Ok(waits_answer(alloc, &schema, file)?),
     }
 }
 
@@ -121,7 +125,7 @@ pub fn waits<F: Files>(
     ensures read_fault { result ≡ Err Failure.ReadFault → Rose (F.faults files.old) (F.faults files.new) }
 {
     match checked(alloc, files, list, path, from_ref(file)) {
-        Ok(checked) => Ok(checked_answer(alloc, checked, file.as_str())?),
+        Ok(checked) => checked_answer(alloc, checked, file.as_str()),
         Err(failure) => Err(failure),
     }
 }
