@@ -18,6 +18,11 @@ use Rattle.program_schema.specs.Laws.{plain_param_row, plain_message_row, plain_
 
 -- Options whose values were changed by a look
 
+-- what is under a value that a look gave
+pub under : {X Y : Type 0} (look : X → Y) (o : Option X) (y : Y) → option_map look o ≡ Some y → (x : X) × (o ≡ Some x) × (look x ≡ y)
+under look None y e = absurd (let no : ⊥ = cc in no)
+under look (Some x) y e = (x, refl, let same : look x ≡ y = cc in same)
+
 -- what two functions give of them is the same where it is of each value
 pub option_alike : {X Y : Type 0} (look : X → X) (f g : X → Y) → ((x : X) → f (look x) ≡ g x) → (d : Y) (o : Option X) → option_map_or f (option_map look o) d ≡ option_map_or g o d
 option_alike look f g same d None = refl

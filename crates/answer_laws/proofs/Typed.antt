@@ -1,9 +1,8 @@
 -- Which messages fit a schema does not depend on where its boxes lie.
 use Rattle.std.proofs.Common.{◌≡◌, ◌∙◌, ℕ, ◌<◌, ◌^◌, List, [], ◌∷◌, map, Option, Some, None, refl, sym, ap, subst, unwrap_or}
-use Rattle.std.specs.Prelude.{ℤ, ◌≤ℤ◌, IsTrue, IsSomeAnd, option_map, option_and_then}
+use Rattle.std.specs.Prelude.{◌≤ℤ◌, IsTrue, IsSomeAnd, option_map, option_and_then}
 use Rattle.std.specs.Str.{IsUtf8}
 use Rattle.std.proofs.Math.Path.{transport, transport⁻¹}
-use Rattle.std.proofs.lemmas.Option.{same_Some}
 use Rattle.ipdl_base.specs.declared.builtin.Builtin.TheVariants as builtin
 use Rattle.ipdl_base.specs.declared.message.Body.{Body}
 use Rattle.ipdl_base.specs.declared.message.Body.TheVariants as body
@@ -11,8 +10,7 @@ use Rattle.ipdl_base.specs.declared.message.Message.{Message}
 use Rattle.ipdl_base.specs.declared.schema.MessageRow.{MessageRow}
 use Rattle.ipdl_base.specs.declared.schema.ParamRow.{ParamRow}
 use Rattle.ipdl_base.specs.declared.schema.Schema.{Schema}
-use Rattle.ipdl_base.specs.declared.schema.Shape.{Shape, Actor}
-use Rattle.ipdl_base.specs.declared.schema.Shape as shapes
+use Rattle.ipdl_base.specs.declared.schema.Shape.{Shape}
 use Rattle.ipdl_base.specs.declared.value.Value.{Value, Union', Maybe', Held-Value-Maybe-0, None', Some'}
 use Rattle.ipdl_base.specs.declared.value.Value.TheVariants as value
 use Rattle.ipdl_base.specs.declared.value.Values.{Values, First'}
@@ -24,7 +22,7 @@ use Rattle.value_types.specs.HasType.{HasType, HeldHasType, AllHaveType, HaveTyp
 use Rattle.value_types.specs.Shapes.{range_of, float_bits, component_of, element_of, fields_of, held_by}
 use Rattle.program_schema.specs.Laws.{plain_param_row, plain_message_row, plain_schema}
 use Rattle.value_types.proofs.PlainTypes.{builtin_of-plain, is_bytes-plain, element_of-plain, held_by-plain, actor_of-plain}
-use Rattle.answer_laws.proofs.Rows.{message_alike, fields_alike, component_alike, listed_alike, same_reply}
+use Rattle.answer_laws.proofs.Rows.{under, message_alike, fields_alike, component_alike, listed_alike, same_reply}
 
 some_alike : {X : Type 0} (look : X → X) (P Q : X → Type 0) → ((x : X) → P (look x) ≡ Q x) → (o : Option X) → IsSomeAnd (option_map look o) P ≡ IsSomeAnd o Q
 some_alike look P Q same None = refl
@@ -71,12 +69,8 @@ module _ (s : Schema) where
 
   -- the row of a number in the one schema is that in the other
 
-  plain_row : (o : Option MessageRow) (other : MessageRow) → option_map plain_message_row o ≡ Some other → (row : MessageRow) × (o ≡ Some row) × (plain_message_row row ≡ other)
-  plain_row None other same = absurd (let no : ⊥ = cc in no)
-  plain_row (Some row) other same = (row, refl, same_Some (plain_message_row row) other same)
-
   row_under : (n : ℕ) (other : MessageRow) → message_of (plain_schema s) n ≡ Some other → (row : MessageRow) × (message_of s n ≡ Some row) × (plain_message_row row ≡ other)
-  row_under n other is = plain_row (message_of s n) other (sym (message_alike s n) ∙ is)
+  row_under n other is = under plain_message_row (message_of s n) other (sym (message_alike s n) ∙ is)
 
   row_over : (n : ℕ) (row : MessageRow) → message_of s n ≡ Some row → message_of (plain_schema s) n ≡ Some (plain_message_row row)
   row_over n row is = message_alike s n ∙ ap (option_map plain_message_row) is

@@ -20,14 +20,14 @@ use Rattle.program_schema.specs.Laws.{plain_message_row, plain_param_row, plain_
 use Rattle.program_schema.proofs.Numberings.{not_both}
 use Rattle.program_schema.proofs.Lists.{in_place, place_in, same_ordered}
 use Rattle.wait_report.specs.declared.pair.Pair.{Pair}
-use Rattle.wait_report.specs.Pairs.{IsInterruption, IsReport, IsSendableOne, may_interrupt, may_wait, pair_cmp, side_rank}
+use Rattle.wait_report.specs.Pairs.{IsInterruption, IsSendableOne, may_interrupt, may_wait, pair_cmp, side_rank}
 use Rattle.wait_report.specs.Sendable.{HasValueWithin, HaveValuesWithin, IsBuildable, IsMessage, IsSendable, home_of}
 use Rattle.wait_report.specs.Sendable as send
 use Rattle.value_types.specs.Sizes.{made_size}
 use Rattle.history.specs.Text.{message_text}
 use Rattle.answer_laws.specs.Waits.{OneWaitReport, WaitsAlike}
 use Rattle.answer_laws.proofs.LinesAlike.{text_alike}
-use Rattle.answer_laws.proofs.Rows.{message_alike, type_alike}
+use Rattle.answer_laws.proofs.Rows.{message_alike, type_alike, under}
 
 -- To the schema with every box at one place
 
@@ -85,20 +85,12 @@ union_back (Some (Union own components)) name others e =
     let alike : map plain_shape components ≡ others = cc in
     (components, ap (λ n. Some (Union n components)) same, alike)
 
-message_back : (o : Option MessageRow) (other : MessageRow) → option_map plain_message_row o ≡ Some other → (row : MessageRow) × (o ≡ Some row) × (plain_message_row row ≡ other)
-message_back None other e = absurd (let no : ⊥ = cc in no)
-message_back (Some row) other e = (row, refl, let same : plain_message_row row ≡ other = cc in same)
-
 -- a component under its plain one
 component_back : (components : List Shape) (other : Shape) → Contains (map plain_shape components) other → (component : Shape) × Contains components component × (plain_shape component ≡ other)
 component_back components other among =
     let place = place_in (map plain_shape components) other among in
-    let found = shape_back (slice_get components place.0) other (sym (slice_get-map plain_shape components place.0) ∙ place.1) in
+    let found = under plain_shape (slice_get components place.0) other (sym (slice_get-map plain_shape components place.0) ∙ place.1) in
     (found.0, in_place components place.0 found.0 found.1, found.2)
-  where
-    shape_back : (o : Option Shape) (other : Shape) → option_map plain_shape o ≡ Some other → (shape : Shape) × (o ≡ Some shape) × (plain_shape shape ≡ other)
-    shape_back None other e = absurd (let no : ⊥ = cc in no)
-    shape_back (Some shape) other e = (shape, refl, let same : plain_shape shape ≡ other = cc in same)
 
 -- Types under their plain ones
 
@@ -188,7 +180,7 @@ module _ (s : Schema) (top : ℕ) where
 
     sent_back : {other : MessageRow} → IsSendable (plain_schema s) top other → IsSentUnder s top other
     sent_back {other} (send.fits bytes is carried home params small) =
-        let found = message_back (message_of s other.number) other (sym (message_alike s other.number) ∙ is) in
+        let found = under plain_message_row (message_of s other.number) other (sym (message_alike s other.number) ∙ is) in
         record {
           row = found.0;
           plain = found.2;
