@@ -15,7 +15,7 @@ use Rattle.law_statements.specs.Waits.{Waits}
 -- Lines can be read, and the statement of each of the five laws holds of them.
 pub record IsLawfulHistory (schema : Schema) (lines : List Line) : Type 0 where
   pub readable : Readable schema lines
-  pub in_order : Prefix schema lines
+  pub prefix : Prefix schema lines
   pub living : Living schema lines
   pub waits : Waits schema lines
   pub settled : Settled schema lines

@@ -9,7 +9,7 @@ returns c schema sound top moves =
     let obeys = c.histories_obey_all_laws.ensures schema sound top moves in
     record {
       readable = (c.decides_readable.ensures schema lines).0 readable;
-      in_order = (c.decides_prefix.ensures schema lines readable).0 (obeys law.Prefix);
+      prefix = (c.decides_prefix.ensures schema lines readable).0 (obeys law.Prefix);
       living = (c.decides_living.ensures schema lines readable).0 (obeys law.Living);
       waits = (c.decides_waits.ensures schema lines readable).0 (obeys law.Waits);
       settled = (c.decides_settled.ensures schema lines readable).0 (obeys law.Settled);
