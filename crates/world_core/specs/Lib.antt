@@ -1,5 +1,6 @@
 pub mod CountsView
 pub mod Counted
+pub mod Resolvers
 pub mod CountsSteps
 pub mod HalfView
 pub mod HalfSteps
