@@ -11,4 +11,6 @@ mod OwnSteps
 mod NextKinds
 mod Played
 mod Turning
+mod Delivering
+mod Beginning
 mod WorldTurns

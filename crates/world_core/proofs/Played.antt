@@ -221,6 +221,12 @@ module _ (at : WorldView) (side : Side) (half after : HalfView) (link between : 
   plays-next : played at.setting (stands.run.choices ++ choice_is ∷ []) (beginning_of at.setting) ≡ Some next_is
   plays-next = played-last at.setting stands.run.choices choice_is (beginning_of at.setting) at.state next_is stands.run.plays is-chosen.0
 
+  -- the half behind its event is of the same side
+  pub after-side : after.end.end.side ≡ side
+  after-side =
+      ap (λ (v : EndView). v.end.side) steps.is_behind ∙ (step-prints at.setting.schema (end_of side at.state.world) (link_to side at.state.world) event output_is is).side
+      ∙ side-of at.state.world side (run-sides at.setting stands.run.choices at.state stands.run.plays)
+
   -- the link has room for what the half has made
   pub has-room : LinkHasRoom between (length after.end.lines) (other side) (length after.end.packets)
   has-room =
