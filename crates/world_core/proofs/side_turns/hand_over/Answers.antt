@@ -11,8 +11,7 @@ deliver-requires g c =
     let may = c.requires.1.1 in
     let first : first_of (packets_to g.at.1 c.args.link.now) ≡ Some c.in-Some.packet.now =
     ap (λ (s : Side). first_of (packets_to s c.args.link.now)) (sym c.requires.1.0) ∙ sym c.first.ensures ∙ ap (option_map (λ p. p.now)) c.in-Some.is in
-    let opens = opens-so g.at.0 g.at.1 c.args.half.now c.args.link.now stands may in
-    (
+    let opens = opens-so g.at.0 g.at.1 c.args.half.now c.args.link.now stands may in (
       stands.half_is.counted,
       (
         opens,
