@@ -1,17 +1,15 @@
 -- A delivery on a link, from that to its half.
-use Rattle.std.proofs.Common.{◌≡◌, ℕ, ◌+◌, ◌*◌, ◌<◌, ◌≤◌, nat_lt, Bool, true, false, not, ◌&&◌, if◌then◌else◌, List, [], ◌∷◌, ◌++◌, drop, length, map, Option, Some, None, is_some, option_map, refl, sym, ap, subst, ◌∙◌, arith}
+use Rattle.std.proofs.Common.{◌≡◌, ℕ, ◌<◌, nat_lt, Bool, true, false, ◌&&◌, if◌then◌else◌, List, [], ◌∷◌, drop, length, Some, None, is_some, refl, sym, ap, subst, ◌∙◌, arith}
 use Rattle.std.specs.List.{AllByRecursion}
 use Rattle.std.proofs.lemmas.List.{append-nil}
 use Rattle.handler_script.specs.ScriptOf.{first_of}
 use Rattle.ipdl_base.specs.declared.kinds.Side.{Side}
-use Rattle.ipdl_base.specs.declared.kinds.Side.TheVariants as sides
 use Rattle.ipdl_base.specs.declared.message.Message.{Message}
 use Rattle.ipdl_base.specs.declared.schema.Schema.{Schema}
 use Rattle.ipdl_base.specs.Plain.{plain_message}
 use Rattle.ipdl_base.specs.Sound.{IsSound}
 use Rattle.value_types.specs.declared.layout.TheConstants.{NEW}
 use Rattle.value_codec.proofs.Cases.{read_again}
-use Rattle.value_codec.specs.declared.decoding.Decoded.{Decoded}
 use Rattle.value_codec.specs.declared.decoding.Decoded.TheVariants as decoded
 use Rattle.value_codec.specs.Decoding.{begins}
 use Rattle.value_codec.specs.Laws.{AreBytes}
@@ -33,7 +31,7 @@ use Rattle.channel_core.specs.EndView.{IsFramed, packet_of, packets_of}
 use Rattle.script_runs.proofs.CaseRuns.{case_worlds_fit}
 use Rattle.script_runs.proofs.Room.{cases_have_room}
 use Rattle.script_runs.specs.Laws.{FitsCase}
-use Rattle.script_steps.specs.Choices.{Choice, Setting, event_by, is_within, may_deliver}
+use Rattle.script_steps.specs.Choices.{Choice, Setting, event_by, may_deliver}
 use Rattle.script_steps.specs.Progress.{Progress, progress_of}
 use Rattle.world_core.proofs.Played.{after-side, has-played, has-room, link-of}
 use Rattle.world_core.proofs.Turning.{within-is}
@@ -42,7 +40,7 @@ use Rattle.world_core.specs.declared.answers.StepAnswer.TheVariants as answer
 use Rattle.world_core.specs.HalfSteps.{DeliveryGives, IsHalfDelivery, IsHalfStep}
 use Rattle.world_core.specs.HalfView.{HalfView, appended}
 use Rattle.world_core.specs.LinkView.{HoldsBytes, IsAppended, LinkHasRoom, LinkView, packets_to, with_packets_to}
-use Rattle.world_core.specs.SideTurns.{DeliveryPlays, FirstGives, HasPlayed, MayHave, StandsIn}
+use Rattle.world_core.specs.SideTurns.{DeliveryPlays, FirstGives, MayHave, StandsIn}
 use Rattle.world_core.specs.WorldView.{WorldView}
 use Rattle.world_core.specs.Worlds.{IsLinkOf}
 

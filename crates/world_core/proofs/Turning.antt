@@ -1,5 +1,5 @@
 -- A turn of a side, from the steps of its half.
-use Rattle.std.proofs.Common.{◌≡◌, ℕ, suc, ◌+◌, ◌*◌, ◌<◌, ◌≤◌, nat_lt, Bool, true, false, not, ◌&&◌, if◌then◌else◌, List, [], ◌∷◌, length, map, Option, Some, None, is_some, ◌⊎◌, inl, inr, refl, sym, ap, subst, ◌∙◌, arith}
+use Rattle.std.proofs.Common.{◌≡◌, ℕ, ◌<◌, nat_lt, Bool, true, false, not, ◌&&◌, if◌then◌else◌, List, [], length, Some, None, is_some, ◌⊎◌, inl, inr, refl, sym, ap, subst, ◌∙◌, arith}
 use Rattle.ipdl_base.specs.declared.kinds.Side.{Side}
 use Rattle.ipdl_base.specs.declared.kinds.Side.TheVariants as sides
 use Rattle.ipdl_base.specs.declared.schema.Schema.{Schema}
@@ -7,7 +7,6 @@ use Rattle.channel_model.specs.Ends.{End, Packet, end_of, link_to}
 use Rattle.channel_model.specs.Events.{Event}
 use Rattle.channel_model.specs.Events as e
 use Rattle.channel_model.specs.Numbers.{other}
-use Rattle.channel_model.specs.Outputs.{Output}
 use Rattle.channel_model.specs.Runs.{RunState, after_event, is_delivery}
 use Rattle.channel_model.specs.Steps.{step}
 use Rattle.channel_core.specs.EndView.{packets_of}
@@ -27,7 +26,7 @@ use Rattle.world_core.specs.declared.answers.StepAnswer.TheVariants as answer
 use Rattle.world_core.specs.HalfSteps.{IsOwnStep, MayGoOn, OwnGives, next_of}
 use Rattle.world_core.specs.HalfView.{HalfView, appended}
 use Rattle.world_core.specs.LinkView.{IsAppended, LinkHasRoom, LinkView, packets_to, with_packets_to}
-use Rattle.world_core.specs.SideTurns.{DeliveryPlays, HasPlayed, OwnPlays, StandsIn, TurnPlays}
+use Rattle.world_core.specs.SideTurns.{DeliveryPlays, OwnPlays, StandsIn, TurnPlays}
 use Rattle.world_core.specs.WorldView.{WorldView}
 
 -- an own event looks at no link

@@ -1,14 +1,14 @@
 -- What a half does on its link in a turn.
-use Rattle.std.specs.Prelude.{◌≡◌, Bool, true, false, is_some, Option, Some, None}
+use Rattle.std.specs.Prelude.{◌≡◌, true, false, is_some, Some}
 use Rattle.ipdl_base.specs.declared.kinds.Side.{Side}
 use Rattle.channel_model.specs.Ends.{end_of, link_to}
 use Rattle.channel_model.specs.Events as event
 use Rattle.channel_model.specs.Numbers.{other}
 use Rattle.channel_model.specs.Runs.{RunState}
 use Rattle.script_steps.specs.declared.turn.Turn.{Turn}
-use Rattle.script_steps.specs.Choices.{Choice, Setting, chosen, is_within, may_deliver, own_event}
+use Rattle.script_steps.specs.Choices.{Choice, chosen, is_within, may_deliver, own_event}
 use Rattle.script_steps.specs.Progress.{progress_of}
-use Rattle.script_steps.specs.Turns.{TurnOutcome, exceeds, idles, leads, led_to, outcome}
+use Rattle.script_steps.specs.Turns.{exceeds, idles, leads, led_to, outcome}
 use Rattle.world_core.specs.declared.answers.StepAnswer.{StepAnswer}
 use Rattle.world_core.specs.declared.answers.StepAnswer.TheVariants as answer
 use Rattle.world_core.specs.HalfSteps.{IsHalfStep}
