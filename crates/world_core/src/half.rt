@@ -197,9 +197,8 @@ impl<'s> Half<'s> {
                 StepAnswer::Did
             }
             DeliverAnswer::NoMemory => StepAnswer::NoMemory,
-            DeliverAnswer::Bad(_, _) => unreachable!(),
-            DeliverAnswer::Stray(_) => unreachable!(),
-            DeliverAnswer::WrongActor(_, _) => unreachable!(),
+            DeliverAnswer::Bad(_, _) | DeliverAnswer::Stray(_) | DeliverAnswer::WrongActor(_, _) =>
+                unreachable!(),
         }
     }
 
