@@ -53,7 +53,7 @@ ends : {X : Type 0} (x : X) (xs : List X) → EndsWith (x ∷ xs)
 ends x [] = record { front = []; last = x; is = refl }
 ends x (y ∷ ys) = let e = ends y ys in record { front = x ∷ e.front; last = e.last; is = ap (λ zs. x ∷ zs) e.is }
 
-newest-first : (front : List RunningRequest) (r : RunningRequest) → map view_of (reverse (front ++ r ∷ [])) ≡ view_of r ∷ map view_of (reverse front)
+pub newest-first : (front : List RunningRequest) (r : RunningRequest) → map view_of (reverse (front ++ r ∷ [])) ≡ view_of r ∷ map view_of (reverse front)
 newest-first front r = ap (map view_of) (reverse-append front (r ∷ []))
 
 last-place : {X : Type 0} (front : List X) (x : X) → length (front ++ x ∷ []) - 1 ≡ length front

@@ -23,14 +23,11 @@ use Rattle.world_core.proofs.EventLines.{act-begins, is_acting}
 use Rattle.world_core.proofs.FirstLines.{Begins}
 use Rattle.world_core.proofs.StepProgress.{Makes, act-makes, delivery-makes, step-makes}
 
--- the step of an event whose lines begin with one that makes this of every progress
-made-by : (link : List Packet) (before after : HalfView) (progress : Progress) (happened : Event) (f : Progress → Progress) → ((p : Progress) → (f p).takes ≡ false)
-    → ((output : Output) → step before.end.schema before.end.end link happened ≡ Some output → Begins output (Makes f))
-    → IsStepBy before.end link happened after.end → after ≡ with_end_of before after → AreCountsOf before.script before.end.end.side (f progress) after.counts
-    → IsHalfStep before progress link happened after
-made-by link before after progress happened f quiet begins is same counted =
+-- the step of an event whose lines make this of a progress
+pub stepped : (link : List Packet) (before after : HalfView) (progress next : Progress) (happened : Event) (is : IsStepBy before.end link happened after.end) → after ≡ with_end_of before after
+    → after_lines progress (whats_of is.output.lines) ≡ next → AreCountsOf before.script before.end.end.side next after.counts → IsHalfStep before progress link happened after
+stepped link before after progress next happened is same makes counted =
     let prints = step-prints before.end.schema before.end.end link happened is.output is.is_step in
-    let makes : after_lines progress (whats_of is.output.lines) ≡ f progress = step-makes f quiet before.end.end happened is.output prints (begins is.output is.is_step) progress in
     let side : before.end.end.side ≡ after.end.end.side = sym (ap (λ (v : EndView). v.end.side) is.is_behind ∙ prints.side) in
     let script : before.script ≡ after.script = sym (ap (λ (h : HalfView). h.script) same) in
     record {
@@ -44,6 +41,15 @@ made-by link before after progress happened f quiet begins is same counted =
           (subst (λ (at : Side). AreCountsOf before.script at (after_lines progress (whats_of is.output.lines)) after.counts) side
           (subst (λ (p : Progress). AreCountsOf before.script before.end.end.side p after.counts) (sym makes) counted));
     }
+
+-- the step of an event whose lines begin with one that makes this of every progress
+made-by : (link : List Packet) (before after : HalfView) (progress : Progress) (happened : Event) (f : Progress → Progress) → ((p : Progress) → (f p).takes ≡ false)
+    → ((output : Output) → step before.end.schema before.end.end link happened ≡ Some output → Begins output (Makes f))
+    → IsStepBy before.end link happened after.end → after ≡ with_end_of before after → AreCountsOf before.script before.end.end.side (f progress) after.counts
+    → IsHalfStep before progress link happened after
+made-by link before after progress happened f quiet begins is same counted =
+    let prints = step-prints before.end.schema before.end.end link happened is.output is.is_step in
+    stepped link before after progress (f progress) happened is same (step-makes f quiet before.end.end happened is.output prints (begins is.output is.is_step) progress) counted
 
 -- the same of an event that takes nothing from the link
 pub made-step : (before after : HalfView) (progress : Progress) (happened : Event) (f : Progress → Progress) → ((p : Progress) → (f p).takes ≡ false)

@@ -7,6 +7,8 @@ mod StepProgress
 mod EventLines
 mod CountsLemmas
 mod HalfLemmas
+mod TakeLines
+mod Taking
 mod OwnSteps
 mod NextKinds
 mod Played

@@ -6,10 +6,12 @@ use Rattle.ipdl_base.specs.declared.schema.Schema.{Schema}
 use Rattle.channel_model.specs.Ends.{End, Packet, end_of, link_to}
 use Rattle.channel_model.specs.Events.{Event}
 use Rattle.channel_model.specs.Events as e
+use Rattle.channel_model.specs.Fitting.{IsFitting}
 use Rattle.channel_model.specs.Numbers.{other}
 use Rattle.channel_model.specs.Runs.{RunState, after_event, is_delivery}
 use Rattle.channel_model.specs.Steps.{step}
-use Rattle.channel_core.specs.EndView.{packets_of}
+use Rattle.channel_core.specs.EndView.{EndView, packets_of}
+use Rattle.script_runs.proofs.CaseRuns.{case_worlds_fit}
 use Rattle.script_runs.proofs.Possible.{script_events_are_possible}
 use Rattle.script_runs.proofs.Room.{cases_have_room}
 use Rattle.script_runs.specs.Allowed.{IsAllowed}
@@ -96,6 +98,10 @@ module _ (at : WorldView) (side : Side) (half : HalfView) (link : LinkView) (sta
         allowed = λ event is.
             subst (λ (schema : Schema). IsAllowed schema half.end.end event) (sym schema-is)
             (subst (λ (end : End). IsAllowed at.setting.schema end event) (sym stands.half_is.end) (possible.allowed side event (sym next-is ∙ is)));
+        fitting =
+            subst (λ (schema : Schema). IsFitting schema half.end.end) (sym schema-is)
+            (subst (λ (end : End). IsFitting at.setting.schema end) (sym stands.half_is.end)
+            (case_worlds_fit at.setting stands.run.choices at.state stands.run.sound (omega (arith, small)) stands.run.plays side).end);
       }
 
   module _ (after : HalfView) (own : IsOwnStep half progress_is after) where

@@ -4,6 +4,7 @@ use Rattle.std.specs.List.{AllByRecursion}
 use Rattle.channel_model.specs.Ends as model
 use Rattle.channel_model.specs.Events.{Event}
 use Rattle.channel_model.specs.Events as event
+use Rattle.channel_model.specs.Fitting.{IsFitting}
 use Rattle.channel_model.specs.Outputs.{Output}
 use Rattle.channel_model.specs.Steps.{step}
 use Rattle.end_parts.specs.declared.packet.Packet.{Packet}
@@ -41,11 +42,13 @@ StepGives before progress event answer.Nothing after = ⊥
 StepGives before progress event (answer.Spent side) after = ⊥
 StepGives before progress event answer.NoMemory after = after ≡ before
 
--- A half of this progress may go on: what its end does next, if it does anything, may be tried there.
+-- A half of this progress may go on: what its end does next, if it does anything, may be tried there,
+-- and what it keeps fits the schema.
 pub record MayGoOn (half : HalfView) (progress : Progress) : Type 0 where
   pub counted : IsCountedBy half progress
   pub few : half.end.end.sent < 268435456
   pub allowed : (event : Event) → next_of half progress ≡ Some event → IsAllowed half.end.schema half.end.end event
+  pub fitting : IsFitting half.end.schema half.end.end
 
 -- The next step was made; or there is none; or it would pass the limit; or nothing changed.
 pub record IsOwnStep (before : HalfView) (progress : Progress) (after : HalfView) : Type 0 where

@@ -1,3 +1,5 @@
+mod taking;
+
 use channel_core::Resolver;
 use handler_script::Script;
 use ipdl_base::{Side, Values};

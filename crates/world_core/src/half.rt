@@ -6,6 +6,7 @@ ghost use Rattle.script_steps.specs.Progress.{Progress};
 mod acting;
 mod ending;
 mod next;
+mod taking;
 mod terms;
 
 use self::next::NextStep;
@@ -120,7 +121,7 @@ impl<'s> Half<'s> {
             NextStep::Die => self.die(),
             NextStep::Resume => self.resume(),
             NextStep::Flush => self.flush(),
-            NextStep::Take => StepAnswer::NoMemory,
+            NextStep::Take => self.take(),
             NextStep::Main => self.do_main(),
             NextStep::Handler => self.do_handler(),
         }
