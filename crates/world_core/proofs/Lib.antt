@@ -6,8 +6,10 @@ mod FirstLines
 mod StepProgress
 mod EventLines
 mod CountsLemmas
+mod Held
 mod HalfLemmas
 mod OwnSteps
+mod OnTop
 mod NextKinds
 mod Played
 mod Turning
