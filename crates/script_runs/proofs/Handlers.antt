@@ -100,7 +100,7 @@ empty-frame (Dispatch head) fs h = cc
 empty-frame (Wait head None) fs h = cc
 empty-frame (Wait head (Some a)) fs h = cc
 
-empty-top : (stack : List StackEntry) → top_of (map (λ (y : StackEntry). y.frame) stack) ≡ top.Empty → stack ≡ []
+pub empty-top : (stack : List StackEntry) → top_of (map (λ (y : StackEntry). y.frame) stack) ≡ top.Empty → stack ≡ []
 empty-top [] h = refl
 empty-top (x ∷ xs) h = absurd (empty-frame x.frame (map (λ (y : StackEntry). y.frame) xs) h)
 

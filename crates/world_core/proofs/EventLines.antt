@@ -1,5 +1,5 @@
 -- With what the lines of each event begin.
-use Rattle.std.proofs.Common.{◌≡◌, ℕ, ◌+◌, ℤ, pos, Bool, true, false, if◌then◌else◌, List, [], Option, Some, None, option_and_then, refl}
+use Rattle.std.proofs.Common.{◌≡◌, ℕ, ◌+◌, ℤ, pos, Bool, true, false, if◌then◌else◌, List, [], drop, Option, Some, None, option_and_then, refl}
 use Rattle.ipdl_base.specs.declared.kinds.Destroy.TheVariants.{NormalShutdown}
 use Rattle.ipdl_base.specs.declared.kinds.EndState.TheVariants.{Dead}
 use Rattle.ipdl_base.specs.declared.kinds.SendRefusal.{SendRefusal}
@@ -12,6 +12,7 @@ use Rattle.ipdl_base.specs.declared.schema.Schema.{Schema}
 use Rattle.ipdl_base.specs.declared.value.Values.{Values}
 use Rattle.nesting_core.specs.declared.frame.Answer.{Answer}
 use Rattle.nesting_core.specs.declared.frame.Answer.TheVariants as answers
+use Rattle.nesting_core.specs.Frames.{head_of}
 use Rattle.channel_model.specs.Acts as act
 use Rattle.channel_model.specs.Answers as answering
 use Rattle.channel_model.specs.Ends.{End, Packet, Resolver, actor, mark, message}
@@ -25,7 +26,7 @@ use Rattle.channel_model.specs.Steps.{provided, step}
 use Rattle.channel_model.specs.ValueActors.{received}
 use Rattle.channel_model.proofs.Provided.{provided-gives, found-gives}
 use Rattle.script_steps.specs.Progress.{is_act, one_event, with_handled}
-use Rattle.world_core.proofs.FirstLines.{Begins, adds-closed, adds-renamed, adds-sent, begins-alone, begins-from}
+use Rattle.world_core.proofs.FirstLines.{Begins, adds-closed, adds-renamed, adds-returned, adds-sent, begins-alone, begins-from}
 use Rattle.world_core.proofs.StepProgress.{Makes}
 
 abbrev pub IsAct : What → Type 0
@@ -103,7 +104,7 @@ act-begins schema e link (event.return vs) output acts is = cc
 act-begins schema e link event.resume output acts is = cc
 act-begins schema e link event.flush output acts is = cc
 
--- Deaths, resumed calls and flushes
+-- Deaths, resumed calls, returns and flushes
 
 -- a death
 pub die-begins : (schema : Schema) (e : End) (link : List Packet) (output : Output) → step schema e link event.die ≡ Some output → Begins output (Makes (λ p. with_handled [] (one_event p)))
@@ -128,6 +129,16 @@ resume-begins schema e link output is =
     (λ wait on_top. found-gives P (request_row schema wait.number) (λ row. provided true (return.resume schema e wait row) e) output
     (λ row found. provided-gives P true (return.resume schema e wait row) e output
     (λ may. (e.side, return.resume_line wait.seq (received schema e.actors row wait.given), [], refl, resume-makes wait.seq (received schema e.actors row wait.given))))) is
+
+-- the return of a handler
+pub return-begins : (schema : Schema) (e : End) (link : List Packet) (vs : Option Values) (output : Output) → step schema e link (event.return vs) ≡ Some output → Begins output (Makes (λ p. with_handled (drop 1 p.handled) (one_event p)))
+return-begins schema e link vs output is =
+    let P : Output → Type 0 = λ o. Begins o (Makes (λ p. with_handled (drop 1 p.handled) (one_event p))) in
+    found-gives P (return.dispatch_on_top e.stack) (λ entry. option_and_then (λ row. provided (return.may_return schema row vs) (return.return schema e row entry vs) e) (request_row schema entry.number)) output
+    (λ entry on_top. found-gives P (request_row schema entry.number) (λ row. provided (return.may_return schema row vs) (return.return schema e row entry vs) e) output
+    (λ row found. provided-gives P (return.may_return schema row vs) (return.return schema e row entry vs) e output
+    (λ may. begins-from (Makes (λ p. with_handled (drop 1 p.handled) (one_event p))) (what.Return (head_of entry.frame).seq) e (return.return schema e row entry vs (beginning e))
+    (adds-returned (is_sync_row row) entry.resolves (return.dispatch_answered entry) (return.return_answer schema e row entry vs) (answering.resolver_in entry) entry.route row.kind (line (what.Return (head_of entry.frame).seq) (return.popped (beginning e)))) (λ p. refl)))) is
 
 -- a flush
 pub flush-begins : (schema : Schema) (e : End) (link : List Packet) (output : Output) → step schema e link event.flush ≡ Some output → Begins output (Makes one_event)

@@ -14,11 +14,11 @@ use Rattle.ipdl_base.specs.declared.schema.Kind.TheVariants.{Normal, Constructor
 use Rattle.ipdl_base.specs.declared.schema.MessageRow.{MessageRow}
 use Rattle.ipdl_base.specs.declared.message.Message.{Message}
 use Rattle.nesting_core.specs.declared.frame.Answer.{Answer}
-use Rattle.channel_model.specs.Ends.{End, NameContent, actor, message, resolver}
+use Rattle.channel_model.specs.Ends.{End, NameContent, Resolver, actor, message, resolver}
 use Rattle.channel_model.specs.Falls.{fallen, fall_lines, deletes, rejections, why_deleted, abandoned, closed}
 use Rattle.channel_model.specs.Names.{let_go, renamed, held_by_name, without_name}
 use Rattle.channel_model.specs.Numbers.{is_sync_row, makes_promise, top_id}
-use Rattle.channel_model.specs.Outputs.{Output, ◌▷◌, AnsweredRequest, answered, answer_line, beginning, body_of, is_open, line, line_at, on_end, put, reply_to, resolver_answered, when}
+use Rattle.channel_model.specs.Outputs.{Output, Change, ◌▷◌, AnsweredRequest, answered, answer_line, beginning, body_of, destroyed, is_open, line, line_at, on_end, put, reply_to, resolver_answered, when}
 use Rattle.channel_model.specs.Sends.{awaits_reply, constructs, names_actor, posted, posted_by, wait_for}
 
 -- Changes that add lines
@@ -84,6 +84,19 @@ adds-closed why o =
     let a = adds-abandoned o in
     let b = adds-fallen top_id (λ id. why) (abandoned o) in
     (a.0 ++ b.0, b.1 ∙ ap (λ (ls : List Line). ls ++ b.0) a.1 ∙ append_assoc o.lines a.0 b.0)
+
+adds-when : (b : Bool) (change : Change) (o : Output) → Adds o (change o) → Adds o (when b change o)
+adds-when true change o a = a
+adds-when false change o a = adds-none o o refl
+
+-- what a return does behind its line
+pub adds-returned : (sync resolves : Bool) (q : AnsweredRequest) (a : Answer) (r : Resolver) (route : ℤ) (kind : Kind) (o : Output) → Adds o ((when sync (answered q a) ▷ when resolves (destroyed r) ▷ deletes route kind) o)
+adds-returned sync resolves q a r route kind o =
+    let two : Output = when sync (answered q a) o in
+    let three : Output = when resolves (destroyed r) two in
+    let four : Output = deletes route kind three in
+    adds-then o two four (adds-when sync (answered q a) o (adds-answer q a o))
+    (adds-then two three four (adds-when resolves (destroyed r) two (adds-answer (resolver_answered r) (answer.Fault ResolverDestroyed) two)) (adds-deletes route kind three))
 
 -- what a request does behind its line and its counts
 pub adds-sent : (row : MessageRow) (m : Message) (name : Option (List ℕ)) (o : Output) → Adds o ((posted row m ▷ awaits_reply row m ▷ names_actor m.made name ▷ constructs m.made m.route row.kind ▷ deletes m.route row.kind) o)

@@ -6,10 +6,12 @@ mod FirstLines
 mod StepProgress
 mod EventLines
 mod CountsLemmas
+mod Held
 mod HalfLemmas
 mod TakeLines
 mod Taking
 mod OwnSteps
+mod OnTop
 mod NextKinds
 mod Played
 mod Turning

@@ -16,5 +16,5 @@ use Rattle.world_core.specs.NextSteps.{main_action}
 pub main-is : (half : HalfView) (p : Progress) (counted : IsCountedBy half p) (place : Option ℕ) (index : ℕ) (found : Option Action) → is_open half.end.end.state ≡ true
     → option_and_then (slice_get half.script.blocks) place ≡ slice_get (filter (serves half.end.end.side None) half.script.blocks) 0 → index ≡ half.counts.main → found ≡ action_in (block_at half.script place) index → found ≡ main_action half p
 main-is half p counted place index found opened block index_is is =
-    is ∙ ap (λ (b : Option Block). action_in b index) block ∙ ap (λ (n : ℕ). action_at half.script half.end.end.side (point.Main n)) (index_is ∙ counted.main)
+    is ∙ ap (λ (b : Option Block). action_in b index) block ∙ ap (λ (n : ℕ). action_at half.script half.end.end.side (point.Main n)) (index_is ∙ counted.counts.main)
     ∙ sym (ap (λ (b : Bool). if b then action_at half.script half.end.end.side (point.Main p.main) else None) opened)

@@ -276,7 +276,7 @@ module _ (at : WorldView) (side : Side) (half after : HalfView) (link between : 
         end = ap (λ (v : EndView). v.end) steps.is_behind ∙ sym (ends-own side at.state event output_is);
         no_lines = refl;
         no_packets = refl;
-        counted = counted;
+        counted = record { counts = counted.counts; held = counted.held };
       } in
       record {
         next = next_is;

@@ -1,6 +1,7 @@
 -- A take of a half, from the step of its end and from what its counts say of it.
 use Rattle.std.proofs.Common.{◌≡◌, inl, inr, ℕ, ◌+◌, ℤ, Bool, true, false, if◌then◌else◌, List, [], ◌∷◌, ◌++◌, map, reverse, Option, Some, None, option_and_then, refl, sym, ap, subst, ◌∙◌}
-use Rattle.std.specs.Prelude.{IfSome, slice_get}
+use Rattle.std.specs.Prelude.{slice_get}
+use Rattle.std.specs.List.{cons_option}
 use Rattle.std.specs.Option.{option_map_or}
 use Rattle.handler_script.specs.declared.action.Block.{Block}
 use Rattle.handler_script.specs.declared.script.Script.{Script}
@@ -20,7 +21,6 @@ use Rattle.value_types.specs.Fits.{IsMadeBy}
 use Rattle.channel_model.specs.Ends.{Resolver, StackEntry}
 use Rattle.channel_model.specs.Events as event
 use Rattle.channel_model.specs.Fitting.{IsFitting}
-use Rattle.channel_model.specs.Numbers.{makes_promise}
 use Rattle.channel_model.specs.Outputs.{Output}
 use Rattle.channel_model.specs.Steps.{step}
 use Rattle.channel_model.specs.Takes.{dispatch_of, dropped_for, taken_next}
@@ -31,8 +31,8 @@ use Rattle.channel_core.specs.declared.answers.Handling.{Handling}
 use Rattle.channel_core.specs.declared.answers.TakeAnswer.{TakeAnswer}
 use Rattle.channel_core.specs.declared.answers.TakeAnswer.TheVariants as take
 use Rattle.channel_core.specs.EndView.{EndView}
-use Rattle.channel_core.specs.Taken.{TakeKind, handle, drop, settle, shut, nothing, IsKindOf, kind_of, item_kind, body_kind, request_kind}
-use Rattle.script_runs.specs.Dispatches.{request_dispatch, body_dispatch, item_dispatch}
+use Rattle.channel_core.specs.Taken.{TakeKind, handle, drop, settle, shut, nothing, IsKindOf, kind_of, item_kind, body_kind, request_kind, resolver_for}
+use Rattle.script_runs.specs.Dispatches.{body_dispatch, dispatches, dispatches_after, item_dispatch, request_dispatch}
 use Rattle.script_runs.proofs.Shows.{ShowsHandling, TakeShows, step-shows, taken_dispatch}
 use Rattle.script_steps.proofs.StepLines.{step-prints}
 use Rattle.script_steps.specs.Progress.{Progress, one_event}
@@ -46,6 +46,7 @@ use Rattle.world_core.specs.CountsView.{CountsView, RunningView, view_of}
 use Rattle.world_core.specs.HalfSteps.{IsHalfStep, MayGoOn, StepGives}
 use Rattle.world_core.specs.HalfView.{HalfView, IsCountedBy}
 use Rattle.world_core.specs.NextSteps.{IsDue}
+use Rattle.world_core.specs.Resolvers.{resolver_of}
 use Rattle.world_core.specs.TakeSteps.{HalfTakes, HasBegun, HasTaken, IsCountedTake, begun}
 use Rattle.world_core.proofs.CountsLemmas.{event-counted, newest-first}
 use Rattle.world_core.proofs.FirstLines.{Begins}
@@ -156,10 +157,6 @@ event-only shut before after none is = is
 event-only nothing before after none is = absurd is
 
 module _ (script : Script) (side : Side) (p : Progress) (before after : CountsView) (m : Message) (row : MessageRow) (vs : Values) (has : HasBegun before m row vs after) where
-  own-resolver : (b : Bool) → IfSome (if b then Some (record { seq = m.seq; route = m.route; number = m.number }) else None) (λ (r : Resolver). r.seq ≡ m.seq)
-  own-resolver true = refl
-  own-resolver false = tt
-
   -- a request whose handler begins runs behind it
   begun-counted : AreCountsOf script side p before → AreCountsOf script side (with_taken m vs p) after
   begun-counted counted =
@@ -169,14 +166,28 @@ module _ (script : Script) (side : Side) (p : Progress) (before after : CountsVi
         events = ap (λ (n : ℕ). n + 1) counted.events;
         main = counted.main;
         table = served.0;
-        running = (record { block = served.1; acts = refl; given = refl; made = refl; resolver = own-resolver (makes_promise row) }, counted.running);
+        running = (record { block = served.1; acts = refl; given = refl; made = refl }, counted.running);
       })
+
+-- the resolvers behind a take: one more where it handles a request
+take-resolvers : (k : TakeKind) (before after : CountsView) (entries : List StackEntry) → IsCountedTake k before after → map (λ (r : RunningView). r.resolver) before.running ≡ map resolver_of entries
+    → map (λ (r : RunningView). r.resolver) after.running ≡ map resolver_of (cons_option (added_by k) entries)
+take-resolvers (handle m row vs) before after entries is held = ap (λ (c : CountsView). map (λ (r : RunningView). r.resolver) c.running) is.is ∙ ap (λ (rs : List (Option Resolver)). resolver_for m row ∷ rs) held
+take-resolvers drop before after entries is held = ap (λ (c : CountsView). map (λ (r : RunningView). r.resolver) c.running) is ∙ held
+take-resolvers settle before after entries is held = ap (λ (c : CountsView). map (λ (r : RunningView). r.resolver) c.running) is ∙ held
+take-resolvers shut before after entries is held = ap (λ (c : CountsView). map (λ (r : RunningView). r.resolver) c.running) is ∙ held
+take-resolvers nothing before after entries is held = absurd is
 
 -- Steps
 
 module _ (before after : HalfView) (p : Progress) (counted : IsCountedBy before p) (taken : HasTaken before after) where
   abbrev output : Output
   output = taken.is.output
+
+  held : map (λ (r : RunningView). r.resolver) after.counts.running ≡ map resolver_of (dispatches_after before.end.schema before.end.end event.take)
+  held =
+      take-resolvers (kind_of before.end) before.counts after.counts (dispatches before.end.end.stack) taken.counts counted.held
+      ∙ ap (λ (o : Option StackEntry). map resolver_of (cons_option o (dispatches before.end.end.stack))) (adds-next before.end)
 
   passes : added_by (kind_of before.end) ≡ None → (made : Output) → step before.end.schema before.end.end [] event.take ≡ Some made → Begins made (Makes one_event)
   passes none made is = by (step-shows before.end.schema before.end.end [] event.take made is)
@@ -189,7 +200,8 @@ module _ (before after : HalfView) (p : Progress) (counted : IsCountedBy before 
   passing-step none =
       made-step before after p event.take one_event (λ q. refl) (passes none) taken.is taken.same
       (subst (λ (c : CountsView). AreCountsOf before.script before.end.end.side (one_event p) c) (sym (event-only (kind_of before.end) before.counts after.counts none taken.counts))
-      (event-counted before.script before.end.end.side p before.counts counted))
+      (event-counted before.script before.end.end.side p before.counts counted.counts))
+      held
 
   handling-step : IsFitting before.end.schema before.end.end → ShowsHandling before.end.schema before.end.end output → IsHalfStep before p [] event.take after
   handling-step fits shows =
@@ -197,7 +209,8 @@ module _ (before after : HalfView) (p : Progress) (counted : IsCountedBy before 
       let has : HasBegun before.counts shows.m shows.row vs after.counts = subst (λ (k : TakeKind). IsCountedTake k before.counts after.counts) (shown-kind before.end shows) taken.counts in
       stepped [] before after p (with_taken shows.m vs p) event.take taken.is taken.same
       (handling-makes before.end.schema before.end.end output shows p (made-by-kind before.end shows fits))
-      (begun-counted before.script before.end.end.side p before.counts after.counts shows.m shows.row vs has counted)
+      (begun-counted before.script before.end.end.side p before.counts after.counts shows.m shows.row vs has counted.counts)
+      held
 
   pub take-step : IsFitting before.end.schema before.end.end → IsHalfStep before p [] event.take after
   take-step fits = by (step-shows before.end.schema before.end.end [] event.take output taken.is.is_step)

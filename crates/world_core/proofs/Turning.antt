@@ -1,5 +1,7 @@
 -- A turn of a side, from the steps of its half.
-use Rattle.std.proofs.Common.{◌≡◌, ℕ, ◌<◌, nat_lt, Bool, true, false, not, ◌&&◌, if◌then◌else◌, List, [], length, Some, None, is_some, ◌⊎◌, inl, inr, refl, sym, ap, subst, ◌∙◌, arith}
+use Rattle.std.proofs.Common.{◌≡◌, ℕ, suc, ◌+◌, ◌*◌, ◌<◌, ◌≤◌, nat_lt, Bool, true, false, not, ◌&&◌, if◌then◌else◌, List, [], ◌∷◌, length, map, Option, Some, None, is_some, ◌⊎◌, inl, inr, refl, sym, ap, subst, ◌∙◌, arith}
+use Rattle.std.specs.List.{AllZip}
+use Rattle.handler_script.specs.Valid.{IsValid}
 use Rattle.ipdl_base.specs.declared.kinds.Side.{Side}
 use Rattle.ipdl_base.specs.declared.kinds.Side.TheVariants as sides
 use Rattle.ipdl_base.specs.declared.schema.Schema.{Schema}
@@ -11,10 +13,14 @@ use Rattle.channel_model.specs.Numbers.{other}
 use Rattle.channel_model.specs.Runs.{RunState, after_event, is_delivery}
 use Rattle.channel_model.specs.Steps.{step}
 use Rattle.channel_core.specs.EndView.{EndView, packets_of}
+use Rattle.script_runs.proofs.Changes.{resolvers_are_apart}
+use Rattle.script_runs.proofs.KeptRuns.{handlers_stand}
 use Rattle.script_runs.proofs.CaseRuns.{case_worlds_fit}
 use Rattle.script_runs.proofs.Possible.{script_events_are_possible}
 use Rattle.script_runs.proofs.Room.{cases_have_room}
 use Rattle.script_runs.specs.Allowed.{IsAllowed}
+use Rattle.script_runs.specs.Dispatches.{dispatches}
+use Rattle.script_runs.specs.Handlers.{IsHandlerOf}
 use Rattle.script_steps.proofs.Choosing.{event-delivers, side-of}
 use Rattle.script_steps.specs.declared.turn.Turn.{Turn}
 use Rattle.script_steps.specs.Choices.{Choice, Setting, is_within, own_event}
@@ -27,6 +33,7 @@ use Rattle.world_core.specs.declared.answers.StepAnswer.{StepAnswer}
 use Rattle.world_core.specs.declared.answers.StepAnswer.TheVariants as answer
 use Rattle.world_core.specs.HalfSteps.{IsOwnStep, MayGoOn, OwnGives, next_of}
 use Rattle.world_core.specs.HalfView.{HalfView, appended}
+use Rattle.world_core.specs.Resolvers.{AreApart}
 use Rattle.world_core.specs.LinkView.{IsAppended, LinkHasRoom, LinkView, packets_to, with_packets_to}
 use Rattle.world_core.specs.SideTurns.{DeliveryPlays, OwnPlays, StandsIn, TurnPlays}
 use Rattle.world_core.specs.WorldView.{WorldView}
@@ -73,7 +80,7 @@ module _ (at : WorldView) (side : Side) (half : HalfView) (link : LinkView) (sta
 
   pub within-is : nat_lt half.counts.events half.limit ≡ is_within at.setting side at.state
   within-is =
-      ap (λ (n : ℕ). nat_lt n half.limit) stands.half_is.counted.events
+      ap (λ (n : ℕ). nat_lt n half.limit) stands.half_is.counted.counts.events
       ∙ ap (λ (s : Setting). nat_lt progress_is.events s.limit) stands.half_is.about
 
   schema-is : half.end.schema ≡ at.setting.schema
@@ -88,6 +95,9 @@ module _ (at : WorldView) (side : Side) (half : HalfView) (link : LinkView) (sta
       let same = ap (λ (end : End). end.sent) stands.half_is.end in
       omega (arith, sent, events, small, same)
 
+  own-side : (end_of side at.state.world).side ≡ side
+  own-side = side-of at.state.world side (run-sides at.setting stands.run.choices at.state stands.run.plays)
+
   pub may-go-on : MayGoOn half progress_is
   may-go-on =
       let small = stands.run.small in
@@ -98,6 +108,13 @@ module _ (at : WorldView) (side : Side) (half : HalfView) (link : LinkView) (sta
         allowed = λ event is.
             subst (λ (schema : Schema). IsAllowed schema half.end.end event) (sym schema-is)
             (subst (λ (end : End). IsAllowed at.setting.schema end event) (sym stands.half_is.end) (possible.allowed side event (sym next-is ∙ is)));
+        valid = subst (λ (s : Setting). IsValid s.schema s.script) (sym stands.half_is.about) stands.run.valid;
+        handlers =
+            subst (λ (s : Setting). AllZip (IsHandlerOf s.schema s.script half.end.end.side half.end.end) (dispatches half.end.end.stack) progress_is.handled) (sym stands.half_is.about)
+            (subst (λ (end : End). AllZip (IsHandlerOf at.setting.schema at.setting.script end.side end) (dispatches end.stack) progress_is.handled) (sym stands.half_is.end)
+            (subst (λ (s : Side). AllZip (IsHandlerOf at.setting.schema at.setting.script s (end_of side at.state.world)) (dispatches (end_of side at.state.world).stack) progress_is.handled) (sym own-side)
+            (handlers_stand at.setting stands.run.choices at.state stands.run.sound stands.run.valid (omega (arith, small)) stands.run.plays side)));
+        apart = subst AreApart (sym stands.half_is.end) (resolvers_are_apart at.setting stands.run.choices at.state stands.run.sound stands.run.plays side);
         fitting =
             subst (λ (schema : Schema). IsFitting schema half.end.end) (sym schema-is)
             (subst (λ (end : End). IsFitting at.setting.schema end) (sym stands.half_is.end)
@@ -146,7 +163,7 @@ module _ (at : WorldView) (side : Side) (half : HalfView) (link : LinkView) (sta
   own-else answer.Did after isnt h = absurd (isnt refl)
   own-else answer.Nothing after isnt h = (ap is_some (sym next-is) ∙ ap is_some h.0, (h.1, refl))
   own-else (answer.Spent s) after isnt h =
-      let own : half.end.end.side ≡ side = ap (λ (end : End). end.side) stands.half_is.end ∙ side-of at.state.world side (run-sides at.setting stands.run.choices at.state stands.run.plays) in
+      let own : half.end.end.side ≡ side = ap (λ (end : End). end.side) stands.half_is.end ∙ own-side in
       (ap is_some (sym next-is) ∙ h.0, sym within-is ∙ h.1, h.2 ∙ own, (h.3, refl))
   own-else answer.NoMemory after isnt h = (h, refl)
 

@@ -1,5 +1,5 @@
 -- The counts of a side are those of its progress.
-use Rattle.std.specs.Prelude.{◌≡◌, ℕ, List, [], ◌∷◌, slice_get, Option, Some, option_and_then, IfSome}
+use Rattle.std.specs.Prelude.{◌≡◌, ℕ, List, [], ◌∷◌, slice_get, Option, Some, option_and_then}
 use Rattle.handler_script.specs.declared.action.Action.{Action}
 use Rattle.handler_script.specs.declared.action.Block.{Block}
 use Rattle.handler_script.specs.declared.script.Script.{Script}
@@ -18,13 +18,12 @@ block_at script place = option_and_then (slice_get script.blocks) place
 abbrev pub action_in : Option Block → ℕ → Option Action
 action_in block index = option_and_then (λ b. slice_get b.actions index) block
 
--- A running request is this handled one. Its resolver, if it is there, is that of its number.
+-- A running request is this handled one.
 pub record IsRunning (script : Script) (side : Side) (running : RunningView) (handled : HandledRequest) : Type 0 where
   pub block : block_at script running.block ≡ slice_get (blocks_for script side (Some handled.number)) (block_for script side handled)
   pub acts : running.acts ≡ handled.acts
   pub given : running.given ≡ handled.given
   pub made : running.made ≡ handled.made
-  pub resolver : IfSome running.resolver (λ r. r.seq ≡ handled.seq)
 
 -- running requests are these handled ones, one by one
 abbrev pub AreRunning : Script → Side → List RunningView → List HandledRequest → Type 0

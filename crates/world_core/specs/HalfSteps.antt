@@ -1,6 +1,7 @@
 -- The own steps of a half, and the deliveries to it.
 use Rattle.std.specs.Prelude.{◌≡◌, ◌<◌, nat_lt, true, false, is_some, List, [], ◌∷◌, Option, Some, None}
-use Rattle.std.specs.List.{AllByRecursion}
+use Rattle.std.specs.List.{AllByRecursion, AllZip}
+use Rattle.handler_script.specs.Valid.{IsValid}
 use Rattle.channel_model.specs.Ends as model
 use Rattle.channel_model.specs.Events.{Event}
 use Rattle.channel_model.specs.Events as event
@@ -11,11 +12,14 @@ use Rattle.end_parts.specs.declared.packet.Packet.{Packet}
 use Rattle.end_parts.specs.PacketReading.{carried, packet_read}
 use Rattle.channel_core.specs.EndView.{IsFramed, behind}
 use Rattle.script_runs.specs.Allowed.{IsAllowed}
+use Rattle.script_runs.specs.Dispatches.{dispatches}
+use Rattle.script_runs.specs.Handlers.{IsHandlerOf}
 use Rattle.script_steps.specs.NextEvent.{next_event}
 use Rattle.script_steps.specs.Progress.{Progress, after_lines}
 use Rattle.world_core.specs.declared.answers.StepAnswer.{StepAnswer}
 use Rattle.world_core.specs.declared.answers.StepAnswer.TheVariants as answer
 use Rattle.world_core.specs.HalfView.{HalfView, IsCountedBy, whats_of}
+use Rattle.world_core.specs.Resolvers.{AreApart}
 
 -- what the end of a half does next
 abbrev pub next_of : HalfView → Progress → Option Event
@@ -42,13 +46,16 @@ StepGives before progress event answer.Nothing after = ⊥
 StepGives before progress event (answer.Spent side) after = ⊥
 StepGives before progress event answer.NoMemory after = after ≡ before
 
--- A half of this progress may go on: what its end does next, if it does anything, may be tried there,
--- and what it keeps fits the schema.
+-- A half of this progress may go on: what its end does next, if it does anything, may be tried there; what it keeps fits the
+-- schema; and its handlers stand as they were taken.
 pub record MayGoOn (half : HalfView) (progress : Progress) : Type 0 where
   pub counted : IsCountedBy half progress
   pub few : half.end.end.sent < 268435456
   pub allowed : (event : Event) → next_of half progress ≡ Some event → IsAllowed half.end.schema half.end.end event
   pub fitting : IsFitting half.end.schema half.end.end
+  pub valid : IsValid half.end.schema half.script
+  pub handlers : AllZip (IsHandlerOf half.end.schema half.script half.end.end.side half.end.end) (dispatches half.end.end.stack) progress.handled
+  pub apart : AreApart half.end.end
 
 -- The next step was made; or there is none; or it would pass the limit; or nothing changed.
 pub record IsOwnStep (before : HalfView) (progress : Progress) (after : HalfView) : Type 0 where

@@ -9,6 +9,7 @@ use Rattle.script_steps.specs.Choices.{Setting}
 use Rattle.script_steps.specs.Progress.{Progress}
 use Rattle.world_core.specs.CountsView.{CountsView}
 use Rattle.world_core.specs.Counted.{AreCountsOf}
+use Rattle.world_core.specs.Resolvers.{HoldResolvers}
 
 -- The end, with the lines and packets that were not appended to the link; the script, the stop and the limit; and the
 -- counts of its side.
@@ -23,9 +24,10 @@ pub record HalfView : Type 0 where
 abbrev pub setting_of : HalfView → Setting
 setting_of half = record { schema = half.end.schema; script = half.script; stop = half.stop; limit = half.limit }
 
--- a half has come as far as this progress
-abbrev pub IsCountedBy : HalfView → Progress → Type 0
-IsCountedBy half progress = AreCountsOf half.script half.end.end.side progress half.counts
+-- A half has come as far as this progress, and its running requests hold the resolvers of their dispatches.
+pub record IsCountedBy (half : HalfView) (progress : Progress) : Type 0 where
+  pub counts : AreCountsOf half.script half.end.end.side progress half.counts
+  pub held : HoldResolvers half.counts.running half.end.end
 
 -- what lines say
 abbrev pub whats_of : List Line → List What

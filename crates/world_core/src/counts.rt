@@ -1,6 +1,7 @@
 mod taking;
 
-use channel_core::Resolver;
+use crate::answers::StepAnswer;
+use channel_core::{ResolveAnswer, Resolver};
 use handler_script::Script;
 use ipdl_base::{Side, Values};
 use script_parts::BlockTable;
@@ -55,7 +56,7 @@ impl Model for Counts {
 }
 
 impl Counts {
-    ghost use Rattle.std.specs.Prelude.{◌^◌, length, IfOk};
+    ghost use Rattle.std.specs.Prelude.{◌^◌, [], length, IfOk};
     ghost use Rattle.script_steps.specs.Progress.{no_progress};
     ghost use Rattle.world_core.specs.Counted.{AreCountsOf};
     ghost use Rattle.std.specs.Prelude.{◌≡◌, ◌<◌, ℕ, List, None, filter, option_and_then, option_map, slice_get};
@@ -65,12 +66,14 @@ impl Counts {
     ghost use Rattle.script_parts.specs.Tables.{IsTableOf};
     ghost use Rattle.handler_script.specs.ScriptOf.{first_of};
     ghost use Rattle.world_core.specs.CountsView.{view_of};
-    ghost use Rattle.world_core.specs.CountsSteps.{with_act, with_death, with_event, with_return};
+    ghost use Rattle.world_core.specs.CountsSteps.{behind_answer, told_answer, with_act, with_death, with_event, with_resolver, with_return};
+    ghost use Rattle.world_core.specs.Resolvers.{resolver_on_top};
 
     /// The counts of a side as it begins. The only error is want of memory.
     pub(crate) fn new(alloc: Global, script: &Script, side: Side) -> Result<Counts, AllocError>
         requires { length script.now.blocks < 2 ^ 32 }
-        ensures { IfOk result (AreCountsOf script.now side no_progress) }
+        ensures counts { IfOk result (AreCountsOf script.now side no_progress) }
+        ensures none { IfOk result (λ counts. counts.running ≡ []) }
     {
         Ok(Counts {
             events: 0,
@@ -123,6 +126,50 @@ impl Counts {
     {
         self.count_event();
         self.running.clear();
+    }
+
+    /// The resolver of the innermost request, which is taken out.
+    pub(crate) fn take_resolver(&mut self) -> Option<Resolver>
+        ensures taken { result ≡ resolver_on_top self.old.running }
+        ensures rest { self.new ≡ with_resolver None self.old }
+    {
+        let Some(top) = self.running.last_mut() else {
+            return None;
+        };
+        top.resolver.take()
+    }
+
+    /// The innermost request has this resolver, or none.
+    pub(crate) fn put_resolver(&mut self, resolver: Option<Resolver>)
+        ensures { self.new ≡ with_resolver resolver self.old }
+    {
+        let Some(top) = self.running.last_mut() else {
+            return;
+        };
+        top.resolver = resolver;
+    }
+
+    /// The innermost handler has answered by its resolver, which comes back where it was not used.
+    pub(crate) fn count_answer(&mut self, answer: ResolveAnswer) -> StepAnswer
+        requires { self.old.events < 4294967295 }
+        ensures counts { self.new ≡ behind_answer answer self.old }
+        ensures told { result ≡ told_answer answer }
+    {
+        match answer {
+            ResolveAnswer::Sent => {
+                self.count_act();
+                StepAnswer::Did
+            }
+            ResolveAnswer::Refused(_, resolver) => {
+                self.put_resolver(Some(resolver));
+                self.count_act();
+                StepAnswer::Did
+            }
+            ResolveAnswer::NoMemory(resolver) => {
+                self.put_resolver(Some(resolver));
+                StepAnswer::NoMemory
+            }
+        }
     }
 
     /// The request whose handler is the innermost one that runs.

@@ -6,6 +6,7 @@ ghost use Rattle.script_steps.specs.Progress.{Progress};
 mod acting;
 mod ending;
 mod next;
+mod returning;
 mod taking;
 mod terms;
 
@@ -134,13 +135,10 @@ impl<'s> Half<'s> {
         requires due { IsDue self.old progress next.Main }
         ensures { OwnGives self.old progress result self.new }
     {
-        if self.counts.innermost().is_some() {
-            return StepAnswer::NoMemory;
-        }
-        match self.main_action() {
-            None => StepAnswer::NoMemory,
-            Some(action) => self.act(action),
-        }
+        let Some(action) = self.main_action() else {
+            unreachable!();
+        };
+        self.act(action)
     }
 
     // Does the next action of the innermost handler.
@@ -151,7 +149,7 @@ impl<'s> Half<'s> {
         ensures { OwnGives self.old progress result self.new }
     {
         match self.handler_action() {
-            None => StepAnswer::NoMemory,
+            None => self.finish(),
             Some(action) => self.act(action),
         }
     }

@@ -45,7 +45,7 @@ impl<'s> Half<'s> {
         ensures { EventGives self.old event.resume with_event result self.new }
     {
         match self.end.resume() {
-            None => StepAnswer::NoMemory,
+            None => unreachable!(),
             Some(_) => {
                 self.counts.count_event();
                 StepAnswer::Did

@@ -21,7 +21,7 @@ pub(crate) enum NextStep {
 }
 
 // The block at a place of a script, if there is one.
-fn block_at(script: &Script, place: Option<u32>) -> Option<&Block>
+pub(super) fn block_at(script: &Script, place: Option<u32>) -> Option<&Block>
     ensures { option_map (λ b. b.now) result ≡ block_at script.now place }
 {
     script.blocks.as_slice().get(place? as usize)

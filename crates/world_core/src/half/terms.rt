@@ -31,11 +31,12 @@ impl<'a, 's> ActorNames for EndNames<'a, 's> {
 }
 
 impl<'s> Half<'s> {
-    ghost use Rattle.world_core.specs.NextSteps.{context_in};
+    ghost use Rattle.world_core.specs.NextSteps.{IsOnTop, context_in};
 
-    // The id of the actor that is spoken of. The only error is want of memory.
-    pub(crate) fn id_of(&self, who: &Who) -> Result<i32, AllocError>
-        ensures { IfOk result (λ id. id ≡ id_of (context_in self.now) who.now) }
+    // The id of the actor that is spoken of.
+    pub(crate) fn id_of(&self, who: &Who) -> i32
+        requires { IsOnTop self.now }
+        ensures { result ≡ id_of (context_in self.now) who.now }
     {
         let names = EndNames { end: &self.end };
         match self.counts.innermost() {
@@ -46,22 +47,25 @@ impl<'s> Half<'s> {
                     made: NOBODY,
                     given: &given,
                 };
-                Ok(scope.id_of(&names, who))
+                scope.id_of(&names, who)
             }
             Some(running) => {
-                let handler = self.end.running().ok_or(AllocError)?;
+                let Some(handler) = self.end.running() else {
+                    unreachable!();
+                };
                 let scope = TermScope {
                     this: handler.route,
                     made: running.made,
                     given: &running.given,
                 };
-                Ok(scope.id_of(&names, who))
+                scope.id_of(&names, who)
             }
         }
     }
 
     // The values that terms stand for. The only error is want of memory.
     pub(crate) fn values_of(&self, terms: &Terms) -> Result<Values, AllocError>
+        requires { IsOnTop self.now }
         ensures { IfOk result (λ vs. plain_values vs ≡ values_of (context_in self.now) terms.now) }
     {
         let names = EndNames { end: &self.end };
@@ -76,7 +80,9 @@ impl<'s> Half<'s> {
                 scope.values_of(self.alloc, &names, terms)
             }
             Some(running) => {
-                let handler = self.end.running().ok_or(AllocError)?;
+                let Some(handler) = self.end.running() else {
+                    unreachable!();
+                };
                 let scope = TermScope {
                     this: handler.route,
                     made: running.made,

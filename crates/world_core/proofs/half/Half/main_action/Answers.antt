@@ -12,6 +12,6 @@ returns-in-Open c p counted =
     let same = c.self.view_is in
     main-is h p counted c.main_block.result c.main.result _
     (ap is_open (sym (ap (λ (v : HalfView). v.end.end.state) same) ∙ sym c.state.ensures ∙ c.in-Open.is))
-    (c.main_block.ensures h.script.blocks h.end.end.side p.taken (subst (λ (v : HalfView). IsTableOf h.script.blocks h.end.end.side p.taken v.counts.table) (sym same) counted.table))
+    (c.main_block.ensures h.script.blocks h.end.end.side p.taken (subst (λ (v : HalfView). IsTableOf h.script.blocks h.end.end.side p.taken v.counts.table) (sym same) counted.counts.table))
     (c.main.ensures ∙ ap (λ (v : HalfView). v.counts.main) same)
     (c.action_in.ensures ∙ ap (λ (v : HalfView). action_in (block_at v.script c.main_block.result) c.main.result) same)
