@@ -12,3 +12,9 @@ mod NextKinds
 mod Played
 mod Turning
 mod WorldTurns
+mod Standing
+mod SideChoices
+mod OwnRuns
+mod Halves
+mod Meetings
+mod Apart

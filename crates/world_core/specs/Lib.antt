@@ -10,3 +10,4 @@ pub mod WorldView
 pub mod Worlds
 pub mod Turns
 pub mod SideTurns
+pub mod Halves

@@ -10,7 +10,7 @@ mod link;
 mod side_turns;
 mod world;
 
-pub use answers::{RunAnswer, StepAnswer};
+pub use answers::{MeetAnswer, RunAnswer, StepAnswer};
 pub use driver::{Driver, OneThread};
 pub use half::Half;
 pub use link::Link;

@@ -4,6 +4,8 @@ ghost use Rattle.handler_script.specs.Valid.{IsValid};
 ghost use Rattle.history.specs.Text.{transcript_text};
 ghost use Rattle.ipdl_base.specs.Sound.{IsSound};
 
+mod halves;
+
 use crate::answers::{RunAnswer, StepAnswer};
 use crate::half::{Half, other};
 use crate::link::Link;
