@@ -106,9 +106,9 @@ holds sides.Child link last lines packets h = record {
 }
 
 -- both links from the one of a side and the one away from it
-both-links : {P : Side → Type 0} (side : Side) → P side → P (other side) → P sides.Parent × P sides.Child
-both-links sides.Parent own away = (own, away)
-both-links sides.Child own away = (away, own)
+both-links : (P : Side → Type 0) (side : Side) → P side → P (other side) → P sides.Parent × P sides.Child
+both-links P sides.Parent own away = (own, away)
+both-links P sides.Child own away = (away, own)
 
 module _ (setting : Setting) (side : Side) (half : HalfView) (link : LinkView) (fits : FitsBehind setting side link.lines half) (home : IsHome setting link) where
   at-home : state_of setting link.lines ≡ fits.from
@@ -183,7 +183,7 @@ module _ (setting : Setting) (side : Side) (half : HalfView) (link : LinkView) (
     handed : IsRun setting fits.to last
     handed =
         let h = holds side link last half.end.lines half.end.packets appends in
-        let links = both-links {P = λ (s : Side). IsLinkOf setting fits.to s last} side (own-link h (link-of setting fits.from link run-from side)) (away-link h (link-of setting fits.from link run-from (other side))) in
+        let links = both-links (λ (s : Side). IsLinkOf setting fits.to s last) side (own-link h (link-of setting fits.from link run-from side)) (away-link h (link-of setting fits.from link run-from (other side))) in
         let told : length last.lines ≡ length link.lines + length half.end.lines = ap (λ (ls : List Line). length ls) h.lines_are ∙ length-append link.lines half.end.lines in
         let spare = appends.spare in
         let room = home.room in

@@ -1,5 +1,5 @@
 -- Halves of a run that go on apart from the link, and what they do when they meet it.
-use Rattle.std.specs.Prelude.{◌≡◌, ℕ, nat_lt, Bool, true, false, ◌&&◌, is_some, List, [], ◌++◌, length, replicate, Some}
+use Rattle.std.specs.Prelude.{◌≡◌, ℕ, ◌≤◌, nat_lt, Bool, true, false, ◌&&◌, is_some, List, [], ◌++◌, length, replicate, Some}
 use Rattle.std.specs.List.{AllByRecursion}
 use Rattle.handler_script.specs.ScriptOf.{first_of}
 use Rattle.handler_script.specs.Valid.{IsValid}
