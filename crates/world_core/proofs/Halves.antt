@@ -1,5 +1,5 @@
 -- The laws of halves apart from the link.
-use Rattle.std.proofs.Common.{◌≡◌, ℕ, ◌+◌, false, not, List, [], ◌∷◌, ◌++◌, map, Option, Some, None, is_none, is_some, refl, sym, ap, subst, ◌∙◌, append_assoc}
+use Rattle.std.proofs.Common.{◌≡◌, ℕ, ◌+◌, Bool, true, false, not, List, [], ◌∷◌, ◌++◌, map, Option, Some, None, is_some, refl, sym, ap, subst, ◌∙◌, append_assoc}
 use Rattle.std.specs.List.{AllByRecursion}
 use Rattle.std.proofs.lemmas.List.{append-nil, append_cancel_left, map-append, replicate_more}
 use Rattle.std.proofs.lemmas.List.Elements.{filter_map-append}
@@ -10,7 +10,6 @@ use Rattle.ipdl_base.specs.declared.line.What.{What}
 use Rattle.ipdl_base.specs.declared.schema.Schema.{Schema}
 use Rattle.channel_model.specs.Ends.{end_of, link_to}
 use Rattle.channel_model.specs.Ends as model
-use Rattle.channel_model.specs.Events.{Event}
 use Rattle.channel_model.specs.Numbers.{other}
 use Rattle.channel_model.specs.Outputs.{Output, line_at}
 use Rattle.channel_model.specs.Runs.{RunState}
@@ -35,15 +34,15 @@ use Rattle.world_core.specs.declared.half.next.NextStep.TheVariants as next
 use Rattle.world_core.specs.HalfSteps.{IsOwnStep, MayGoOn, OwnGives, next_of}
 use Rattle.world_core.specs.HalfView.{HalfView, IsCountedBy, setting_of}
 use Rattle.world_core.specs.NextSteps.{IsNext}
-use Rattle.world_core.specs.Halves.{FitsBehind, HasComeTo, HasStored, own_choices}
+use Rattle.world_core.specs.Halves.{FitsBehind, HalvesFitBehindMore, StoredLinesFollow, own_choices}
 
 -- what a half has stored stands behind the lines that it fits
 pub reached : (setting : Setting) (side : Side) (seen : List Line) (half : HalfView) (fits : FitsBehind setting side seen half) → fits.to.lines ≡ seen ++ half.end.lines
 reached setting side seen half fits = fits.stored.lines ∙ ap (λ (ls : List Line). ls ++ half.end.lines) fits.is_seen
 
 -- and that is a history of the script
-pub stored_is_case_history : (setting : Setting) (side : Side) (seen : List Line) (half : HalfView) → FitsBehind setting side seen half → IsCaseHistory setting (seen ++ half.end.lines)
-stored_is_case_history setting side seen half fits = record { choices = fits.come.choices; state = fits.to; plays = fits.come.plays; made = reached setting side seen half fits }
+pub stored_lines_follow : StoredLinesFollow
+stored_lines_follow setting side seen half fits = record { choices = fits.come.choices; state = fits.to; plays = fits.come.plays; made = reached setting side seen half fits }
 
 -- Own steps
 
@@ -112,14 +111,18 @@ own-fits setting side seen half after (answer.Spent s) fits h = subst (FitsBehin
 own-fits setting side seen half after answer.NoMemory fits h = subst (FitsBehind setting side seen) (sym h) fits
 
 -- it rests where nothing is next
-pub next-rests : (half : HalfView) (progress : Progress) (step : Option NextStep) → IsNext half progress step → is_none step ≡ not (is_some (next_of half progress))
-next-rests half progress None h = sym (ap (λ (o : Option Event). not (is_some o)) h)
-next-rests half progress (Some next.Main) h = sym (ap (λ (o : Option Event). not (is_some o)) h.is)
-next-rests half progress (Some next.Die) h = sym (ap (λ (o : Option Event). not (is_some o)) h)
-next-rests half progress (Some next.Take) h = sym (ap (λ (o : Option Event). not (is_some o)) h)
-next-rests half progress (Some next.Resume) h = sym (ap (λ (o : Option Event). not (is_some o)) h)
-next-rests half progress (Some next.Flush) h = sym (ap (λ (o : Option Event). not (is_some o)) h)
-next-rests half progress (Some next.Handler) h = sym (ap (λ (o : Option Event). not (is_some o)) h)
+pub some-is-next : (half : HalfView) (progress : Progress) (step : Option NextStep) → IsNext half progress step → is_some step ≡ is_some (next_of half progress)
+some-is-next half progress None h = sym (ap is_some h)
+some-is-next half progress (Some next.Main) h = sym (ap is_some h.is)
+some-is-next half progress (Some next.Die) h = sym (ap is_some h)
+some-is-next half progress (Some next.Take) h = sym (ap is_some h)
+some-is-next half progress (Some next.Resume) h = sym (ap is_some h)
+some-is-next half progress (Some next.Flush) h = sym (ap is_some h)
+some-is-next half progress (Some next.Handler) h = sym (ap is_some h)
+
+pub rests-so : (rests next : Bool) → next ≡ not rests → rests ≡ not next
+rests-so true next h = sym (ap not h)
+rests-so false next h = sym (ap not h)
 
 -- Lines of the other side
 
@@ -151,8 +154,8 @@ others-pass setting side leading from others history leads none =
     }
 
 -- A half that fits behind lines fits behind more lines of the other side too, where these are a history of the script.
-pub fits_behind_more : (setting : Setting) (side : Side) (seen others : List Line) (half : HalfView) → FitsBehind setting side seen half → lines_of side others ≡ [] → IsCaseHistory setting (seen ++ others) → FitsBehind setting side (seen ++ others) half
-fits_behind_more setting side seen others half fits none history =
+pub halves_fit_behind_more : HalvesFitBehindMore
+halves_fit_behind_more setting side seen others half fits none history =
     let known : IsCaseHistory setting (fits.from.lines ++ others) = subst (λ (ls : List Line). IsCaseHistory setting (ls ++ others)) (sym fits.is_seen) history in
     let stands : StandsAlike side fits.from known.state = others-pass setting side fits.leading fits.from others known fits.leads none in
     let again : IsPlayedAgain setting side (own_choices side fits.stored.count) fits.from fits.to known.state = play-again setting side fits.stored.count fits.from fits.to known.state fits.stored.plays stands.end stands.progress in

@@ -15,6 +15,6 @@ mod WorldTurns
 mod Standing
 mod SideChoices
 mod OwnRuns
-mod Halves
+pub mod Halves
 mod Meetings
 mod Apart

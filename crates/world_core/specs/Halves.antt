@@ -13,7 +13,7 @@ use Rattle.channel_model.specs.Numbers.{other}
 use Rattle.channel_model.specs.Outputs.{is_open}
 use Rattle.channel_model.specs.Runs.{RunState}
 use Rattle.channel_core.specs.EndView.{IsFramed, packets_of}
-use Rattle.script_steps.specs.Choices.{Choice, Setting, beginning_of, played}
+use Rattle.script_steps.specs.Choices.{Choice, IsCaseHistory, Setting, beginning_of, played}
 use Rattle.script_steps.specs.Progress.{lines_of, progress_of}
 use Rattle.world_core.specs.declared.answers.MeetAnswer.{MeetAnswer}
 use Rattle.world_core.specs.declared.answers.MeetAnswer.TheVariants as answer
@@ -63,6 +63,17 @@ pub record FitsBehind (setting : Setting) (side : Side) (seen : List Line) (half
   pub to : RunState
   pub come : HasComeTo setting to side half
   pub stored : HasStored setting side from to half
+
+-- What a half has stored stands behind the lines that it fits in a history of the script.
+abbrev pub StoredLinesFollow : Type 0
+StoredLinesFollow = (setting : Setting) (side : Side) (seen : List Line) (half : HalfView) → FitsBehind setting side seen half → IsCaseHistory setting (seen ++ half.end.lines)
+
+-- A half that fits behind lines fits behind more lines of the other side too, where these are a history of the script: as
+-- many own steps lead there to the same end, the same progress, the same lines and the same packets.
+abbrev pub HalvesFitBehindMore : Type 0
+HalvesFitBehindMore =
+    (setting : Setting) (side : Side) (seen others : List Line) (half : HalfView) → FitsBehind setting side seen half → lines_of side others ≡ [] → IsCaseHistory setting (seen ++ others)
+    → FitsBehind setting side (seen ++ others) half
 
 -- a link is home: its lines and its packets are those of a state of a run
 abbrev pub IsHome : Setting → LinkView → Type 0
