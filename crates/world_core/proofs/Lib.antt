@@ -11,6 +11,8 @@ mod OwnSteps
 mod NextKinds
 mod Played
 mod Turning
+mod Delivering
+mod Beginning
 mod WorldTurns
 mod Standing
 mod SideChoices

@@ -1,5 +1,5 @@
 -- A choice of a run that a half has carried out: the half, the link and the run behind it.
-use Rattle.std.proofs.Common.{◌≡◌, ℕ, suc, ◌+◌, ◌-◌, ◌*◌, ◌≤◌, nat_lt, Bool, true, false, cond, if◌then◌else◌, List, [], ◌∷◌, ◌++◌, drop, length, map, filter, Option, Some, None, is_some, option_and_then, refl, sym, ap, subst, ◌∙◌, arith, length-append}
+use Rattle.std.proofs.Common.{◌≡◌, ℕ, suc, ◌+◌, ◌*◌, ◌≤◌, Bool, true, false, cond, if◌then◌else◌, List, [], ◌∷◌, ◌++◌, drop, length, map, Option, Some, None, is_some, option_and_then, refl, sym, ap, subst, ◌∙◌, arith, length-append}
 use Rattle.std.specs.List.{AllByRecursion}
 use Rattle.std.specs.Option.{option_map_or}
 use Rattle.std.proofs.lemmas.List.{map-append, length-map}
@@ -18,10 +18,10 @@ use Rattle.channel_model.specs.Numbers.{other}
 use Rattle.channel_model.specs.Outputs.{Output, line_at}
 use Rattle.channel_model.specs.Runs.{RunState, after_event, passed_by, world_after}
 use Rattle.channel_model.specs.Steps.{step}
-use Rattle.channel_core.specs.EndView.{EndView, IsFramed, behind, packet_of, packets_of}
+use Rattle.channel_core.specs.EndView.{EndView, IsFramed, packet_of, packets_of}
 use Rattle.end_parts.specs.declared.packet.Packet.{Packet}
 use Rattle.script_runs.proofs.Room.{cases_have_room}
-use Rattle.script_steps.proofs.Choosing.{HaveSides, side-of}
+use Rattle.script_steps.proofs.Choosing.{side-of}
 use Rattle.script_steps.proofs.Counting.{lines_of-own, progress-append}
 use Rattle.script_steps.proofs.Playing.{PlaysOn, plays_on}
 use Rattle.script_steps.proofs.StepLines.{Prints, step-prints}
@@ -220,6 +220,12 @@ module _ (at : WorldView) (side : Side) (half after : HalfView) (link between : 
 
   plays-next : played at.setting (stands.run.choices ++ choice_is ∷ []) (beginning_of at.setting) ≡ Some next_is
   plays-next = played-last at.setting stands.run.choices choice_is (beginning_of at.setting) at.state next_is stands.run.plays is-chosen.0
+
+  -- the half behind its event is of the same side
+  pub after-side : after.end.end.side ≡ side
+  after-side =
+      ap (λ (v : EndView). v.end.side) steps.is_behind ∙ (step-prints at.setting.schema (end_of side at.state.world) (link_to side at.state.world) event output_is is).side
+      ∙ side-of at.state.world side (run-sides at.setting stands.run.choices at.state stands.run.plays)
 
   -- the link has room for what the half has made
   pub has-room : LinkHasRoom between (length after.end.lines) (other side) (length after.end.packets)

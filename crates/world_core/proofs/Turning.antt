@@ -1,5 +1,5 @@
 -- A turn of a side, from the steps of its half.
-use Rattle.std.proofs.Common.{◌≡◌, ℕ, suc, ◌+◌, ◌*◌, ◌<◌, ◌≤◌, nat_lt, Bool, true, false, not, ◌&&◌, if◌then◌else◌, List, [], ◌∷◌, length, map, Option, Some, None, is_some, ◌⊎◌, inl, inr, refl, sym, ap, subst, ◌∙◌, arith}
+use Rattle.std.proofs.Common.{◌≡◌, ℕ, ◌<◌, nat_lt, Bool, true, false, not, ◌&&◌, if◌then◌else◌, List, [], length, Some, None, is_some, ◌⊎◌, inl, inr, refl, sym, ap, subst, ◌∙◌, arith}
 use Rattle.ipdl_base.specs.declared.kinds.Side.{Side}
 use Rattle.ipdl_base.specs.declared.kinds.Side.TheVariants as sides
 use Rattle.ipdl_base.specs.declared.schema.Schema.{Schema}
@@ -7,22 +7,20 @@ use Rattle.channel_model.specs.Ends.{End, Packet, end_of, link_to}
 use Rattle.channel_model.specs.Events.{Event}
 use Rattle.channel_model.specs.Events as e
 use Rattle.channel_model.specs.Numbers.{other}
-use Rattle.channel_model.specs.Outputs.{Output}
 use Rattle.channel_model.specs.Runs.{RunState, after_event, is_delivery}
 use Rattle.channel_model.specs.Steps.{step}
-use Rattle.channel_core.specs.EndView.{EndView, packets_of}
+use Rattle.channel_core.specs.EndView.{packets_of}
 use Rattle.script_runs.proofs.Possible.{script_events_are_possible}
 use Rattle.script_runs.proofs.Room.{cases_have_room}
 use Rattle.script_runs.specs.Allowed.{IsAllowed}
 use Rattle.script_steps.proofs.Choosing.{event-delivers, side-of}
-use Rattle.script_steps.proofs.StepLines.{step-prints}
 use Rattle.script_steps.specs.declared.turn.Turn.{Turn}
 use Rattle.script_steps.specs.Choices.{Choice, Setting, is_within, own_event}
 use Rattle.script_steps.specs.Turns.{delivery_choice, exceeds, leads, led_to, outcome, outcome_by, turn_choice}
 use Rattle.script_steps.specs.NextEvent.{next_event}
 use Rattle.script_steps.specs.Progress.{Progress, progress_of}
 use Rattle.world_core.proofs.Chosen.{run-sides}
-use Rattle.world_core.proofs.Played.{has-played, has-room, link-of}
+use Rattle.world_core.proofs.Played.{after-side, has-played, has-room, link-of}
 use Rattle.world_core.proofs.Standing.{has-at, link-kept, may-go-on-at, next-at, no-delivery-at, own-within, step-at, within-at}
 use Rattle.world_core.specs.declared.answers.StepAnswer.{StepAnswer}
 use Rattle.world_core.specs.declared.answers.StepAnswer.TheVariants as answer
@@ -30,7 +28,7 @@ use Rattle.world_core.specs.HalfSteps.{IsOwnStep, MayGoOn, OwnGives, next_of}
 use Rattle.world_core.specs.HalfView.{HalfView, appended}
 use Rattle.world_core.specs.Halves.{HasComeTo}
 use Rattle.world_core.specs.LinkView.{IsAppended, LinkHasRoom, LinkView, packets_to, with_packets_to}
-use Rattle.world_core.specs.SideTurns.{DeliveryPlays, HasPlayed, OwnPlays, StandsIn, TurnPlays}
+use Rattle.world_core.specs.SideTurns.{DeliveryPlays, OwnPlays, StandsIn, TurnPlays}
 use Rattle.world_core.specs.WorldView.{WorldView}
 
 same-link : (side : Side) (link : LinkView) → with_packets_to side (packets_to side link) link ≡ link
@@ -84,15 +82,13 @@ module _ (at : WorldView) (side : Side) (half : HalfView) (link : LinkView) (sta
     within : is_within at.setting side at.state ≡ true
     within = own-within at.setting at.state side half come after own
 
-    after-side : after.end.end.side ≡ side
-    after-side =
-        ap (λ (v : EndView). v.end.side) own.steps.is_behind ∙ (step-prints at.setting.schema (end_of side at.state.world) (link_to side at.state.world) own.event own.steps.output is).side
-        ∙ side-of at.state.world side (run-sides at.setting stands.run.choices at.state stands.run.plays)
+    side-is : after.end.end.side ≡ side
+    side-is = after-side at side half after link link own.event false [] stands within has own.steps is lies
 
     -- the link has room for what an own step has made
     pub own-room : LinkHasRoom link (length after.end.lines) (other after.end.end.side) (length after.end.packets)
     own-room =
-        subst (λ (s : Side). LinkHasRoom link (length after.end.lines) (other s) (length after.end.packets)) (sym after-side)
+        subst (λ (s : Side). LinkHasRoom link (length after.end.lines) (other s) (length after.end.packets)) (sym side-is)
         (has-room at side half after link link own.event false [] stands within has own.steps is lies)
 
     -- and the step was played
@@ -100,7 +96,7 @@ module _ (at : WorldView) (side : Side) (half : HalfView) (link : LinkView) (sta
     own-plays last ends emptied appends = (
       within,
       ap is_some has,
-      has-played at side half after link link own.event false [] stands within has own.steps is lies last ends emptied (subst (λ (s : Side). IsAppended link after.end.lines (other s) after.end.packets ends) after-side appends),
+      has-played at side half after link link own.event false [] stands within has own.steps is lies last ends emptied (subst (λ (s : Side). IsAppended link after.end.lines (other s) after.end.packets ends) side-is appends),
     )
 
   -- where no step was made, nothing was played

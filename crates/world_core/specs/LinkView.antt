@@ -3,7 +3,9 @@ use Rattle.std.specs.Prelude.{◌≡◌, ℕ, ◌-◌, ◌≤◌, List, ◌++◌
 use Rattle.ipdl_base.specs.declared.kinds.Side.{Side}
 use Rattle.ipdl_base.specs.declared.kinds.Side.TheVariants as sides
 use Rattle.ipdl_base.specs.declared.line.Line.{Line}
+use Rattle.value_codec.specs.Laws.{AreBytes}
 use Rattle.end_parts.specs.declared.packet.Packet.{Packet}
+use Rattle.end_parts.specs.declared.packet.Packet.TheVariants.{Bytes, Broken}
 
 -- The lines of both sides, with every box at one place, and how many more there is room for; and the packets that wait
 -- for each side, and for how many there is room in all.
@@ -29,6 +31,11 @@ room_to sides.Child link = link.child_room
 abbrev pub with_packets_to : Side → List Packet → LinkView → LinkView
 with_packets_to sides.Parent packets link = record link { to_parent = packets }
 with_packets_to sides.Child packets link = record link { to_child = packets }
+
+-- what a packet holds are bytes
+abbrev pub HoldsBytes : Packet → Type 0
+HoldsBytes (Bytes bytes) = AreBytes bytes
+HoldsBytes Broken = Unit {0}
 
 -- There is room for so many more lines, and for so many more packets toward a side.
 pub record LinkHasRoom (link : LinkView) (lines : ℕ) (side : Side) (packets : ℕ) : Type 0 where

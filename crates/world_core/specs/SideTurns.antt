@@ -1,15 +1,17 @@
 -- What a half does on its link in a turn.
-use Rattle.std.specs.Prelude.{◌≡◌, Bool, true, false, is_some, Option, Some, None}
+use Rattle.std.specs.Prelude.{◌≡◌, true, false, is_some, Some}
 use Rattle.ipdl_base.specs.declared.kinds.Side.{Side}
-use Rattle.channel_model.specs.Ends.{end_of}
+use Rattle.channel_model.specs.Ends.{end_of, link_to}
+use Rattle.channel_model.specs.Events as event
 use Rattle.channel_model.specs.Numbers.{other}
 use Rattle.channel_model.specs.Runs.{RunState}
 use Rattle.script_steps.specs.declared.turn.Turn.{Turn}
-use Rattle.script_steps.specs.Choices.{Choice, Setting, chosen, is_within, may_deliver, own_event}
+use Rattle.script_steps.specs.Choices.{Choice, chosen, is_within, may_deliver, own_event}
 use Rattle.script_steps.specs.Progress.{progress_of}
-use Rattle.script_steps.specs.Turns.{TurnOutcome, exceeds, idles, leads, led_to, outcome}
+use Rattle.script_steps.specs.Turns.{exceeds, idles, leads, led_to, outcome}
 use Rattle.world_core.specs.declared.answers.StepAnswer.{StepAnswer}
 use Rattle.world_core.specs.declared.answers.StepAnswer.TheVariants as answer
+use Rattle.world_core.specs.HalfSteps.{IsHalfStep}
 use Rattle.world_core.specs.HalfView.{HalfView}
 use Rattle.world_core.specs.LinkView.{LinkView}
 use Rattle.world_core.specs.WorldView.{WorldView}
@@ -32,6 +34,18 @@ pub record HasPlayed (at : WorldView) (choice : Choice) (half : HalfView) (link 
 -- the half and the link stay as they were
 abbrev pub AreSame : HalfView → LinkView → HalfView → LinkView → Type 0
 AreSame half link half' link' = (half' ≡ half) × (link' ≡ link)
+
+-- A side may have the packet delivered that comes first on the link toward it.
+pub record MayHave (at : WorldView) (side : Side) : Type 0 where
+  pub there : may_deliver side at.state.world ≡ true
+  pub within : is_within at.setting side at.state ≡ true
+
+-- the packet that comes first was handed to the half, which made the step of its delivery; or nothing changed
+abbrev pub FirstGives : WorldView → Side → HalfView → StepAnswer → HalfView → Type 0
+FirstGives at side half answer.Did half' = IsHalfStep half (progress_of side at.state.lines) (link_to side at.state.world) event.deliver half'
+FirstGives at side half answer.Nothing half' = ⊥
+FirstGives at side half (answer.Spent s) half' = ⊥
+FirstGives at side half answer.NoMemory half' = half' ≡ half
 
 -- an own step of a side, and a delivery to it
 abbrev pub OwnPlays : WorldView → Side → HalfView → LinkView → StepAnswer → HalfView → LinkView → Type 0

@@ -7,10 +7,10 @@ use Rattle.ipdl_base.specs.declared.kinds.Side.TheVariants as sides
 use Rattle.ipdl_base.specs.Sound.{IsSound}
 use Rattle.channel_model.specs.Ends.{end_of, link_to}
 use Rattle.channel_model.specs.Runs.{RunState}
-use Rattle.channel_core.specs.EndView.{IsFramed, packets_of}
+use Rattle.channel_core.specs.EndView.{IsFramed, opened, packets_of}
 use Rattle.script_runs.specs.Laws.{ObeysAllLaws}
 use Rattle.script_steps.specs.Choices.{Setting, Choice, IsCaseHistory, beginning_of, played}
-use Rattle.script_steps.specs.Progress.{progress_of}
+use Rattle.script_steps.specs.Progress.{no_progress, progress_of}
 use Rattle.world_core.specs.HalfView.{HalfView, IsCountedBy, setting_of}
 use Rattle.world_core.specs.LinkView.{LinkView, packets_to, room_to}
 use Rattle.world_core.specs.WorldView.{WorldView}
@@ -30,6 +30,21 @@ pub record IsHalfOf (setting : Setting) (state : RunState) (side : Side) (half :
   pub no_lines : half.end.lines ≡ []
   pub no_packets : half.end.packets ≡ []
   pub counted : IsCountedBy half (progress_of side state.lines)
+
+-- A half of a side as it begins.
+pub record IsOpening (setting : Setting) (side : Side) (half : HalfView) : Type 0 where
+  pub about : setting_of half ≡ setting
+  pub end : half.end ≡ opened side setting.schema setting.script.top
+  pub counted : IsCountedBy half no_progress
+
+-- A link as it begins, with no line and no packet, and with room for all that may come.
+pub record IsOpeningLink (limit : ℕ) (link : LinkView) : Type 0 where
+  pub no_lines : link.lines ≡ []
+  pub none_to_parent : link.to_parent ≡ []
+  pub none_to_child : link.to_child ≡ []
+  pub lines : 2 * room_of limit ≤ link.spare
+  pub parent : room_of limit ≤ link.parent_room
+  pub child : room_of limit ≤ link.child_room
 
 -- The packets toward a side are those of a state, and each has a frame. There is room for all that may still come.
 pub record IsLinkOf (setting : Setting) (state : RunState) (side : Side) (link : LinkView) : Type 0 where

@@ -58,6 +58,8 @@ impl<'s> Model for Half<'s> {
 }
 
 impl<'s> Half<'s> {
+    ghost use Rattle.channel_core.specs.declared.answers.DeliverAnswer.TheVariants as delivery;
+    ghost use Rattle.channel_core.specs.Delivered.{delivery_answer};
     ghost use Rattle.channel_core.specs.EndView.{opened};
     ghost use Rattle.channel_model.specs.Outputs.{is_open};
     ghost use Rattle.script_steps.specs.Progress.{no_progress};
@@ -185,6 +187,7 @@ impl<'s> Half<'s> {
         requires open { is_open self.old.end.end.state ≡ true }
         requires few { self.old.end.end.delivered < 268435456 }
         requires within { nat_lt self.old.counts.events self.old.limit ≡ true }
+        requires accepted { delivery_answer self.old.end packet.now ≡ delivery.Done }
         ensures { DeliveryGives self.old progress packet.now result self.new }
     {
         let _within = self.may_count();
@@ -193,10 +196,9 @@ impl<'s> Half<'s> {
                 self.counts.count_event();
                 StepAnswer::Did
             }
-            DeliverAnswer::NoMemory
-            | DeliverAnswer::Bad(_, _)
-            | DeliverAnswer::Stray(_)
-            | DeliverAnswer::WrongActor(_, _) => StepAnswer::NoMemory,
+            DeliverAnswer::NoMemory => StepAnswer::NoMemory,
+            DeliverAnswer::Bad(_, _) | DeliverAnswer::Stray(_) | DeliverAnswer::WrongActor(_, _) =>
+                unreachable!(),
         }
     }
 

@@ -1,12 +1,17 @@
 //! What a half does on its link in a turn.
-ghost use Rattle.std.specs.Prelude.{◌≡◌};
+ghost use Rattle.std.specs.Prelude.{◌≡◌, ◌&&◌, is_some};
 ghost use Rattle.ipdl_base.specs.declared.kinds.Side.{Side as EndSide};
-ghost use Rattle.world_core.specs.SideTurns.{DeliveryPlays, OwnPlays, StandsIn, TurnPlays};
+ghost use Rattle.value_codec.specs.Laws.{AreBytes};
+ghost use Rattle.channel_model.specs.Outputs.{is_open};
+ghost use Rattle.handler_script.specs.ScriptOf.{first_of};
+ghost use Rattle.world_core.specs.LinkView.{HoldsBytes, packets_to};
+ghost use Rattle.world_core.specs.SideTurns.{DeliveryPlays, FirstGives, MayHave, OwnPlays, StandsIn, TurnPlays};
 ghost use Rattle.world_core.specs.WorldView.{WorldView};
 
 use crate::answers::StepAnswer;
 use crate::half::Half;
 use crate::link::Link;
+use channel_core::Packet;
 use ipdl_base::Side;
 use script_steps::Turn;
 
@@ -48,11 +53,69 @@ pub(crate) fn delivery_turn(half: &mut Half<'_>, link: &mut Link, side: Side) ->
     requires side { side ≡ at.1 }
     ensures { DeliveryPlays at.0 at.1 half.old link.old result half.new link.new }
 {
-    if !half.is_open() || link.first(side).is_none() {
+    if !may_deliver(half, link, side) {
         StepAnswer::Nothing
     } else if half.is_spent() {
         StepAnswer::Spent(side)
     } else {
-        StepAnswer::NoMemory
+        deliver_first(half, link, side)
     }
+}
+
+// Whether an end is open and a packet waits for it.
+fn may_deliver(half: &Half<'_>, link: &Link, side: Side) -> bool
+    ensures { result ≡ (is_open half.now.end.end.state && is_some (first_of (packets_to side link.now))) }
+{
+    half.is_open() && link.first(side).is_some()
+}
+
+// The delivery of the packet that comes first.
+fn deliver_first(half: &mut Half<'_>, link: &mut Link, side: Side) -> StepAnswer
+    ghost at: { WorldView × EndSide }
+    requires stands { StandsIn at.0 at.1 half.old link.old }
+    requires side { side ≡ at.1 }
+    requires may { MayHave at.0 at.1 }
+    ensures { DeliveryPlays at.0 at.1 half.old link.old result half.new link.new }
+{
+    match hand_over(half, link, side) {
+        StepAnswer::Did => {
+            link.drop_first(side);
+            half.append(link);
+            StepAnswer::Did
+        }
+        answer => answer,
+    }
+}
+
+// Hands the packet that comes first to the half. It stays on the link.
+fn hand_over(half: &mut Half<'_>, link: &Link, side: Side) -> StepAnswer
+    ghost at: { WorldView × EndSide }
+    requires stands { StandsIn at.0 at.1 half.old link.now }
+    requires side { side ≡ at.1 }
+    requires may { MayHave at.0 at.1 }
+    ensures { FirstGives at.0 at.1 half.old result half.new }
+{
+    match link.first(side) {
+        None => unreachable!(),
+        Some(packet) => {
+            holds_bytes(packet);
+            half.deliver(packet)
+        }
+    }
+}
+
+// Each element of a frame is a byte.
+fn holds_bytes(packet: &Packet)
+    ensures { HoldsBytes packet.now }
+{
+    match packet {
+        Packet::Bytes(frame) => are_bytes(frame.as_slice()),
+        Packet::Broken => {}
+    }
+}
+
+fn are_bytes(frame: &[u8])
+    ensures { AreBytes frame.now }
+{
+    let _length = frame.len();
 }

@@ -2,7 +2,9 @@ ghost use Rattle.std.specs.Prelude.{◌≡◌, ◌≤◌, [], map, IfOk};
 ghost use Rattle.end_parts.specs.PlainLines.{plain_line};
 ghost use Rattle.handler_script.specs.Valid.{IsValid};
 ghost use Rattle.history.specs.Text.{transcript_text};
+ghost use Rattle.ipdl_base.specs.declared.kinds.Side.TheVariants as sides;
 ghost use Rattle.ipdl_base.specs.Sound.{IsSound};
+ghost use Rattle.world_core.specs.Worlds.{IsOpening, IsOpeningLink};
 
 mod halves;
 
@@ -11,8 +13,9 @@ use crate::half::{Half, other};
 use crate::link::Link;
 use crate::side_turns::turn_of;
 use handler_script::Script;
-use history::History;
+use history::{History, history_text};
 use ipdl_base::{Schema, Side};
+use line_laws::texts_see_no_box;
 use script_steps::{Stop, Turn};
 use std::alloc::{AllocError, Global};
 use std::marker::Model;
@@ -73,12 +76,43 @@ impl<'s> World<'s> {
         ensures case { IfOk result IsCase }
         ensures laws { IfOk result IsLawful }
     {
-        let _ = alloc;
-        let _ = schema;
-        let _ = script;
-        let _ = stop;
-        let _ = limit;
-        Err(AllocError)
+        let room = 8 * limit as usize + 1;
+        let link = Link::open(alloc, 2 * room, room)?;
+        let halves = open_halves(alloc, schema, script, stop, limit)?;
+        Ok(World::begin(schema, script, stop, limit, halves, link))
+    }
+
+    // The run that begins with these halves.
+    fn begin(
+        schema: &'s Schema,
+        script: &'s Script,
+        stop: Option<Stop>,
+        limit: u32,
+        halves: (Half<'s>, Half<'s>),
+        link: Link,
+    ) -> World<'s>
+        requires sound { IsSound schema.now }
+        requires valid { IsValid schema.now script.now }
+        requires small { limit ≤ most_events }
+        requires parent { IsOpening (record { schema = schema.now; script = script.now; stop = stop; limit = limit }) sides.Parent halves.0 }
+        requires child { IsOpening (record { schema = schema.now; script = script.now; stop = stop; limit = limit }) sides.Child halves.1 }
+        requires link { IsOpeningLink limit link }
+        ensures opened { result ≡ opening_of (record { schema = schema.entry.now; script = script.entry.now; stop = stop; limit = limit }) }
+        ensures case { IsCase result }
+        ensures laws { IsLawful result }
+    {
+        let (parent, child) = halves;
+        let world = World {
+            schema,
+            script,
+            stop,
+            limit,
+            parent,
+            child,
+            link,
+        };
+        world.is_lawful();
+        world
     }
 
     /// One turn of a side. `Nothing` comes exactly where it does nothing, and `Spent` exactly where
@@ -171,7 +205,26 @@ impl<'s> World<'s> {
     pub fn transcript(&self, alloc: Global) -> Result<Vec<u8>, AllocError>
         ensures { IfOk result (λ text. text.items ≡ transcript_text self.now.setting.schema self.now.state.lines) }
     {
-        let _ = alloc;
-        Err(AllocError)
+        self.is_lawful();
+        texts_see_no_box();
+        history_text(alloc, self.schema, self.link.history())
     }
+}
+
+// Both sides of a run as it begins, the parent first.
+fn open_halves<'s>(
+    alloc: Global,
+    schema: &'s Schema,
+    script: &'s Script,
+    stop: Option<Stop>,
+    limit: u32,
+) -> Result<(Half<'s>, Half<'s>), AllocError>
+    requires sound { IsSound schema.now }
+    requires valid { IsValid schema.now script.now }
+    ensures parent { IfOk result (λ halves. IsOpening (record { schema = schema.entry.now; script = script.entry.now; stop = stop; limit = limit }) sides.Parent halves.0) }
+    ensures child { IfOk result (λ halves. IsOpening (record { schema = schema.entry.now; script = script.entry.now; stop = stop; limit = limit }) sides.Child halves.1) }
+{
+    let parent = Half::open(alloc, Side::Parent, schema, script, stop, limit)?;
+    let child = Half::open(alloc, Side::Child, schema, script, stop, limit)?;
+    Ok((parent, child))
 }
