@@ -18,3 +18,9 @@ mod Turning
 mod Delivering
 mod Beginning
 mod WorldTurns
+mod Standing
+mod SideChoices
+mod OwnRuns
+pub mod Halves
+mod Meetings
+mod Apart

@@ -42,7 +42,7 @@ abbrev pub run_behind : Side → RunState → Event → Output → RunState
 run_behind side state event output = record { world = world_after (record { side = side; event = event }) output state.world; lines = state.lines ++ output.lines }
 
 -- one choice more
-played-last : (setting : Setting) (front : List Choice) (choice : Choice) (from state next : RunState) → played setting front from ≡ Some state → chosen setting choice state ≡ Some next → played setting (front ++ choice ∷ []) from ≡ Some next
+pub played-last : (setting : Setting) (front : List Choice) (choice : Choice) (from state next : RunState) → played setting front from ≡ Some state → chosen setting choice state ≡ Some next → played setting (front ++ choice ∷ []) from ≡ Some next
 played-last setting [] choice from state next h k =
     let same : from ≡ state = cc in
     subst (λ (s : RunState). played setting (choice ∷ []) s ≡ Some next) (sym same) (ap (option_and_then (played setting [])) k)
@@ -61,7 +61,7 @@ both-sides (l ∷ ls) = by l.side (both-sides ls)
     by sides.Child h = omega (arith, h)
 
 -- no run has more lines than there is room for
-few-lines : (setting : Setting) (state : RunState) (choices : List Choice) → IsSound setting.schema → played setting choices (beginning_of setting) ≡ Some state → length state.lines ≤ 2 * room_of setting.limit
+pub few-lines : (setting : Setting) (state : RunState) (choices : List Choice) → IsSound setting.schema → played setting choices (beginning_of setting) ≡ Some state → length state.lines ≤ 2 * room_of setting.limit
 few-lines setting state choices sound h =
     let p = cases_have_room setting choices state sound h sides.Parent in
     let c = cases_have_room setting choices state sound h sides.Child in
@@ -69,14 +69,14 @@ few-lines setting state choices sound h =
     let all = both-sides state.lines in
     omega (arith, pe, pl, ce, cl, all)
 
-few-packets : (setting : Setting) (state : RunState) (choices : List Choice) → IsSound setting.schema → played setting choices (beginning_of setting) ≡ Some state → (side : Side) → length (link_to (other side) state.world) ≤ room_of setting.limit
+pub few-packets : (setting : Setting) (state : RunState) (choices : List Choice) → IsSound setting.schema → played setting choices (beginning_of setting) ≡ Some state → (side : Side) → length (link_to (other side) state.world) ≤ room_of setting.limit
 few-packets setting state choices sound h side =
     let p = cases_have_room setting choices state sound h side in
     let pe = p.events in let pp = p.packets in
     omega (arith, pe, pp)
 
 -- A choice whose event is possible is one of the run
-chosen-is : (setting : Setting) (choice : Choice) (state : RunState) (event : Event) (output : Output) → is_within setting choice.side state ≡ true → event_by setting choice state ≡ Some event
+pub chosen-is : (setting : Setting) (choice : Choice) (state : RunState) (event : Event) (output : Output) → is_within setting choice.side state ≡ true → event_by setting choice state ≡ Some event
     → step setting.schema (end_of choice.side state.world) (link_to choice.side state.world) event ≡ Some output
     → (chosen setting choice state ≡ Some (run_behind choice.side state event output)) × (led_to setting choice state ≡ run_behind choice.side state event output)
 chosen-is setting choice state event output within has is = (
@@ -89,7 +89,7 @@ chosen-is setting choice state event output within has is = (
 
 -- Lines of a side
 
-other-side : (side : Side) → same_side side (other side) ≡ false
+pub other-side : (side : Side) → same_side side (other side) ≡ false
 other-side sides.Parent = refl
 other-side sides.Child = refl
 
@@ -98,7 +98,7 @@ own-side sides.Parent = refl
 own-side sides.Child = refl
 
 module _ (side : Side) (state : RunState) (lines : List Line) (ws : List What) (are : lines ≡ map (line_at side) ws) where
-  own-progress : progress_of side (state.lines ++ lines) ≡ after_lines (progress_of side state.lines) (whats_of lines)
+  pub own-progress : progress_of side (state.lines ++ lines) ≡ after_lines (progress_of side state.lines) (whats_of lines)
   own-progress =
       progress-append side state.lines lines
       ∙ ap (λ (vs : List What). after_lines (progress_of side state.lines) vs)
@@ -112,7 +112,7 @@ module _ (side : Side) (state : RunState) (lines : List Line) (ws : List What) (
 
 -- Links
 
-all-append : (schema : Schema) (ps qs : List model.Packet) → AllByRecursion (IsFramed schema) ps → AllByRecursion (IsFramed schema) qs → AllByRecursion (IsFramed schema) (ps ++ qs)
+pub all-append : (schema : Schema) (ps qs : List model.Packet) → AllByRecursion (IsFramed schema) ps → AllByRecursion (IsFramed schema) qs → AllByRecursion (IsFramed schema) (ps ++ qs)
 all-append schema [] qs h k = k
 all-append schema (p ∷ ps) qs h k = (h.0, all-append schema ps qs h.1 k)
 
@@ -160,16 +160,16 @@ links setting sides.Child state event output link after lines framed is p c side
   room = subst (λ (n : ℕ). room_of setting.limit ≤ n) (sym (ap (λ (l : LinkView). l.child_room) is.is)) c.room;
 }
 
-ends-own : (side : Side) (state : RunState) (event : Event) (output : Output) → end_of side (run_behind side state event output).world ≡ output.end
+pub ends-own : (side : Side) (state : RunState) (event : Event) (output : Output) → end_of side (run_behind side state event output).world ≡ output.end
 ends-own sides.Parent state event output = refl
 ends-own sides.Child state event output = refl
 
-ends-rest : (side : Side) (state : RunState) (event : Event) (output : Output) → end_of (other side) (run_behind side state event output).world ≡ end_of (other side) state.world
+pub ends-rest : (side : Side) (state : RunState) (event : Event) (output : Output) → end_of (other side) (run_behind side state event output).world ≡ end_of (other side) state.world
 ends-rest sides.Parent state event output = refl
 ends-rest sides.Child state event output = refl
 
 -- the link away from a side behind an event
-puts : (side : Side) (state : RunState) (event : Event) (output : Output) → link_to (other side) (run_behind side state event output).world ≡ link_to (other side) state.world ++ output.packets
+pub puts : (side : Side) (state : RunState) (event : Event) (output : Output) → link_to (other side) (run_behind side state event output).world ≡ link_to (other side) state.world ++ output.packets
 puts sides.Parent state event output = refl
 puts sides.Child state event output = refl
 

@@ -29,109 +29,61 @@ use Rattle.script_steps.specs.NextEvent.{next_event}
 use Rattle.script_steps.specs.Progress.{Progress, progress_of}
 use Rattle.world_core.proofs.Chosen.{run-sides}
 use Rattle.world_core.proofs.Played.{after-side, has-played, has-room, link-of}
+use Rattle.world_core.proofs.Standing.{has-at, link-kept, may-go-on-at, next-at, no-delivery-at, own-within, step-at, within-at}
 use Rattle.world_core.specs.declared.answers.StepAnswer.{StepAnswer}
 use Rattle.world_core.specs.declared.answers.StepAnswer.TheVariants as answer
 use Rattle.world_core.specs.HalfSteps.{IsOwnStep, MayGoOn, OwnGives, next_of}
 use Rattle.world_core.specs.HalfView.{HalfView, appended}
-use Rattle.world_core.specs.Resolvers.{AreApart}
+use Rattle.world_core.specs.Halves.{HasComeTo}
 use Rattle.world_core.specs.LinkView.{IsAppended, LinkHasRoom, LinkView, packets_to, with_packets_to}
 use Rattle.world_core.specs.SideTurns.{DeliveryPlays, OwnPlays, StandsIn, TurnPlays}
 use Rattle.world_core.specs.WorldView.{WorldView}
-
--- an own event looks at no link
-link-free : (schema : Schema) (end : End) (link : List Packet) (event : Event) → is_delivery event ≡ false → step schema end [] event ≡ step schema end link event
-link-free schema end link (e.send route number vs name) h = refl
-link-free schema end link (e.answer by vs) h = refl
-link-free schema end link (e.keep seq name) h = refl
-link-free schema end link (e.name name id) h = refl
-link-free schema end link e.close h = refl
-link-free schema end link e.die h = refl
-link-free schema end link e.deliver h = cc
-link-free schema end link e.take h = refl
-link-free schema end link (e.return vs) h = refl
-link-free schema end link e.resume h = refl
-link-free schema end link e.flush h = refl
-
-link-kept : (link : List Packet) (event : Event) → is_delivery event ≡ false → after_event event link ≡ link
-link-kept link (e.send route number vs name) h = refl
-link-kept link (e.answer by vs) h = refl
-link-kept link (e.keep seq name) h = refl
-link-kept link (e.name name id) h = refl
-link-kept link e.close h = refl
-link-kept link e.die h = refl
-link-kept link e.deliver h = cc
-link-kept link e.take h = refl
-link-kept link (e.return vs) h = refl
-link-kept link e.resume h = refl
-link-kept link e.flush h = refl
 
 same-link : (side : Side) (link : LinkView) → with_packets_to side (packets_to side link) link ≡ link
 same-link sides.Parent link = refl
 same-link sides.Child link = refl
 
+-- a half that stands on its link has come to its state
+pub stands-come : (at : WorldView) (side : Side) (half : HalfView) (link : LinkView) → StandsIn at side half link → HasComeTo at.setting at.state side half
+stands-come at side half link stands = record {
+  sound = stands.run.sound;
+  valid = stands.run.valid;
+  small = stands.run.small;
+  choices = stands.run.choices;
+  plays = stands.run.plays;
+  about = stands.half_is.about;
+  end = stands.half_is.end;
+  counted = stands.half_is.counted;
+}
+
 module _ (at : WorldView) (side : Side) (half : HalfView) (link : LinkView) (stands : StandsIn at side half link) where
   abbrev progress_is : Progress
   progress_is = progress_of side at.state.lines
 
+  come : HasComeTo at.setting at.state side half
+  come = stands-come at side half link stands
+
   pub next-is : next_of half progress_is ≡ own_event at.setting side at.state
-  next-is =
-      ap (λ (s : Setting). next_event s.script s.stop half.end.end progress_is) stands.half_is.about
-      ∙ ap (λ (end : End). next_event at.setting.script at.setting.stop end progress_is) stands.half_is.end
+  next-is = next-at at.setting at.state side half come
 
   pub within-is : nat_lt half.counts.events half.limit ≡ is_within at.setting side at.state
-  within-is =
-      ap (λ (n : ℕ). nat_lt n half.limit) stands.half_is.counted.counts.events
-      ∙ ap (λ (s : Setting). nat_lt progress_is.events s.limit) stands.half_is.about
-
-  schema-is : half.end.schema ≡ at.setting.schema
-  schema-is = ap (λ (s : Setting). s.schema) stands.half_is.about
-
-  few-sent : half.end.end.sent < 268435456
-  few-sent =
-      let room = cases_have_room at.setting stands.run.choices at.state stands.run.sound stands.run.plays side in
-      let sent = room.sent in
-      let events = room.events in
-      let small = stands.run.small in
-      let same = ap (λ (end : End). end.sent) stands.half_is.end in
-      omega (arith, sent, events, small, same)
+  within-is = within-at at.setting at.state side half come
 
   own-side : (end_of side at.state.world).side ≡ side
   own-side = side-of at.state.world side (run-sides at.setting stands.run.choices at.state stands.run.plays)
 
   pub may-go-on : MayGoOn half progress_is
-  may-go-on =
-      let small = stands.run.small in
-      let possible = script_events_are_possible at.setting stands.run.choices at.state stands.run.sound stands.run.valid (omega (arith, small)) stands.run.plays in
-      record {
-        counted = stands.half_is.counted;
-        few = few-sent;
-        allowed = λ event is.
-            subst (λ (schema : Schema). IsAllowed schema half.end.end event) (sym schema-is)
-            (subst (λ (end : End). IsAllowed at.setting.schema end event) (sym stands.half_is.end) (possible.allowed side event (sym next-is ∙ is)));
-        valid = subst (λ (s : Setting). IsValid s.schema s.script) (sym stands.half_is.about) stands.run.valid;
-        handlers =
-            subst (λ (s : Setting). AllZip (IsHandlerOf s.schema s.script half.end.end.side half.end.end) (dispatches half.end.end.stack) progress_is.handled) (sym stands.half_is.about)
-            (subst (λ (end : End). AllZip (IsHandlerOf at.setting.schema at.setting.script end.side end) (dispatches end.stack) progress_is.handled) (sym stands.half_is.end)
-            (subst (λ (s : Side). AllZip (IsHandlerOf at.setting.schema at.setting.script s (end_of side at.state.world)) (dispatches (end_of side at.state.world).stack) progress_is.handled) (sym own-side)
-            (handlers_stand at.setting stands.run.choices at.state stands.run.sound stands.run.valid (omega (arith, small)) stands.run.plays side)));
-        apart = subst AreApart (sym stands.half_is.end) (resolvers_are_apart at.setting stands.run.choices at.state stands.run.sound stands.run.plays side);
-        fitting =
-            subst (λ (schema : Schema). IsFitting schema half.end.end) (sym schema-is)
-            (subst (λ (end : End). IsFitting at.setting.schema end) (sym stands.half_is.end)
-            (case_worlds_fit at.setting stands.run.choices at.state stands.run.sound (omega (arith, small)) stands.run.plays side).end);
-      }
+  may-go-on = may-go-on-at at.setting at.state side half come
 
   module _ (after : HalfView) (own : IsOwnStep half progress_is after) where
     has : own_event at.setting side at.state ≡ Some own.event
-    has = sym next-is ∙ own.is_next
+    has = has-at at.setting at.state side half come after own
 
     no-delivery : is_delivery own.event ≡ false
-    no-delivery = event-delivers at.setting (record { side = side; delivers = false }) at.state own.event has
+    no-delivery = no-delivery-at at.setting at.state side half come after own
 
     is : step at.setting.schema (end_of side at.state.world) (link_to side at.state.world) own.event ≡ Some own.steps.output
-    is =
-        sym (link-free at.setting.schema (end_of side at.state.world) (link_to side at.state.world) own.event no-delivery)
-        ∙ sym (ap (λ (schema : Schema). step schema half.end.end [] own.event) schema-is ∙ ap (λ (end : End). step at.setting.schema end [] own.event) stands.half_is.end) ∙ own.steps.is_step
+    is = step-at at.setting at.state side half come after own
 
     lies : link ≡ with_packets_to side (packets_of at.setting.schema (after_event own.event (link_to side at.state.world))) link
     lies =
@@ -139,7 +91,7 @@ module _ (at : WorldView) (side : Side) (half : HalfView) (link : LinkView) (sta
         ∙ ap (λ (ps : List _). with_packets_to side ps link) ((link-of at.setting at.state link stands.run side).packets ∙ ap (packets_of at.setting.schema) (sym (link-kept (link_to side at.state.world) own.event no-delivery)))
 
     within : is_within at.setting side at.state ≡ true
-    within = sym within-is ∙ own.within
+    within = own-within at.setting at.state side half come after own
 
     side-is : after.end.end.side ≡ side
     side-is = after-side at side half after link link own.event false [] stands within has own.steps is lies

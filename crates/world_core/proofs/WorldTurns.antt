@@ -17,7 +17,7 @@ use Rattle.world_core.specs.HalfView.{HalfView, IsCountedBy, setting_of}
 use Rattle.world_core.specs.LinkView.{LinkView}
 use Rattle.world_core.specs.SideTurns.{HasTurned, StandsIn, TurnPlays}
 use Rattle.world_core.specs.Turns.{TurnGives}
-use Rattle.world_core.specs.WorldView.{WorldView, state_of}
+use Rattle.world_core.specs.WorldView.{WorldView, seen_by, state_of}
 use Rattle.world_core.specs.Worlds.{IsHalfOf, IsRun, IsWorld}
 
 -- the state that the lines of a link tell of is that of its run
@@ -37,10 +37,6 @@ half-stays setting state next side half same progress is = record {
   no_packets = is.no_packets;
   counted = subst (λ (p : Progress). IsCountedBy half p) (sym progress) is.counted;
 }
-
--- what a world is about, and its state
-abbrev pub seen_by : Setting → LinkView → WorldView
-seen_by setting link = record { setting = setting; state = state_of setting link.lines }
 
 -- What a turn makes of a world.
 pub record Turned (setting : Setting) (turn : Turn) (a : StepAnswer) (link ends : LinkView) (parent child : HalfView) : Type 0 where

@@ -11,3 +11,4 @@ pub mod Worlds
 pub mod Turns
 pub mod SideTurns
 pub mod TakeSteps
+pub mod Halves

@@ -22,3 +22,15 @@ pub enum RunAnswer {
     /// The run stands behind the turns before the one that wanted memory.
     NoMemory,
 }
+
+/// What a meeting of a half with the link answers.
+#[derive(Clone, Copy, Debug, PartialEq, Eq)]
+pub enum MeetAnswer {
+    /// So many lines were appended, and nothing is left to deliver to an open end.
+    Moved(usize),
+    /// The lines were appended, and a delivery is left to an open end, but this side has as many
+    /// events as it may have.
+    Spent(Side),
+    /// The lines were appended, and the deliveries were done before the one that wanted memory.
+    NoMemory,
+}

@@ -5,6 +5,7 @@ ghost use Rattle.script_steps.specs.Progress.{Progress};
 
 mod acting;
 mod ending;
+mod meeting;
 mod next;
 mod returning;
 mod taking;
@@ -97,9 +98,8 @@ impl<'s> Half<'s> {
         })
     }
 
-    /// One own step: what the end does next by its script. `Nothing` comes exactly where it does
-    /// nothing, and `Spent` exactly where it does something but has as many events as it may have.
-    pub fn own(&mut self) -> StepAnswer
+    /// One own step, at a known progress.
+    pub(crate) fn own_step(&mut self) -> StepAnswer
         ghost progress: { Progress }
         requires { MayGoOn self.old progress }
         ensures { OwnGives self.old progress result self.new }
@@ -154,8 +154,8 @@ impl<'s> Half<'s> {
         }
     }
 
-    /// Whether the end is open.
-    pub(crate) fn is_open(&self) -> bool
+    /// Whether the end is open. It takes no memory.
+    pub fn is_open(&self) -> bool
         ensures { result ≡ is_open self.now.end.end.state }
     {
         match self.end.state() {

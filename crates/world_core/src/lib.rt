@@ -6,13 +6,15 @@ mod answers;
 mod counts;
 mod driver;
 mod half;
+mod laws;
 mod link;
 mod side_turns;
 mod world;
 
-pub use answers::{RunAnswer, StepAnswer};
+pub use answers::{MeetAnswer, RunAnswer, StepAnswer};
 pub use driver::{Driver, OneThread};
 pub use half::Half;
+pub use laws::{halves_fit_behind_more, stored_lines_follow};
 pub use link::Link;
 pub use script_steps::{Stop, Turn};
 pub use world::World;

@@ -37,7 +37,7 @@ fn own_turn(half: &mut Half<'_>, link: &mut Link) -> StepAnswer
     requires { StandsIn at.0 at.1 half.old link.old }
     ensures { OwnPlays at.0 at.1 half.old link.old result half.new link.new }
 {
-    match half.own() {
+    match half.own_step() {
         StepAnswer::Did => {
             half.append(link);
             StepAnswer::Did
@@ -46,8 +46,8 @@ fn own_turn(half: &mut Half<'_>, link: &mut Link) -> StepAnswer
     }
 }
 
-// A delivery to a side.
-fn delivery_turn(half: &mut Half<'_>, link: &mut Link, side: Side) -> StepAnswer
+/// A delivery to a side.
+pub(crate) fn delivery_turn(half: &mut Half<'_>, link: &mut Link, side: Side) -> StepAnswer
     ghost at: { WorldView × EndSide }
     requires stands { StandsIn at.0 at.1 half.old link.old }
     requires side { side ≡ at.1 }

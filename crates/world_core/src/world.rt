@@ -6,6 +6,8 @@ ghost use Rattle.ipdl_base.specs.declared.kinds.Side.TheVariants as sides;
 ghost use Rattle.ipdl_base.specs.Sound.{IsSound};
 ghost use Rattle.world_core.specs.Worlds.{IsOpening, IsOpeningLink};
 
+mod halves;
+
 use crate::answers::{RunAnswer, StepAnswer};
 use crate::half::{Half, other};
 use crate::link::Link;

@@ -1,7 +1,8 @@
 use Rattle.script_steps.specs.Choices.{Setting}
-use Rattle.world_core.proofs.WorldTurns.{child-steps, gives-so, parent-steps, seen_by}
+use Rattle.world_core.proofs.WorldTurns.{child-steps, gives-so, parent-steps}
 use Rattle.world_core.proofs.world.World.step.Goals as goal
 use Rattle.world_core.proofs.world.World.step.Goals.{in-Child, in-Parent}
+use Rattle.world_core.specs.WorldView.{seen_by}
 
 pub invariant_of-self : goal.invariant_of-self
 invariant_of-self c =
