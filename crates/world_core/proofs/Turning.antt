@@ -1,5 +1,5 @@
 -- A turn of a side, from the steps of its half.
-use Rattle.std.proofs.Common.{◌≡◌, ℕ, suc, ◌+◌, ◌*◌, ◌<◌, ◌≤◌, nat_lt, Bool, true, false, not, ◌&&◌, if◌then◌else◌, List, [], ◌∷◌, length, map, Option, Some, None, is_some, ◌⊎◌, inl, inr, refl, sym, ap, subst, ◌∙◌, arith}
+use Rattle.std.proofs.Common.{◌≡◌, ℕ, ◌<◌, nat_lt, Bool, true, false, not, ◌&&◌, if◌then◌else◌, List, [], length, Some, None, is_some, ◌⊎◌, inl, inr, refl, sym, ap, subst, ◌∙◌, arith}
 use Rattle.std.specs.List.{AllZip}
 use Rattle.handler_script.specs.Valid.{IsValid}
 use Rattle.ipdl_base.specs.declared.kinds.Side.{Side}
@@ -12,7 +12,7 @@ use Rattle.channel_model.specs.Fitting.{IsFitting}
 use Rattle.channel_model.specs.Numbers.{other}
 use Rattle.channel_model.specs.Runs.{RunState, after_event, is_delivery}
 use Rattle.channel_model.specs.Steps.{step}
-use Rattle.channel_core.specs.EndView.{EndView, packets_of}
+use Rattle.channel_core.specs.EndView.{packets_of}
 use Rattle.script_runs.proofs.Changes.{resolvers_are_apart}
 use Rattle.script_runs.proofs.KeptRuns.{handlers_stand}
 use Rattle.script_runs.proofs.CaseRuns.{case_worlds_fit}
