@@ -9,3 +9,4 @@ pub mod AtMostOne
 pub mod Gathered
 pub mod Found
 pub mod Tops
+pub mod Runs
