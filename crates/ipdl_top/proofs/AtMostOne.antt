@@ -45,7 +45,8 @@ use Rattle.ipdl_top.specs.FileViews.{FileViews}
 use Rattle.ipdl_top.proofs.Alike.{alike, same_keys}
 use Rattle.ipdl_top.proofs.Compilations.{names_called, no_fault}
 use Rattle.ipdl_top.proofs.TableTexts.{one_text}
-use Rattle.ipdl_top.proofs.Tops.{position-cons}
+use Rattle.ipdl_top.proofs.OneRun.{RunLaws, run_one}
+use Rattle.ipdl_top.proofs.OneTop.{one_top}
 
 -- the laws of what the program is made of
 pub record TheLaws : Type 0 where
@@ -61,6 +62,7 @@ pub record TheLaws : Type 0 where
   pub frames : OneListOfFrames
   pub waits_alike : WaitsAlike
   pub wait_report : OneWaitReport
+  pub runs : RunLaws
 
 -- Lists
 
@@ -165,19 +167,6 @@ frames_one laws name convert (Some bytes) a b same one other (inl x) (inr y) = a
 frames_one laws name convert (Some bytes) a b same one other (inr x) (inl y) = absurd (omega (arith, x.0, y.0))
 frames_one laws name convert (Some bytes) a b same one other (inr x) (inr y) = bytes_one laws name convert bytes a b same one other x.1 y.1
 
--- the place of the first that passes, where all are as plain
-place_alike : (p : ProtocolRow → Bool) → ((row : ProtocolRow) → p (plain_protocol_row row) ≡ p row) → (rows : List ProtocolRow) → position_or_len p (map plain_protocol_row rows) ≡ position_or_len p rows
-place_alike p blind [] = refl
-place_alike p blind (row ∷ rows) =
-    position-cons p (plain_protocol_row row) (map plain_protocol_row rows) ∙ ap (λ (b : Bool). cond b 0 (1 + position_or_len p (map plain_protocol_row rows))) (blind row)
-    ∙ ap (λ (n : ℕ). cond (p row) 0 (1 + n)) (place_alike p blind rows) ∙ sym (position-cons p row rows)
-
--- the top of a file
-one_top : (file : List ℕ) (a b : Schema) → plain_schema a ≡ plain_schema b → (top other : ℕ) → IsTop file a top → IsTop file b other → top ≡ other
-one_top file a b same top other x y =
-    sym x.first ∙ sym (place_alike (bears_name file) (λ row. refl) a.protocols) ∙ ap (λ (s : Schema). position_or_len (bears_name file) s.protocols) same
-    ∙ place_alike (bears_name file) (λ row. refl) b.protocols ∙ y.first
-
 -- the lines of pairs
 same_lines : TheLaws → (a b : Schema) → plain_schema a ≡ plain_schema b → (pairs : List Pair) → waits_text a pairs ≡ waits_text b pairs
 same_lines laws a b same pairs = ap (λ (f : Pair → List ℕ). flat_map f pairs) (λ i pair. pair_line_at pair i)
@@ -235,7 +224,7 @@ commands laws Gives seen (frames list path file name convert) leaves one other x
     compilations laws (SaysFrames name convert (seen.last name)) (frames_one laws name convert (seen.last name)) (given_by seen.files path (file ∷ [])) seen.list list one other x y
 commands laws Gives seen (waits list path file) leaves one other x y = compilations laws (SaysWaits file) (waits_one laws file) (given_by seen.files path (file ∷ [])) seen.list list one other x y
 commands laws Gives seen (run list path course script file) leaves one other x y =
-    compilations laws (SaysRun Gives course script (seen.last script) file) (run_one laws Gives course leaves script (seen.last script) file) (given_by seen.files path (file ∷ [])) seen.list list one other x y
+    compilations laws (SaysRun Gives course script (seen.last script) file) (run_one laws.runs Gives course leaves script (seen.last script) file) (given_by seen.files path (file ∷ [])) seen.list list one other x y
 
 -- words are one command or none
 pub answer_is_determined : TheLaws → OneAnswer

@@ -10,3 +10,5 @@ pub mod Gathered
 pub mod Found
 pub mod Tops
 pub mod Runs
+pub mod OneTop
+pub mod OneRun
