@@ -4,7 +4,7 @@ use Rattle.ipdl_base.specs.declared.kinds.Side.{Side}
 use Rattle.channel_model.specs.Ends.{end_of}
 use Rattle.channel_model.specs.Numbers.{other}
 use Rattle.channel_model.specs.Runs.{RunState}
-use Rattle.script_steps.specs.declared.turn.Turn.{Turn}
+use Rattle.schedules.specs.declared.turn.Turn.{Turn}
 use Rattle.script_steps.specs.Choices.{Choice, Setting, chosen, is_within, may_deliver, own_event}
 use Rattle.script_steps.specs.Progress.{progress_of}
 use Rattle.script_steps.specs.Turns.{TurnOutcome, exceeds, idles, leads, led_to, outcome}

@@ -14,5 +14,5 @@ pub use answers::{RunAnswer, StepAnswer};
 pub use driver::{Driver, OneThread};
 pub use half::Half;
 pub use link::Link;
-pub use script_steps::{Stop, Turn};
+pub use schedules::{Stop, Turn};
 pub use world::World;

@@ -11,7 +11,7 @@ use crate::side_turns::turn_of;
 use handler_script::Script;
 use history::History;
 use ipdl_base::{Schema, Side};
-use script_steps::{Stop, Turn};
+use schedules::{Stop, Turn};
 use std::alloc::{AllocError, Global};
 use std::marker::Model;
 
