@@ -217,7 +217,10 @@ record HasNamed (v : EndView) (what : What) (name : List ℕ) (before room after
 
 -- what answers for the resolver that a name holds has a frame
 pub destroyed-framed : (schema : Schema) (e : End) (name : List ℕ) (r : Resolver) → IsSound schema → IsFitting schema e → held_by_name name e.names ≡ Some (resolver r) → HasFrame schema (destroyed_message (resolver_answered r))
-destroyed-framed schema e name r sound fitting is = record { fits = promised-fault schema sound (resolver_answered r) (held-fits schema name e.names (resolver r) fitting.names is); small = omega arith; spelled = refl }
+destroyed-framed schema e name r sound fitting is = record {
+  frame = record { fits = promised-fault schema sound (resolver_answered r) (held-fits schema name e.names (resolver r) fitting.names is); small = omega arith; spelled = refl };
+  plain = refl;
+}
 
 -- what a name held is let go
 pub let-go-tracks : (v : EndView) (content : Option NameContent) (o : Output) (out out' : OutputView) → ((r : Resolver) → content ≡ Some (resolver r) → HasFrame v.schema (destroyed_message (resolver_answered r))) → Tracks v o out

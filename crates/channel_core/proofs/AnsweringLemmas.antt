@@ -37,6 +37,7 @@ use Rattle.channel_core.specs.Steps.{MayAnswer}
 use Rattle.channel_core.specs.Tracks.{Tracks}
 use Rattle.channel_core.proofs.ActLemmas.{acted, acted_end, Acts, replied-acts, reserved-inside, said-acts, waits-released}
 use Rattle.channel_core.proofs.MadeLemmas.{seen_as}
+use Rattle.channel_core.proofs.FrameLemmas.{message-again}
 use Rattle.channel_core.proofs.ReplyLemmas.{Refuses, Sends, line-answering, refuses, row-handled, row-kept, sends}
 
 -- Checks
@@ -50,7 +51,7 @@ found-checked : (v : EndView) (by : Answering) (number : ℕ) (q : Option Answer
     → IsReplyCheck v number q vs check → IsFound v by vs check
 found-checked v by number q vs (Refused cause) out may inside found e check = refuses v by vs cause number may found (ap (λ (x : Option AnsweredRequest). reply_refusal v number x vs) (sym e) ∙ check)
 found-checked v by number q vs (Accepted m) out may inside found e check =
-    sends v by vs (plain_message m) number may inside.sound inside.kept.fitting found (ap (λ (x : Option AnsweredRequest). reply_refusal v number x vs) (sym e) ∙ check.0) (ap (λ (x : Option AnsweredRequest). reply_by x vs) (sym e) ∙ check.1)
+    sends v by vs (plain_message m) number may inside.sound inside.kept.fitting found (ap (λ (x : Option AnsweredRequest). reply_refusal v number x vs) (sym e) ∙ check.0) (ap (λ (x : Option AnsweredRequest). reply_by x vs) (sym e) ∙ check.1) (message-again m)
 
 -- the message of a resolver, by what the answer by it repeats
 pub message-handled : (v : EndView) (r : Resolver) (q : AnsweredRequest) (vs : Option Values) (may : MayAnswer v (handled r.seq) vs) → handled_resolver v.end r.seq ≡ Some r → q ≡ resolver_answered r → request_row v.schema q.number ≡ Some may.row
@@ -72,7 +73,7 @@ found-kept v name number q vs check out may e inside is =
 -- a reply that is accepted fits, wherever its boxes lie
 pub found-fits : (v : EndView) (by : Answering) (vs : Option Values) (check : ReplyCheck) → IsFound v by vs check → FitsCheck v.schema check
 found-fits v by vs (Refused cause) found = tt
-found-fits v by vs (Accepted m) found = (fits v.schema m).0 found.framed.fits
+found-fits v by vs (Accepted m) found = (fits v.schema m).0 found.framed.frame.fits
 
 -- the request by the resolver that a name holds has a number far below the greatest
 kept-small : (v : EndView) (name : List ℕ) (number : ℕ) (q : AnsweredRequest) (vs : Option Values) (out : OutputView) → MayAnswer v (kept name number) vs → Some q ≡ option_map resolver_answered (resolver_used v.end (kept name number)) → IsInside v.schema v.end out → q.number < 4294967295

@@ -95,7 +95,7 @@ pub replacing_made : (v : EndView) (o : Output) (out out' : OutputView) (row : M
     → out' ≡ with_replaced o.end.side (replaced_request old) (replaced_answer v.schema row (replaced_request old)) out → Replacing v o out out' (replacing row old o)
 replacing_made v o out out' row None t opens framed e = same_output v o out out' t e
 replacing_made v o out out' row (Some item.Broken) t opens framed e = same_output v o out out' t e
-replacing_made v o out out' row (Some (item.Message old sync level)) t opens framed e = makes_way v o out out' (request_answered old) (makes_promise row) t opens framed e
+replacing_made v o out out' row (Some (item.Message old sync level)) t opens framed e = makes_way v o out out' (request_answered old) (makes_promise row) t opens (λ b. record { frame = framed b; plain = refl }) e
 
 -- A request
 

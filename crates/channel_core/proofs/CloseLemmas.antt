@@ -74,7 +74,7 @@ pub record CodeCloses (schema : Schema) (e : End) (out said gone : OutputView) (
 
 -- a goodbye has a frame
 pub goodbye_framed : (schema : Schema) → HasFrame schema goodbye
-goodbye_framed schema = record { fits = record { number = refl; route = refl; seq = refl; transaction = refl; made = refl }; small = omega arith; spelled = refl }
+goodbye_framed schema = record { frame = record { fits = record { number = refl; route = refl; seq = refl; transaction = refl; made = refl }; small = omega arith; spelled = refl }; plain = refl }
 
 -- an output as a close has it before the parts close
 abbrev parted : End → Output

@@ -13,6 +13,7 @@ use Rattle.end_parts.specs.OutputView.{OutputView, with_line, with_packet}
 use Rattle.end_parts.specs.PlainLines.{plain_what}
 use Rattle.channel_core.specs.EndView.{EndView, HasFrame}
 use Rattle.channel_core.specs.Tracks.{Tracks}
+use Rattle.channel_core.proofs.FrameLemmas.{reply-plain}
 use Rattle.channel_core.proofs.TrackLemmas.{tracks_line, tracks_put}
 
 -- an answer that is owed goes out
@@ -49,7 +50,8 @@ tracks_owed v o out out' (Some owed) (Some p) h t e =
     let what : What = answer_line owed.request.seq owed.given in
     let said : OutputView = with_line out (line_at o.end.side (plain_what p.what)) in
     let t1 : Tracks v (line what o) said = tracks_line v o out said what t (ap (λ (w : What). with_line out (line_at o.end.side w)) h.line) in
-    let framed : HasFrame v.schema reply = record { fits = h.frame.fits; small = h.frame.small; spelled = refl } in
+    let framed : HasFrame v.schema reply =
+    record { frame = record { fits = h.frame.fits; small = h.frame.small; spelled = refl }; plain = reply-plain owed.request owed.given p.what h.line } in
     tracks_put v (line what o) said out' (message reply) framed t1 (e ∙ ap (λ (bytes : List ℕ). with_packet said (Bytes bytes)) h.frame.spelled)
 
 -- The room that it leaves.

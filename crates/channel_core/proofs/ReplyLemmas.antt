@@ -18,6 +18,7 @@ use Rattle.actor_tree.specs.declared.actor.Actor.{Actor}
 use Rattle.value_types.specs.declared.layout.TheConstants.{NEW}
 use Rattle.value_types.specs.Sizes.{payload_size}
 use Rattle.value_types.proofs.Boxes.{body_size-plain}
+use Rattle.value_codec.specs.Spelling.{FrameOf, frame_bytes}
 use Rattle.channel_model.specs.Answers.{answered_row, may_answer, answer, answer_body, answer_refusal, answered_unless, answering_line, handled_resolver, is_reply_too_large, resolver_refusal, resolver_used, refused_line, resolved}
 use Rattle.channel_model.specs.Ends.{End, Resolver}
 use Rattle.channel_model.specs.Events.{Answering, handled, kept}
@@ -159,8 +160,8 @@ pub record Sends (v : EndView) (by : Answering) (vs : Option Values) (m : Messag
   pub steps : step v.schema v.end [] (event.answer by vs) ≡ Some (resolved by vs r (beginning v.end))
 
 pub sends : (v : EndView) (by : Answering) (vs : Option Values) (m : Message) (number : ℕ) (may : MayAnswer v by vs) → IsSound v.schema → IsFitting v.schema v.end → message_of v.schema number ≡ Some may.row
-    → reply_refusal v number (option_map resolver_answered (resolver_used v.end by)) vs ≡ None → reply_by (option_map resolver_answered (resolver_used v.end by)) vs ≡ Some m → Sends v by vs m
-sends v by vs m number may sound fitting found says there =
+    → reply_refusal v number (option_map resolver_answered (resolver_used v.end by)) vs ≡ None → reply_by (option_map resolver_answered (resolver_used v.end by)) vs ≡ Some m → plain_message m ≡ m → Sends v by vs m
+sends v by vs m number may sound fitting found says there plain =
     let none : answer_refusal v.schema v.end may.row by vs ≡ None = sym (refusal-found v may.row by vs number found) ∙ says in
     let reply = reply-there vs m (resolver_used v.end by) there in
     let r : Resolver = reply.0 in
@@ -170,11 +171,14 @@ sends v by vs m number may sound fitting found says there =
       r = r;
       used = reply.1;
       is = reply.2;
-      framed = subst (HasFrame v.schema) reply.2 (record {
-        fits = answer-fits v.schema sound v.end vs r may.row (used v.schema sound v.end by r may.row may.found reply.1 fitting) may.may ok fitting;
-        small = reply-small v.schema v.end may.row vs r ok;
-        spelled = refl;
-      });
+      framed = record {
+        frame = subst (λ (m : Message). FrameOf NEW v.schema m (frame_bytes NEW v.schema m)) reply.2 (record {
+          fits = answer-fits v.schema sound v.end vs r may.row (used v.schema sound v.end by r may.row may.found reply.1 fitting) may.may ok fitting;
+          small = reply-small v.schema v.end may.row vs r ok;
+          spelled = refl;
+        });
+        plain = plain;
+      };
       accepted = refusal-at v by vs may.row may.found ∙ none;
       steps = provides v.schema v.end by vs may.row may.found may.may
           ∙ ap (λ (c : Option SendRefusal). Some (answered_unless c by vs (resolver_used v.end by) (beginning v.end))) none

@@ -1,9 +1,10 @@
 -- What contracts see of an end.
-use Rattle.std.specs.Prelude.{ℕ, List, [], ◌++◌, map}
+use Rattle.std.specs.Prelude.{◌≡◌, ℕ, List, [], ◌++◌, map}
 use Rattle.ipdl_base.specs.declared.kinds.Side.{Side}
 use Rattle.ipdl_base.specs.declared.line.Line.{Line}
 use Rattle.ipdl_base.specs.declared.message.Message.{Message}
 use Rattle.ipdl_base.specs.declared.schema.Schema.{Schema}
+use Rattle.ipdl_base.specs.Plain.{plain_message}
 use Rattle.value_types.specs.declared.layout.TheConstants.{NEW}
 use Rattle.value_codec.specs.Spelling.{FrameOf, frame_bytes}
 use Rattle.channel_model.specs.Ends.{End, opening_end}
@@ -32,9 +33,10 @@ packet_of schema model.mark = Broken
 abbrev pub packets_of : Schema → List model.Packet → List Packet
 packets_of schema packets = map (packet_of schema) packets
 
--- a message has a frame: it fits the schema, and the layout has room for it
-abbrev pub HasFrame : Schema → Message → Type 0
-HasFrame schema m = FrameOf NEW schema m (frame_bytes NEW schema m)
+-- A message has a frame: it fits the schema, and the layout has room for it. All its boxes lie at one place.
+pub record HasFrame (schema : Schema) (m : Message) : Type 0 where
+  pub frame : FrameOf NEW schema m (frame_bytes NEW schema m)
+  pub plain : plain_message m ≡ m
 
 -- a packet is a mark, or a message that has a frame
 abbrev pub IsFramed : Schema → model.Packet → Type 0
