@@ -8,11 +8,14 @@ use command_words::one_command;
 use grammar_laws::one_tree;
 use ipdl_lex::one_answer;
 use program_schema::one_schema;
+use runs_alike::{picks_alike, scripts_alike, texts_alike};
+use script_steps::words_have_one_result;
 use sync_list::one_list;
 use value_types::boxes_say_nothing;
 
-/// The law of the answer: for the same files, words have at most one. So the files and the words
-/// determine an answer's status, its text for `out` and its text for `err`.
+/// The law of the answer: for the same files, words have at most one, but for those that run a script
+/// without a word of turns. So the files and the words determine an answer's status, its text for `out`
+/// and its text for `err`.
 pub fn answer_is_determined()
     ensures { OneAnswer }
 {
@@ -29,4 +32,8 @@ pub fn answer_is_determined()
     one_list_of_frames();
     waits_alike();
     one_wait_report();
+    picks_alike();
+    texts_alike();
+    scripts_alike();
+    words_have_one_result();
 }

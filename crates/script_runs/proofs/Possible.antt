@@ -47,7 +47,7 @@ use Rattle.channel_model.specs.Steps.{step, provided, first_packet}
 use Rattle.channel_model.specs.Takes.{taken_next, take}
 use Rattle.channel_model.specs.Typed.{have_types}
 use Rattle.channel_model.proofs.TypesDecided.{decides_types}
-use Rattle.script_steps.specs.declared.turn.Turn.{Turn}
+use Rattle.schedules.specs.declared.turn.Turn.{Turn}
 use Rattle.script_steps.specs.Choices.{Setting, Choice, own_event, may_deliver, is_within, is_doable, chosen}
 use Rattle.script_steps.specs.Laws.{TurnIsChoice}
 use Rattle.script_steps.specs.NextEvent.{context_of, event_of, block_for, handler_action}

@@ -28,7 +28,7 @@ use Rattle.channel_model.specs.Takes as takes
 use Rattle.channel_model.specs.Takes.{taken_next, takes_in_state, takes_under, first_free}
 use Rattle.channel_laws.specs.Laws.{world_of}
 use Rattle.channel_laws.proofs.StillWorlds.{still_histories_leave_no_end_waiting}
-use Rattle.script_steps.specs.declared.stop.Stop.{Stop}
+use Rattle.schedules.specs.declared.stop.Stop.{Stop}
 use Rattle.script_steps.specs.Choices.{Setting, own_event, may_deliver}
 use Rattle.script_steps.specs.Laws.{IsRunOf}
 use Rattle.script_steps.specs.NextEvent.{by_handler, by_taking, by_main, by_top, by_flushing, or_else, is_stopped, next_event}

@@ -30,7 +30,7 @@ use Rattle.channel_model.specs.Sends.{frames_of}
 use Rattle.channel_model.specs.States.{IsAnswered}
 use Rattle.channel_model.specs.Steps.{step}
 use Rattle.channel_laws.specs.BoundedRuns.{delivered_at, waiting_of}
-use Rattle.script_steps.specs.declared.turn.Turn.{Turn}
+use Rattle.schedules.specs.declared.turn.Turn.{Turn}
 use Rattle.script_steps.specs.Choices.{Setting, Choice, beginning_of, own_event, may_deliver, is_within, is_doable, chosen, played, IsCaseHistory}
 use Rattle.script_steps.specs.NextEvent.{handler_action}
 use Rattle.script_steps.specs.Progress.{HandledRequest, progress_of, lines_of}

@@ -25,7 +25,7 @@ use Rattle.channel_model.specs.Returns.{may_flush}
 use Rattle.channel_model.specs.Runs.{RunState, is_delivery, output_of, passed_by, world_after}
 use Rattle.channel_model.specs.Sends.{frames_of}
 use Rattle.channel_model.specs.Takes.{taken_next}
-use Rattle.script_steps.specs.declared.stop.Stop.{Stop}
+use Rattle.schedules.specs.declared.stop.Stop.{Stop}
 use Rattle.script_steps.specs.Choices.{Setting, Choice, beginning_of, own_event, may_deliver, event_by, is_doable, behind_event, played, choice_of, choices_of}
 use Rattle.script_steps.specs.Laws.{ChoicesAreRead, CaseWorldsAreOne}
 use Rattle.script_steps.specs.NextEvent.{event_of, handler_action, return_of, by_handler, by_taking, by_main, by_top, by_flushing, or_else, is_stopped, next_event, context_of}

@@ -2,7 +2,7 @@
 use Rattle.std.proofs.Common.{◌≡◌, ℕ, zero, suc, Bool, true, false, not, ◌&&◌, if◌then◌else◌, List, Option, Some, None, is_some, refl, sym, ap, subst, ◌∙◌}
 use Rattle.ipdl_base.specs.declared.kinds.Side.{Side}
 use Rattle.ipdl_base.specs.declared.kinds.Side.TheVariants as sides
-use Rattle.script_steps.specs.declared.turn.Turn.{Turn}
+use Rattle.schedules.specs.declared.turn.Turn.{Turn}
 use Rattle.script_steps.specs.Choices.{Setting, Choice, own_event, may_deliver, is_within}
 use Rattle.script_steps.specs.Laws.{RestIsQuiet, QuietDoesNothing}
 use Rattle.script_steps.specs.Turns.{TurnOutcome, leads, idles, exceeds, turn_choice, delivery_choice, led_to, outcome_by, outcome, RunEnding, at_rest, whole_turn, Rests, rests, goes_on, passes, stops, Picks, word_ends, turn_leads, turn_idles, turn_exceeds, is_quiet_at, is_quiet}

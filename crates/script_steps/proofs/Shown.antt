@@ -1,7 +1,7 @@
 -- What a script shows under a word.
 use Rattle.std.specs.Prelude.{ℕ, Bool, List, Option, option_map}
 use Rattle.ipdl_base.specs.declared.line.Line.{Line}
-use Rattle.script_steps.specs.declared.turn.Turn.{Turn}
+use Rattle.schedules.specs.declared.turn.Turn.{Turn}
 use Rattle.script_steps.specs.Choices.{Setting, beginning_of, choices_of, played}
 use Rattle.script_steps.specs.Turns.{RunEnding, picked, is_quiet}
 

@@ -6,7 +6,7 @@ use Rattle.ipdl_base.specs.declared.kinds.Side.{Side}
 use Rattle.channel_model.specs.Events.{Event}
 use Rattle.channel_model.specs.Events as event
 use Rattle.channel_model.specs.Runs.{RunState}
-use Rattle.script_steps.specs.declared.turn.Turn.{Turn}
+use Rattle.schedules.specs.declared.turn.Turn.{Turn}
 use Rattle.script_steps.specs.Choices.{Setting, Choice, own_event, may_deliver, is_within, event_by, behind_event, is_doable, chosen}
 use Rattle.script_steps.specs.Laws.{TurnIsChoice, TurnsAreChoices}
 use Rattle.script_steps.specs.Turns.{TurnOutcome, leads, idles, exceeds, delivery_choice, turn_choice, led_to, outcome_by, outcome}

@@ -2,7 +2,7 @@
 use Rattle.std.proofs.Common.{◌≡◌, ℕ, zero, suc, List, [], ◌∷◌, Option, Some, refl, sym, subst, ◌∙◌}
 use Rattle.ipdl_base.specs.declared.kinds.Side.{Side}
 use Rattle.ipdl_base.specs.declared.kinds.Side.TheVariants as sides
-use Rattle.script_steps.specs.declared.turn.Turn.{Turn}
+use Rattle.schedules.specs.declared.turn.Turn.{Turn}
 use Rattle.script_steps.specs.Choices.{Setting}
 use Rattle.script_steps.specs.Laws.{WordsHaveOneResult, FunctionsPick}
 use Rattle.script_steps.specs.Turns.{TurnOutcome, leads, idles, exceeds, outcome, RunEnding, at_rest, at_limit, whole_turn, Rests, rests, goes_on, passes, stops, Picks, word_ends, turn_leads, turn_idles, turn_exceeds, RunEnd, rested, picked}

@@ -51,7 +51,7 @@ use Rattle.handler_script.specs.declared.term.Terms.{Terms}
 use Rattle.handler_script.specs.declared.term.Terms as boxed_terms
 use Rattle.handler_script.specs.declared.term.Terms.TheVariants as terms
 use Rattle.script_reader.specs.declared.written.Who.TheVariants as who
-use Rattle.script_steps.specs.declared.turn.Turn.{Turn}
+use Rattle.schedules.specs.declared.turn.Turn.{Turn}
 use Rattle.script_steps.specs.Choices.{Setting}
 use Rattle.script_steps.specs.Turns.{at_rest, at_limit}
 use Rattle.script_steps.proofs.Shown.{shown}

@@ -14,7 +14,7 @@ use Rattle.channel_model.specs.Events as event
 use Rattle.channel_model.specs.Outputs.{is_open}
 use Rattle.channel_model.specs.Runs.{RunState, output_of, happens}
 use Rattle.channel_model.specs.Steps.{first_packet}
-use Rattle.script_steps.specs.declared.stop.Stop.{Stop}
+use Rattle.schedules.specs.declared.stop.Stop.{Stop}
 use Rattle.script_steps.specs.NextEvent.{next_event}
 use Rattle.script_steps.specs.Progress.{progress_of}
 

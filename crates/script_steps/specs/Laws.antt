@@ -5,7 +5,7 @@ use Rattle.ipdl_base.specs.declared.line.Line.{Line}
 use Rattle.channel_model.specs.Ends.{end_of, opening}
 use Rattle.channel_model.specs.Events.{Event, Move}
 use Rattle.channel_model.specs.Runs.{RunState, run}
-use Rattle.script_steps.specs.declared.turn.Turn.{Turn}
+use Rattle.schedules.specs.declared.turn.Turn.{Turn}
 use Rattle.script_steps.specs.Choices.{Setting, Choice, beginning_of, event_by, is_doable, chosen, played, choices_of}
 use Rattle.script_steps.specs.Progress.{progress_of}
 use Rattle.script_steps.specs.Turns.{RunEnding, at_rest, RunEnd, leads, idles, outcome, turn_choice, Picks, picked, is_quiet}

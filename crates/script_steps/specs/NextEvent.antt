@@ -21,7 +21,7 @@ use Rattle.channel_model.specs.Outputs.{is_open, is_dead_end}
 use Rattle.channel_model.specs.Returns.{may_flush}
 use Rattle.channel_model.specs.Sends.{frames_of}
 use Rattle.channel_model.specs.Takes.{taken_next}
-use Rattle.script_steps.specs.declared.stop.Stop.{Stop}
+use Rattle.schedules.specs.declared.stop.Stop.{Stop}
 use Rattle.script_steps.specs.Progress.{HandledRequest, Progress}
 
 -- the actor that a name holds

@@ -5,7 +5,7 @@ use Rattle.ipdl_base.specs.declared.kinds.Side.{Side}
 use Rattle.ipdl_base.specs.declared.kinds.Side.TheVariants as sides
 use Rattle.channel_model.specs.Numbers.{other}
 use Rattle.channel_model.specs.Runs.{RunState}
-use Rattle.script_steps.specs.declared.turn.Turn.{Turn}
+use Rattle.schedules.specs.declared.turn.Turn.{Turn}
 use Rattle.script_steps.specs.Choices.{Setting, Choice, own_event, may_deliver, is_within, event_by, behind_event}
 
 -- What a turn does: it leads to another state of the run, or there is nothing to do, or the side is at the limit.

@@ -3,12 +3,8 @@
 #![tactic(auto)]
 
 mod laws;
-mod stop;
-mod turn;
 
 pub use laws::{
     case_worlds_are_one, choices_are_counted, choices_are_read, choices_are_runs, choices_grow,
     functions_pick, quiet_does_nothing, rest_is_quiet, turns_are_choices, words_have_one_result,
 };
-pub use stop::Stop;
-pub use turn::Turn;

@@ -3,7 +3,7 @@ use Rattle.std.proofs.Common.{◌≡◌, ℕ, Option, ap, subst, sym, ◌∙◌}
 use Rattle.handler_script.specs.declared.script.Script.{Script}
 use Rattle.ipdl_base.specs.declared.kinds.Side.TheVariants as sides
 use Rattle.ipdl_base.specs.declared.schema.Schema.{Schema}
-use Rattle.script_steps.specs.declared.stop.Stop.{Stop}
+use Rattle.schedules.specs.declared.stop.Stop.{Stop}
 use Rattle.script_steps.specs.Choices.{Setting}
 use Rattle.world_core.proofs.Meetings.{stands-fits, stands-home}
 use Rattle.world_core.specs.HalfView.{HalfView, setting_of}

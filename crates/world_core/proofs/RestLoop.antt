@@ -5,7 +5,7 @@ use Rattle.ipdl_base.specs.declared.kinds.Side.TheVariants as sides
 use Rattle.ipdl_base.specs.declared.line.Line.{Line}
 use Rattle.channel_model.specs.Numbers.{other}
 use Rattle.channel_model.specs.Runs.{RunState}
-use Rattle.script_steps.specs.declared.turn.Turn.{Turn}
+use Rattle.schedules.specs.declared.turn.Turn.{Turn}
 use Rattle.script_steps.specs.Choices.{Choice, Setting, is_within, may_deliver, own_event}
 use Rattle.script_steps.specs.Turns.{Picks, RunEnding, Rests, at_limit, at_rest, exceeds, goes_on, idles, is_quiet_at, leads, led_to, outcome, outcome_by, passes, rests, stops, turn_choice, whole_turn, word_ends}
 use Rattle.world_core.proofs.Chosen.{chosen-grows, chosen-less, left_of, run-sides}

@@ -22,7 +22,7 @@ use Rattle.script_runs.specs.Allowed.{IsAllowed}
 use Rattle.script_runs.specs.Dispatches.{dispatches}
 use Rattle.script_runs.specs.Handlers.{IsHandlerOf}
 use Rattle.script_steps.proofs.Choosing.{event-delivers, side-of}
-use Rattle.script_steps.specs.declared.turn.Turn.{Turn}
+use Rattle.schedules.specs.declared.turn.Turn.{Turn}
 use Rattle.script_steps.specs.Choices.{Choice, Setting, is_within, own_event}
 use Rattle.script_steps.specs.Turns.{delivery_choice, exceeds, leads, led_to, outcome, outcome_by, turn_choice}
 use Rattle.script_steps.specs.NextEvent.{next_event}

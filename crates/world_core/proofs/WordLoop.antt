@@ -3,7 +3,7 @@ use Rattle.std.proofs.Common.{◌≡◌, ℕ, ◌+◌, ◌<◌, ◌≤◌, List,
 use Rattle.std.proofs.lemmas.List.{drop_all}
 use Rattle.ipdl_base.specs.declared.kinds.Side.{Side}
 use Rattle.channel_model.specs.Runs.{RunState}
-use Rattle.script_steps.specs.declared.turn.Turn.{Turn}
+use Rattle.schedules.specs.declared.turn.Turn.{Turn}
 use Rattle.script_steps.specs.Choices.{Setting}
 use Rattle.script_steps.specs.Turns.{Picks, RunEnding, at_limit, at_rest, exceeds, idles, is_quiet, leads, outcome, turn_exceeds, turn_idles, turn_leads}
 use Rattle.ipdl_base.specs.Sound.{IsSound}

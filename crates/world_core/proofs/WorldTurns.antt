@@ -7,7 +7,7 @@ use Rattle.channel_model.specs.Ends.{end_of}
 use Rattle.channel_model.specs.Numbers.{other}
 use Rattle.channel_model.specs.Runs.{RunState}
 use Rattle.script_steps.proofs.Choosing.{choices_are_read}
-use Rattle.script_steps.specs.declared.turn.Turn.{Turn}
+use Rattle.schedules.specs.declared.turn.Turn.{Turn}
 use Rattle.script_steps.specs.Choices.{Choice, Setting, beginning_of, choices_of, played}
 use Rattle.script_steps.specs.Progress.{Progress, progress_of}
 use Rattle.script_steps.specs.Turns.{leads}

@@ -4,7 +4,7 @@ use Rattle.handler_script.specs.declared.script.Script.{Script}
 use Rattle.ipdl_base.specs.declared.line.Line.{Line}
 use Rattle.ipdl_base.specs.declared.line.What.{What}
 use Rattle.channel_core.specs.EndView.{EndView}
-use Rattle.script_steps.specs.declared.stop.Stop.{Stop}
+use Rattle.schedules.specs.declared.stop.Stop.{Stop}
 use Rattle.script_steps.specs.Choices.{Setting}
 use Rattle.script_steps.specs.Progress.{Progress}
 use Rattle.world_core.specs.CountsView.{CountsView}

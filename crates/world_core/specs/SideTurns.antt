@@ -5,7 +5,7 @@ use Rattle.channel_model.specs.Ends.{end_of, link_to}
 use Rattle.channel_model.specs.Events as event
 use Rattle.channel_model.specs.Numbers.{other}
 use Rattle.channel_model.specs.Runs.{RunState}
-use Rattle.script_steps.specs.declared.turn.Turn.{Turn}
+use Rattle.schedules.specs.declared.turn.Turn.{Turn}
 use Rattle.script_steps.specs.Choices.{Choice, chosen, is_within, may_deliver, own_event}
 use Rattle.script_steps.specs.Progress.{progress_of}
 use Rattle.script_steps.specs.Turns.{exceeds, idles, leads, led_to, outcome}

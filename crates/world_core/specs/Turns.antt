@@ -6,7 +6,7 @@ use Rattle.ipdl_base.specs.declared.line.Line.{Line}
 use Rattle.channel_model.specs.Numbers.{other}
 use Rattle.channel_model.specs.Runs.{RunState}
 use Rattle.script_runs.specs.Laws.{IsAtRest}
-use Rattle.script_steps.specs.declared.turn.Turn.{Turn}
+use Rattle.schedules.specs.declared.turn.Turn.{Turn}
 use Rattle.script_steps.specs.Choices.{Choice, Setting, chosen, is_within}
 use Rattle.script_steps.specs.Turns.{Picks, at_rest, at_limit, exceeds, idles, is_quiet, is_quiet_at, leads, outcome, whole_turn}
 use Rattle.world_core.specs.declared.answers.RunAnswer.{RunAnswer}

@@ -6,7 +6,7 @@ ghost use Rattle.world_core.specs.declared.answers.RunAnswer.{RunAnswer as OfRun
 
 use crate::answers::RunAnswer;
 use crate::world::World;
-use script_steps::Turn;
+use schedules::Turn;
 
 /// Runs a world until neither side has a step or a delivery left.
 pub trait Driver {

@@ -18,7 +18,7 @@ use crate::link::Link;
 use channel_core::{DeliverAnswer, End, EndState, Packet};
 use handler_script::Script;
 use ipdl_base::{Schema, Side};
-use script_steps::Stop;
+use schedules::Stop;
 use std::alloc::{AllocError, Global};
 use std::marker::Model;
 

@@ -16,5 +16,5 @@ pub use driver::{Driver, OneThread};
 pub use half::Half;
 pub use laws::{halves_fit_behind_more, stored_lines_follow};
 pub use link::Link;
-pub use script_steps::{Stop, Turn};
+pub use schedules::{Stop, Turn};
 pub use world::World;

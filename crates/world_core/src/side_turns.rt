@@ -13,7 +13,7 @@ use crate::half::Half;
 use crate::link::Link;
 use channel_core::Packet;
 use ipdl_base::Side;
-use script_steps::Turn;
+use schedules::Turn;
 
 /// A turn of a side.
 pub(crate) fn turn_of(half: &mut Half<'_>, link: &mut Link, turn: Turn) -> StepAnswer

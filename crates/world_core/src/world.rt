@@ -16,7 +16,7 @@ use handler_script::Script;
 use history::{History, history_text};
 use ipdl_base::{Schema, Side};
 use line_laws::texts_see_no_box;
-use script_steps::{Stop, Turn};
+use schedules::{Stop, Turn};
 use std::alloc::{AllocError, Global};
 use std::marker::Model;
 

@@ -1,15 +1,25 @@
-//! Tests of scripts and of the transcripts that their runs have (docs/scripts.md): each script breaks
-//! no rule, and of each transcript every law holds. Each row has the word, the limit and the death
-//! with which it is to be run.
+//! Tests of runs (docs/scripts.md): worked runs and orders of own steps, each with the word, the limit
+//! and the death with which it is run, and with what it prints; deaths under nested calls; and limits
+//! that cut a run. Of each history every law is tested.
 #![tactic(auto)]
 
+#[cfg(test)]
+mod courses;
+#[cfg(test)]
+mod deaths;
 #[cfg(test)]
 mod deep_rows;
 #[cfg(test)]
 mod given;
 #[cfg(test)]
+mod laws;
+#[cfg(test)]
+mod limits;
+#[cfg(test)]
 mod order_rows;
 #[cfg(test)]
 mod run_rows;
+#[cfg(test)]
+mod texts;
 #[cfg(test)]
 mod transcripts;

@@ -1,44 +1,25 @@
 ghost use Rattle.ipdl_base.specs.Sound.{IsSound};
 
+use super::courses::{course_of, printed};
 use super::deep_rows::DEEP;
 use super::given::script_of;
+use super::laws::{ALL_LAWS, lawful};
 use super::order_rows::ORDERS;
 use super::run_rows::RUNS;
-use history::{History, history_text};
+use super::texts::lines_and_ending;
+use history::history_text;
 use history_of_text::{history_of, schema_of};
 use ipdl_base::Schema;
-use law_checks::{Law, holds};
-use std::alloc::{AllocError, Global};
+use std::alloc::Global;
 use std::test::Fail;
 
-/// All laws, in their order.
-const LAWS: &[Law] = &[
-    Law::Prefix,
-    Law::Living,
-    Law::Waits,
-    Law::Settled,
-    Law::Fallen,
-];
-
-/// How many laws hold of a history.
-fn lawful(alloc: Global, schema: &Schema, history: &History) -> Result<u32, AllocError>
-    requires { IsSound schema.now }
-{
-    let mut count = 0u32;
-    for law in LAWS {
-        if holds(alloc, *law, schema, history)? {
-            count = count.wrapping_add(1);
-        }
-    }
-    Ok(count)
-}
-
-/// What is wrong with the lines that a run has: a law that does not hold, or another text than these.
+/// What is wrong with the lines that a run is to have: a law that does not hold, or another text than
+/// these.
 fn fault(alloc: Global, schema: &Schema, lines: &str) -> Result<&'static str, Fail>
     requires { IsSound schema.now }
 {
     let history = history_of(alloc, schema, lines)?;
-    if lawful(alloc, schema, &history)? != 5 {
+    if lawful(alloc, schema, &history)? != ALL_LAWS {
         return Ok("a law that does not hold");
     }
     let text = history_text(alloc, schema, &history)?;
@@ -48,24 +29,27 @@ fn fault(alloc: Global, schema: &Schema, lines: &str) -> Result<&'static str, Fa
     Ok("")
 }
 
-/// The lines of what a run prints: all but the last one, which says how it ended.
-fn lines_of(printed: &str) -> Result<&str, Fail> {
-    let lines = printed
-        .strip_suffix("finished\n")
-        .or(printed.strip_suffix("spent parent\n"))
-        .or(printed.strip_suffix("spent child\n"));
-    Ok(lines.ok_or("a row that does not say how it ends")?)
-}
-
-/// What is wrong with a row, whose head names the file of its protocol first.
+/// What is wrong with a row, whose head names the file of its protocol first: its lines, or the run.
 fn fault_of_row(alloc: Global, head: &str, whole: &str) -> Result<&'static str, Fail> {
-    let (file, _) = head.split_once(" ").ok_or("a row without its word")?;
-    let (script, printed) = whole
+    let (file, course) = head.split_once(" ").ok_or("a row without its word")?;
+    let (script, wanted) = whole
         .split_once("----\n")
         .ok_or("a row without what it prints")?;
+    let (lines, _) = lines_and_ending(wanted).ok_or("a row that does not say how it ends")?;
     let schema = schema_of(alloc, file)?;
-    let _ = script_of(alloc, &schema, file, script)?;
-    fault(alloc, &schema, lines_of(printed)?)
+    let found = fault(alloc, &schema, lines)?;
+    if !found.is_empty() {
+        return Ok(found);
+    }
+    let script = script_of(alloc, &schema, file, script)?;
+    let run = printed(alloc, &schema, &script, &course_of(alloc, course)?)?;
+    if run.text.as_str() != wanted {
+        return Ok("another run");
+    }
+    if run.laws != ALL_LAWS {
+        return Ok("a law that does not hold of the run");
+    }
+    Ok("")
 }
 
 /// Notes a row with which something is wrong.
@@ -92,14 +76,14 @@ fn checked(alloc: Global, table: &str) -> Result<String, Fail> {
 }
 
 #[test]
-fn transcripts_of_worked_runs(rt: HostRuntime) -> Result<(), Fail> {
+fn worked_runs(rt: HostRuntime) -> Result<(), Fail> {
     assert_eq!(rt; checked(rt.alloc(), RUNS)?.as_str(), "22");
     assert_eq!(rt; checked(rt.alloc(), DEEP)?.as_str(), "1");
     Ok(())
 }
 
 #[test]
-fn transcripts_of_orders(rt: HostRuntime) -> Result<(), Fail> {
+fn orders_of_own_steps(rt: HostRuntime) -> Result<(), Fail> {
     assert_eq!(rt; checked(rt.alloc(), ORDERS)?.as_str(), "20");
     Ok(())
 }

@@ -12,7 +12,7 @@ use crate::link::Link;
 use crate::side_turns::delivery_turn;
 use handler_script::Script;
 use ipdl_base::Schema;
-use script_steps::Stop;
+use schedules::Stop;
 
 impl<'s> Half<'s> {
     ghost use Rattle.world_core.specs.HalfSteps.{OwnGives, next_of};

@@ -15,4 +15,5 @@ returns c = law.answer_is_determined (record {
   frames = c.one_list_of_frames.ensures;
   waits_alike = c.waits_alike.ensures;
   wait_report = c.one_wait_report.ensures;
+  runs = record { picks = c.picks_alike.ensures; texts = c.texts_alike.ensures; scripts = c.scripts_alike.ensures; one = c.words_have_one_result.ensures };
 })

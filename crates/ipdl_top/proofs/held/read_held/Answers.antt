@@ -7,7 +7,7 @@ use Rattle.ipdl_top.specs.Lists.{IsLargeList}
 use Rattle.ipdl_top.specs.Steps.{IsHeld}
 use Rattle.ipdl_top.proofs.Found.{more_than_read}
 use Rattle.ipdl_top.proofs.Maps.{for_map, for_all}
-use Rattle.ipdl_top.proofs.frames.read_held.Goals as goal
+use Rattle.ipdl_top.proofs.held.read_held.Goals as goal
 
 pub returns-in-Bytes-clause-held : goal.returns-in-Bytes-clause-held
 returns-in-Bytes-clause-held g c =

@@ -1,0 +1,9 @@
+//! How a run is to go: the turns of its sides, and a death that it is given (docs/scripts.md). Types
+//! alone.
+#![tactic(auto)]
+
+mod stop;
+mod turn;
+
+pub use stop::Stop;
+pub use turn::Turn;

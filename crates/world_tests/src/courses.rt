@@ -1,0 +1,124 @@
+ghost use Rattle.ipdl_base.specs.Sound.{IsSound};
+ghost use Rattle.handler_script.specs.Valid.{IsValid};
+
+use super::laws::lawful;
+use handler_script::Script;
+use ipdl_base::{Schema, Side};
+use std::alloc::Global;
+use std::test::Fail;
+use world_core::{RunAnswer, Stop, Turn, World};
+
+/// How a run goes: by this word of turns, with so many events of a side at most, and with the death
+/// of an end.
+#[derive(Drop)]
+pub struct Course {
+    pub word: Vec<Turn>,
+    pub limit: u32,
+    pub stop: Option<Stop>,
+}
+
+/// What a run prints, and how many laws hold of its history.
+#[derive(Drop)]
+pub struct Printed {
+    pub text: String,
+    pub laws: u32,
+}
+
+/// The turn of a letter.
+fn turn_of(letter: char) -> Result<Turn, Fail> {
+    let (side, only_deliver) = match letter {
+        'P' => (Side::Parent, false),
+        'C' => (Side::Child, false),
+        'p' => (Side::Parent, true),
+        'c' => (Side::Child, true),
+        _ => return Err("no letter of a word".into()),
+    };
+    Ok(Turn { side, only_deliver })
+}
+
+/// The turns of a word.
+pub fn word_of(alloc: Global, letters: &str) -> Result<Vec<Turn>, Fail> {
+    let mut word = Vec::new(alloc);
+    for letter in letters.chars() {
+        word.push(turn_of(letter)?)?;
+    }
+    Ok(word)
+}
+
+/// The side of a word.
+fn side_of(word: &str) -> Result<Side, Fail> {
+    match word {
+        "parent" => Ok(Side::Parent),
+        "child" => Ok(Side::Child),
+        _ => Err("no side".into()),
+    }
+}
+
+/// The death of an end, or `-` for none.
+fn stop_of(text: &str) -> Result<Option<Stop>, Fail> {
+    if text == "-" {
+        return Ok(None);
+    }
+    let (side, after) = text.split_once(":").ok_or("a death without its count")?;
+    Ok(Some(Stop {
+        side: side_of(side)?,
+        after: after.parse::<u32>()?,
+    }))
+}
+
+/// How a run goes, by its word, its limit and the death of an end.
+pub fn course_of(alloc: Global, text: &str) -> Result<Course, Fail> {
+    let (letters, rest) = text.split_once(" ").ok_or("a word alone")?;
+    let (limit, stop) = rest.split_once(" ").ok_or("a limit without a death")?;
+    Ok(Course {
+        word: word_of(alloc, letters)?,
+        limit: limit.parse::<u32>()?,
+        stop: stop_of(stop)?,
+    })
+}
+
+/// The last line of what a run prints.
+fn ending_of(answer: RunAnswer) -> Result<&'static str, Fail> {
+    match answer {
+        RunAnswer::Finished => Ok("finished\n"),
+        RunAnswer::Spent(Side::Parent) => Ok("spent parent\n"),
+        RunAnswer::Spent(Side::Child) => Ok("spent child\n"),
+        RunAnswer::NoMemory => Err("no memory for a run".into()),
+    }
+}
+
+/// What a world prints whose run ended so.
+fn printed_of(
+    alloc: Global,
+    schema: &Schema,
+    world: &World<'_>,
+    ending: &str,
+) -> Result<Printed, Fail>
+    requires { IsSound schema.now }
+{
+    let lines = world.transcript(alloc)?;
+    let mut text = String::from_str(alloc, str::from_utf8(lines.as_slice())?)?;
+    text.push_str(ending)?;
+    Ok(Printed {
+        text,
+        laws: lawful(alloc, schema, world.history())?,
+    })
+}
+
+/// What a run of a script prints.
+pub fn printed(
+    alloc: Global,
+    schema: &Schema,
+    script: &Script,
+    course: &Course,
+) -> Result<Printed, Fail>
+    requires sound { IsSound schema.now }
+    requires valid { IsValid schema.now script.now }
+{
+    if course.limit > 20_000 {
+        return Err("a limit that is too large".into());
+    }
+    let mut world = World::open(alloc, schema, script, course.stop, course.limit)?;
+    let ending = ending_of(world.run_schedule(course.word.as_slice()))?;
+    printed_of(alloc, schema, &world, ending)
+}

@@ -1,0 +1,87 @@
+ghost use Rattle.ipdl_base.specs.Sound.{IsSound};
+ghost use Rattle.handler_script.specs.Valid.{IsValid};
+
+use super::courses::{course_of, printed};
+use super::given::script_of;
+use super::laws::ALL_LAWS;
+use super::run_rows::RUNS;
+use super::texts::{events_of, script_named};
+use handler_script::Script;
+use history_of_text::schema_of;
+use ipdl_base::Schema;
+use std::alloc::Global;
+use std::test::Fail;
+
+/// What is wrong with the run in which a side dies once it has so many events: that it does not end,
+/// dies at another event or not at all, or that a law does not hold.
+fn fault(
+    alloc: Global,
+    schema: &Schema,
+    script: &Script,
+    side: &str,
+    count: u32,
+) -> Result<&'static str, Fail>
+    requires sound { IsSound schema.now }
+    requires valid { IsValid schema.now script.now }
+{
+    let course = course_of(
+        alloc,
+        format!(in alloc; "PC 10000 {side}:{count}")?.as_str(),
+    )?;
+    let run = printed(alloc, schema, script, &course)?;
+    let text = run.text.as_str();
+    let death = format!(in alloc; "{side} die\n")?;
+    let Some((before, _)) = text.split_once(death.as_str()) else {
+        return Ok("no death");
+    };
+    if events_of(side, before) != count {
+        return Ok("dead at another event");
+    }
+    if !text.ends_with("\nfinished\n") {
+        return Ok("without an end");
+    }
+    if run.laws != ALL_LAWS {
+        return Ok("a law that does not hold");
+    }
+    Ok("")
+}
+
+/// Notes each death of a side with which something is wrong, and how many there were.
+fn check(
+    alloc: Global,
+    schema: &Schema,
+    script: &Script,
+    side: &str,
+    shown: &mut String,
+) -> Result<(), Fail>
+    requires sound { IsSound schema.now }
+    requires valid { IsValid schema.now script.now }
+{
+    let mut tried = 0u32;
+    for count in 0..16 {
+        let found = fault(alloc, schema, script, side, count)?;
+        if !found.is_empty() {
+            writeln!(shown, "{side} {count}: {found}")?;
+        }
+        tried = tried.wrapping_add(1);
+    }
+    writeln!(shown, "{side} {tried}")?;
+    Ok(())
+}
+
+/// The deaths of each side under four nested calls.
+fn deaths(alloc: Global) -> Result<String, Fail> {
+    let mut shown = String::new(alloc);
+    let schema = schema_of(alloc, "PW.ipdl")?;
+    let text = script_named(RUNS, "four-nested-calls ").ok_or("no such row")?;
+    let script = script_of(alloc, &schema, "PW.ipdl", text)?;
+    check(alloc, &schema, &script, "parent", &mut shown)?;
+    check(alloc, &schema, &script, "child", &mut shown)?;
+    Ok(shown)
+}
+
+#[test]
+fn deaths_under_nested_calls(rt: HostRuntime) -> Result<(), Fail> {
+    assert_eq!(rt; deaths(rt.alloc())?.as_str(), "parent 16\nchild 16\n");
+    Ok(())
+}

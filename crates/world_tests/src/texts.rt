@@ -1,0 +1,32 @@
+/// How many events of a side stand in a text: its lines, but for those of effects.
+pub fn events_of(side: &str, text: &str) -> u32 {
+    let mut count = 0u32;
+    for line in text.lines() {
+        if line.starts_with(side) {
+            count = count.wrapping_add(1);
+        }
+    }
+    count
+}
+
+/// The script of the row of a table with this name.
+pub fn script_named<'a>(table: &'a str, name: &str) -> Option<&'a str> {
+    for row in table.split("====\n") {
+        if row.starts_with(name) {
+            let (_, whole) = row.split_once("\n")?;
+            let (script, _) = whole.split_once("----\n")?;
+            return Some(script);
+        }
+    }
+    None
+}
+
+/// The lines of what a run prints, and the last one, which says how it ended.
+pub fn lines_and_ending(printed: &str) -> Option<(&str, &str)> {
+    let lines = printed
+        .strip_suffix("finished\n")
+        .or(printed.strip_suffix("spent parent\n"))
+        .or(printed.strip_suffix("spent child\n"))?;
+    let ending = printed.strip_prefix(lines)?;
+    Some((lines, ending))
+}
