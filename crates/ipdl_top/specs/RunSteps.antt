@@ -14,7 +14,7 @@ use Rattle.ipdl_top.specs.Run.{Driving, answer_of, run_answer}
 
 -- how the run of a request goes
 abbrev pub course_of : RunRequest → Course
-course_of wanted = record { schedule = option_map (λ turns. turns.now) wanted.schedule; limit = wanted.limit; death = wanted.death }
+course_of wanted = record { schedule = option_map (λ turns. turns.items) wanted.schedule; limit = wanted.limit; death = wanted.death }
 
 -- how a run is made, as far as a driver says so where memory ran out
 abbrev pub IsMadeUnless : Driving → Option (List Turn) → WorldView → WorldView → RunAnswer → Type 0

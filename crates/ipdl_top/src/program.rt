@@ -69,7 +69,7 @@ fn answer_to<F: Files, D: Driver>(
         ) => {
             let wanted = RunRequest {
                 script: script.as_str(),
-                schedule: schedule.as_ref().map(|turns| turns.as_slice()),
+                schedule,
                 limit,
                 death,
             };

@@ -45,7 +45,7 @@ pub struct RunRequest<'w> {
     /// The name of the script.
     pub script: &'w str,
     /// The turns of the sides, where they are given.
-    pub schedule: Option<&'w [Turn]>,
+    pub schedule: Option<Vec<Turn>>,
     /// The most events of a side.
     pub limit: u32,
     /// The death of an end, where one is given.
@@ -55,11 +55,11 @@ pub struct RunRequest<'w> {
 /// Runs a world by a word of turns, where one is given, and else by the driver.
 fn driven<'s, D: Driver>(
     world: World<'s>,
-    schedule: Option<&[Turn]>,
+    schedule: &Option<Vec<Turn>>,
     driver: &mut D,
 ) -> (World<'s>, RunAnswer)
     requires ready { D.ready driver.old }
-    ensures made { IsMadeUnless (D.Gives driver.old) (option_map (λ turns. turns.now) schedule.entry) world.entry result.0 result.1 }
+    ensures made { IsMadeUnless (D.Gives driver.old) (option_map (λ turns. turns.items) schedule.entry.now) world.entry result.0 result.1 }
     ensures same { result.0.setting ≡ world.entry.setting }
     ensures stands { StandsAs result.0 result.1 }
     ensures case { IsCase result.0 }
@@ -69,7 +69,7 @@ fn driven<'s, D: Driver>(
         None => driver.drive(world),
         Some(word) => {
             let mut world = world;
-            let ending = world.run_schedule(word);
+            let ending = world.run_schedule(word.as_slice());
             (world, ending)
         }
     }
@@ -141,7 +141,7 @@ fn history_answer<D: Driver>(
     choices_are_runs();
     histories_are_lawful();
     let world = World::open(alloc, schema, script, wanted.death, wanted.limit)?;
-    let (world, ending) = driven(world, wanted.schedule, driver);
+    let (world, ending) = driven(world, &wanted.schedule, driver);
     world_answer(alloc, world, ending)
 }
 

@@ -19,7 +19,7 @@ pub struct Course {
 
 /// What a run prints, and how many laws hold of its history.
 #[derive(Drop)]
-pub struct Printed {
+pub struct Printout {
     pub text: String,
     pub laws: u32,
 }
@@ -93,13 +93,13 @@ fn printed_of(
     schema: &Schema,
     world: &World<'_>,
     ending: &str,
-) -> Result<Printed, Fail>
+) -> Result<Printout, Fail>
     requires { IsSound schema.now }
 {
     let lines = world.transcript(alloc)?;
     let mut text = String::from_str(alloc, str::from_utf8(lines.as_slice())?)?;
     text.push_str(ending)?;
-    Ok(Printed {
+    Ok(Printout {
         text,
         laws: lawful(alloc, schema, world.history())?,
     })
@@ -111,7 +111,7 @@ pub fn printed(
     schema: &Schema,
     script: &Script,
     course: &Course,
-) -> Result<Printed, Fail>
+) -> Result<Printout, Fail>
     requires sound { IsSound schema.now }
     requires valid { IsValid schema.now script.now }
 {

@@ -59,7 +59,7 @@ fn right_limits(alloc: Global, schema: &Schema, script: &Script, letters: &str) 
     requires sound { IsSound schema.now }
     requires valid { IsValid schema.now script.now }
 {
-    let whole = printed(alloc, schema, script, &course(alloc, letters, 10_000)?)?;
+    let whole = printed(alloc, schema, script, &course(alloc, letters, 100)?)?;
     let (lines, ending) = lines_and_ending(whole.text.as_str()).ok_or("a run without its end")?;
     if ending != "finished\n" || whole.laws != ALL_LAWS {
         return Ok(0);
