@@ -1,5 +1,5 @@
 -- Both sides in turn, as a loop does it.
-use Rattle.std.proofs.Common.{◌≡◌, ℕ, suc, ◌+◌, ◌-◌, ◌*◌, ◌<◌, ◌≤◌, Bool, true, false, not, ◌&&◌, if◌then◌else◌, List, [], ◌∷◌, ◌++◌, Option, Some, None, is_some, refl, sym, ap, subst, ◌∙◌, append_assoc, append-nil, arith}
+use Rattle.std.proofs.Common.{◌≡◌, ℕ, suc, ◌+◌, ◌-◌, ◌*◌, ◌<◌, ◌≤◌, Bool, true, false, not, ◌&&◌, if◌then◌else◌, List, [], ◌++◌, Option, Some, None, is_some, refl, sym, ap, subst, ◌∙◌, append_assoc, append-nil, arith}
 use Rattle.ipdl_base.specs.declared.kinds.Side.{Side}
 use Rattle.ipdl_base.specs.declared.kinds.Side.TheVariants as sides
 use Rattle.ipdl_base.specs.declared.line.Line.{Line}
@@ -7,7 +7,7 @@ use Rattle.channel_model.specs.Numbers.{other}
 use Rattle.channel_model.specs.Runs.{RunState}
 use Rattle.script_steps.specs.declared.turn.Turn.{Turn}
 use Rattle.script_steps.specs.Choices.{Choice, Setting, is_within, may_deliver, own_event}
-use Rattle.script_steps.specs.Turns.{Picks, RunEnding, Rests, TurnOutcome, at_limit, at_rest, delivery_choice, exceeds, goes_on, idles, is_quiet_at, leads, led_to, outcome, outcome_by, passes, rests, stops, turn_choice, whole_turn, word_ends}
+use Rattle.script_steps.specs.Turns.{Picks, RunEnding, Rests, at_limit, at_rest, exceeds, goes_on, idles, is_quiet_at, leads, led_to, outcome, outcome_by, passes, rests, stops, turn_choice, whole_turn, word_ends}
 use Rattle.world_core.proofs.Chosen.{chosen-grows, chosen-less, left_of, run-sides}
 use Rattle.world_core.specs.Turns.{GrowsTo, IsChosen, IsSpent, RestsInPart}
 use Rattle.world_core.specs.Turns as part

@@ -1,5 +1,5 @@
 -- A world behind a turn of one of its halves.
-use Rattle.std.proofs.Common.{◌≡◌, List, ◌∷◌, Option, Some, refl, sym, ap, subst, ◌∙◌, unwrap_or}
+use Rattle.std.proofs.Common.{◌≡◌, List, Option, Some, refl, sym, ap, subst, ◌∙◌, unwrap_or}
 use Rattle.ipdl_base.specs.declared.kinds.Side.{Side}
 use Rattle.ipdl_base.specs.declared.kinds.Side.TheVariants as sides
 use Rattle.ipdl_base.specs.declared.line.Line.{Line}
@@ -8,9 +8,9 @@ use Rattle.channel_model.specs.Numbers.{other}
 use Rattle.channel_model.specs.Runs.{RunState}
 use Rattle.script_steps.proofs.Choosing.{choices_are_read}
 use Rattle.script_steps.specs.declared.turn.Turn.{Turn}
-use Rattle.script_steps.specs.Choices.{Choice, Setting, beginning_of, choices_of, chosen, played}
+use Rattle.script_steps.specs.Choices.{Choice, Setting, beginning_of, choices_of, played}
 use Rattle.script_steps.specs.Progress.{Progress, progress_of}
-use Rattle.script_steps.specs.Turns.{leads, outcome}
+use Rattle.script_steps.specs.Turns.{leads}
 use Rattle.world_core.specs.declared.answers.StepAnswer.{StepAnswer}
 use Rattle.world_core.specs.declared.answers.StepAnswer.TheVariants as answer
 use Rattle.world_core.specs.HalfView.{HalfView, IsCountedBy, setting_of}

@@ -1,4 +1,3 @@
-use Rattle.std.proofs.Common.{◌≡◌, subst, sym, ◌∙◌}
 use Rattle.world_core.proofs.Turning.{may-go-on, own-else, own-plays, own-room}
 use Rattle.world_core.proofs.side_turns.own_turn.Goals as goal
 

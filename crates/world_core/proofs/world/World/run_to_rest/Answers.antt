@@ -1,7 +1,7 @@
-use Rattle.std.proofs.Common.{◌≡◌, ◌≤◌, ◌-◌, [], arith, refl, subst, sym}
+use Rattle.std.proofs.Common.{◌-◌, [], subst, sym}
 use Rattle.ipdl_base.specs.declared.kinds.Side.{Side}
 use Rattle.script_steps.specs.Turns.{Picks, at_limit, whole_turn}
-use Rattle.world_core.proofs.RestLoop.{RestsSo, exceeds-spent, less-did, less-idle, rests-did, rests-end, rests-idle, rests-spent}
+use Rattle.world_core.proofs.RestLoop.{RestsSo, exceeds-spent, less-did, rests-did, rests-end, rests-idle, rests-spent}
 use Rattle.world_core.proofs.world.World.run_to_rest.Goals as goal
 use Rattle.world_core.specs.Turns.{IsSpent, PicksInPart, RestsInPart}
 use Rattle.world_core.specs.Turns as part
