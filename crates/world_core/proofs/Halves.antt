@@ -1,7 +1,7 @@
 -- The laws of halves apart from the link.
-use Rattle.std.proofs.Common.{◌≡◌, ℕ, ◌+◌, Bool, true, false, not, List, [], ◌∷◌, ◌++◌, map, Option, Some, None, is_some, refl, sym, ap, subst, ◌∙◌, append_assoc}
+use Rattle.std.proofs.Common.{◌≡◌, ◌+◌, Bool, true, false, not, List, [], ◌∷◌, ◌++◌, map, Option, Some, None, is_some, refl, sym, ap, subst, ◌∙◌, append_assoc}
 use Rattle.std.specs.List.{AllByRecursion}
-use Rattle.std.proofs.lemmas.List.{append-nil, append_cancel_left, map-append, replicate_more}
+use Rattle.std.proofs.lemmas.List.{append_cancel_left, map-append, replicate_more}
 use Rattle.std.proofs.lemmas.List.Elements.{filter_map-append}
 use Rattle.ipdl_base.specs.declared.kinds.Side.{Side}
 use Rattle.ipdl_base.specs.declared.kinds.Side.TheVariants as sides
@@ -15,7 +15,7 @@ use Rattle.channel_model.specs.Outputs.{Output, line_at}
 use Rattle.channel_model.specs.Runs.{RunState}
 use Rattle.channel_core.specs.EndView.{EndView, IsFramed, packet_of, packets_of}
 use Rattle.end_parts.specs.declared.packet.Packet.{Packet}
-use Rattle.script_steps.proofs.Choosing.{case_worlds_are_one, choices_are_read, side-of}
+use Rattle.script_steps.proofs.Choosing.{choices_are_read, side-of}
 use Rattle.script_steps.proofs.Counting.{progress-append}
 use Rattle.script_steps.proofs.Playing.{choices_grow}
 use Rattle.script_steps.proofs.StepLines.{Prints, step-prints}

@@ -1,31 +1,16 @@
 -- A turn of a side, from the steps of its half.
-use Rattle.std.proofs.Common.{◌≡◌, ℕ, ◌<◌, nat_lt, Bool, true, false, not, ◌&&◌, if◌then◌else◌, List, [], length, Some, None, is_some, ◌⊎◌, inl, inr, refl, sym, ap, subst, ◌∙◌, arith}
-use Rattle.std.specs.List.{AllZip}
-use Rattle.handler_script.specs.Valid.{IsValid}
+use Rattle.std.proofs.Common.{◌≡◌, nat_lt, Bool, true, false, not, ◌&&◌, if◌then◌else◌, List, [], length, Some, None, is_some, ◌⊎◌, inl, inr, refl, sym, ap, subst, ◌∙◌}
 use Rattle.ipdl_base.specs.declared.kinds.Side.{Side}
 use Rattle.ipdl_base.specs.declared.kinds.Side.TheVariants as sides
-use Rattle.ipdl_base.specs.declared.schema.Schema.{Schema}
-use Rattle.channel_model.specs.Ends.{End, Packet, end_of, link_to}
-use Rattle.channel_model.specs.Events.{Event}
-use Rattle.channel_model.specs.Events as e
-use Rattle.channel_model.specs.Fitting.{IsFitting}
+use Rattle.channel_model.specs.Ends.{End, end_of, link_to}
 use Rattle.channel_model.specs.Numbers.{other}
 use Rattle.channel_model.specs.Runs.{RunState, after_event, is_delivery}
 use Rattle.channel_model.specs.Steps.{step}
 use Rattle.channel_core.specs.EndView.{packets_of}
-use Rattle.script_runs.proofs.Changes.{resolvers_are_apart}
-use Rattle.script_runs.proofs.KeptRuns.{handlers_stand}
-use Rattle.script_runs.proofs.CaseRuns.{case_worlds_fit}
-use Rattle.script_runs.proofs.Possible.{script_events_are_possible}
-use Rattle.script_runs.proofs.Room.{cases_have_room}
-use Rattle.script_runs.specs.Allowed.{IsAllowed}
-use Rattle.script_runs.specs.Dispatches.{dispatches}
-use Rattle.script_runs.specs.Handlers.{IsHandlerOf}
-use Rattle.script_steps.proofs.Choosing.{event-delivers, side-of}
+use Rattle.script_steps.proofs.Choosing.{side-of}
 use Rattle.schedules.specs.declared.turn.Turn.{Turn}
 use Rattle.script_steps.specs.Choices.{Choice, Setting, is_within, own_event}
 use Rattle.script_steps.specs.Turns.{delivery_choice, exceeds, leads, led_to, outcome, outcome_by, turn_choice}
-use Rattle.script_steps.specs.NextEvent.{next_event}
 use Rattle.script_steps.specs.Progress.{Progress, progress_of}
 use Rattle.world_core.proofs.Chosen.{run-sides}
 use Rattle.world_core.proofs.Played.{after-side, has-played, has-room, link-of}
