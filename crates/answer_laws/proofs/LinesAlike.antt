@@ -34,6 +34,11 @@ use Rattle.answer_laws.proofs.Rows.{option_alike, listed_alike, message_alike, f
 bits_alike : (shape : Shape) (bits : ℕ) → bits_text (plain_shape shape) bits ≡ bits_text shape bits
 bits_alike shape bits = λ i. codes "h\"" ++ hex_digits (digit_count_of (builtin_of-plain shape i)) bits ++ codes "\""
 
+-- what a message gives back, and none where it gives nothing
+pub returned : (returns : Option (List ParamRow)) → option_map_or (λ rows. rows) (option_map (map plain_param_row) returns) [] ≡ map plain_param_row (option_map_or (λ rows. rows) returns [])
+returned None = refl
+returned (Some rows) = refl
+
 module _ (s : Schema) where
   mutual
     value_alike : (shape : Shape) (v : Value) → value_text (plain_schema s) (plain_shape shape) v ≡ value_text s shape v
@@ -93,10 +98,6 @@ module _ (s : Schema) where
 
   pub params_alike : (n : ℕ) → params_of (plain_schema s) n ≡ map plain_param_row (params_of s n)
   params_alike n = (λ i. option_map_or (λ message. message.params) (message_alike s n i) []) ∙ rows_alike (λ message. message.params) (λ message. message.params) (λ row. refl) (message_of s n)
-
-  pub returned : (returns : Option (List ParamRow)) → option_map_or (λ rows. rows) (option_map (map plain_param_row) returns) [] ≡ map plain_param_row (option_map_or (λ rows. rows) returns [])
-  returned None = refl
-  returned (Some rows) = refl
 
   pub returns_alike : (n : ℕ) → option_map_or returns_of_row (message_of (plain_schema s) n) [] ≡ map plain_param_row (option_map_or returns_of_row (message_of s n) [])
   returns_alike n = (λ i. option_map_or returns_of_row (message_alike s n i) []) ∙ rows_alike returns_of_row returns_of_row (λ row. returned row.returns) (message_of s n)
