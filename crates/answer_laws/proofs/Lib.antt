@@ -10,13 +10,13 @@ pub mod Defined
 pub mod Types
 pub mod Shapes
 pub mod Schemas
-mod Rows
-mod Spelled
-mod Typed
+pub mod Rows
+pub mod Spelled
+pub mod Typed
 mod ReadAlike
 mod Begun
 mod HeldAlike
-mod LinesAlike
+pub mod LinesAlike
 pub mod Alike
 pub mod OneList
 pub mod OneText

@@ -34,6 +34,11 @@ use Rattle.answer_laws.proofs.Rows.{option_alike, listed_alike, message_alike, f
 bits_alike : (shape : Shape) (bits : ℕ) → bits_text (plain_shape shape) bits ≡ bits_text shape bits
 bits_alike shape bits = λ i. codes "h\"" ++ hex_digits (digit_count_of (builtin_of-plain shape i)) bits ++ codes "\""
 
+-- what a message gives back, and none where it gives nothing
+pub returned : (returns : Option (List ParamRow)) → option_map_or (λ rows. rows) (option_map (map plain_param_row) returns) [] ≡ map plain_param_row (option_map_or (λ rows. rows) returns [])
+returned None = refl
+returned (Some rows) = refl
+
 module _ (s : Schema) where
   mutual
     value_alike : (shape : Shape) (v : Value) → value_text (plain_schema s) (plain_shape shape) v ≡ value_text s shape v
@@ -70,7 +75,7 @@ module _ (s : Schema) where
 
   -- messages
 
-  protocol_alike : (n : ℕ) → protocol_text (plain_schema s) n ≡ protocol_text s n
+  pub protocol_alike : (n : ℕ) → protocol_text (plain_schema s) n ≡ protocol_text s n
   protocol_alike n =
       (λ i. option_map_or (λ protocol. short_name protocol.name) (slice_get-map plain_protocol_row s.protocols n i) [])
       ∙ option_alike plain_protocol_row (λ protocol. short_name protocol.name) (λ protocol. short_name protocol.name) (λ protocol. refl) [] (slice_get s.protocols n)
@@ -91,17 +96,13 @@ module _ (s : Schema) where
   rows_alike f g same None = refl
   rows_alike f g same (Some row) = same row
 
-  params_alike : (n : ℕ) → params_of (plain_schema s) n ≡ map plain_param_row (params_of s n)
+  pub params_alike : (n : ℕ) → params_of (plain_schema s) n ≡ map plain_param_row (params_of s n)
   params_alike n = (λ i. option_map_or (λ message. message.params) (message_alike s n i) []) ∙ rows_alike (λ message. message.params) (λ message. message.params) (λ row. refl) (message_of s n)
 
-  returned : (returns : Option (List ParamRow)) → option_map_or (λ rows. rows) (option_map (map plain_param_row) returns) [] ≡ map plain_param_row (option_map_or (λ rows. rows) returns [])
-  returned None = refl
-  returned (Some rows) = refl
-
-  returns_alike : (n : ℕ) → option_map_or returns_of_row (message_of (plain_schema s) n) [] ≡ map plain_param_row (option_map_or returns_of_row (message_of s n) [])
+  pub returns_alike : (n : ℕ) → option_map_or returns_of_row (message_of (plain_schema s) n) [] ≡ map plain_param_row (option_map_or returns_of_row (message_of s n) [])
   returns_alike n = (λ i. option_map_or returns_of_row (message_alike s n i) []) ∙ rows_alike returns_of_row returns_of_row (λ row. returned row.returns) (message_of s n)
 
-  listed : (others rows : List ParamRow) (vs : Values) → others ≡ map plain_param_row rows → listed_values (plain_schema s) others vs ≡ listed_values s rows vs
+  pub listed : (others rows : List ParamRow) (vs : Values) → others ≡ map plain_param_row rows → listed_values (plain_schema s) others vs ≡ listed_values s rows vs
   listed others rows vs same = (λ i. codes "(" ++ parts_text [] (plain_schema s) (same i) vs ++ codes ")") ∙ (λ i. codes "(" ++ parts_alike [] rows vs i ++ codes ")")
 
   said_alike : (m : Message) (b : Body) → said_text (plain_schema s) m b ≡ said_text s m b

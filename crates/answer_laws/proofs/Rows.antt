@@ -28,7 +28,7 @@ pub option_alike : {X Y : Type 0} (look : X → X) (f g : X → Y) → ((x : X) 
 option_alike look f g same d None = refl
 option_alike look f g same d (Some x) = same x
 
-then_alike : {X Y : Type 0} (look : X → X) (after : Y → Y) (f : X → Option Y) → ((x : X) → f (look x) ≡ option_map after (f x)) → (o : Option X) → option_and_then f (option_map look o) ≡ option_map after (option_and_then f o)
+pub then_alike : {X Y : Type 0} (look : X → X) (after : Y → Y) (f : X → Option Y) → ((x : X) → f (look x) ≡ option_map after (f x)) → (o : Option X) → option_and_then f (option_map look o) ≡ option_map after (option_and_then f o)
 then_alike look after f same None = refl
 then_alike look after f same (Some x) = same x
 
@@ -39,7 +39,7 @@ listed_alike look (Some xs) = refl
 
 -- Messages
 
-still_there : {X Y : Type 0} (f : X → Y) (o : Option X) → is_some (option_map f o) ≡ is_some o
+pub still_there : {X Y : Type 0} (f : X → Y) (o : Option X) → is_some (option_map f o) ≡ is_some o
 still_there f None = refl
 still_there f (Some x) = refl
 
@@ -53,7 +53,7 @@ pub either : {X Y : Type 0} (f : X → Y) (x y : X) (b : Bool) → cond b (f x) 
 either f x y true = refl
 either f x y false = refl
 
-found : {X : Type 0} (look : X → X) (test : X → Bool) → ((x : X) → test (look x) ≡ test x) → (xs : List X) → find test (map look xs) ≡ option_map look (find test xs)
+pub found : {X : Type 0} (look : X → X) (test : X → Bool) → ((x : X) → test (look x) ≡ test x) → (xs : List X) → find test (map look xs) ≡ option_map look (find test xs)
 found look test same [] = refl
 found look test same (x ∷ xs) =
     ap (λ b. cond b (Some (look x)) (find test (map look xs))) (same x)

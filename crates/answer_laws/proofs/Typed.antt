@@ -24,7 +24,7 @@ use Rattle.program_schema.specs.Laws.{plain_param_row, plain_message_row, plain_
 use Rattle.value_types.proofs.PlainTypes.{builtin_of-plain, is_bytes-plain, element_of-plain, held_by-plain, actor_of-plain}
 use Rattle.answer_laws.proofs.Rows.{under, message_alike, fields_alike, component_alike, listed_alike, same_reply}
 
-some_alike : {X : Type 0} (look : X → X) (P Q : X → Type 0) → ((x : X) → P (look x) ≡ Q x) → (o : Option X) → IsSomeAnd (option_map look o) P ≡ IsSomeAnd o Q
+pub some_alike : {X : Type 0} (look : X → X) (P Q : X → Type 0) → ((x : X) → P (look x) ≡ Q x) → (o : Option X) → IsSomeAnd (option_map look o) P ≡ IsSomeAnd o Q
 some_alike look P Q same None = refl
 some_alike look P Q same (Some x) = same x
 
