@@ -16,8 +16,8 @@ use Rattle.include_graph.proofs.OneReach.{one_reach}
 use Rattle.include_graph.proofs.OneUnit.{AtMostOne}
 use Rattle.answer_laws.specs.Programs.{BreakAlike, AreListedAlike, HaveSchemasAlike, AreProgramsAlike}
 use Rattle.program_schema.specs.Laws.{OneSchema, plain_protocol_row, plain_schema}
-use Rattle.answer_laws.specs.Frames.{FramesAlike, OneListOfFrames}
-use Rattle.answer_laws.specs.Waits.{OneWaitReport, WaitsAlike}
+use Rattle.schema_laws.specs.Frames.{FramesAlike, OneListOfFrames}
+use Rattle.schema_laws.specs.Waits.{OneWaitReport, WaitsAlike}
 use Rattle.frame_list.specs.declared.list.PlacedMessage.{PlacedMessage}
 use Rattle.frame_list.specs.Converted.{new_frames}
 use Rattle.frame_list.specs.Frames.{Holds, all_plain}

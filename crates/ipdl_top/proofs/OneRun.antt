@@ -3,12 +3,12 @@ use Rattle.std.proofs.Common.{◌≡◌, ◌≢◌, ◌∙◌, ◌<◌, ◌≤�
 use Rattle.std.specs.Prelude.{Option, None, Some}
 use Rattle.ipdl_base.specs.declared.finding.Finding.{Finding}
 use Rattle.ipdl_base.specs.declared.schema.Schema.{Schema}
-use Rattle.answer_laws.specs.Frames.{AreSchemasAlike}
+use Rattle.schema_laws.specs.Frames.{AreSchemasAlike}
 use Rattle.channel_model.specs.Runs.{RunState}
 use Rattle.command_words.specs.Run.{Course}
 use Rattle.handler_script.specs.declared.script.Script.{Script}
 use Rattle.handler_script.specs.Plain.{plain_script}
-use Rattle.runs_alike.specs.Runs.{AreSettingsAlike, PicksAlike, ScriptsAlike, TextsAlike}
+use Rattle.schema_laws.specs.Runs.{AreSettingsAlike, PicksAlike, ScriptsAlike, TextsAlike}
 use Rattle.schedules.specs.declared.turn.Turn.{Turn}
 use Rattle.script_steps.specs.Choices.{Setting, beginning_of}
 use Rattle.script_steps.specs.Laws.{WordsHaveOneResult}

@@ -1,14 +1,14 @@
 ghost use Rattle.ipdl_top.specs.Laws.{OneAnswer};
 
-use answer_laws::{
-    break_alike, frames_alike, listed_alike, one_list_of_frames, one_wait_report, schemas_alike,
-    waits_alike,
-};
+use answer_laws::{break_alike, listed_alike, schemas_alike};
 use command_words::one_command;
 use grammar_laws::one_tree;
 use ipdl_lex::one_answer;
 use program_schema::one_schema;
-use runs_alike::{picks_alike, scripts_alike, texts_alike};
+use schema_laws::{
+    frames_alike, one_list_of_frames, one_wait_report, picks_alike, scripts_alike, texts_alike,
+    waits_alike,
+};
 use script_steps::words_have_one_result;
 use sync_list::one_list;
 use value_types::boxes_say_nothing;
