@@ -48,6 +48,9 @@ TextsAlike = (a b : Schema) → AreSchemasAlike a b → (lines : List Line) → 
 -- Under such schemas a text has the same script, up to where the boxes of its terms lie, or the same report, and never a
 -- script of the one and broken rules of the other.
 pub record ScriptsAlike : Type 0 where
-  pub script : (a b : Schema) → AreSchemasAlike a b → (text : List ℕ) (top : ℕ) (script other : Script) → IsScriptOf text a top script → IsScriptOf text b top other → plain_script script ≡ plain_script other
-  pub report : (a b : Schema) → AreSchemasAlike a b → (text : List ℕ) (top : ℕ) (findings others : List Finding) → IsReport text a top findings → IsReport text b top others → findings ≡ others
-  pub either : (a b : Schema) → AreSchemasAlike a b → (text : List ℕ) (top : ℕ) (script : Script) (findings : List Finding) → IsScriptOf text a top script → ¬ IsFault text b top (Broken findings)
+  pub script : (a b : Schema) → AreSchemasAlike a b → (text : List ℕ) (top : ℕ) (script other : Script)
+      → IsScriptOf text a top script → IsScriptOf text b top other → plain_script script ≡ plain_script other
+  pub report : (a b : Schema) → AreSchemasAlike a b → (text : List ℕ) (top : ℕ) (findings others : List Finding)
+      → IsReport text a top findings → IsReport text b top others → findings ≡ others
+  pub either : (a b : Schema) → AreSchemasAlike a b → (text : List ℕ) (top : ℕ) (script : Script) (findings : List Finding)
+      → IsScriptOf text a top script → ¬ IsFault text b top (Broken findings)
