@@ -258,9 +258,6 @@ pub record DeliversSo (setting : Setting) (side : Side) (begun now : LinkView) (
   pub stands : StandsIn (seen_by setting now) side half now
   pub delivers : Delivers setting side (state_of setting begun.lines) (state_of setting now.lines)
 
-pub deliveries-begin : (setting : Setting) (side : Side) (link : LinkView) (half : HalfView) → StandsIn (seen_by setting link) side half link → DeliversSo setting side link link half
-deliveries-begin setting side link half stands = record { stands = stands; delivers = record { count = 0; plays = refl; lines = []; behind = sym (append-nil (state_of setting link.lines).lines); own = refl } }
-
 module _ (setting : Setting) (side : Side) (begun now after : LinkView) (half last : HalfView) (so : DeliversSo setting side begun now half) where
   pub deliveries-go_on : DeliveryPlays (seen_by setting now) side half now answer.Did last after → DeliversSo setting side begun after last
   deliveries-go_on h =

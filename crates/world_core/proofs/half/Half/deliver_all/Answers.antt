@@ -1,5 +1,5 @@
 use Rattle.std.proofs.Common.{◌∙◌, ap}
-use Rattle.world_core.proofs.Meetings.{deliveries-go_on, deliveries-less}
+use Rattle.world_core.proofs.Meetings.{deliveries-end, deliveries-go_on, deliveries-less}
 use Rattle.world_core.proofs.Standing.{side-at}
 use Rattle.world_core.proofs.Turning.{stands-come}
 use Rattle.world_core.proofs.half.Half.deliver_all.Goals as goal
@@ -18,3 +18,12 @@ loop-answer-smaller g c = deliveries-less g.at.0 g.at.1 c.args.link.now c.loop-a
 
 pub loop-answer-preserved : goal.loop-answer-preserved
 loop-answer-preserved g c = deliveries-go_on g.at.0 g.at.1 c.args.link.now c.loop-answer.link c.delivery_turn.new.link c.loop-answer.self c.delivery_turn.new.half c.loop-answer.invariant c.in-Did.ensures
+
+pub returns-in_default-clause-stands : goal.returns-in_default-clause-stands
+returns-in_default-clause-stands g c = (deliveries-end g.at.0 g.at.1 c.args.link.now c.loop-answer.link c.delivery_turn.new.link c.loop-answer.self c.delivery_turn.new.half c.loop-answer.invariant c.delivery_turn.result c.in_default.not-Did c.delivery_turn.ensures).0.stands
+
+pub returns-in_default-clause-delivers : goal.returns-in_default-clause-delivers
+returns-in_default-clause-delivers g c = (deliveries-end g.at.0 g.at.1 c.args.link.now c.loop-answer.link c.delivery_turn.new.link c.loop-answer.self c.delivery_turn.new.half c.loop-answer.invariant c.delivery_turn.result c.in_default.not-Did c.delivery_turn.ensures).0.delivers
+
+pub returns-in_default-clause-ends : goal.returns-in_default-clause-ends
+returns-in_default-clause-ends g c = (deliveries-end g.at.0 g.at.1 c.args.link.now c.loop-answer.link c.delivery_turn.new.link c.loop-answer.self c.delivery_turn.new.half c.loop-answer.invariant c.delivery_turn.result c.in_default.not-Did c.delivery_turn.ensures).1
