@@ -79,7 +79,7 @@ stands-fits setting side half link stands =
 -- Handing in
 
 counted-appended : (half : HalfView) (p : Progress) → IsCountedBy half p → IsCountedBy (appended half) p
-counted-appended half p h = h
+counted-appended half p h = record { counts = h.counts; held = h.held }
 
 -- What a link is behind lines and packets that a side has appended.
 record Holds (link : LinkView) (side : Side) (lines : List Line) (packets : List Packet) (last : LinkView) : Type 0 where
