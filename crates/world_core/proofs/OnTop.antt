@@ -7,15 +7,13 @@ use Rattle.handler_script.specs.declared.action.Action.TheVariants as action
 use Rattle.handler_script.specs.ScriptOf.{first_of}
 use Rattle.handler_script.specs.Valid.{answers_handled}
 use Rattle.handler_script.specs.ValueOf.{TermContext}
-use Rattle.ipdl_base.specs.declared.schema.MessageRow.{MessageRow}
 use Rattle.ipdl_base.specs.declared.schema.Schema.{Schema}
 use Rattle.nesting_core.specs.declared.frame.Head.{Head}
 use Rattle.nesting_core.specs.declared.frame.StackFrame.{StackFrame}
 use Rattle.nesting_core.specs.declared.frame.StackTop.TheVariants as top
 use Rattle.nesting_core.specs.Top.{top_of}
-use Rattle.channel_model.specs.Answers.{answered_row, handled_resolver, has_resolver, may_keep, resolver_in}
+use Rattle.channel_model.specs.Answers.{handled_resolver, has_resolver, resolver_in}
 use Rattle.channel_model.specs.Ends.{End, Resolver, StackEntry}
-use Rattle.channel_model.specs.Events.{Event, handled}
 use Rattle.channel_model.specs.Numbers.{makes_promise, request_row}
 use Rattle.channel_model.specs.Returns.{dispatch_on_top}
 use Rattle.channel_model.specs.Sends.{frames_of, may_act}
@@ -25,7 +23,7 @@ use Rattle.script_runs.proofs.ValidBlocks.{IsHandlerAction, answering-row, handl
 use Rattle.script_runs.specs.Allowed.{IsAllowed}
 use Rattle.script_runs.specs.Dispatches.{dispatches}
 use Rattle.script_runs.specs.Handlers.{IsHandlerOf}
-use Rattle.script_steps.specs.NextEvent.{event_of, handler_action}
+use Rattle.script_steps.specs.NextEvent.{event_of}
 use Rattle.script_steps.specs.Progress.{HandledRequest, Progress}
 use Rattle.world_core.specs.CountsView.{RunningView}
 use Rattle.world_core.specs.HalfSteps.{MayGoOn}
