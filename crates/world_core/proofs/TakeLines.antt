@@ -1,5 +1,5 @@
 -- What the lines of a take make of a progress.
-use Rattle.std.proofs.Common.{◌≡◌, ℕ, ◌+◌, ℤ, pos, Bool, true, false, if◌then◌else◌, List, [], ◌∷◌, refl, sym, ap, ◌∙◌, arith}
+use Rattle.std.proofs.Common.{◌≡◌, ℕ, ◌+◌, ℤ, pos, true, List, ◌∷◌, refl, sym, ap, ◌∙◌}
 use Rattle.ipdl_base.specs.declared.line.Line.{Line}
 use Rattle.ipdl_base.specs.declared.line.What.{What}
 use Rattle.ipdl_base.specs.declared.line.What.TheVariants as what
@@ -8,21 +8,15 @@ use Rattle.ipdl_base.specs.declared.schema.Kind.{Kind}
 use Rattle.ipdl_base.specs.declared.schema.Kind.TheVariants.{Normal, Constructor, Delete}
 use Rattle.ipdl_base.specs.declared.schema.Schema.{Schema}
 use Rattle.ipdl_base.specs.declared.value.Values.{Values}
-use Rattle.ipdl_base.specs.declared.value.Values.TheVariants as values
-use Rattle.ipdl_base.specs.Lines.{is_effect}
 use Rattle.value_types.specs.Fits.{IsMadeBy}
 use Rattle.script_parts.specs.Tables.{count_of}
 use Rattle.channel_model.specs.Ends.{End}
-use Rattle.channel_model.specs.Events.{Event}
 use Rattle.channel_model.specs.Outputs.{Output}
 use Rattle.channel_model.specs.ValueActors.{nulled}
-use Rattle.script_runs.specs.Dispatches.{dispatches}
-use Rattle.script_runs.proofs.Progressing.{acted, act-handled, first-is}
-use Rattle.script_runs.proofs.Shows.{Passes, ShowsHandling, ShowsPassing, built_lines}
-use Rattle.script_steps.proofs.StepLines.{Prints}
-use Rattle.script_steps.specs.Progress.{HandledRequest, Progress, after_lines, is_act, no_progress, one_act, one_event}
+use Rattle.script_runs.proofs.Shows.{ShowsHandling, built_lines}
+use Rattle.script_steps.specs.Progress.{HandledRequest, Progress, after_lines}
 use Rattle.world_core.specs.HalfView.{whats_of}
-use Rattle.world_core.proofs.StepProgress.{Makes, whats-at}
+use Rattle.world_core.proofs.StepProgress.{whats-at}
 
 -- a request as it is taken, behind those that were taken
 abbrev pub taken_request : Message → Values → List ℕ → HandledRequest
