@@ -55,7 +55,10 @@ dead-before-its-first-event
 run --schedule P --die parent:0 race.ids PW.ipdl
 0
 @ parent die
+child call -1/-1 to 2147483647 PW.CallP()
 child deliver broken
+  fails -1
+child resume -1 fault ChannelClosed
 child shut AbnormalShutdown
   fall 2147483647 AbnormalShutdown
 finished
