@@ -33,11 +33,7 @@ fn held_of_bytes(bytes: Vec<u8>) -> HeldFile
 }
 
 /// Reads the file of this name.
-pub fn read_held<F: Files>(
-    alloc: Global,
-    files: &mut F,
-    name: &str,
-) -> Result<HeldFile, Failure>
+pub fn read_held<F: Files>(alloc: Global, files: &mut F, name: &str) -> Result<HeldFile, Failure>
     ensures held { load.ForMap (F.told files.old) (λ map'. IfOk result (IsHeld (map' name.now))) }
     ensures read_fault { result ≡ Err Failure.ReadFault → Rose (F.faults files.old) (F.faults files.new) }
 {
