@@ -117,7 +117,7 @@ fn world_answer(
     world: World<'_>,
     ending: RunAnswer,
 ) -> Result<CommandAnswer, AllocError>
-    ensures { IfOk result (IsPrinted world.setting.schema world.state.lines ending) }
+    ensures { IfOk result (IsPrinted world.entry.setting.schema world.entry.state.lines ending) }
 {
     let text = world.transcript(alloc);
     leave(world);
