@@ -227,7 +227,7 @@ commands laws Gives seen (run list path course script file) leaves one other x y
     compilations laws (SaysRun Gives course script (seen.last script) file) (run_one laws.runs Gives course leaves script (seen.last script) file) (given_by seen.files path (file ∷ [])) seen.list list one other x y
 
 -- words are one command or none
-pub answer_is_determined : TheLaws → OneAnswer
+pub answer_is_determined : TheLaws → (Gives : Driving) → OneAnswer Gives
 answer_is_determined laws Gives seen words one other leaves (inl x) (inl y) =
     let same : y.command ≡ x.command = laws.command words y.command x.command y.said x.said in
     commands laws Gives seen x.command (leaves_none words x.command x.said leaves) one other x.answers (subst (λ (command : CommandView). AnswersTo Gives seen command other) same y.answers)

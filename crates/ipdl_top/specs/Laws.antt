@@ -11,6 +11,6 @@ abbrev pub LeavesNothing : List (List ℕ) → Type 0
 LeavesNothing words = (list : Option (List ℕ)) (path : List (List ℕ)) (course : Course) (script file : List ℕ) → IsRun words list path course script file → course.schedule ≢ None
 
 -- Such words have at most one answer with some files: one status, one text for `out` and one for `err`.
-abbrev pub OneAnswer : Type 1
-OneAnswer =
-    (Gives : Driving) (seen : FileViews) (words : List (List ℕ)) (one other : CommandAnswer) → LeavesNothing words → IsAnswer Gives seen words one → IsAnswer Gives seen words other → one ≡ other
+abbrev pub OneAnswer : Driving → Type 0
+OneAnswer Gives =
+    (seen : FileViews) (words : List (List ℕ)) (one other : CommandAnswer) → LeavesNothing words → IsAnswer Gives seen words one → IsAnswer Gives seen words other → one ≡ other
