@@ -1,72 +1,31 @@
 -- With what the lines of each event begin.
-use Rattle.std.proofs.Common.{◌≡◌, ℕ, ◌+◌, ℤ, pos, Bool, true, false, if◌then◌else◌, List, [], drop, Option, Some, None, option_and_then, refl}
-use Rattle.ipdl_base.specs.declared.kinds.Destroy.TheVariants.{NormalShutdown}
-use Rattle.ipdl_base.specs.declared.kinds.EndState.TheVariants.{Dead}
-use Rattle.ipdl_base.specs.declared.kinds.SendRefusal.{SendRefusal}
-use Rattle.ipdl_base.specs.declared.kinds.SendRefusal.TheVariants as refusal
+use Rattle.std.proofs.Common.{◌≡◌, inl, inr, ℕ, ◌+◌, pos, Bool, true, false, if◌then◌else◌, List, [], ◌∷◌, drop, Option, Some, refl, sym, ap, ◌∙◌, arith}
 use Rattle.ipdl_base.specs.declared.line.What.{What}
 use Rattle.ipdl_base.specs.declared.line.What.TheVariants as what
-use Rattle.ipdl_base.specs.declared.message.Message.{Message}
-use Rattle.ipdl_base.specs.declared.schema.MessageRow.{MessageRow}
 use Rattle.ipdl_base.specs.declared.schema.Schema.{Schema}
 use Rattle.ipdl_base.specs.declared.value.Values.{Values}
-use Rattle.nesting_core.specs.declared.frame.Answer.{Answer}
-use Rattle.nesting_core.specs.declared.frame.Answer.TheVariants as answers
-use Rattle.nesting_core.specs.Frames.{head_of}
-use Rattle.channel_model.specs.Acts as act
-use Rattle.channel_model.specs.Answers as answering
-use Rattle.channel_model.specs.Ends.{End, Packet, Resolver, actor, mark, message}
-use Rattle.channel_model.specs.Events.{Answering, Event}
+use Rattle.ipdl_base.specs.declared.value.Values.TheVariants as values
+use Rattle.ipdl_base.specs.Lines.{is_effect}
+use Rattle.channel_model.specs.Answers.{released}
+use Rattle.channel_model.specs.Ends.{End, Packet, StackEntry}
+use Rattle.channel_model.specs.Events.{Event, handled, kept}
 use Rattle.channel_model.specs.Events as event
-use Rattle.channel_model.specs.Numbers.{counting, is_sync_row, request_row}
-use Rattle.channel_model.specs.Outputs.{Output, ◌▷◌, beginning, is_open, line, on_end, put, when}
-use Rattle.channel_model.specs.Returns as return
-use Rattle.channel_model.specs.Sends as send
-use Rattle.channel_model.specs.Steps.{provided, step}
-use Rattle.channel_model.specs.ValueActors.{received}
-use Rattle.channel_model.proofs.Provided.{provided-gives, found-gives}
-use Rattle.script_steps.specs.Progress.{is_act, one_event, with_handled}
-use Rattle.world_core.proofs.FirstLines.{Begins, adds-closed, adds-renamed, adds-returned, adds-sent, begins-alone, begins-from}
-use Rattle.world_core.proofs.StepProgress.{Makes}
+use Rattle.channel_model.specs.Outputs.{Output}
+use Rattle.channel_model.specs.Steps.{step}
+use Rattle.script_runs.specs.Dispatches.{dispatches}
+use Rattle.script_runs.proofs.Progressing.{acted, act-handled, first-is}
+use Rattle.script_runs.proofs.Shows.{Passes, Shows, ShowsAct, ShowsPassing, step-shows}
+use Rattle.script_steps.proofs.StepLines.{Prints, step-prints}
+use Rattle.script_steps.specs.Progress.{HandledRequest, Progress, is_act, no_progress, one_act, one_event, with_handled}
+use Rattle.world_core.proofs.StepProgress.{Begins, Makes}
+
+-- Acts
 
 abbrev pub IsAct : What → Type 0
 IsAct w = is_act w ≡ true
 
-abbrev ByAct : Output → Type 0
-ByAct output = Begins output IsAct
-
--- Sends
-
-send-act : (sync : Bool) (m : Message) (vs : Values) → is_act (if sync then what.Call m.seq m.transaction m.route m.number vs else what.Send m.seq m.route m.number vs) ≡ true
-send-act true m vs = refl
-send-act false m vs = refl
-
-send-begins : (why : Option SendRefusal) (row : MessageRow) (m : Message) (vs : Values) (name : Option (List ℕ)) (e : End) → ByAct (send.sent_unless why row m vs name (beginning e))
-send-begins None row m vs name e =
-    begins-from IsAct (send.send_line row m vs) e (send.sent row m vs name (beginning e))
-    (adds-sent row m name (on_end (λ e. record e { sent = e.sent + 1; constructors_sent = counting row.kind e.constructors_sent }) (line (send.send_line row m vs) (beginning e)))) (send-act (is_sync_row row) m vs)
-send-begins (Some cause) row m vs name e = begins-alone IsAct (what.RefusedSend cause row.number) e refl
-
--- Answers
-
-refused-act : (cause : SendRefusal) (vs : Option Values) → is_act (answering.refused_line cause vs) ≡ true
-refused-act cause None = refl
-refused-act cause (Some vs) = refl
-
-answering-act : (seq : ℤ) (vs : Option Values) → is_act (answering.answering_line seq vs) ≡ true
-answering-act seq None = refl
-answering-act seq (Some vs) = refl
-
-answer-begins : (why : Option SendRefusal) (by : Answering) (vs : Option Values) (r : Option Resolver) (e : End) → ByAct (answering.answered_unless why by vs r (beginning e))
-answer-begins (Some cause) by vs r e = begins-alone IsAct (answering.refused_line cause vs) e (refused-act cause vs)
-answer-begins None by vs None e = begins-alone IsAct (answering.refused_line refusal.DeadActor vs) e (refused-act refusal.DeadActor vs)
-answer-begins None by vs (Some r) e = (e.side, answering.answering_line r.seq vs, [], refl, answering-act r.seq vs)
-
--- A close
-
-close-begins : (why : Option SendRefusal) (e : End) → ByAct (act.close_unless why (beginning e))
-close-begins None e = begins-from IsAct what.Close e (act.close_unless None (beginning e)) (adds-closed NormalShutdown (put (message act.goodbye) (line what.Close (beginning e)))) refl
-close-begins (Some cause) e = begins-alone IsAct (what.RefusedClose cause) e refl
+act-shown : (e : End) (entries : List StackEntry) (output : Output) → ShowsAct e entries output → Begins output IsAct
+act-shown e entries output shows = (e.side, shows.0, shows.2.more, shows.2.lines, shows.1)
 
 -- whether an event is an act other than a death
 abbrev pub is_acting : Event → Bool
@@ -79,69 +38,70 @@ is_acting _ = false
 
 -- the lines of an act begin with that of an act
 pub act-begins : (schema : Schema) (e : End) (link : List Packet) (happened : Event) (output : Output) → is_acting happened ≡ true → step schema e link happened ≡ Some output → Begins output IsAct
-act-begins schema e link (event.send route number vs name) output acts is =
-    found-gives ByAct (request_row schema number) (λ row. provided (send.may_send schema e row vs name) (send.send schema e row route vs name) e) output
-    (λ row found. provided-gives ByAct (send.may_send schema e row vs name) (send.send schema e row route vs name) e output
-    (λ may. send-begins (send.send_refusal schema e row route vs) row (send.request_of e row route vs) vs name e)) is
-act-begins schema e link (event.answer by vs) output acts is =
-    found-gives ByAct (answering.answered_row schema e by) (λ row. provided (answering.may_answer schema e row vs) (answering.answer schema e row by vs) e) output
-    (λ row found. provided-gives ByAct (answering.may_answer schema e row vs) (answering.answer schema e row by vs) e output
-    (λ may. answer-begins (answering.answer_refusal schema e row by vs) by vs (answering.resolver_used e by) e)) is
-act-begins schema e link (event.keep seq name) output acts is =
-    provided-gives ByAct (answering.may_keep e seq) (answering.keep e seq name) e output
-    (λ may. begins-from IsAct (what.Keep seq name) e (answering.keep e seq name (beginning e))
-    (adds-renamed name (option_and_then (answering.kept_by e) (answering.handled_resolver e seq)) (on_end (λ e. record e { stack = answering.released seq e.stack }) (line (what.Keep seq name) (beginning e)))) refl) is
-act-begins schema e link (event.name name id) output acts is =
-    provided-gives ByAct (send.may_act e) (act.name_actor name id) e output
-    (λ may. begins-from IsAct (what.Let name (if act.is_positive id then id else pos 0)) e (act.name_actor name id (beginning e))
-    (adds-renamed name (if act.is_positive id then Some (actor id) else None) (line (what.Let name (if act.is_positive id then id else pos 0)) (beginning e))) refl) is
-act-begins schema e link event.close output acts is =
-    provided-gives ByAct (send.may_act e) (act.close e) e output (λ may. close-begins (act.close_refusal e) e) is
-act-begins schema e link event.die output acts is = cc
-act-begins schema e link event.deliver output acts is = cc
-act-begins schema e link event.take output acts is = cc
-act-begins schema e link (event.return vs) output acts is = cc
-act-begins schema e link event.resume output acts is = cc
-act-begins schema e link event.flush output acts is = cc
-
--- Deaths, resumed calls, returns and flushes
-
--- a death
-pub die-begins : (schema : Schema) (e : End) (link : List Packet) (output : Output) → step schema e link event.die ≡ Some output → Begins output (Makes (λ p. with_handled [] (one_event p)))
-die-begins schema e link output is =
-    let P : Output → Type 0 = λ o. Begins o (Makes (λ p. with_handled [] (one_event p))) in
-    provided-gives P (act.may_die e) act.die e output
-    (λ may. dies (is_open e.state)) is
+act-begins schema e link happened output acts is = by happened acts (step-shows schema e link happened output is)
   where
-    dies : (b : Bool) → Begins ((when b (put mark) ▷ on_end (λ e. record e { state = Dead; stack = []; arrived = [] })) (line what.Die (beginning e))) (Makes (λ p. with_handled [] (one_event p)))
-    dies true = (e.side, what.Die, [], refl, λ p. refl)
-    dies false = (e.side, what.Die, [], refl, λ p. refl)
+    by : (x : Event) → is_acting x ≡ true → Shows schema e x output → Begins output IsAct
+    by (event.send route number vs name) h shows = act-shown e (dispatches e.stack) output shows
+    by (event.answer (handled seq) vs) h (inl shows) = act-shown e (dispatches e.stack) output shows
+    by (event.answer (handled seq) vs) h (inr shows) = act-shown e (dispatches (released seq e.stack)) output shows
+    by (event.answer (kept name number) vs) h shows = act-shown e (dispatches e.stack) output shows
+    by (event.keep seq name) h shows = act-shown e (dispatches (released seq e.stack)) output shows
+    by (event.name name id) h shows = act-shown e (dispatches e.stack) output shows
+    by event.close h shows = act-shown e (dispatches e.stack) output shows
+    by event.die h shows = cc
+    by event.deliver h shows = cc
+    by event.take h shows = cc
+    by (event.return vs) h shows = cc
+    by event.resume h shows = cc
+    by event.flush h shows = cc
 
-resume-makes : (seq : ℤ) (a : Answer) → Makes one_event (return.resume_line seq a)
-resume-makes seq (answers.Ok vs) p = refl
-resume-makes seq (answers.Fault why) p = refl
+-- Lines that leave all handlers as they are: each is an event and no more.
 
--- a call that goes on
-pub resume-begins : (schema : Schema) (e : End) (link : List Packet) (output : Output) → step schema e link event.resume ≡ Some output → Begins output (Makes one_event)
-resume-begins schema e link output is =
-    let P : Output → Type 0 = λ o. Begins o (Makes one_event) in
-    found-gives P (return.answered_wait_on_top e.stack) (λ wait. option_and_then (λ row. provided true (return.resume schema e wait row) e) (request_row schema wait.number)) output
-    (λ wait on_top. found-gives P (request_row schema wait.number) (λ row. provided true (return.resume schema e wait row) e) output
-    (λ row found. provided-gives P true (return.resume schema e wait row) e output
-    (λ may. (e.side, return.resume_line wait.seq (received schema e.actors row wait.given), [], refl, resume-makes wait.seq (received schema e.actors row wait.given))))) is
+-- a handler that runs, by which lines that change handlers are told
+abbrev one_running : List HandledRequest
+one_running = record { seq = pos 0; number = 0; block = 0; acts = 0; given = values.Nothing; made = pos 0 } ∷ []
 
--- the return of a handler
+abbrev with_one : Progress
+with_one = record no_progress { handled = one_running }
+
+abbrev acts_of : List HandledRequest → ℕ
+acts_of [] = 0
+acts_of (request ∷ below) = request.acts
+
+no-act : (w : What) → Passes w → is_act w ≡ true → ⊥
+no-act w passes acts =
+    let same : acted one_running ≡ one_running = sym (act-handled with_one w acts) ∙ (passes with_one).0 in
+    let more : 0 + 1 ≡ 0 = ap acts_of same in
+    omega (arith, more)
+
+by-tests : (acts effect : Bool) (x y z : Progress) → (acts ≡ true → ⊥) → effect ≡ false → (if acts then x else (if effect then y else z)) ≡ z
+by-tests true effect x y z none event = absurd (none refl)
+by-tests false true x y z none event = cc
+by-tests false false x y z none event = refl
+
+passes-makes : (w : What) → Passes w → is_effect w ≡ false → Makes one_event w
+passes-makes (what.Take seq route number vs) passes event p = let e = (passes with_one).0 in cc
+passes-makes (what.Built id protocol) passes event p = cc
+passes-makes what.Die passes event p = let e = (passes with_one).0 in cc
+passes-makes (what.Return seq) passes event p = let e = (passes with_one).0 in cc
+passes-makes w passes event p = by-tests (is_act w) (is_effect w) (one_act p.handled (one_event p)) p (one_event p) (no-act w passes) event
+
+-- the lines of a step that leaves the handlers begin with an event and no more
+pub passing-begins : (e : End) (entries : List StackEntry) (happened : Event) (output : Output) → Prints e happened output → ShowsPassing e entries output → Begins output (Makes one_event)
+passing-begins e entries happened output prints shows =
+    let same : prints.first ≡ shows.0 = first-is e.side prints.first shows.0 prints.rest shows.2.more (sym prints.lines ∙ shows.2.lines) in
+    (e.side, shows.0, shows.2.more, shows.2.lines, passes-makes shows.0 shows.1 (ap is_effect (sym same) ∙ prints.is_event))
+
+-- Deaths, returns, calls that go on, and flushes
+
+pub die-begins : (schema : Schema) (e : End) (link : List Packet) (output : Output) → step schema e link event.die ≡ Some output → Begins output (Makes (λ p. with_handled [] (one_event p)))
+die-begins schema e link output is = let shows = step-shows schema e link event.die output is in (e.side, what.Die, shows.more, shows.lines, λ p. refl)
+
 pub return-begins : (schema : Schema) (e : End) (link : List Packet) (vs : Option Values) (output : Output) → step schema e link (event.return vs) ≡ Some output → Begins output (Makes (λ p. with_handled (drop 1 p.handled) (one_event p)))
-return-begins schema e link vs output is =
-    let P : Output → Type 0 = λ o. Begins o (Makes (λ p. with_handled (drop 1 p.handled) (one_event p))) in
-    found-gives P (return.dispatch_on_top e.stack) (λ entry. option_and_then (λ row. provided (return.may_return schema row vs) (return.return schema e row entry vs) e) (request_row schema entry.number)) output
-    (λ entry on_top. found-gives P (request_row schema entry.number) (λ row. provided (return.may_return schema row vs) (return.return schema e row entry vs) e) output
-    (λ row found. provided-gives P (return.may_return schema row vs) (return.return schema e row entry vs) e output
-    (λ may. begins-from (Makes (λ p. with_handled (drop 1 p.handled) (one_event p))) (what.Return (head_of entry.frame).seq) e (return.return schema e row entry vs (beginning e))
-    (adds-returned (is_sync_row row) entry.resolves (return.dispatch_answered entry) (return.return_answer schema e row entry vs) (answering.resolver_in entry) entry.route row.kind (line (what.Return (head_of entry.frame).seq) (return.popped (beginning e)))) (λ p. refl)))) is
+return-begins schema e link vs output is = let shows = step-shows schema e link (event.return vs) output is in (e.side, what.Return shows.0, shows.1.more, shows.1.lines, λ p. refl)
 
--- a flush
+pub resume-begins : (schema : Schema) (e : End) (link : List Packet) (output : Output) → step schema e link event.resume ≡ Some output → Begins output (Makes one_event)
+resume-begins schema e link output is = passing-begins e (dispatches (drop 1 e.stack)) event.resume output (step-prints schema e link event.resume output is) (step-shows schema e link event.resume output is)
+
 pub flush-begins : (schema : Schema) (e : End) (link : List Packet) (output : Output) → step schema e link event.flush ≡ Some output → Begins output (Makes one_event)
-flush-begins schema e link output is =
-    let P : Output → Type 0 = λ o. Begins o (Makes one_event) in
-    provided-gives P (return.may_flush e) return.flush e output (λ may. (e.side, _, [], refl, λ p. refl)) is
+flush-begins schema e link output is = passing-begins e (dispatches e.stack) event.flush output (step-prints schema e link event.flush output is) (step-shows schema e link event.flush output is)

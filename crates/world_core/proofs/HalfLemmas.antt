@@ -23,8 +23,7 @@ use Rattle.world_core.specs.Resolvers.{resolver_of}
 use Rattle.world_core.proofs.CountsLemmas.{event-counted}
 use Rattle.world_core.proofs.Held.{held-behind}
 use Rattle.world_core.proofs.EventLines.{act-begins, is_acting}
-use Rattle.world_core.proofs.FirstLines.{Begins}
-use Rattle.world_core.proofs.StepProgress.{Makes, act-makes, delivery-makes, step-makes}
+use Rattle.world_core.proofs.StepProgress.{Begins, Makes, act-makes, delivery-makes, step-makes}
 
 -- the step of an event whose lines make this of a progress
 pub stepped : (link : List Packet) (before after : HalfView) (progress next : Progress) (happened : Event) (is : IsStepBy before.end link happened after.end) → after ≡ with_end_of before after

@@ -118,7 +118,7 @@ some-is-next half progress (Some next.Die) h = sym (ap is_some h)
 some-is-next half progress (Some next.Take) h = sym (ap is_some h)
 some-is-next half progress (Some next.Resume) h = sym (ap is_some h)
 some-is-next half progress (Some next.Flush) h = sym (ap is_some h)
-some-is-next half progress (Some next.Handler) h = sym (ap is_some h)
+some-is-next half progress (Some next.Handler) h = sym (ap is_some h.is)
 
 pub rests-so : (rests next : Bool) → next ≡ not rests → rests ≡ not next
 rests-so true next h = sym (ap not h)

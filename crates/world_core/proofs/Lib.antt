@@ -2,7 +2,6 @@ mod Histories
 mod Chosen
 mod RestLoop
 mod WordLoop
-mod FirstLines
 mod StepProgress
 mod EventLines
 mod CountsLemmas

@@ -1,5 +1,5 @@
 -- A half at a state of a run: what it does next is what its side does there.
-use Rattle.std.proofs.Common.{◌≡◌, ℕ, ◌+◌, ◌*◌, ◌<◌, ◌≤◌, nat_lt, true, false, List, [], Some, refl, sym, ap, subst, ◌∙◌, arith}
+use Rattle.std.proofs.Common.{◌≡◌, ℕ, ◌<◌, nat_lt, true, false, List, [], Some, refl, sym, ap, subst, ◌∙◌, arith}
 use Rattle.std.specs.List.{AllZip}
 use Rattle.handler_script.specs.Valid.{IsValid}
 use Rattle.ipdl_base.specs.declared.schema.Schema.{Schema}

@@ -13,11 +13,14 @@ use Rattle.script_steps.specs.Choices.{is_delivery_line}
 use Rattle.script_steps.specs.Progress.{Progress, after_line, after_lines, is_act, one_act, one_event}
 use Rattle.script_steps.proofs.StepLines.{Prints}
 use Rattle.world_core.specs.HalfView.{whats_of}
-use Rattle.world_core.proofs.FirstLines.{Begins}
 
 -- a line makes this of every progress
 abbrev pub Makes : (Progress → Progress) → What → Type 0
 Makes f w = (p : Progress) → after_line p w ≡ f p
+
+-- the lines of an output begin with one of this kind
+abbrev pub Begins : Output → (What → Type 0) → Type 0
+Begins output P = (side : Side) × (w : What) × (more : List Line) × (output.lines ≡ line_at side w ∷ more) × P w
 
 -- Each kind of line
 

@@ -49,10 +49,10 @@ use Rattle.world_core.specs.NextSteps.{IsDue}
 use Rattle.world_core.specs.Resolvers.{resolver_of}
 use Rattle.world_core.specs.TakeSteps.{HalfTakes, HasBegun, HasTaken, IsCountedTake, begun}
 use Rattle.world_core.proofs.CountsLemmas.{event-counted, newest-first}
-use Rattle.world_core.proofs.FirstLines.{Begins}
+use Rattle.world_core.proofs.EventLines.{passing-begins}
 use Rattle.world_core.proofs.HalfLemmas.{made-step, stepped}
-use Rattle.world_core.proofs.StepProgress.{Makes}
-use Rattle.world_core.proofs.TakeLines.{handling-makes, passing-begins, with_taken}
+use Rattle.world_core.proofs.StepProgress.{Begins, Makes}
+use Rattle.world_core.proofs.TakeLines.{handling-makes, with_taken}
 
 -- Kinds of takes, and the dispatches that they add
 
@@ -193,7 +193,7 @@ module _ (before after : HalfView) (p : Progress) (counted : IsCountedBy before 
   passes none made is = by (step-shows before.end.schema before.end.end [] event.take made is)
     where
       by : TakeShows before.end.schema before.end.end made → Begins made (Makes one_event)
-      by (inl shows) = passing-begins before.end.end event.take made (step-prints before.end.schema before.end.end [] event.take made is) shows.0
+      by (inl shows) = passing-begins before.end.end (dispatches before.end.end.stack) event.take made (step-prints before.end.schema before.end.end [] event.take made is) shows.0
       by (inr shows) = let e : None ≡ Some (dispatch_of shows.row shows.m) = sym none ∙ adds-next before.end ∙ shows.adds in cc
 
   passing-step : added_by (kind_of before.end) ≡ None → IsHalfStep before p [] event.take after

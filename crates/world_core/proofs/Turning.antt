@@ -54,6 +54,9 @@ module _ (at : WorldView) (side : Side) (half : HalfView) (link : LinkView) (sta
   pub within-is : nat_lt half.counts.events half.limit ≡ is_within at.setting side at.state
   within-is = within-at at.setting at.state side half come
 
+  own-side : (end_of side at.state.world).side ≡ side
+  own-side = side-of at.state.world side (run-sides at.setting stands.run.choices at.state stands.run.plays)
+
   pub may-go-on : MayGoOn half progress_is
   may-go-on = may-go-on-at at.setting at.state side half come
 

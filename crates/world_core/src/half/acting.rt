@@ -15,7 +15,7 @@ impl<'s> Half<'s> {
     ghost use Rattle.world_core.specs.CountsSteps.{with_act, with_answer};
     ghost use Rattle.world_core.specs.NextSteps.{EventGives, HandledGives, HasOwn, IsOnTop, context_in, counting_of};
 
-    // Does an action of the innermost handler, or of main where none runs; but no death.
+    // Does an action of the innermost handler, or of main where none runs.
     pub(crate) fn act(&mut self, action: &Action) -> StepAnswer
         ghost seq: { ℤ }
         requires own { answers_handled action.now ≡ true → HasOwn self.old seq }
