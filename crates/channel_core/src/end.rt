@@ -9,9 +9,11 @@ mod answering;
 mod closing;
 mod delivering;
 mod looks;
+mod parts;
 mod sending;
 mod taking;
 
+pub use self::parts::EndParts;
 use crate::answers::Top;
 use actor_tree::Tree;
 use end_parts::{EndOutput, NameEntries, PromiseEntries, StackEntries, goodbye_frame};

@@ -13,7 +13,7 @@ pub use answers::{
     CloseAnswer, DeliverAnswer, FinishAnswer, Handling, KeepAnswer, NamedAnswer, ResolveAnswer,
     RunningHandler, SendAnswer, TakeAnswer, Top,
 };
-pub use end::End;
+pub use end::{End, EndParts};
 pub use end_parts::{Named, Packet};
 pub use ipdl_base::EndState;
 pub use resolver::Resolver;

@@ -3,6 +3,7 @@ pub mod Counted
 pub mod Resolvers
 pub mod CountsSteps
 pub mod HalfView
+pub mod HalfParts
 pub mod HalfSteps
 pub mod NextSteps
 pub mod LinkView

@@ -7,11 +7,13 @@ mod acting;
 mod ending;
 mod meeting;
 mod next;
+mod parts;
 mod returning;
 mod taking;
 mod terms;
 
 use self::next::NextStep;
+pub use self::parts::HalfParts;
 use crate::answers::StepAnswer;
 use crate::counts::Counts;
 use crate::link::Link;

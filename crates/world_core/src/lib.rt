@@ -13,7 +13,7 @@ mod world;
 
 pub use answers::{MeetAnswer, RunAnswer, StepAnswer};
 pub use driver::{Driver, OneThread};
-pub use half::Half;
+pub use half::{Half, HalfParts};
 pub use laws::{halves_fit_behind_more, stored_lines_follow};
 pub use link::Link;
 pub use schedules::{Stop, Turn};
