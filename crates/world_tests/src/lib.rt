@@ -1,6 +1,6 @@
 //! Tests of runs (docs/scripts.md): worked runs and orders of own steps, each with the word, the limit
-//! and the death with which it is run, and with what it prints; deaths under nested calls; limits
-//! that cut a run; and halves that go on apart. Of each history every law is tested.
+//! and the death with which it is run, and with what it prints; deaths under nested calls; and limits
+//! that cut a run. Of each history every law is tested.
 #![tactic(auto)]
 
 #[cfg(test)]
@@ -11,8 +11,6 @@ mod deaths;
 mod deep_rows;
 #[cfg(test)]
 mod given;
-#[cfg(test)]
-mod halves;
 #[cfg(test)]
 mod laws;
 #[cfg(test)]
