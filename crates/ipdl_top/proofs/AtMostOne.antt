@@ -6,7 +6,8 @@ use Rattle.std.proofs.lemmas.Option.{same_Some}
 use Rattle.ipdl_base.specs.Outside.{FileMap}
 use Rattle.ipdl_base.specs.declared.finding.Finding.{Finding}
 use Rattle.ipdl_syntax.specs.declared.program.Entry.{Entry}
-use Rattle.command_words.specs.Command.{CommandView, OneCommand, Say, compile, frames, run, waits}
+use Rattle.command_words.specs.Command.{CommandView, OneCommand, Say}
+use Rattle.command_words.specs.Command as command
 use Rattle.command_words.specs.Run.{Course}
 use Rattle.findings.specs.Report.{IsReport}
 use Rattle.findings.proofs.Reports.{same_report}
@@ -208,22 +209,22 @@ compilations laws Says unique given lists list one other (inr (inr x)) (inr (inr
 
 -- what a command leaves to nobody: all but a run without a word of turns
 abbrev LeavesNone : CommandView → Type 0
-LeavesNone (run list path course script file) = course.schedule ≢ None
+LeavesNone (command.run list path course script file) = course.schedule ≢ None
 LeavesNone _ = Unit {0}
 
 leaves_none : (words : List (List ℕ)) (command : CommandView) → Say words command → LeavesNothing words → LeavesNone command
-leaves_none words (compile list path names) said leaves = tt
-leaves_none words (frames list path file name convert) said leaves = tt
-leaves_none words (waits list path file) said leaves = tt
-leaves_none words (run list path course script file) said leaves = leaves list path course script file said
+leaves_none words (command.compile list path names) said leaves = tt
+leaves_none words (command.frames list path file name convert) said leaves = tt
+leaves_none words (command.waits list path file) said leaves = tt
+leaves_none words (command.run list path course script file) said leaves = leaves list path course script file said
 
 -- so has each command
 commands : TheLaws → (Gives : Driving) (seen : FileViews) (command : CommandView) → LeavesNone command → (one other : CommandAnswer) → AnswersTo Gives seen command one → AnswersTo Gives seen command other → one ≡ other
-commands laws Gives seen (compile list path names) leaves one other x y = compilations laws SaysTables tables_one (given_by seen.files path names) seen.list list one other x y
-commands laws Gives seen (frames list path file name convert) leaves one other x y =
+commands laws Gives seen (command.compile list path names) leaves one other x y = compilations laws SaysTables tables_one (given_by seen.files path names) seen.list list one other x y
+commands laws Gives seen (command.frames list path file name convert) leaves one other x y =
     compilations laws (SaysFrames name convert (seen.last name)) (frames_one laws name convert (seen.last name)) (given_by seen.files path (file ∷ [])) seen.list list one other x y
-commands laws Gives seen (waits list path file) leaves one other x y = compilations laws (SaysWaits file) (waits_one laws file) (given_by seen.files path (file ∷ [])) seen.list list one other x y
-commands laws Gives seen (run list path course script file) leaves one other x y =
+commands laws Gives seen (command.waits list path file) leaves one other x y = compilations laws (SaysWaits file) (waits_one laws file) (given_by seen.files path (file ∷ [])) seen.list list one other x y
+commands laws Gives seen (command.run list path course script file) leaves one other x y =
     compilations laws (SaysRun Gives course script (seen.last script) file) (run_one laws.runs Gives course leaves script (seen.last script) file) (given_by seen.files path (file ∷ [])) seen.list list one other x y
 
 -- words are one command or none

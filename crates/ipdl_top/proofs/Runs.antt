@@ -1,5 +1,5 @@
 -- What is said of a run that a world has made.
-use Rattle.std.proofs.Common.{◌≡◌, ◌∙◌, List, refl, sym, ap, subst}
+use Rattle.std.proofs.Common.{◌≡◌, ◌∙◌, ◌++◌, ℕ, List, [], refl, ap, subst}
 use Rattle.std.specs.Prelude.{Option, None, Some}
 use Rattle.ipdl_base.specs.declared.line.Line.{Line}
 use Rattle.ipdl_base.specs.declared.schema.Schema.{Schema}
@@ -7,6 +7,7 @@ use Rattle.ipdl_base.specs.Sound.{IsSound}
 use Rattle.channel_model.specs.Runs.{IsLegalHistory, RunState, history_of}
 use Rattle.command_words.specs.Run.{Course}
 use Rattle.handler_script.specs.declared.script.Script.{Script}
+use Rattle.history.specs.Text.{transcript_text}
 use Rattle.schedules.specs.declared.turn.Turn.{Turn}
 use Rattle.script_steps.specs.Choices.{IsCaseHistory, Setting}
 use Rattle.script_steps.specs.Laws.{ChoicesAreRuns}
@@ -17,7 +18,7 @@ use Rattle.world_core.specs.WorldView.{WorldView, opening_of}
 use Rattle.world_core.specs.Worlds.{IsCase}
 use Rattle.world_laws.specs.Statements.{HistoriesAreLawful, IsLawfulHistory}
 use Rattle.ipdl_top.specs.declared.answer.CommandAnswer.{CommandAnswer}
-use Rattle.ipdl_top.specs.Run.{Driving, IsMade, SaysHistory, answer_of, run_answer, setting_by}
+use Rattle.ipdl_top.specs.Run.{Driving, IsMade, SaysHistory, answer_of, ending_line, run_answer, run_status, setting_by}
 use Rattle.ipdl_top.specs.RunSteps.{IsMadeUnless, IsPrinted}
 
 -- a run that did not run out of memory was made
@@ -49,3 +50,14 @@ says_history runs lawful Gives course schema script opened after ended answer so
       stands = subst (λ (answer : RunAnswer). StandsAs after answer) printed.ends stands;
       says = printed.says ∙ ap (λ (s : Setting). run_answer s.schema after.state.lines printed.ending) about;
     }
+
+-- An answer that is the text of lines and the line of an ending prints them.
+pub printed : (schema : Schema) (lines : List Line) (text line : List ℕ) (ending : RunEnding) (answer : CommandAnswer) → line ≡ ending_line ending → text ≡ transcript_text schema lines
+    → answer ≡ record { status = run_status ending; out = text ++ line; err = [] } → IsPrinted schema lines (answer_of ending) answer
+printed schema lines text line ending answer line_is text_is is = record {
+  ending = ending;
+  ends = refl;
+  says =
+      is ∙ ap (λ (l : List ℕ). record { status = run_status ending; out = text ++ l; err = [] }) line_is
+      ∙ ap (λ (t : List ℕ). record { status = run_status ending; out = t ++ ending_line ending; err = [] }) text_is;
+}

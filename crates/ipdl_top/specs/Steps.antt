@@ -88,6 +88,12 @@ IsHeld held Absent = held ≡ None
 IsHeld held Larger = IsLargeList held
 IsHeld held (Bytes bytes) = (held ≡ Some bytes.items) × (length bytes.items ≤ 1048576)
 
+-- a file that was read has no more bytes than are read
+abbrev pub IsSmall : HeldFile → Type 0
+IsSmall Absent = Unit {0}
+IsSmall Larger = Unit {0}
+IsSmall (Bytes bytes) = length bytes.items ≤ 1048576
+
 -- the answer is the report of these findings and of what the list breaks
 pub record AreFilesReported (findings : List Finding) (listed : SyncListFile) (names : List (List ℕ)) (answer : CommandAnswer) : Type 0 where
   pub report : List Finding

@@ -1,7 +1,7 @@
 ghost use Rattle.std.specs.Prelude.{◌≡◌, IfOk, Some};
 ghost use Rattle.ipdl_base.specs.Outside.{Rose};
 ghost use Rattle.include_graph.specs.Load as load;
-ghost use Rattle.ipdl_top.specs.Steps.{IsHeld};
+ghost use Rattle.ipdl_top.specs.Steps.{IsHeld, IsSmall};
 
 use crate::answer::Failure;
 use ipdl_base::{Files, ReadAnswer};
@@ -23,7 +23,8 @@ pub enum HeldFile {
 
 /// What a file of these bytes is.
 fn held_of_bytes(bytes: Vec<u8>) -> HeldFile
-    ensures { IsHeld (Some bytes.items) result }
+    ensures held { IsHeld (Some bytes.items) result }
+    ensures small { IsSmall result }
 {
     if bytes.len() > MOST_BYTES {
         HeldFile::Larger
@@ -35,6 +36,7 @@ fn held_of_bytes(bytes: Vec<u8>) -> HeldFile
 /// Reads the file of this name.
 pub fn read_held<F: Files>(alloc: Global, files: &mut F, name: &str) -> Result<HeldFile, Failure>
     ensures held { load.ForMap (F.told files.old) (λ map'. IfOk result (IsHeld (map' name.now))) }
+    ensures small { IfOk result IsSmall }
     ensures read_fault { result ≡ Err Failure.ReadFault → Rose (F.faults files.old) (F.faults files.new) }
 {
     match files.read(alloc, name, MOST_BYTES) {

@@ -13,7 +13,7 @@ ghost use Rattle.ipdl_top.specs.CommandAnswer.{IsCompilation, given_by};
 ghost use Rattle.ipdl_top.specs.FileViews.{ForMap};
 ghost use Rattle.ipdl_top.specs.Run.{SaysHistory, SaysRun, SaysScript, SaysText, bad_script_answer};
 ghost use Rattle.ipdl_top.specs.RunSteps.{IsMadeUnless, IsPrinted, course_of};
-ghost use Rattle.ipdl_top.specs.Steps.{HasTop, IsHeld, IsSoundChecked, IsToldOf};
+ghost use Rattle.ipdl_top.specs.Steps.{HasTop, IsHeld, IsSmall, IsSoundChecked, IsToldOf};
 ghost use Rattle.ipdl_top.specs.Waits.{IsTop};
 
 use crate::answer::{CommandAnswer, Failure};
@@ -195,6 +195,7 @@ fn script_answer<D: Driver>(
     held: &HeldFile,
     driver: &mut D,
 ) -> Result<CommandAnswer, AllocError>
+    requires small { IsSmall held.now }
     requires sound { IsSound schema.now }
     requires top { top < length schema.now.protocols }
     requires limit { wanted.now.limit ≤ most_events }
@@ -224,6 +225,7 @@ fn held_answer<D: Driver>(
     held: &HeldFile,
     driver: &mut D,
 ) -> Result<CommandAnswer, AllocError>
+    requires small { IsSmall held.now }
     requires sound { IsSound schema.now }
     requires top { (top : ℕ) × IsTop file.now schema.now top }
     requires limit { wanted.now.limit ≤ most_events }
@@ -245,6 +247,7 @@ fn checked_answer<D: Driver>(
     held: &HeldFile,
     driver: &mut D,
 ) -> Result<CommandAnswer, AllocError>
+    requires small { IsSmall held.now }
     requires sound { IsSoundChecked checked }
     requires top { HasTop file.now checked }
     requires limit { wanted.now.limit ≤ most_events }

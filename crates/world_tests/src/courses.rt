@@ -92,13 +92,13 @@ fn printed_of(
     alloc: Global,
     schema: &Schema,
     world: &World<'_>,
-    ending: &str,
+    ending: RunAnswer,
 ) -> Result<Printout, Fail>
     requires { IsSound schema.now }
 {
     let lines = world.transcript(alloc)?;
     let mut text = String::from_str(alloc, str::from_utf8(lines.as_slice())?)?;
-    text.push_str(ending)?;
+    text.push_str(ending_of(ending)?)?;
     Ok(Printout {
         text,
         laws: lawful(alloc, schema, world.history())?,
@@ -119,6 +119,8 @@ pub fn printed(
         return Err("a limit that is too large".into());
     }
     let mut world = World::open(alloc, schema, script, course.stop, course.limit)?;
-    let ending = ending_of(world.run_schedule(course.word.as_slice()))?;
-    printed_of(alloc, schema, &world, ending)
+    let ending = world.run_schedule(course.word.as_slice());
+    let found = printed_of(alloc, schema, &world, ending);
+    drop(world);
+    found
 }

@@ -29,21 +29,24 @@ fn fault(
         format!(in alloc; "PC 10000 {side}:{count}")?.as_str(),
     )?;
     let run = printed(alloc, schema, script, &course)?;
-    let text = run.text.as_str();
     let death = format!(in alloc; "{side} die\n")?;
-    let Some((before, _)) = text.split_once(death.as_str()) else {
-        return Ok("no death");
+    Ok(fault_of_death(run.text.as_str(), death.as_str(), side, count, run.laws))
+}
+
+/// What is wrong with what a run prints in which a side dies.
+fn fault_of_death(text: &str, death: &str, side: &str, count: u32, laws: u32) -> &'static str {
+    let Some((before, _)) = text.split_once(death) else {
+        return "no death";
     };
     if events_of(side, before) != count {
-        return Ok("dead at another event");
+        "dead at another event"
+    } else if !text.ends_with("\nfinished\n") {
+        "without an end"
+    } else if laws != ALL_LAWS {
+        "a law that does not hold"
+    } else {
+        ""
     }
-    if !text.ends_with("\nfinished\n") {
-        return Ok("without an end");
-    }
-    if run.laws != ALL_LAWS {
-        return Ok("a law that does not hold");
-    }
-    Ok("")
 }
 
 /// Notes each death of a side with which something is wrong, and how many there were.
@@ -69,15 +72,30 @@ fn check(
     Ok(())
 }
 
-/// The deaths of each side under four nested calls.
-fn deaths(alloc: Global) -> Result<String, Fail> {
+/// The deaths of each side in the run of a script.
+fn deaths_of(alloc: Global, schema: &Schema, script: &Script) -> Result<String, Fail>
+    requires sound { IsSound schema.now }
+    requires valid { IsValid schema.now script.now }
+{
     let mut shown = String::new(alloc);
-    let schema = schema_of(alloc, "PW.ipdl")?;
-    let text = script_named(RUNS, "four-nested-calls ").ok_or("no such row")?;
-    let script = script_of(alloc, &schema, "PW.ipdl", text)?;
-    check(alloc, &schema, &script, "parent", &mut shown)?;
-    check(alloc, &schema, &script, "child", &mut shown)?;
+    check(alloc, schema, script, "parent", &mut shown)?;
+    check(alloc, schema, script, "child", &mut shown)?;
     Ok(shown)
+}
+
+/// The deaths of each side under four nested calls.
+fn deaths_under(alloc: Global, schema: &Schema) -> Result<String, Fail>
+    requires { IsSound schema.now }
+{
+    let text = script_named(RUNS, "four-nested-calls ").ok_or("no such row")?;
+    let script = script_of(alloc, schema, "PW.ipdl", text)?;
+    deaths_of(alloc, schema, &script)
+}
+
+/// The same, by the schema of these calls.
+fn deaths(alloc: Global) -> Result<String, Fail> {
+    let schema = schema_of(alloc, "PW.ipdl")?;
+    deaths_under(alloc, &schema)
 }
 
 #[test]

@@ -115,16 +115,31 @@ fn checked(
 }
 
 /// The same for words of one to four letters, as text.
-fn limits(alloc: Global) -> Result<String, Fail> {
-    let schema = schema_of(alloc, "PW.ipdl")?;
-    let text = script_named(RUNS, "both-call-at-once ").ok_or("no such row")?;
-    let script = script_of(alloc, &schema, "PW.ipdl", text)?;
+fn limits_of(alloc: Global, schema: &Schema, script: &Script) -> Result<String, Fail>
+    requires sound { IsSound schema.now }
+    requires valid { IsValid schema.now script.now }
+{
     let mut shown = String::new(alloc);
     for (length, words) in [(1u32, 4u32), (2, 16), (3, 64), (4, 256)] {
-        let right = checked(alloc, &schema, &script, length, words)?;
+        let right = checked(alloc, schema, script, length, words)?;
         writeln!(shown, "{words} {right}")?;
     }
     Ok(shown)
+}
+
+/// The same for the script of two calls at once.
+fn limits_under(alloc: Global, schema: &Schema) -> Result<String, Fail>
+    requires { IsSound schema.now }
+{
+    let text = script_named(RUNS, "both-call-at-once ").ok_or("no such row")?;
+    let script = script_of(alloc, schema, "PW.ipdl", text)?;
+    limits_of(alloc, schema, &script)
+}
+
+/// The same, by the schema of these calls.
+fn limits(alloc: Global) -> Result<String, Fail> {
+    let schema = schema_of(alloc, "PW.ipdl")?;
+    limits_under(alloc, &schema)
 }
 
 #[test]

@@ -14,7 +14,7 @@ returns-in-Bytes-clause-held g c =
     let name = c.args.name.now in
     let R : Option (List ℕ) → Type 0 = λ held. IsHeld held c.held_of_bytes.result in
     for_map (g.F.Files.told c.args.files.now) (λ map. IsRead (map name) 1048576 (Bytes c.in-Bytes.bytes)) (λ map. R (map name))
-    (λ map h. subst R (sym h.0) c.held_of_bytes.ensures) c.in-Bytes.ensures.answer (λ _. Some c.in-Bytes.bytes.items) c.held_of_bytes.ensures
+    (λ map h. subst R (sym h.0) c.held_of_bytes.ensures.held) c.in-Bytes.ensures.answer (λ _. Some c.in-Bytes.bytes.items) c.held_of_bytes.ensures.held
 
 pub returns-in-Absent-clause-held : goal.returns-in-Absent-clause-held
 returns-in-Absent-clause-held g c =

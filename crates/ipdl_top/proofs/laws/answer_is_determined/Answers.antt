@@ -16,4 +16,4 @@ returns g c = law.answer_is_determined (record {
   waits_alike = c.waits_alike.ensures;
   wait_report = c.one_wait_report.ensures;
   runs = record { picks = c.picks_alike.ensures; texts = c.texts_alike.ensures; scripts = c.scripts_alike.ensures; one = c.words_have_one_result.ensures };
-}) (g.D.Gives c.args.driver.now)
+}) (g.D.Driver.Gives c.args.driver.now)

@@ -20,20 +20,20 @@ compile-requires g c = search (command_files, rules)
 pub returns-in-Err-Usage-clause-answer : goal.returns-in-Err-Usage-clause-answer
 returns-in-Err-Usage-clause-answer g c =
     let words = map string_bytes c.args.words.now in
-    let Gives = g.D.Gives c.args.driver.now in
+    let Gives = g.D.Driver.Gives c.args.driver.now in
     let P : FileViews → Type 0 = λ seen. IfOk c.of_no_command.result (IsAnswer Gives seen words) in
     for_all_seen (g.F.Files.told c.args.files.now) P
     (λ seen. IfOk-weaker c.of_no_command.result _ (IsAnswer Gives seen words) (λ answer says. inr (c.in-Err-Usage.ensures.usage c.in-Err-Usage.field-0-is, says)) c.of_no_command.ensures.answer)
 
 pub returns-in-Err-NoMemory-clause-answer : goal.returns-in-Err-NoMemory-clause-answer
 returns-in-Err-NoMemory-clause-answer g c =
-    let P : FileViews → Type 0 = λ seen. IfOk (Err NoMemory) (IsAnswer (g.D.Gives c.args.driver.now) seen (map string_bytes c.args.words.now)) in
+    let P : FileViews → Type 0 = λ seen. IfOk (Err NoMemory) (IsAnswer (g.D.Driver.Gives c.args.driver.now) seen (map string_bytes c.args.words.now)) in
     for_all_seen (g.F.Files.told c.args.files.now) P (λ seen. tt)
 
 pub returns-in-Ok-Compile-clause-answer : goal.returns-in-Ok-Compile-clause-answer
 returns-in-Ok-Compile-clause-answer g c =
     let words = map string_bytes c.args.words.now in
-    let Gives = g.D.Gives c.args.driver.now in
+    let Gives = g.D.Driver.Gives c.args.driver.now in
     let told = g.F.Files.told c.args.files.now in
     let list = option_map string_bytes c.in-Ok-Compile.list in
     let path = map string_bytes c.in-Ok-Compile.path.items in
@@ -50,7 +50,7 @@ returns-in-Ok-Compile-clause-answer g c =
 pub returns-in-Ok-Frames-clause-answer : goal.returns-in-Ok-Frames-clause-answer
 returns-in-Ok-Frames-clause-answer g c =
     let words = map string_bytes c.args.words.now in
-    let Gives = g.D.Gives c.args.driver.now in
+    let Gives = g.D.Driver.Gives c.args.driver.now in
     let told = g.F.Files.told c.args.files.now in
     let list = option_map string_bytes c.in-Ok-Frames.list in
     let path = map string_bytes c.in-Ok-Frames.path.items in
@@ -69,7 +69,7 @@ returns-in-Ok-Frames-clause-answer g c =
 pub returns-in-Ok-Waits-clause-answer : goal.returns-in-Ok-Waits-clause-answer
 returns-in-Ok-Waits-clause-answer g c =
     let words = map string_bytes c.args.words.now in
-    let Gives = g.D.Gives c.args.driver.now in
+    let Gives = g.D.Driver.Gives c.args.driver.now in
     let told = g.F.Files.told c.args.files.now in
     let list = option_map string_bytes c.in-Ok-Waits.list in
     let path = map string_bytes c.in-Ok-Waits.path.items in

@@ -1,6 +1,5 @@
 use Rattle.std.proofs.lemmas.Result.{IfOk-weaker}
-use Rattle.ipdl_top.specs.Run.{SaysHistory}
-use Rattle.ipdl_top.specs.RunSteps.{IsPrinted, course_of}
+use Rattle.ipdl_top.specs.RunSteps.{course_of}
 use Rattle.ipdl_top.proofs.Runs.{says_history}
 use Rattle.ipdl_top.proofs.run.history_answer.Goals as goal
 
