@@ -9,6 +9,3 @@ pub mod AtMostOne
 pub mod Gathered
 pub mod Found
 pub mod Tops
-pub mod Runs
-pub mod OneTop
-pub mod OneRun
