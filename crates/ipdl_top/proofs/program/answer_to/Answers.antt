@@ -44,8 +44,8 @@ returns-in-Ok-Compile-clause-answer g c =
     for_each_seen told (K path names) R
     (λ seen h. IfOk-weaker c.compile.result (IsCompilation SaysTables (given_by seen.files path names) seen.list list) (IsAnswer Gives seen words)
     (λ answer k. inl (record { command = compile list path names; said = said; answers = k })) h)
-    (subst (λ n. ForMap told (K path (map string_bytes n))) c.as_slice-in-Ok-Compile-2.ensures.value
-    (subst (λ p. ForMap told (K (map string_bytes p) (map string_bytes c.as_slice-in-Ok-Compile-2.result.now))) c.as_slice-in-Ok-Compile.ensures.value c.compile.ensures.answer))
+    (subst (λ n. ForMap told (K path (map string_bytes n))) c.as_slice-in-Ok-Compile.ensures.value
+    (subst (λ p. ForMap told (K (map string_bytes p) (map string_bytes c.as_slice-in-Ok-Compile.result.now))) c.as_slice.ensures.value c.compile.ensures.answer))
 
 pub returns-in-Ok-Frames-clause-answer : goal.returns-in-Ok-Frames-clause-answer
 returns-in-Ok-Frames-clause-answer g c =
