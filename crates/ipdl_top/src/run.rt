@@ -6,12 +6,13 @@ ghost use Rattle.ipdl_base.specs.Outside.{Rose};
 ghost use Rattle.history.specs.Text.{transcript_text};
 ghost use Rattle.ipdl_base.specs.Sound.{IsSound};
 ghost use Rattle.ipdl_base.specs.declared.line.Line.{Line};
+ghost use Rattle.script_steps.specs.Turns.{at_limit};
 ghost use Rattle.world_core.specs.Turns.{StandsAs};
 ghost use Rattle.world_core.specs.WorldView.{WorldView};
 ghost use Rattle.world_core.specs.Worlds.{IsCase, IsLawful, most_events};
 ghost use Rattle.ipdl_top.specs.CommandAnswer.{IsCompilation, given_by};
 ghost use Rattle.ipdl_top.specs.FileViews.{ForMap};
-ghost use Rattle.ipdl_top.specs.Run.{SaysHistory, SaysRun, SaysScript, SaysText, bad_script_answer};
+ghost use Rattle.ipdl_top.specs.Run.{SaysHistory, SaysRun, SaysScript, SaysText, bad_script_answer, ending_line};
 ghost use Rattle.ipdl_top.specs.RunSteps.{IsMadeUnless, IsPrinted, course_of};
 ghost use Rattle.ipdl_top.specs.Steps.{HasTop, IsHeld, IsSmall, IsSoundChecked, IsToldOf};
 ghost use Rattle.ipdl_top.specs.Waits.{IsTop};
@@ -93,6 +94,16 @@ fn with_ending(
     })
 }
 
+/// The line that says that a side is spent.
+fn spent_line(side: Side) -> &'static [u8]
+    ensures { result.now ≡ ending_line (at_limit side) }
+{
+    match side {
+        Side::Parent => b"spent parent\n",
+        Side::Child => b"spent child\n",
+    }
+}
+
 /// The answer by the text of a history and how its run ended.
 fn ended_answer(
     alloc: Global,
@@ -103,10 +114,7 @@ fn ended_answer(
 {
     match ending {
         RunAnswer::Finished => with_ending(alloc, Status::Done, text, b"finished\n"),
-        RunAnswer::Spent(Side::Parent) => {
-            with_ending(alloc, Status::Spent, text, b"spent parent\n")
-        }
-        RunAnswer::Spent(Side::Child) => with_ending(alloc, Status::Spent, text, b"spent child\n"),
+        RunAnswer::Spent(side) => with_ending(alloc, Status::Spent, text, spent_line(side)),
         RunAnswer::NoMemory => Err(AllocError),
     }
 }
