@@ -10,14 +10,3 @@ pub mod Defined
 pub mod Types
 pub mod Shapes
 pub mod Schemas
-mod Rows
-mod Spelled
-mod Typed
-mod ReadAlike
-mod Begun
-mod HeldAlike
-mod LinesAlike
-pub mod Alike
-pub mod OneList
-pub mod OneText
-pub mod WaitsAlike

@@ -1,3 +1,1 @@
 pub mod Programs
-pub mod Frames
-pub mod Waits

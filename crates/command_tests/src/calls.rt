@@ -1,13 +1,15 @@
 use super::call_rows::{HELLO, LISTED, LISTS, NAMES, REACHES, REPORTS, WORDS};
 use super::frame_rows::{FLAG, FRAMES};
+use super::run_rows::{RACE, RUNS};
 use super::wait_rows::WAITS;
 use ipdl_base::{MemoryFiles, MemorySink};
 use ipdl_top::{Status, ipdl};
 use std::alloc::{AllocError, Global};
 use std::test::Fail;
+use world_core::OneThread;
 
 const USAGE: &str = "usage: ipdl [-s LIST] [--path DIRS] FILES
-       ipdl run [-s LIST] [--path DIRS] [--schedule WORD] [--limit N] SCRIPT FILE
+       ipdl run [-s LIST] [--path DIRS] [--schedule WORD] [--limit N] [--die SIDE:K] SCRIPT FILE
        ipdl frames [-s LIST] [--path DIRS] [--to 2] FILE FRAMES
        ipdl waits [-s LIST] [--path DIRS] FILE
 ";
@@ -78,7 +80,15 @@ fn call(
     let words = strings(alloc, words)?;
     let mut out = sink(alloc, piece, failing)?;
     let mut err = sink(alloc, 1000, 0)?;
-    let status = ipdl(alloc, words.as_slice(), &mut files, &mut out, &mut err);
+    let mut driver = OneThread::new(Vec::new(alloc));
+    let status = ipdl(
+        alloc,
+        words.as_slice(),
+        &mut files,
+        &mut out,
+        &mut err,
+        &mut driver,
+    );
     Ok(Left { status, out, err })
 }
 
@@ -178,6 +188,7 @@ fn calls(rt: HostRuntime) -> Result<(), Fail> {
     assert_eq!(rt; wrong_calls(alloc, NAMES, "")?.as_str(), "");
     assert_eq!(rt; wrong_calls(alloc, FRAMES, FLAG)?.as_str(), "");
     assert_eq!(rt; wrong_calls(alloc, WAITS, "")?.as_str(), "");
+    assert_eq!(rt; wrong_calls(alloc, RUNS, RACE)?.as_str(), "");
     Ok(())
 }
 
@@ -300,6 +311,68 @@ fn wrong_writes(alloc: Global) -> Result<String, AllocError> {
     Ok(wrong)
 }
 
+/// What the run of two calls at once prints, where the write with this number fails and `out` takes
+/// seven bytes at once: a front of it, with status 4. Nothing where it is anything else.
+fn front_written(alloc: Global, failing: u64) -> Result<Option<usize>, Fail> {
+    let files = files_of(alloc, RACE, "")?;
+    let left = call(
+        alloc,
+        "run --schedule PCPC race.ids PW.ipdl",
+        files,
+        7,
+        failing,
+    )?;
+    let written = left.out.written();
+    let whole = RUNS.as_bytes();
+    let begins = whole
+        .windows(written.len().max(1))
+        .any(|piece| piece == written);
+    if left.status != Status::WriteFault || !left.err.written().is_empty() || !begins {
+        return Ok(None);
+    }
+    Ok(Some(written.len()))
+}
+
+/// How many bytes were written before each of ten writes that fail.
+fn fronts(alloc: Global) -> Result<String, Fail> {
+    let mut shown = String::new(alloc);
+    for failing in 2..11 {
+        match front_written(alloc, failing)? {
+            Some(count) => write!(shown, "{count} ")?,
+            None => write!(shown, "none ")?,
+        }
+    }
+    Ok(shown)
+}
+
+/// The statuses of the run of two calls at once, where each of its reads fails.
+fn unread_runs(alloc: Global) -> Result<String, Fail> {
+    let mut shown = String::new(alloc);
+    for failing in 1..4 {
+        let mut all = Vec::new(alloc);
+        push_files(alloc, RACE, &mut all)?;
+        let files = MemoryFiles::new(all, vec![in alloc; failing]?);
+        let left = call(
+            alloc,
+            "run --schedule PCPC race.ids PW.ipdl",
+            files,
+            1000,
+            0,
+        )?;
+        let wrote = !left.out.written().is_empty() || !left.err.written().is_empty();
+        write!(shown, "{} {wrote} ", left.status.code())?;
+    }
+    Ok(shown)
+}
+
+#[test]
+fn failing_runs(rt: HostRuntime) -> Result<(), Fail> {
+    let alloc = rt.alloc();
+    assert_eq!(rt; fronts(alloc)?.as_str(), "7 14 21 28 35 42 49 56 63 ");
+    assert_eq!(rt; unread_runs(alloc)?.as_str(), "3 false 3 false 0 true ");
+    Ok(())
+}
+
 /// A program without a message.
 const EMPTY: Sources = &[("PF.ipdl", b"protocol PF {\n};\n")];
 
@@ -360,7 +433,10 @@ const CODES: &[(Status, u8)] = &[
     (Status::Usage, 2),
     (Status::ReadFault, 3),
     (Status::WriteFault, 4),
+    (Status::Spent, 5),
     (Status::NoMemory, 6),
+    (Status::BadScript, 7),
+    (Status::BadFrames, 8),
 ];
 
 #[test]

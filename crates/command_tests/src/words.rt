@@ -1,11 +1,13 @@
 use command_words::{Command, WordsFault, read_words};
-use ipdl_base::key_of;
+use ipdl_base::{Side, key_of};
+use schedules::{Stop, Turn};
 use std::alloc::{AllocError, Global};
 use std::test::Fail;
 
 /// Lists of words, and behind `=>` what each is: the sync list behind `=`, or `none`; the folders,
 /// with `:` between them; and the files. Behind these stands `<-` and the file of frames where the
-/// command is the one that prints frames, or `<2` where it converts them. Nothing stands where the
+/// command is the one that prints frames, or `<2` where it converts them. Behind `!` stand the script,
+/// the file, the word of turns behind `=`, the limit and the death of a run. Nothing stands where the
 /// words are no command. An empty word is written as two single quotes.
 const ROWS: &str = "x.ipdl => none . x.ipdl
 x.ipdlh => none . x.ipdlh
@@ -149,8 +151,48 @@ waits --to 2 x.ipdl =>
 waits --path a::b x.ipdl =>
 waits -s l -s m x.ipdl =>
 -s l waits x.ipdl =>
-run script.ids PA.ipdl =>
+run script.ids PA.ipdl => none . ! script.ids PA.ipdl - 10000 -
 frames PA.ipdl f.bin => none . PA.ipdl <- f.bin
+run s.ids x.ipdl => none . ! s.ids x.ipdl - 10000 -
+run -sl s.ids --path d:e x.ipdl => =l d:e ! s.ids x.ipdl - 10000 -
+run --schedule PCpc s.ids x.ipdl => none . ! s.ids x.ipdl =PCpc 10000 -
+run s.ids x.ipdl --schedule=PC => none . ! s.ids x.ipdl =PC 10000 -
+run --schedule= s.ids x.ipdl => none . ! s.ids x.ipdl = 10000 -
+run --schedule '' s.ids x.ipdl => none . ! s.ids x.ipdl = 10000 -
+run --schedule PX s.ids x.ipdl =>
+run --schedule P,C s.ids x.ipdl =>
+run --schedule P C s.ids x.ipdl =>
+run --schedule P --schedule P s.ids x.ipdl =>
+run --limit 1 s.ids x.ipdl => none . ! s.ids x.ipdl - 1 -
+run --limit 20000 s.ids x.ipdl => none . ! s.ids x.ipdl - 20000 -
+run --limit=0007 s.ids x.ipdl => none . ! s.ids x.ipdl - 7 -
+run --limit 0 s.ids x.ipdl =>
+run --limit 20001 s.ids x.ipdl =>
+run --limit +7 s.ids x.ipdl =>
+run --limit=-7 s.ids x.ipdl =>
+run --limit 7a s.ids x.ipdl =>
+run --limit= s.ids x.ipdl =>
+run --limit 4294967303 s.ids x.ipdl =>
+run --limit 18446744073709551623 s.ids x.ipdl =>
+run --die child:9 s.ids x.ipdl => none . ! s.ids x.ipdl - 10000 child:9
+run --die parent:0 s.ids x.ipdl => none . ! s.ids x.ipdl - 10000 parent:0
+run --die=parent:020000 s.ids x.ipdl => none . ! s.ids x.ipdl - 10000 parent:20000
+run --die parent:20001 s.ids x.ipdl =>
+run --die child: s.ids x.ipdl =>
+run --die child s.ids x.ipdl =>
+run --die :9 s.ids x.ipdl =>
+run --die Child:9 s.ids x.ipdl =>
+run --die child:+9 s.ids x.ipdl =>
+run --die child:9: s.ids x.ipdl =>
+run --die child:1 --die parent:1 s.ids x.ipdl =>
+run s.ids x.ipdlh =>
+run x.ipdl s.ids =>
+run s.ids x.ipdl y =>
+run -- s.ids x.ipdl => none . ! s.ids x.ipdl - 10000 -
+run -s.ids x.ipdl =>
+run run run.ipdl => none . ! run run.ipdl - 10000 -
+run --to 2 s.ids x.ipdl =>
+-s l run s.ids x.ipdl =>
 a/PX.ipdl b/PX.ipdl =>
 PX.ipdl ./PX.ipdl =>
 PD.ipdl PD.ipdl => none . PD.ipdl
@@ -193,6 +235,47 @@ fn push_shared(
     line.push_str(" ")
 }
 
+/// Appends the letters of turns behind `=`, or `-` where none are given.
+fn push_schedule(line: &mut String, schedule: &Option<Vec<Turn>>) -> Result<(), AllocError> {
+    let Some(turns) = schedule else {
+        return line.push_str("-");
+    };
+    line.push_str("=")?;
+    for turn in turns {
+        line.push_str(letter_of(turn))?;
+    }
+    Ok(())
+}
+
+/// The letter of a turn.
+fn letter_of(turn: &Turn) -> &'static str {
+    match (turn.side, turn.only_deliver) {
+        (Side::Parent, false) => "P",
+        (Side::Child, false) => "C",
+        (Side::Parent, true) => "p",
+        (Side::Child, true) => "c",
+    }
+}
+
+/// Appends the death of an end, or `-` where none is given.
+fn push_death(line: &mut String, death: &Option<Stop>) -> Result<(), AllocError> {
+    match death {
+        None => line.push_str("-"),
+        Some(
+            Stop {
+                side: Side::Parent,
+                after,
+            },
+        ) => write!(line, "parent:{after}"),
+        Some(
+            Stop {
+                side: Side::Child,
+                after,
+            },
+        ) => write!(line, "child:{after}"),
+    }
+}
+
 /// Appends what a command is, in the form of the rows.
 fn push_command(line: &mut String, command: &Command) -> Result<(), AllocError> {
     match command {
@@ -214,6 +297,21 @@ fn push_command(line: &mut String, command: &Command) -> Result<(), AllocError> 
         Command::Waits { list, path, file } => {
             push_shared(line, list, path.as_slice())?;
             write!(line, "? {file}")
+        }
+        Command::Run {
+            list,
+            path,
+            schedule,
+            limit,
+            death,
+            script,
+            file,
+        } => {
+            push_shared(line, list, path.as_slice())?;
+            write!(line, "! {script} {file} ")?;
+            push_schedule(line, schedule)?;
+            write!(line, " {limit} ")?;
+            push_death(line, death)
         }
     }
 }
@@ -267,7 +365,7 @@ fn checked(alloc: Global) -> Result<String, Fail> {
 
 #[test]
 fn lists_of_words(rt: HostRuntime) -> Result<(), Fail> {
-    assert_eq!(rt; checked(rt.alloc())?.as_str(), "159");
+    assert_eq!(rt; checked(rt.alloc())?.as_str(), "199");
     Ok(())
 }
 

@@ -1,5 +1,5 @@
 -- The command that prints frames, by what is found in its words.
-use Rattle.std.proofs.Common.{◌≡◌, ◌≢◌, ◌∙◌, ◌<◌, ℕ, Bool, List, [], ◌∷◌, Option, Some, None, refl, sym, ap, subst, arith, codes, inl}
+use Rattle.std.proofs.Common.{◌≡◌, ◌≢◌, ◌∙◌, ◌<◌, ℕ, Bool, List, [], ◌∷◌, Option, Some, None, refl, sym, ap, subst, arith, codes}
 use Rattle.std.specs.Prelude.{unwrap_or}
 use Rattle.std.proofs.lemmas.Option.{same_Some}
 use Rattle.clap.specs.Words.{all_of, first_of, found_of, rows_of}
@@ -8,7 +8,7 @@ use Rattle.command_words.specs.Options.{own_words, value_of}
 use Rattle.command_words.specs.Forms.{own_id}
 use Rattle.command_words.specs.Tables.{IsTable, by_letter}
 use Rattle.command_words.specs.Found.{IsFound}
-use Rattle.command_words.specs.Compile.{IsCompile, IsPath, path_option}
+use Rattle.command_words.specs.Compile.{IsPath, path_option}
 use Rattle.command_words.specs.Frames.{AreOperands, IsConversion, IsFrames, IsNoFrames, SaysFrames, frames_options, frames_word, to_option}
 use Rattle.command_words.proofs.Lookups.{some_none}
 use Rattle.command_words.proofs.Compiled.{list_ne, no_letter, one_path, path_ne, same_value, same_words, some_list}
@@ -83,10 +83,6 @@ one_frames (word ∷ words) list list' path path' file file' frames frames' conv
       same_second file frames file' frames' operands,
       one_conversion (value_of (codes "to") b.said) convert convert' (subst (λ (v : Option Text). IsConversion v convert) (value (codes "to") to_ne) a.convert_is) b.convert_is,
     )
-
-pub never_both : (words : List Text) (list list' : Option Text) (path path' files : List Text) (file frames : Text) (convert : Bool) → IsCompile words list path files → ¬ IsFrames words list' path' file frames convert
-never_both [] list list' path path' files file frames convert a b = absurd b
-never_both (word ∷ words) list list' path path' files file frames convert a b = absurd (a.chosen (inl (sym b.0)))
 
 -- words that begin with another word are no such command
 pub none_of_others : (word : Text) (words : List Text) → word ≢ frames_word → IsNoFrames (word ∷ words)

@@ -14,3 +14,6 @@ pub mod Twos
 pub mod Compiled
 pub mod FramesFound
 pub mod WaitsFound
+pub mod OneCourse
+pub mod RunFound
+pub mod OneCommand

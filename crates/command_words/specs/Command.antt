@@ -1,39 +1,44 @@
 -- The command that words are.
 use Rattle.std.specs.Prelude.{◌≡◌, ℕ, Bool, List, ◌∷◌, Option, map, option_map, string_bytes}
 use Rattle.command_words.specs.declared.command.Command.{Command}
-use Rattle.command_words.specs.declared.command.Command.TheVariants.{Compile, Frames, Waits}
-use Rattle.command_words.specs.Compile.{HasWord, IsCompile, IsNoCompile, unbuilt_commands}
-use Rattle.command_words.specs.Frames.{IsFrames, IsNoFrames}
-use Rattle.command_words.specs.Waits.{IsNoWaits, IsWaits}
+use Rattle.command_words.specs.declared.command.Command.TheVariants as commands
+use Rattle.command_words.specs.Compile.{HasWord, IsCompile, unbuilt_commands}
+use Rattle.command_words.specs.Frames.{IsFrames}
+use Rattle.command_words.specs.Run.{Course, IsRun}
+use Rattle.command_words.specs.Waits.{IsWaits}
+
+-- What a command says: the sync list, the folders, and what is its own.
+pub data CommandView : Type 0 where
+  compile : Option (List ℕ) → List (List ℕ) → List (List ℕ) → CommandView
+  frames : Option (List ℕ) → List (List ℕ) → List ℕ → List ℕ → Bool → CommandView
+  waits : Option (List ℕ) → List (List ℕ) → List ℕ → CommandView
+  run : Option (List ℕ) → List (List ℕ) → Course → List ℕ → List ℕ → CommandView
+
+abbrev pub view_of : Command → CommandView
+view_of (commands.Compile list path files) = compile (option_map string_bytes list) (map string_bytes path.items) (map string_bytes files.items)
+view_of (commands.Frames list path file given convert) = frames (option_map string_bytes list) (map string_bytes path.items) (string_bytes file) (string_bytes given) convert
+view_of (commands.Waits list path file) = waits (option_map string_bytes list) (map string_bytes path.items) (string_bytes file)
+view_of (commands.Run list path schedule limit death script file) =
+    run (option_map string_bytes list) (map string_bytes path.items) (record { schedule = option_map (λ turns. turns.items) schedule; limit = limit; death = death }) (string_bytes script) (string_bytes file)
+
+-- the words say this
+abbrev pub Say : List (List ℕ) → CommandView → Type 0
+Say words (compile list path files) = IsCompile words list path files
+Say words (frames list path file given convert) = IsFrames words list path file given convert
+Say words (waits list path file) = IsWaits words list path file
+Say words (run list path course script file) = IsRun words list path course script file
 
 -- the words are this command
 abbrev pub CommandOf : List (List ℕ) → Command → Type 0
-CommandOf words (Compile list path files) = IsCompile words (option_map string_bytes list) (map string_bytes path.items) (map string_bytes files.items)
-CommandOf words (Frames list path file frames convert) = IsFrames words (option_map string_bytes list) (map string_bytes path.items) (string_bytes file) (string_bytes frames) convert
-CommandOf words (Waits list path file) = IsWaits words (option_map string_bytes list) (map string_bytes path.items) (string_bytes file)
+CommandOf words command = Say words (view_of command)
 
 -- the words are no command
 abbrev pub IsNoCommand : List (List ℕ) → Type 0
-IsNoCommand words = IsNoCompile words × IsNoFrames words × IsNoWaits words
+IsNoCommand words = (command : CommandView) → ¬ Say words command
 
--- words are one command at most of those that compile, one at most of those that print frames, one at most of those that
--- list waits, and never one of two of these
-pub record IsOneCommand (words : List (List ℕ)) : Type 0 where
-  pub compile : (list other_list : Option (List ℕ)) (path other_path files other_files : List (List ℕ))
-      → IsCompile words list path files → IsCompile words other_list other_path other_files → (list ≡ other_list) × (path ≡ other_path) × (files ≡ other_files)
-  pub frames : (list other_list : Option (List ℕ)) (path other_path : List (List ℕ)) (file other_file frames other_frames : List ℕ) (convert other_convert : Bool)
-      → IsFrames words list path file frames convert → IsFrames words other_list other_path other_file other_frames other_convert
-      → (list ≡ other_list) × (path ≡ other_path) × (file ≡ other_file) × (frames ≡ other_frames) × (convert ≡ other_convert)
-  pub waits : (list other_list : Option (List ℕ)) (path other_path : List (List ℕ)) (file other_file : List ℕ)
-      → IsWaits words list path file → IsWaits words other_list other_path other_file → (list ≡ other_list) × (path ≡ other_path) × (file ≡ other_file)
-  pub apart : (list other_list : Option (List ℕ)) (path other_path files : List (List ℕ)) (file frames : List ℕ) (convert : Bool)
-      → IsCompile words list path files → ¬ IsFrames words other_list other_path file frames convert
-  pub waits_compile : (list other_list : Option (List ℕ)) (path other_path files : List (List ℕ)) (file : List ℕ) → IsCompile words list path files → ¬ IsWaits words other_list other_path file
-  pub waits_frames : (list other_list : Option (List ℕ)) (path other_path : List (List ℕ)) (file other_file frames : List ℕ) (convert : Bool)
-      → IsFrames words list path file frames convert → ¬ IsWaits words other_list other_path other_file
-
+-- words are one command at most
 abbrev pub OneCommand : Type 0
-OneCommand = (words : List (List ℕ)) → IsOneCommand words
+OneCommand = (words : List (List ℕ)) (one other : CommandView) → Say words one → Say words other → one ≡ other
 
 -- a first word that chooses a command which is not built yet makes the words none
 abbrev pub OthersAreNone : Type 0

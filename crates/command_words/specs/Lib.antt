@@ -5,5 +5,7 @@ pub mod Found
 pub mod Compile
 pub mod Frames
 pub mod Waits
+pub mod RunOptions
+pub mod Run
 pub mod Command
 pub mod Listed

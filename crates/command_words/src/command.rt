@@ -7,7 +7,9 @@ ghost use Rattle.command_words.specs.Compile.{HasWord, unbuilt_commands};
 use crate::WordsFault;
 use crate::compile::compile;
 use crate::frames::frames;
+use crate::run::run;
 use crate::waits::waits;
+use schedules::{Stop, Turn};
 use std::alloc::Global;
 
 /// A command, with what its words say. docs/command_line.md states the forms of words.
@@ -44,10 +46,27 @@ pub enum Command {
         /// The name of the file of the top protocol.
         file: String,
     },
+    /// Run a script, and print the history of both ends.
+    Run {
+        /// The name of the sync list, where one is given.
+        list: Option<String>,
+        /// The folders in which files are looked for, in order.
+        path: Vec<String>,
+        /// The turns of the sides, where they are given.
+        schedule: Option<Vec<Turn>>,
+        /// The most events of a side, from 1 to 20,000.
+        limit: u32,
+        /// The death of an end, where one is given.
+        death: Option<Stop>,
+        /// The name of the script.
+        script: String,
+        /// The name of the file of the top protocol.
+        file: String,
+    },
 }
 
 /// The first words that will choose a command of their own which is not built yet.
-const UNBUILT_COMMANDS: [&str; 5] = ["run", "gen", "feed", "relay", "audit"];
+const UNBUILT_COMMANDS: [&str; 4] = ["gen", "feed", "relay", "audit"];
 
 /// Whether the word is one of these.
 fn has_word(words: &[&str], word: &str) -> bool
@@ -75,6 +94,9 @@ pub fn read_words(alloc: Global, words: &[String]) -> Result<Command, WordsFault
         }
         if first.as_str() == "waits" {
             return waits(alloc, rest);
+        }
+        if first.as_str() == "run" {
+            return run(alloc, rest);
         }
         if is_unbuilt_command(first.as_str()) {
             return Err(WordsFault::Usage);

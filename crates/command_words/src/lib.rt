@@ -4,12 +4,15 @@
 
 mod command;
 mod compile;
+mod courses;
 mod fault;
 mod files;
 mod folders;
 mod frames;
 mod laws;
+mod numbers;
 mod options;
+mod run;
 mod texts;
 mod waits;
 

@@ -15,6 +15,7 @@ use std::env;
 use std::io::{ErrorKind, Write};
 use std::process::ExitCode;
 use std::rt::{Env, Files};
+use world_core::OneThread;
 
 /// The words of the command, which stand behind the program's name; an error is want of memory.
 fn command_words<R: Env + AllocGlobal>(rt: &R) -> Result<Vec<String>, AllocError> {
@@ -41,7 +42,15 @@ fn run<R: Files + Env + AllocGlobal, O: Write + Drop, E: Write + Drop>(
     let mut files = RealFiles::new(rt);
     let mut out = RealSink::new(out);
     let mut err = RealSink::new(err);
-    exit_code_of(rt.alloc(), words.as_slice(), &mut files, &mut out, &mut err)
+    let mut driver = OneThread::new(Vec::new(rt.alloc()));
+    exit_code_of(
+        rt.alloc(),
+        words.as_slice(),
+        &mut files,
+        &mut out,
+        &mut err,
+        &mut driver,
+    )
 }
 
 fn main(rt: HostRuntime) -> ExitCode {

@@ -1,12 +1,14 @@
 -- Words have at most one answer with some files.
-use Rattle.std.proofs.Common.{◌≡◌, ℕ, zero, ◌+◌, Bool, true, false, cond, List, [], ◌∷◌, ◌++◌, map, length, refl, sym, ◌∙◌, ap, subst, inl, inr, arith}
+use Rattle.std.proofs.Common.{◌≡◌, ◌≢◌, ℕ, zero, ◌+◌, Bool, true, false, cond, List, [], ◌∷◌, ◌++◌, map, length, refl, sym, ◌∙◌, ap, subst, inl, inr, arith}
 use Rattle.std.specs.Prelude.{Option, Some, None, codes}
 use Rattle.std.specs.List.{flat_map, position_or_len}
 use Rattle.std.proofs.lemmas.Option.{same_Some}
 use Rattle.ipdl_base.specs.Outside.{FileMap}
 use Rattle.ipdl_base.specs.declared.finding.Finding.{Finding}
 use Rattle.ipdl_syntax.specs.declared.program.Entry.{Entry}
-use Rattle.command_words.specs.Command.{OneCommand}
+use Rattle.command_words.specs.Command.{CommandView, OneCommand, Say}
+use Rattle.command_words.specs.Command as command
+use Rattle.command_words.specs.Run.{Course}
 use Rattle.findings.specs.Report.{IsReport}
 use Rattle.findings.proofs.Reports.{same_report}
 use Rattle.include_graph.specs.Load.{keys_of}
@@ -15,8 +17,8 @@ use Rattle.include_graph.proofs.OneReach.{one_reach}
 use Rattle.include_graph.proofs.OneUnit.{AtMostOne}
 use Rattle.answer_laws.specs.Programs.{BreakAlike, AreListedAlike, HaveSchemasAlike, AreProgramsAlike}
 use Rattle.program_schema.specs.Laws.{OneSchema, plain_protocol_row, plain_schema}
-use Rattle.answer_laws.specs.Frames.{FramesAlike, OneListOfFrames}
-use Rattle.answer_laws.specs.Waits.{OneWaitReport, WaitsAlike}
+use Rattle.schema_laws.specs.Frames.{FramesAlike, OneListOfFrames}
+use Rattle.schema_laws.specs.Waits.{OneWaitReport, WaitsAlike}
 use Rattle.frame_list.specs.declared.list.PlacedMessage.{PlacedMessage}
 use Rattle.frame_list.specs.Converted.{new_frames}
 use Rattle.frame_list.specs.Frames.{Holds, all_plain}
@@ -34,16 +36,18 @@ use Rattle.sync_list.specs.declared.list.Section.{Section}
 use Rattle.sync_list.specs.Lists.{IsListOf}
 use Rattle.sync_list.specs.Laws.{OneList}
 use Rattle.ipdl_top.specs.declared.answer.CommandAnswer.{CommandAnswer}
-use Rattle.ipdl_top.specs.CommandAnswer.{IsBrokenFile, BreaksRules, IsFileReport, IsReading, IsRuleReport, IsSaidOf, IsCompilation, IsCommandAnswer, IsFramesAnswer, IsWaitsAnswer, SaysTables, given_by, report_answer, table_answer}
+use Rattle.ipdl_top.specs.CommandAnswer.{IsBrokenFile, BreaksRules, IsFileReport, IsReading, IsRuleReport, IsSaidOf, IsCompilation, AnswersTo, SaysTables, given_by, report_answer, table_answer}
 use Rattle.ipdl_top.specs.Frames.{SaysBytes, SaysFrames, frames_answer, frames_out}
-use Rattle.ipdl_top.specs.Laws.{OneAnswer}
+use Rattle.ipdl_top.specs.Laws.{LeavesNothing, OneAnswer}
+use Rattle.ipdl_top.specs.Run.{Driving, SaysRun}
 use Rattle.ipdl_top.specs.Waits.{IsTop, SaysWaits, bears_name, pair_line, waits_text}
 use Rattle.ipdl_top.specs.Lists.{AreSections, list_names}
 use Rattle.ipdl_top.specs.FileViews.{FileViews}
 use Rattle.ipdl_top.proofs.Alike.{alike, same_keys}
 use Rattle.ipdl_top.proofs.Compilations.{names_called, no_fault}
 use Rattle.ipdl_top.proofs.TableTexts.{one_text}
-use Rattle.ipdl_top.proofs.Tops.{position-cons}
+use Rattle.ipdl_top.proofs.OneRun.{RunLaws, run_one}
+use Rattle.ipdl_top.proofs.OneTop.{one_top}
 
 -- the laws of what the program is made of
 pub record TheLaws : Type 0 where
@@ -59,6 +63,7 @@ pub record TheLaws : Type 0 where
   pub frames : OneListOfFrames
   pub waits_alike : WaitsAlike
   pub wait_report : OneWaitReport
+  pub runs : RunLaws
 
 -- Lists
 
@@ -163,19 +168,6 @@ frames_one laws name convert (Some bytes) a b same one other (inl x) (inr y) = a
 frames_one laws name convert (Some bytes) a b same one other (inr x) (inl y) = absurd (omega (arith, x.0, y.0))
 frames_one laws name convert (Some bytes) a b same one other (inr x) (inr y) = bytes_one laws name convert bytes a b same one other x.1 y.1
 
--- the place of the first that passes, where all are as plain
-place_alike : (p : ProtocolRow → Bool) → ((row : ProtocolRow) → p (plain_protocol_row row) ≡ p row) → (rows : List ProtocolRow) → position_or_len p (map plain_protocol_row rows) ≡ position_or_len p rows
-place_alike p blind [] = refl
-place_alike p blind (row ∷ rows) =
-    position-cons p (plain_protocol_row row) (map plain_protocol_row rows) ∙ ap (λ (b : Bool). cond b 0 (1 + position_or_len p (map plain_protocol_row rows))) (blind row)
-    ∙ ap (λ (n : ℕ). cond (p row) 0 (1 + n)) (place_alike p blind rows) ∙ sym (position-cons p row rows)
-
--- the top of a file
-one_top : (file : List ℕ) (a b : Schema) → plain_schema a ≡ plain_schema b → (top other : ℕ) → IsTop file a top → IsTop file b other → top ≡ other
-one_top file a b same top other x y =
-    sym x.first ∙ sym (place_alike (bears_name file) (λ row. refl) a.protocols) ∙ ap (λ (s : Schema). position_or_len (bears_name file) s.protocols) same
-    ∙ place_alike (bears_name file) (λ row. refl) b.protocols ∙ y.first
-
 -- the lines of pairs
 same_lines : TheLaws → (a b : Schema) → plain_schema a ≡ plain_schema b → (pairs : List Pair) → waits_text a pairs ≡ waits_text b pairs
 same_lines laws a b same pairs = ap (λ (f : Pair → List ℕ). flat_map f pairs) (λ i pair. pair_line_at pair i)
@@ -215,53 +207,31 @@ compilations laws Says unique given lists list one other (inr (inl x)) (inr (inr
 compilations laws Says unique given lists list one other (inr (inr x)) (inr (inl y)) = absurd (not_said laws Says given lists list other one y x)
 compilations laws Says unique given lists list one other (inr (inr x)) (inr (inr y)) = said laws Says unique given lists list one other x y
 
--- so has the command that compiles
-commands : TheLaws → (seen : FileViews) (words : List (List ℕ)) (one other : CommandAnswer) → IsCommandAnswer seen words one → IsCommandAnswer seen words other → one ≡ other
-commands laws seen words one other x y =
-    let same = (laws.command words).compile y.list x.list y.path x.path y.names x.names y.command x.command in
-    let listed : IsCompilation SaysTables (given_by seen.files y.path y.names) seen.list x.list other = subst (λ (l : Option (List ℕ)). IsCompilation SaysTables (given_by seen.files y.path y.names) seen.list l other) same.0 y.compilation in
-    let found : IsCompilation SaysTables (given_by seen.files x.path y.names) seen.list x.list other = subst (λ (p : List (List ℕ)). IsCompilation SaysTables (given_by seen.files p y.names) seen.list x.list other) same.1 listed in
-    let named : IsCompilation SaysTables (given_by seen.files x.path x.names) seen.list x.list other = subst (λ (n : List (List ℕ)). IsCompilation SaysTables (given_by seen.files x.path n) seen.list x.list other) same.2 found in
-    compilations laws SaysTables tables_one (given_by seen.files x.path x.names) seen.list x.list one other x.compilation named
+-- what a command leaves to nobody: all but a run without a word of turns
+abbrev LeavesNone : CommandView → Type 0
+LeavesNone (command.run list path course script file) = course.schedule ≢ None
+LeavesNone _ = Unit {0}
 
--- and the one that prints frames
-frames_commands : TheLaws → (seen : FileViews) (words : List (List ℕ)) (one other : CommandAnswer) → IsFramesAnswer seen words one → IsFramesAnswer seen words other → one ≡ other
-frames_commands laws seen words one other x y =
-    let same = (laws.command words).frames y.list x.list y.path x.path y.file x.file y.frames x.frames y.convert x.convert y.command x.command in
-    let Of : Option (List ℕ) → List (List ℕ) → List ℕ → List ℕ → Bool → Type 0 =
-    λ list path file frames convert. IsCompilation (SaysFrames frames convert (seen.frames frames)) (given_by seen.files path (file ∷ [])) seen.list list other in
-    let listed : Of x.list y.path y.file y.frames y.convert = subst (λ (l : Option (List ℕ)). Of l y.path y.file y.frames y.convert) same.0 y.compilation in
-    let found : Of x.list x.path y.file y.frames y.convert = subst (λ (p : List (List ℕ)). Of x.list p y.file y.frames y.convert) same.1 listed in
-    let named : Of x.list x.path x.file y.frames y.convert = subst (λ (f : List ℕ). Of x.list x.path f y.frames y.convert) same.2 found in
-    let framed : Of x.list x.path x.file x.frames y.convert = subst (λ (f : List ℕ). Of x.list x.path x.file f y.convert) same.3 named in
-    let whole : Of x.list x.path x.file x.frames x.convert = subst (λ (c : Bool). Of x.list x.path x.file x.frames c) same.4 framed in
-    compilations laws (SaysFrames x.frames x.convert (seen.frames x.frames)) (frames_one laws x.frames x.convert (seen.frames x.frames)) (given_by seen.files x.path (x.file ∷ [])) seen.list x.list one other x.compilation whole
+leaves_none : (words : List (List ℕ)) (command : CommandView) → Say words command → LeavesNothing words → LeavesNone command
+leaves_none words (command.compile list path names) said leaves = tt
+leaves_none words (command.frames list path file name convert) said leaves = tt
+leaves_none words (command.waits list path file) said leaves = tt
+leaves_none words (command.run list path course script file) said leaves = leaves list path course script file said
 
--- and the one that lists what may interrupt a wait
-waits_commands : TheLaws → (seen : FileViews) (words : List (List ℕ)) (one other : CommandAnswer) → IsWaitsAnswer seen words one → IsWaitsAnswer seen words other → one ≡ other
-waits_commands laws seen words one other x y =
-    let same = (laws.command words).waits y.list x.list y.path x.path y.file x.file y.command x.command in
-    let Of : Option (List ℕ) → List (List ℕ) → List ℕ → Type 0 = λ list path file. IsCompilation (SaysWaits file) (given_by seen.files path (file ∷ [])) seen.list list other in
-    let listed : Of x.list y.path y.file = subst (λ (l : Option (List ℕ)). Of l y.path y.file) same.0 y.compilation in
-    let found : Of x.list x.path y.file = subst (λ (p : List (List ℕ)). Of x.list p y.file) same.1 listed in
-    let named : Of x.list x.path x.file = subst (λ (f : List ℕ). Of x.list x.path f) same.2 found in
-    compilations laws (SaysWaits x.file) (waits_one laws x.file) (given_by seen.files x.path (x.file ∷ [])) seen.list x.list one other x.compilation named
+-- so has each command
+commands : TheLaws → (Gives : Driving) (seen : FileViews) (command : CommandView) → LeavesNone command → (one other : CommandAnswer) → AnswersTo Gives seen command one → AnswersTo Gives seen command other → one ≡ other
+commands laws Gives seen (command.compile list path names) leaves one other x y = compilations laws SaysTables tables_one (given_by seen.files path names) seen.list list one other x y
+commands laws Gives seen (command.frames list path file name convert) leaves one other x y =
+    compilations laws (SaysFrames name convert (seen.last name)) (frames_one laws name convert (seen.last name)) (given_by seen.files path (file ∷ [])) seen.list list one other x y
+commands laws Gives seen (command.waits list path file) leaves one other x y = compilations laws (SaysWaits file) (waits_one laws file) (given_by seen.files path (file ∷ [])) seen.list list one other x y
+commands laws Gives seen (command.run list path course script file) leaves one other x y =
+    compilations laws (SaysRun Gives course script (seen.last script) file) (run_one laws.runs Gives course leaves script (seen.last script) file) (given_by seen.files path (file ∷ [])) seen.list list one other x y
 
 -- words are one command or none
-pub answer_is_determined : TheLaws → OneAnswer
-answer_is_determined laws seen words one other (inl x) (inl y) = commands laws seen words one other x y
-answer_is_determined laws seen words one other (inl x) (inr (inl y)) = absurd ((laws.command words).apart x.list y.list x.path y.path x.names y.file y.frames y.convert x.command y.command)
-answer_is_determined laws seen words one other (inl x) (inr (inr (inl y))) = absurd ((laws.command words).waits_compile x.list y.list x.path y.path x.names y.file x.command y.command)
-answer_is_determined laws seen words one other (inl x) (inr (inr (inr y))) = absurd (y.0.0 x.list x.path x.names x.command)
-answer_is_determined laws seen words one other (inr (inl x)) (inl y) = absurd ((laws.command words).apart y.list x.list y.path x.path y.names x.file x.frames x.convert y.command x.command)
-answer_is_determined laws seen words one other (inr (inl x)) (inr (inl y)) = frames_commands laws seen words one other x y
-answer_is_determined laws seen words one other (inr (inl x)) (inr (inr (inl y))) = absurd ((laws.command words).waits_frames x.list y.list x.path y.path x.file y.file x.frames x.convert x.command y.command)
-answer_is_determined laws seen words one other (inr (inl x)) (inr (inr (inr y))) = absurd (y.0.1 x.list x.path x.file x.frames x.convert x.command)
-answer_is_determined laws seen words one other (inr (inr (inl x))) (inl y) = absurd ((laws.command words).waits_compile y.list x.list y.path x.path y.names x.file y.command x.command)
-answer_is_determined laws seen words one other (inr (inr (inl x))) (inr (inl y)) = absurd ((laws.command words).waits_frames y.list x.list y.path x.path y.file x.file y.frames y.convert y.command x.command)
-answer_is_determined laws seen words one other (inr (inr (inl x))) (inr (inr (inl y))) = waits_commands laws seen words one other x y
-answer_is_determined laws seen words one other (inr (inr (inl x))) (inr (inr (inr y))) = absurd (y.0.2 x.list x.path x.file x.command)
-answer_is_determined laws seen words one other (inr (inr (inr x))) (inl y) = absurd (x.0.0 y.list y.path y.names y.command)
-answer_is_determined laws seen words one other (inr (inr (inr x))) (inr (inl y)) = absurd (x.0.1 y.list y.path y.file y.frames y.convert y.command)
-answer_is_determined laws seen words one other (inr (inr (inr x))) (inr (inr (inl y))) = absurd (x.0.2 y.list y.path y.file y.command)
-answer_is_determined laws seen words one other (inr (inr (inr x))) (inr (inr (inr y))) = x.1 ∙ sym y.1
+pub answer_is_determined : TheLaws → (Gives : Driving) → OneAnswer Gives
+answer_is_determined laws Gives seen words one other leaves (inl x) (inl y) =
+    let same : y.command ≡ x.command = laws.command words y.command x.command y.said x.said in
+    commands laws Gives seen x.command (leaves_none words x.command x.said leaves) one other x.answers (subst (λ (command : CommandView). AnswersTo Gives seen command other) same y.answers)
+answer_is_determined laws Gives seen words one other leaves (inl x) (inr y) = absurd (y.0 x.command x.said)
+answer_is_determined laws Gives seen words one other leaves (inr x) (inl y) = absurd (x.0 y.command y.said)
+answer_is_determined laws Gives seen words one other leaves (inr x) (inr y) = x.1 ∙ sym y.1

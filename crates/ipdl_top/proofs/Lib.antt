@@ -9,3 +9,6 @@ pub mod AtMostOne
 pub mod Gathered
 pub mod Found
 pub mod Tops
+pub mod Runs
+pub mod OneTop
+pub mod OneRun

@@ -34,21 +34,21 @@ for_each_seen (Some told) P Q to h = to (steady told) h
 
 -- what follows of the map of the program's files and of that of the list
 pub for_both : (told again : Option FileMap) (P Q : FileMap → Type 0) (R : FileViews → Type 0) → again ≡ told
-    → ((files lists : FileMap) → P files → Q lists → R (record { files = files; list = lists; frames = lists }))
+    → ((files lists : FileMap) → P files → Q lists → R (record { files = files; list = lists; last = lists }))
     → load.ForMap told P → load.ForMap again Q → ForMap told R
-for_both None None P Q R e to (files, h) (lists, k) = (record { files = files; list = lists; frames = lists }, to files lists h k)
+for_both None None P Q R e to (files, h) (lists, k) = (record { files = files; list = lists; last = lists }, to files lists h k)
 for_both None (Some map) P Q R e to h k = absurd (let no : ⊥ = cc in no)
 for_both (Some map) None P Q R e to h k = absurd (let no : ⊥ = cc in no)
 for_both (Some told) (Some again) P Q R e to h k = to told told h (subst Q (same_Some again told e) k)
 
--- what follows of all that is seen, and of the map of the frames
-pub for_frames : (told again : Option FileMap) (P : FileViews → Type 0) (Q : FileMap → Type 0) (R : FileViews → Type 0) → again ≡ told
-    → ((seen : FileViews) (frames : FileMap) → P seen → Q frames → R (record seen { frames = frames }))
+-- what follows of all that is seen, and of the map of the last file
+pub for_last : (told again : Option FileMap) (P : FileViews → Type 0) (Q : FileMap → Type 0) (R : FileViews → Type 0) → again ≡ told
+    → ((seen : FileViews) (last : FileMap) → P seen → Q last → R (record seen { last = last }))
     → ForMap told P → load.ForMap again Q → ForMap told R
-for_frames None None P Q R e to (seen, h) (frames, k) = (record seen { frames = frames }, to seen frames h k)
-for_frames None (Some map) P Q R e to h k = absurd (let no : ⊥ = cc in no)
-for_frames (Some map) None P Q R e to h k = absurd (let no : ⊥ = cc in no)
-for_frames (Some told) (Some again) P Q R e to h k = to (steady told) told h (subst Q (same_Some again told e) k)
+for_last None None P Q R e to (seen, h) (last, k) = (record seen { last = last }, to seen last h k)
+for_last None (Some map) P Q R e to h k = absurd (let no : ⊥ = cc in no)
+for_last (Some map) None P Q R e to h k = absurd (let no : ⊥ = cc in no)
+for_last (Some told) (Some again) P Q R e to h k = to (steady told) told h (subst Q (same_Some again told e) k)
 
 -- something is seen
 pub some_seen : (told : Option FileMap) (P : FileViews → Type 0) → ForMap told P → (seen : FileViews) × P seen

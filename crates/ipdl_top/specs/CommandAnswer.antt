@@ -1,14 +1,11 @@
 -- What the program answers.
-use Rattle.std.specs.Prelude.{◌≡◌, ◌≢◌, ◌⊎◌, ℕ, Bool, List, [], ◌∷◌, ◌++◌, map, length, Option, IsSomeAnd}
+use Rattle.std.specs.Prelude.{◌≡◌, ◌≢◌, ◌⊎◌, ℕ, List, [], ◌∷◌, ◌++◌, map, length, Option, IsSomeAnd}
 use Rattle.ipdl_base.specs.Outside.{FileMap}
 use Rattle.ipdl_base.specs.declared.finding.Finding.{Finding}
 use Rattle.ipdl_base.specs.declared.schema.Schema.{Schema}
 use Rattle.ipdl_syntax.specs.declared.program.Entry.{Entry}
 use Rattle.ipdl_syntax.specs.Programs.{IsProgram}
-use Rattle.command_words.specs.Command.{IsNoCommand}
-use Rattle.command_words.specs.Compile.{IsCompile}
-use Rattle.command_words.specs.Frames.{IsFrames}
-use Rattle.command_words.specs.Waits.{IsWaits}
+use Rattle.command_words.specs.Command.{CommandView, IsNoCommand, Say, compile, frames, run, waits}
 use Rattle.findings.specs.Report.{IsReport}
 use Rattle.include_graph.specs.Load.{IsProgramOf}
 use Rattle.include_graph.specs.Reach.{IsReach}
@@ -26,6 +23,7 @@ use Rattle.ipdl_top.specs.Command.{usage_text}
 use Rattle.ipdl_top.specs.Frames.{SaysFrames}
 use Rattle.ipdl_top.specs.Lists.{IsFaultOfList, AreSections, list_names}
 use Rattle.ipdl_top.specs.Report.{report_text}
+use Rattle.ipdl_top.specs.Run.{Driving, SaysRun}
 use Rattle.ipdl_top.specs.FileViews.{FileViews}
 use Rattle.ipdl_top.specs.Waits.{SaysWaits}
 
@@ -106,32 +104,19 @@ SaysTables schema answer = answer ≡ table_answer (table_text schema)
 abbrev pub given_by : FileMap → List (List ℕ) → List (List ℕ) → LoadInput
 given_by files path names = record { files = files; words = names; path = path }
 
--- the answer of the command that compiles, where the words are it
-pub record IsCommandAnswer (seen : FileViews) (words : List (List ℕ)) (answer : CommandAnswer) : Type 0 where
-  pub list : Option (List ℕ)
-  pub path : List (List ℕ)
-  pub names : List (List ℕ)
-  pub command : IsCompile words list path names
-  pub compilation : IsCompilation SaysTables (given_by seen.files path names) seen.list list answer
+-- The answer to what words say, with these files; a run goes as the driver has it, where no word of turns is given.
+abbrev pub AnswersTo : Driving → FileViews → CommandView → CommandAnswer → Type 0
+AnswersTo Gives seen (compile list path names) answer = IsCompilation SaysTables (given_by seen.files path names) seen.list list answer
+AnswersTo Gives seen (frames list path file name convert) answer = IsCompilation (SaysFrames name convert (seen.last name)) (given_by seen.files path (file ∷ [])) seen.list list answer
+AnswersTo Gives seen (waits list path file) answer = IsCompilation (SaysWaits file) (given_by seen.files path (file ∷ [])) seen.list list answer
+AnswersTo Gives seen (run list path course script file) answer = IsCompilation (SaysRun Gives course script (seen.last script) file) (given_by seen.files path (file ∷ [])) seen.list list answer
 
--- the answer of the command that prints frames, where the words are it
-pub record IsFramesAnswer (seen : FileViews) (words : List (List ℕ)) (answer : CommandAnswer) : Type 0 where
-  pub list : Option (List ℕ)
-  pub path : List (List ℕ)
-  pub file : List ℕ
-  pub frames : List ℕ
-  pub convert : Bool
-  pub command : IsFrames words list path file frames convert
-  pub compilation : IsCompilation (SaysFrames frames convert (seen.frames frames)) (given_by seen.files path (file ∷ [])) seen.list list answer
-
--- the answer of the command that lists what may interrupt a wait, where the words are it
-pub record IsWaitsAnswer (seen : FileViews) (words : List (List ℕ)) (answer : CommandAnswer) : Type 0 where
-  pub list : Option (List ℕ)
-  pub path : List (List ℕ)
-  pub file : List ℕ
-  pub command : IsWaits words list path file
-  pub compilation : IsCompilation (SaysWaits file) (given_by seen.files path (file ∷ [])) seen.list list answer
+-- the words are a command, and the answer is the one to it
+pub record IsCommandAnswer (Gives : Driving) (seen : FileViews) (words : List (List ℕ)) (answer : CommandAnswer) : Type 0 where
+  pub command : CommandView
+  pub said : Say words command
+  pub answers : AnswersTo Gives seen command answer
 
 -- The answer to words, with these files: that of the command that they are, or how the program is called where they are none.
-abbrev pub IsAnswer : FileViews → List (List ℕ) → CommandAnswer → Type 0
-IsAnswer seen words answer = IsCommandAnswer seen words answer ⊎ (IsFramesAnswer seen words answer ⊎ (IsWaitsAnswer seen words answer ⊎ (IsNoCommand words × (answer ≡ usage_answer))))
+abbrev pub IsAnswer : Driving → FileViews → List (List ℕ) → CommandAnswer → Type 0
+IsAnswer Gives seen words answer = IsCommandAnswer Gives seen words answer ⊎ (IsNoCommand words × (answer ≡ usage_answer))

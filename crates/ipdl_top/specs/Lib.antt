@@ -2,6 +2,8 @@ pub mod CommandAnswer
 pub mod Codes
 pub mod Frames
 pub mod Waits
+pub mod Run
+pub mod RunSteps
 pub mod Command
 pub mod Laws
 pub mod Lists

@@ -15,8 +15,8 @@ use Rattle.ipdl_top.specs.declared.list.SyncListFile.{SyncListFile}
 use Rattle.ipdl_top.specs.declared.list.SyncListFile.TheVariants.{Sections, Broken}
 use Rattle.ipdl_top.specs.declared.checked.CheckResult.{CheckResult}
 use Rattle.ipdl_top.specs.declared.checked.CheckResult.TheVariants.{Report, Clean}
-use Rattle.ipdl_top.specs.declared.frames.FramesFile.{FramesFile}
-use Rattle.ipdl_top.specs.declared.frames.FramesFile.TheVariants.{Absent, Larger, Bytes}
+use Rattle.ipdl_top.specs.declared.held.HeldFile.{HeldFile}
+use Rattle.ipdl_top.specs.declared.held.HeldFile.TheVariants.{Absent, Larger, Bytes}
 use Rattle.ipdl_top.specs.CommandAnswer.{BreaksRules, IsFileReport, IsRuleReport, IsSchemaRead, report_answer}
 use Rattle.ipdl_top.specs.Waits.{IsTop}
 use Rattle.ipdl_top.specs.Lists.{AreSections, IsFaultOfList, IsLargeList, IsListFault, SpellsList, list_names}
@@ -82,11 +82,17 @@ abbrev pub IsSoundChecked : CheckResult → Type 0
 IsSoundChecked (Report report) = Unit {0}
 IsSoundChecked (Clean schema) = IsSound schema
 
--- what a file of frames was found to be
-abbrev pub IsHeld : Option (List ℕ) → FramesFile → Type 0
+-- what a file of frames or a script was found to be
+abbrev pub IsHeld : Option (List ℕ) → HeldFile → Type 0
 IsHeld held Absent = held ≡ None
 IsHeld held Larger = IsLargeList held
 IsHeld held (Bytes bytes) = (held ≡ Some bytes.items) × (length bytes.items ≤ 1048576)
+
+-- a file that was read has no more bytes than are read
+abbrev pub IsSmall : HeldFile → Type 0
+IsSmall Absent = Unit {0}
+IsSmall Larger = Unit {0}
+IsSmall (Bytes bytes) = length bytes.items ≤ 1048576
 
 -- the answer is the report of these findings and of what the list breaks
 pub record AreFilesReported (findings : List Finding) (listed : SyncListFile) (names : List (List ℕ)) (answer : CommandAnswer) : Type 0 where

@@ -24,7 +24,7 @@ use std::mem::forget;
 
 /// Leaves what a command has found where it lies. The process ends right behind the command, and gives all of its
 /// memory back at once, so nothing is let go piece by piece.
-fn leave<T: Drop>(found: T) {
+pub fn leave<T: Drop>(found: T) {
     forget(found);
 }
 

@@ -12,24 +12,11 @@ ghost use Rattle.ipdl_top.specs.Steps.{IsHeld, IsSoundChecked, IsToldOf};
 use crate::answer::{CommandAnswer, Failure};
 use crate::checked::CheckResult;
 use crate::compile::checked;
+use crate::held::{HeldFile, read_held};
 use frame_list::{FrameListFault, fault_text, push_lines, push_new_frames};
-use ipdl_base::{Files, ReadAnswer, Schema};
+use ipdl_base::{Files, Schema};
 use std::alloc::{AllocError, Global};
 use std::slice::from_ref;
-
-/// The most bytes of a file of frames that is read.
-const MOST_BYTES: usize = 1_048_576;
-
-/// What a file of frames was found to be.
-#[derive(Drop)]
-pub enum FramesFile {
-    /// There is none.
-    Absent,
-    /// It has more bytes than are read.
-    Larger,
-    /// It has these bytes.
-    Bytes(Vec<u8>),
-}
 
 /// The file to print frames of, and how.
 #[derive(Drop)]
@@ -38,31 +25,6 @@ pub struct FramesRequest<'w> {
     pub name: &'w str,
     /// Whether the frames are written anew.
     pub convert: bool,
-}
-
-/// What a file of these bytes is.
-fn held_of_bytes(bytes: Vec<u8>) -> FramesFile
-    ensures { IsHeld (Some bytes.items) result }
-{
-    if bytes.len() > MOST_BYTES {
-        FramesFile::Larger
-    } else {
-        FramesFile::Bytes(bytes)
-    }
-}
-
-/// Reads the file of frames of this name.
-fn read_held<F: Files>(alloc: Global, files: &mut F, name: &str) -> Result<FramesFile, Failure>
-    ensures held { load.ForMap (F.told files.old) (λ frames. IfOk result (IsHeld (frames name.now))) }
-    ensures read_fault { result ≡ Err Failure.ReadFault → Rose (F.faults files.old) (F.faults files.new) }
-{
-    match files.read(alloc, name, MOST_BYTES) {
-        ReadAnswer::Bytes(bytes) => Ok(held_of_bytes(bytes)),
-        ReadAnswer::Absent => Ok(FramesFile::Absent),
-        ReadAnswer::Larger => Ok(FramesFile::Larger),
-        ReadAnswer::Failed => Err(Failure::ReadFault),
-        ReadAnswer::NoMemory => Err(Failure::NoMemory),
-    }
 }
 
 /// Appends the text for the frames of a file of these bytes, their lines or the same messages in new
@@ -131,15 +93,15 @@ fn held_answer(
     alloc: Global,
     schema: &Schema,
     wanted: &FramesRequest<'_>,
-    held: &FramesFile,
+    held: &HeldFile,
 ) -> Result<CommandAnswer, AllocError>
     requires { IsSound schema.now }
     ensures { IfOk result (λ answer. (file : Option (List ℕ)) → IsHeld file held.now → SaysFrames wanted.now.name.now wanted.now.convert file schema.now answer) }
 {
     match held {
-        FramesFile::Absent => unread_answer(alloc, wanted.name, ":0: absent\n"),
-        FramesFile::Larger => unread_answer(alloc, wanted.name, ":0: larger\n"),
-        FramesFile::Bytes(bytes) => bytes_answer(alloc, schema, wanted, bytes.as_slice()),
+        HeldFile::Absent => unread_answer(alloc, wanted.name, ":0: absent\n"),
+        HeldFile::Larger => unread_answer(alloc, wanted.name, ":0: larger\n"),
+        HeldFile::Bytes(bytes) => bytes_answer(alloc, schema, wanted, bytes.as_slice()),
     }
 }
 
@@ -148,7 +110,7 @@ fn checked_answer(
     alloc: Global,
     checked: CheckResult,
     wanted: &FramesRequest<'_>,
-    held: &FramesFile,
+    held: &HeldFile,
 ) -> Result<CommandAnswer, AllocError>
     requires { IsSoundChecked checked }
     ensures { IfOk result (λ answer. (file : Option (List ℕ)) → IsHeld file held.now → IsToldOf (SaysFrames wanted.now.name.now wanted.now.convert file) checked answer) }
@@ -186,7 +148,7 @@ pub fn frames<F: Files>(
 ) -> Result<CommandAnswer, Failure>
     requires { AreFileWords (string_bytes file.now ∷ []) }
     ensures answer { ForMap (F.told files.old) (λ seen. IfOk result
-        (IsCompilation (SaysFrames wanted.now.name.now wanted.now.convert (seen.frames wanted.now.name.now)) (given_by seen.files (map string_bytes path.now) (string_bytes file.now ∷ [])) seen.list (option_map string_bytes list.now))) }
+        (IsCompilation (SaysFrames wanted.now.name.now wanted.now.convert (seen.last wanted.now.name.now)) (given_by seen.files (map string_bytes path.now) (string_bytes file.now ∷ [])) seen.list (option_map string_bytes list.now))) }
     ensures read_fault { result ≡ Err Failure.ReadFault → Rose (F.faults files.old) (F.faults files.new) }
 {
     match checked(alloc, files, list, path, from_ref(file)) {

@@ -1,21 +1,26 @@
 ghost use Rattle.ipdl_top.specs.Laws.{OneAnswer};
 
-use answer_laws::{
-    break_alike, frames_alike, listed_alike, one_list_of_frames, one_wait_report, schemas_alike,
-    waits_alike,
-};
+use answer_laws::{break_alike, listed_alike, schemas_alike};
 use command_words::one_command;
 use grammar_laws::one_tree;
 use ipdl_lex::one_answer;
 use program_schema::one_schema;
+use schema_laws::{
+    frames_alike, one_list_of_frames, one_wait_report, picks_alike, scripts_alike, texts_alike,
+    waits_alike,
+};
+use script_steps::words_have_one_result;
 use sync_list::one_list;
 use value_types::boxes_say_nothing;
+use world_core::Driver;
 
-/// The law of the answer: for the same files, words have at most one. So the files and the words
-/// determine an answer's status, its text for `out` and its text for `err`.
-pub fn answer_is_determined()
-    ensures { OneAnswer }
+/// The law of the answer: for the same files, words have at most one, but for those that run a script
+/// without a word of turns. So the files and the words determine an answer's status, its text for `out`
+/// and its text for `err`.
+pub fn answer_is_determined<D: Driver>(driver: &D)
+    ensures { OneAnswer (D.Gives driver.now) }
 {
+    let _ = driver;
     one_answer();
     one_tree();
     one_command();
@@ -29,4 +34,8 @@ pub fn answer_is_determined()
     one_list_of_frames();
     waits_alike();
     one_wait_report();
+    picks_alike();
+    texts_alike();
+    scripts_alike();
+    words_have_one_result();
 }

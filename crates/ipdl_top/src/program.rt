@@ -9,20 +9,24 @@ ghost use Rattle.ipdl_top.specs.Written.{WritesAll};
 use crate::answer::{CommandAnswer, Failure};
 use crate::compile::compile;
 use crate::frames::{FramesRequest, frames};
+use crate::run::{RunRequest, run};
 use crate::status::Status;
 use crate::waits::waits;
 use crate::write::write_answer;
 use command_words::{Command, WordsFault, read_words};
 use ipdl_base::{Files, Sink};
 use std::alloc::Global;
+use world_core::Driver;
 
 /// The answer to the words of a call.
-fn answer_to<F: Files>(
+fn answer_to<F: Files, D: Driver>(
     alloc: Global,
     words: &[String],
     files: &mut F,
+    driver: &mut D,
 ) -> Result<CommandAnswer, Failure>
-    ensures answer { ForMap (F.told files.old) (λ map'. IfOk result (IsAnswer map' (map string_bytes words.now))) }
+    requires ready { D.ready driver.old }
+    ensures answer { ForMap (F.told files.old) (λ map'. IfOk result (IsAnswer (D.Gives driver.old) map' (map string_bytes words.now))) }
     ensures no_command { IsNoCommand (map string_bytes words.now) → result ≢ Err Failure.ReadFault }
     ensures read_fault { result ≡ Err Failure.ReadFault → Rose (F.faults files.old) (F.faults files.new) }
 {
@@ -52,19 +56,41 @@ fn answer_to<F: Files>(
         Ok(Command::Waits { list, path, file }) => {
             waits(alloc, files, &list, path.as_slice(), &file)
         }
+        Ok(
+            Command::Run {
+                list,
+                path,
+                schedule,
+                limit,
+                death,
+                script,
+                file,
+            },
+        ) => {
+            let wanted = RunRequest {
+                script: script.as_str(),
+                schedule,
+                limit,
+                death,
+            };
+            run(alloc, files, &list, path.as_slice(), &file, &wanted, driver)
+        }
         Err(WordsFault::Usage) => CommandAnswer::of_no_command(alloc),
         Err(WordsFault::NoMemory) => Err(Failure::NoMemory),
     }
 }
 
 /// Runs the program on its words, which do not hold its own name (docs/theorems.md, "The program").
-pub fn ipdl<F: Files, O: Sink, E: Sink>(
+pub fn ipdl<F: Files, O: Sink, E: Sink, D: Driver>(
     alloc: Global,
     words: &[String],
     files: &mut F,
     out: &mut O,
     err: &mut E,
+    driver: &mut D,
 ) -> Status
+    requires ready { D.ready driver.old }
+
     // Usage comes exactly where the words are no command, unless a write fails or memory runs out.
     ensures usage { result ≡ Status.Usage → IsNoCommand (map string_bytes words.now) }
     ensures no_command { IsNoCommand (map string_bytes words.now) →
@@ -74,7 +100,7 @@ pub fn ipdl<F: Files, O: Sink, E: Sink>(
         (record { old = E.written err.old; new = E.written err.new }) }
 
     // The status is that of an answer, of which all was written; or a write failed, and a front of one was.
-    ensures answer { ForMap (F.told files.old) (λ map'. IsOutcome (IsAnswer map' (map string_bytes words.now)) result
+    ensures answer { ForMap (F.told files.old) (λ map'. IsOutcome (IsAnswer (D.Gives driver.old) map' (map string_bytes words.now)) result
         (record { old = O.written out.old; new = O.written out.new })
         (record { old = E.written err.old; new = E.written err.new })) }
 
@@ -83,7 +109,7 @@ pub fn ipdl<F: Files, O: Sink, E: Sink>(
     ensures write_fault { result ≡ Status.WriteFault → Rose (O.faults out.old) (O.faults out.new) ⊎ Rose (E.faults err.old) (E.faults err.new) }
     ensures nothing { (result ≡ Status.ReadFault) ⊎ (result ≡ Status.NoMemory) → (out.new ≡ out.old) × (err.new ≡ err.old) }
 {
-    match answer_to(alloc, words, files) {
+    match answer_to(alloc, words, files, driver) {
         Ok(answer) => match write_answer(&answer, out, err) {
             Ok(()) => answer.status,
             Err(_) => Status::WriteFault,

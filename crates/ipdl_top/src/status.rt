@@ -11,8 +11,12 @@ pub enum Status {
     ReadFault,
     /// A write failed.
     WriteFault,
+    /// A side of the history that was printed has something to do, but as many events as it may have.
+    Spent,
     /// Memory ran out.
     NoMemory,
+    /// The script breaks a rule.
+    BadScript,
     /// The file of frames is missing, has more bytes than a file may have, or is no list of frames.
     BadFrames,
 }
@@ -31,7 +35,9 @@ impl Status {
             Status::Usage => 2,
             Status::ReadFault => 3,
             Status::WriteFault => 4,
+            Status::Spent => 5,
             Status::NoMemory => 6,
+            Status::BadScript => 7,
             Status::BadFrames => 8,
         }
     }

@@ -37,7 +37,7 @@ fn place_of(rows: &[ProtocolRow], file: &str) -> Option<usize>
 }
 
 /// The number of the protocol of a file, which is the first that bears its name.
-fn top_of(schema: &Schema, file: &str) -> Option<u32>
+pub fn top_of(schema: &Schema, file: &str) -> Option<u32>
     requires { IsSound schema.now }
     ensures { MatchOption result ((top : ℕ) → ¬ IsTop file.now schema.now top) (IsTop file.now schema.now) }
 {

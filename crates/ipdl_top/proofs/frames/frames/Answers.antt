@@ -7,7 +7,7 @@ use Rattle.ipdl_top.specs.Frames.{SaysFrames}
 use Rattle.ipdl_top.specs.FileViews.{FileViews}
 use Rattle.ipdl_top.specs.Steps.{IsChecked, IsToldOf}
 use Rattle.ipdl_top.proofs.Compilations.{of_told}
-use Rattle.ipdl_top.proofs.Maps.{for_frames}
+use Rattle.ipdl_top.proofs.Maps.{for_last}
 use Rattle.ipdl_top.proofs.frames.frames.Goals as goal
 
 pub returns-in-Ok-clause-answer : goal.returns-in-Ok-clause-answer
@@ -22,8 +22,8 @@ returns-in-Ok-clause-answer g c =
     let one : words ≡ file ∷ [] = ap (map string_bytes) c.from_ref.ensures.value in
     let P : FileViews → Type 0 = λ seen. IsChecked (given_by seen.files path words) seen.list list checked in
     let Q : FileMap → Type 0 = λ frames. IfOk c.answer_with.result (IsToldOf (SaysFrames name convert (frames name)) checked) in
-    let R : FileViews → Type 0 = λ seen. IfOk c.answer_with.result (IsCompilation (SaysFrames name convert (seen.frames name)) (given_by seen.files path (file ∷ [])) seen.list list) in
-    for_frames (g.F.Files.told c.args.files.now) (g.F.Files.told c.checked.new.files) P Q R c.in-Ok.ensures.told
+    let R : FileViews → Type 0 = λ seen. IfOk c.answer_with.result (IsCompilation (SaysFrames name convert (seen.last name)) (given_by seen.files path (file ∷ [])) seen.list list) in
+    for_last (g.F.Files.told c.args.files.now) (g.F.Files.told c.checked.new.files) P Q R c.in-Ok.ensures.told
     (λ seen frames h k. IfOk-weaker c.answer_with.result (IsToldOf (SaysFrames name convert (frames name)) checked)
     (IsCompilation (SaysFrames name convert (frames name)) (given_by seen.files path (file ∷ [])) seen.list list)
     (λ answer told. of_told (SaysFrames name convert (frames name)) (given_by seen.files path (file ∷ [])) seen.list list checked answer

@@ -2,7 +2,7 @@ use Rattle.ipdl_top.proofs.AtMostOne as law
 use Rattle.ipdl_top.proofs.laws.answer_is_determined.Goals as goal
 
 pub returns : goal.returns
-returns c = law.answer_is_determined (record {
+returns g c = law.answer_is_determined (record {
   texts = record { tokens = c.one_answer.ensures.tokens; tree = c.one_tree.ensures };
   command = c.one_command.ensures;
   list = c.one_list.ensures.list;
@@ -15,4 +15,5 @@ returns c = law.answer_is_determined (record {
   frames = c.one_list_of_frames.ensures;
   waits_alike = c.waits_alike.ensures;
   wait_report = c.one_wait_report.ensures;
-})
+  runs = record { picks = c.picks_alike.ensures; texts = c.texts_alike.ensures; scripts = c.scripts_alike.ensures; one = c.words_have_one_result.ensures };
+}) (g.D.Driver.Gives c.args.driver.now)

@@ -1,16 +1,17 @@
-use Rattle.std.proofs.Common.{List, ℕ, [], ◌∷◌, inl, inr, map, subst, rules}
-use Rattle.std.specs.Prelude.{Err, string_bytes, IfOk, option_map}
+use Rattle.std.proofs.Common.{◌≤◌, ◌++◌, ◌≡◌, List, ℕ, [], ◌∷◌, inl, inr, map, codes, subst, rules}
+use Rattle.std.specs.Prelude.{Err, Option, string_bytes, IfOk, option_map}
 use Rattle.std.proofs.lemmas.Result.{IfOk-weaker}
+use Rattle.ipdl_top.specs.declared.answer.CommandAnswer.{CommandAnswer}
 use Rattle.ipdl_top.specs.declared.answer.Failure.TheVariants.{NoMemory}
-use Rattle.command_words.specs.Command.{CommandOf}
-use Rattle.command_words.specs.Frames.{IsFrames}
-use Rattle.command_words.specs.Waits.{IsWaits}
-use Rattle.ipdl_top.specs.CommandAnswer.{IsAnswer, IsCompilation, given_by}
+use Rattle.command_words.specs.Command.{CommandOf, CommandView, Say, compile, frames, run, waits}
+use Rattle.command_words.specs.Run.{Course}
+use Rattle.ipdl_top.specs.CommandAnswer.{AnswersTo, IsAnswer, IsCompilation, SaysTables, given_by}
 use Rattle.ipdl_top.specs.Frames.{SaysFrames}
 use Rattle.ipdl_top.specs.FileViews.{FileViews, ForMap}
+use Rattle.ipdl_top.specs.Run.{Driving, SaysRun}
 use Rattle.ipdl_top.specs.Waits.{SaysWaits}
 use Rattle.ipdl_top.proofs.Maps.{for_all_seen, for_each_seen}
-use Rattle.ipdl_top.proofs.Words.{command_files}
+use Rattle.ipdl_top.proofs.Words.{command_files, given_limit}
 use Rattle.ipdl_top.proofs.program.answer_to.Goals as goal
 
 pub compile-requires : goal.compile-requires
@@ -19,44 +20,64 @@ compile-requires g c = search (command_files, rules)
 pub returns-in-Err-Usage-clause-answer : goal.returns-in-Err-Usage-clause-answer
 returns-in-Err-Usage-clause-answer g c =
     let words = map string_bytes c.args.words.now in
-    let P : FileViews → Type 0 = λ seen. IfOk c.of_no_command.result (IsAnswer seen words) in
+    let Gives = g.D.Driver.Gives c.args.driver.now in
+    let P : FileViews → Type 0 = λ seen. IfOk c.of_no_command.result (IsAnswer Gives seen words) in
     for_all_seen (g.F.Files.told c.args.files.now) P
-    (λ seen. IfOk-weaker c.of_no_command.result _ (IsAnswer seen words) (λ answer says. inr (inr (inr (c.in-Err-Usage.ensures.usage c.in-Err-Usage.field-0-is, says)))) c.of_no_command.ensures.answer)
+    (λ seen. IfOk-weaker c.of_no_command.result _ (IsAnswer Gives seen words) (λ answer says. inr (c.in-Err-Usage.ensures.usage c.in-Err-Usage.field-0-is, says)) c.of_no_command.ensures.answer)
 
 pub returns-in-Err-NoMemory-clause-answer : goal.returns-in-Err-NoMemory-clause-answer
 returns-in-Err-NoMemory-clause-answer g c =
-    let P : FileViews → Type 0 = λ seen. IfOk (Err NoMemory) (IsAnswer seen (map string_bytes c.args.words.now)) in
+    let P : FileViews → Type 0 = λ seen. IfOk (Err NoMemory) (IsAnswer (g.D.Driver.Gives c.args.driver.now) seen (map string_bytes c.args.words.now)) in
     for_all_seen (g.F.Files.told c.args.files.now) P (λ seen. tt)
+
+pub returns-in-Ok-Compile-clause-answer : goal.returns-in-Ok-Compile-clause-answer
+returns-in-Ok-Compile-clause-answer g c =
+    let words = map string_bytes c.args.words.now in
+    let Gives = g.D.Driver.Gives c.args.driver.now in
+    let told = g.F.Files.told c.args.files.now in
+    let list = option_map string_bytes c.in-Ok-Compile.list in
+    let path = map string_bytes c.in-Ok-Compile.path.items in
+    let names = map string_bytes c.in-Ok-Compile.names.items in
+    let said : Say words (compile list path names) = subst (CommandOf words) c.in-Ok-Compile.field-0-is c.in-Ok-Compile.ensures.command in
+    let K : List (List ℕ) → List (List ℕ) → FileViews → Type 0 = λ p n seen. IfOk c.compile.result (IsCompilation SaysTables (given_by seen.files p n) seen.list list) in
+    let R : FileViews → Type 0 = λ seen. IfOk c.compile.result (IsAnswer Gives seen words) in
+    for_each_seen told (K path names) R
+    (λ seen h. IfOk-weaker c.compile.result (IsCompilation SaysTables (given_by seen.files path names) seen.list list) (IsAnswer Gives seen words)
+    (λ answer k. inl (record { command = compile list path names; said = said; answers = k })) h)
+    (subst (λ n. ForMap told (K path (map string_bytes n))) c.as_slice-in-Ok-Compile.ensures.value
+    (subst (λ p. ForMap told (K (map string_bytes p) (map string_bytes c.as_slice-in-Ok-Compile.result.now))) c.as_slice.ensures.value c.compile.ensures.answer))
 
 pub returns-in-Ok-Frames-clause-answer : goal.returns-in-Ok-Frames-clause-answer
 returns-in-Ok-Frames-clause-answer g c =
     let words = map string_bytes c.args.words.now in
+    let Gives = g.D.Driver.Gives c.args.driver.now in
     let told = g.F.Files.told c.args.files.now in
     let list = option_map string_bytes c.in-Ok-Frames.list in
     let path = map string_bytes c.in-Ok-Frames.path.items in
     let file = string_bytes c.in-Ok-Frames.file in
     let name = string_bytes c.in-Ok-Frames.name in
     let convert = c.in-Ok-Frames.convert in
-    let command : IsFrames words list path file name convert = subst (CommandOf words) c.in-Ok-Frames.field-0-is c.in-Ok-Frames.ensures.command in
-    let K : List ℕ → List (List ℕ) → FileViews → Type 0 = λ n p seen. IfOk c.frames.result (IsCompilation (SaysFrames n convert (seen.frames n)) (given_by seen.files p (file ∷ [])) seen.list list) in
-    let R : FileViews → Type 0 = λ seen. IfOk c.frames.result (IsAnswer seen words) in
+    let said : Say words (frames list path file name convert) = subst (CommandOf words) c.in-Ok-Frames.field-0-is c.in-Ok-Frames.ensures.command in
+    let K : List ℕ → List (List ℕ) → FileViews → Type 0 = λ n p seen. IfOk c.frames.result (IsCompilation (SaysFrames n convert (seen.last n)) (given_by seen.files p (file ∷ [])) seen.list list) in
+    let R : FileViews → Type 0 = λ seen. IfOk c.frames.result (IsAnswer Gives seen words) in
     for_each_seen told (K name path) R
-    (λ seen h. IfOk-weaker c.frames.result (IsCompilation (SaysFrames name convert (seen.frames name)) (given_by seen.files path (file ∷ [])) seen.list list) (IsAnswer seen words)
-    (λ answer k. inr (inl (record { list = list; path = path; file = file; frames = name; convert = convert; command = command; compilation = k }))) h)
+    (λ seen h. IfOk-weaker c.frames.result (IsCompilation (SaysFrames name convert (seen.last name)) (given_by seen.files path (file ∷ [])) seen.list list) (IsAnswer Gives seen words)
+    (λ answer k. inl (record { command = frames list path file name convert; said = said; answers = k })) h)
     (subst (λ (n : List ℕ). ForMap told (K n path)) c.as_str.ensures.value
     (subst (λ p. ForMap told (K c.as_str.result.now (map string_bytes p))) c.as_slice-in-Ok-Frames.ensures.value c.frames.ensures.answer))
 
 pub returns-in-Ok-Waits-clause-answer : goal.returns-in-Ok-Waits-clause-answer
 returns-in-Ok-Waits-clause-answer g c =
     let words = map string_bytes c.args.words.now in
+    let Gives = g.D.Driver.Gives c.args.driver.now in
     let told = g.F.Files.told c.args.files.now in
     let list = option_map string_bytes c.in-Ok-Waits.list in
     let path = map string_bytes c.in-Ok-Waits.path.items in
     let file = string_bytes c.in-Ok-Waits.file in
-    let command : IsWaits words list path file = subst (CommandOf words) c.in-Ok-Waits.field-0-is c.in-Ok-Waits.ensures.command in
+    let said : Say words (waits list path file) = subst (CommandOf words) c.in-Ok-Waits.field-0-is c.in-Ok-Waits.ensures.command in
     let K : List (List ℕ) → FileViews → Type 0 = λ p seen. IfOk c.waits.result (IsCompilation (SaysWaits file) (given_by seen.files p (file ∷ [])) seen.list list) in
-    let R : FileViews → Type 0 = λ seen. IfOk c.waits.result (IsAnswer seen words) in
+    let R : FileViews → Type 0 = λ seen. IfOk c.waits.result (IsAnswer Gives seen words) in
     for_each_seen told (K path) R
-    (λ seen h. IfOk-weaker c.waits.result (IsCompilation (SaysWaits file) (given_by seen.files path (file ∷ [])) seen.list list) (IsAnswer seen words)
-    (λ answer k. inr (inr (inl (record { list = list; path = path; file = file; command = command; compilation = k })))) h)
+    (λ seen h. IfOk-weaker c.waits.result (IsCompilation (SaysWaits file) (given_by seen.files path (file ∷ [])) seen.list list) (IsAnswer Gives seen words)
+    (λ answer k. inl (record { command = waits list path file; said = said; answers = k })) h)
     (subst (λ p. ForMap told (K (map string_bytes p))) c.as_slice-in-Ok-Waits.ensures.value c.waits.ensures.answer)

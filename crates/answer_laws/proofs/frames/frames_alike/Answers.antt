@@ -1,5 +1,0 @@
-use Rattle.answer_laws.proofs.Alike as law
-use Rattle.answer_laws.proofs.frames.frames_alike.Goals as goal
-
-pub returns : goal.returns
-returns c = law.frames_alike

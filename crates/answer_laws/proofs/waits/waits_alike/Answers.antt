@@ -1,5 +1,0 @@
-use Rattle.answer_laws.proofs.WaitsAlike.{waits_alike}
-use Rattle.answer_laws.proofs.waits.waits_alike.Goals as goal
-
-pub returns : goal.returns
-returns c = waits_alike

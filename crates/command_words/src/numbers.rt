@@ -1,0 +1,14 @@
+ghost use Rattle.std.specs.Prelude.{◌≡◌, ◌≤◌, ◌^◌, ℕ, None, IfSome};
+ghost use Rattle.command_words.specs.RunOptions.{IsNumber};
+
+/// The number that a text writes in decimal digits, leading zeros or not; `None` where it is none, or
+/// 2^32 or more.
+pub fn number_of(text: &str) -> Option<u32>
+    ensures number { IfSome result (IsNumber text.now) }
+    ensures none { result ≡ None → (n : ℕ) → IsNumber text.now n → 2 ^ 32 ≤ n }
+{
+    if text.starts_with('+') {
+        return None;
+    }
+    text.parse::<u32>().ok()
+}

@@ -1,0 +1,83 @@
+ghost use Rattle.std.specs.Prelude.{◌≡◌, ◌∷◌, List, ℕ, IfErr, IfOk, map, option_map, string_bytes};
+ghost use Rattle.command_words.specs.Command.{CommandOf};
+ghost use Rattle.command_words.specs.Run.{AreRunOperands, IsNoRun, run_word};
+
+use crate::WordsFault;
+use crate::command::Command;
+use crate::courses::{death_of, limit_of, schedule_of};
+use crate::folders::folders_of;
+use crate::options::{Choice, read_options};
+use crate::texts::copy_of;
+use std::alloc::Global;
+
+/// The options of the command that runs a script.
+const RUN_OPTIONS: [Choice; 5] = [
+    Choice {
+        name: "sync-msg-list",
+        letter: Some('s'),
+    },
+    Choice {
+        name: "path",
+        letter: None,
+    },
+    Choice {
+        name: "schedule",
+        letter: None,
+    },
+    Choice {
+        name: "limit",
+        letter: None,
+    },
+    Choice {
+        name: "die",
+        letter: None,
+    },
+];
+
+/// The words that are values of no option.
+#[derive(Drop)]
+struct Operands {
+    script: String,
+    file: String,
+}
+
+/// SCRIPT and FILE, where the words are these.
+fn operands_of(alloc: Global, words: &[&str]) -> Result<Operands, WordsFault>
+    ensures operands { IfOk result (λ found. AreRunOperands (map (λ w. w.now) words.entry.now) (string_bytes found.script) (string_bytes found.file)) }
+    ensures usage { IfErr result (λ fault. fault ≡ WordsFault.Usage → (script file : List ℕ) → ¬ AreRunOperands (map (λ w. w.now) words.entry.now) script file) }
+{
+    let [script, file] = words else {
+        return Err(WordsFault::Usage);
+    };
+    if !file.ends_with(".ipdl") {
+        return Err(WordsFault::Usage);
+    }
+    Ok(Operands {
+        script: String::from_str(alloc, script)?,
+        file: String::from_str(alloc, file)?,
+    })
+}
+
+/// The command that runs a script, where the words behind its first one are such.
+pub fn run(alloc: Global, words: &[String]) -> Result<Command, WordsFault>
+    ensures command { IfOk result (λ command. CommandOf (run_word ∷ map string_bytes words.now) command) }
+    ensures usage { IfErr result (λ fault. fault ≡ WordsFault.Usage → IsNoRun (run_word ∷ map string_bytes words.now)) }
+{
+    let found = read_options(alloc, &RUN_OPTIONS, words)?;
+    let limit = limit_of(found.get_str("limit"))?;
+    let death = death_of(found.get_str("die"))?;
+    let path = folders_of(alloc, found.get_str("path"))?;
+    let schedule = schedule_of(alloc, found.get_str("schedule"))?;
+    let operands = operands_of(alloc, found.get_strs("words").unwrap_or(&[]))?;
+    let list = copy_of(alloc, found.get_str("sync-msg-list"))?;
+    let Operands { script, file } = operands;
+    Ok(Command::Run {
+        list,
+        path,
+        schedule,
+        limit,
+        death,
+        script,
+        file,
+    })
+}

@@ -1,0 +1,109 @@
+-- What the command that runs a script says of a schema.
+use Rattle.std.specs.Prelude.{◌≡◌, ◌≢◌, ℕ, ◌≤◌, ◌<◌, ◌⊎◌, List, [], ◌∷◌, ◌++◌, length, Option, Some, None, codes}
+use Rattle.ipdl_base.specs.declared.finding.Finding.{Finding}
+use Rattle.ipdl_base.specs.declared.finding.TheConstants.Rule as rule
+use Rattle.ipdl_base.specs.declared.line.Line.{Line}
+use Rattle.ipdl_base.specs.declared.schema.Schema.{Schema}
+use Rattle.command_words.specs.Run.{Course}
+use Rattle.channel_model.specs.Runs.{IsLegalHistory}
+use Rattle.handler_script.specs.declared.script.Script.{Script}
+use Rattle.handler_script.specs.Broken.{IsReport}
+use Rattle.handler_script.specs.ScriptOf.{IsScriptOf}
+use Rattle.history.specs.Text.{transcript_text}
+use Rattle.history.specs.Words.{side_word}
+use Rattle.include_graph.specs.Rules.{whole_file}
+use Rattle.script_steps.specs.Choices.{IsCaseHistory, Setting}
+use Rattle.script_steps.specs.Turns.{RunEnding, at_limit, at_rest}
+use Rattle.schedules.specs.declared.turn.Turn.{Turn}
+use Rattle.world_core.specs.declared.answers.RunAnswer.{RunAnswer}
+use Rattle.world_core.specs.declared.answers.RunAnswer.TheVariants as run
+use Rattle.world_core.specs.Turns.{StandsAs, WordGives}
+use Rattle.world_core.specs.WorldView.{WorldView, opening_of}
+use Rattle.world_laws.specs.Statements.{IsLawfulHistory}
+use Rattle.ipdl_top.specs.declared.answer.CommandAnswer.{CommandAnswer}
+use Rattle.ipdl_top.specs.declared.status.Status.{Status}
+use Rattle.ipdl_top.specs.declared.status.Status.TheVariants as status
+use Rattle.ipdl_top.specs.Lists.{finding_at}
+use Rattle.ipdl_top.specs.Report.{report_text}
+use Rattle.ipdl_top.specs.Waits.{IsTop}
+
+-- what a driver gives: the world before, the world behind, and how the run ended
+abbrev pub Driving : Type 1
+Driving = WorldView → WorldView → RunAnswer → Type 0
+
+-- How a run is made: by its word of turns, where one is given, and else as the driver has it.
+abbrev pub IsMade : Driving → Option (List Turn) → WorldView → WorldView → RunAnswer → Type 0
+IsMade Gives None before after ending = Gives before after ending
+IsMade Gives (Some word) before after ending = WordGives before word ending after
+
+-- what a run is about: the schema, the script, and the death and the limit of its course
+abbrev pub setting_by : Schema → Script → Course → Setting
+setting_by schema script course = record { schema = schema; script = script; stop = course.death; limit = course.limit }
+
+-- how the command ends by how the run did, and the last line that says so
+abbrev pub run_status : RunEnding → Status
+run_status at_rest = status.Done
+run_status (at_limit side) = status.Spent
+
+abbrev pub ending_line : RunEnding → List ℕ
+ending_line at_rest = codes "finished\n"
+ending_line (at_limit side) = codes "spent " ++ side_word side ++ codes "\n"
+
+-- the answer of a run that ended so
+abbrev pub answer_of : RunEnding → RunAnswer
+answer_of at_rest = run.Finished
+answer_of (at_limit side) = run.Spent side
+
+-- the answer that is a transcript, and behind it how the run ended
+abbrev pub run_answer : Schema → List Line → RunEnding → CommandAnswer
+run_answer schema lines ending = record { status = run_status ending; out = transcript_text schema lines ++ ending_line ending; err = [] }
+
+-- The answer is one history of both ends. It is made by the word or as the driver has it, and is the script's own and legal.
+-- It can be read, and all five laws hold of it: what is delivered is what was sent; what is taken goes to the living actor
+-- of its id, or is dropped; no two waits block each other; a closed end's promises are settled once each; and managed
+-- actors fall before managers. Where it is finished nothing is left to do and no end waits; and where it is spent, that
+-- side has something to do but as many events as the limit.
+pub record SaysHistory (Gives : Driving) (course : Course) (schema : Schema) (script : Script) (answer : CommandAnswer) : Type 0 where
+  pub after : WorldView
+  pub ending : RunEnding
+  pub made : IsMade Gives course.schedule (opening_of (setting_by schema script course)) after (answer_of ending)
+  pub about : after.setting ≡ setting_by schema script course
+  pub scripted : IsCaseHistory (setting_by schema script course) after.state.lines
+  pub legal : IsLegalHistory schema script.top after.state.lines
+  pub lawful : IsLawfulHistory schema after.state.lines
+  pub stands : StandsAs after (answer_of ending)
+  pub says : answer ≡ run_answer schema after.state.lines ending
+
+-- the answer that a script of this name breaks rules
+abbrev pub bad_script_answer : List ℕ → List Finding → CommandAnswer
+bad_script_answer name findings = record { status = status.BadScript; out = []; err = report_text (name ∷ []) findings }
+
+-- The answer lists the rules that the text of a script breaks; or it breaks none, and is run.
+pub record SaysBroken (name text : List ℕ) (schema : Schema) (top : ℕ) (answer : CommandAnswer) : Type 0 where
+  pub findings : List Finding
+  pub report : IsReport text schema top findings
+  pub some : findings ≢ []
+  pub says : answer ≡ bad_script_answer name findings
+
+pub record SaysRunOf (Gives : Driving) (course : Course) (text : List ℕ) (schema : Schema) (top : ℕ) (answer : CommandAnswer) : Type 0 where
+  pub script : Script
+  pub script_of : IsScriptOf text schema top script
+  pub history : SaysHistory Gives course schema script answer
+
+abbrev pub SaysText : Driving → Course → List ℕ → List ℕ → Schema → ℕ → CommandAnswer → Type 0
+SaysText Gives course name text schema top answer = SaysBroken name text schema top answer ⊎ SaysRunOf Gives course text schema top answer
+
+-- the answer for a script that is not there, or has too many bytes
+abbrev pub unreadable_answer : List ℕ → CommandAnswer
+unreadable_answer name = bad_script_answer name (finding_at rule.UNREADABLE_SCRIPT (whole_file 0) ∷ [])
+
+abbrev pub SaysScript : Driving → Course → List ℕ → Option (List ℕ) → Schema → ℕ → CommandAnswer → Type 0
+SaysScript Gives course name None schema top answer = answer ≡ unreadable_answer name
+SaysScript Gives course name (Some text) schema top answer =
+    ((1048576 < length text) × (answer ≡ unreadable_answer name)) ⊎ ((length text ≤ 1048576) × SaysText Gives course name text schema top answer)
+
+-- The answer is that for a script of this name, of which this is held, where the protocol of the file is the top.
+pub record SaysRun (Gives : Driving) (course : Course) (name : List ℕ) (held : Option (List ℕ)) (file : List ℕ) (schema : Schema) (answer : CommandAnswer) : Type 0 where
+  pub top : ℕ
+  pub is_top : IsTop file schema top
+  pub says : SaysScript Gives course name held schema top answer

@@ -1,0 +1,28 @@
+-- What the steps of a run make.
+use Rattle.std.specs.Prelude.{◌≡◌, ℕ, List, Option, Some, None, option_map}
+use Rattle.ipdl_base.specs.declared.line.Line.{Line}
+use Rattle.ipdl_base.specs.declared.schema.Schema.{Schema}
+use Rattle.command_words.specs.Run.{Course}
+use Rattle.schedules.specs.declared.turn.Turn.{Turn}
+use Rattle.script_steps.specs.Turns.{RunEnding}
+use Rattle.world_core.specs.declared.answers.RunAnswer.{RunAnswer}
+use Rattle.world_core.specs.Turns.{GivesUnless, WordGives}
+use Rattle.world_core.specs.WorldView.{WorldView}
+use Rattle.ipdl_top.specs.declared.answer.CommandAnswer.{CommandAnswer}
+use Rattle.ipdl_top.specs.declared.run.RunRequest.{RunRequest}
+use Rattle.ipdl_top.specs.Run.{Driving, answer_of, run_answer}
+
+-- how the run of a request goes
+abbrev pub course_of : RunRequest → Course
+course_of wanted = record { schedule = option_map (λ turns. turns.items) wanted.schedule; limit = wanted.limit; death = wanted.death }
+
+-- how a run is made, as far as a driver says so where memory ran out
+abbrev pub IsMadeUnless : Driving → Option (List Turn) → WorldView → WorldView → RunAnswer → Type 0
+IsMadeUnless Gives None before after answer = GivesUnless Gives before after answer
+IsMadeUnless Gives (Some word) before after answer = WordGives before word answer after
+
+-- The answer prints lines, and says how their run ended, which it did.
+pub record IsPrinted (schema : Schema) (lines : List Line) (ended : RunAnswer) (answer : CommandAnswer) : Type 0 where
+  pub ending : RunEnding
+  pub ends : ended ≡ answer_of ending
+  pub says : answer ≡ run_answer schema lines ending

@@ -1,0 +1,318 @@
+ghost use Rattle.std.specs.Prelude.{◌≡◌, ◌≤◌, ◌<◌, ◌∷◌, ◌++◌, [], ℕ, IfOk, IsOkUnless, List, Option, codes, length, map, option_map, string_bytes};
+ghost use Rattle.handler_script.specs.Valid.{IsValid};
+ghost use Rattle.include_graph.specs.Keys.{AreFileWords};
+ghost use Rattle.include_graph.specs.Load as load;
+ghost use Rattle.ipdl_base.specs.Outside.{Rose};
+ghost use Rattle.history.specs.Text.{transcript_text};
+ghost use Rattle.ipdl_base.specs.Sound.{IsSound};
+ghost use Rattle.ipdl_base.specs.declared.line.Line.{Line};
+ghost use Rattle.script_steps.specs.Turns.{at_limit};
+ghost use Rattle.world_core.specs.Turns.{StandsAs};
+ghost use Rattle.world_core.specs.WorldView.{WorldView};
+ghost use Rattle.world_core.specs.Worlds.{IsCase, IsLawful, most_events};
+ghost use Rattle.ipdl_top.specs.CommandAnswer.{IsCompilation, given_by};
+ghost use Rattle.ipdl_top.specs.FileViews.{ForMap};
+ghost use Rattle.ipdl_top.specs.Run.{SaysHistory, SaysRun, SaysScript, SaysText, bad_script_answer, ending_line};
+ghost use Rattle.ipdl_top.specs.RunSteps.{IsMadeUnless, IsPrinted, course_of};
+ghost use Rattle.ipdl_top.specs.Steps.{HasTop, IsHeld, IsSmall, IsSoundChecked, IsToldOf};
+ghost use Rattle.ipdl_top.specs.Waits.{IsTop};
+
+use crate::answer::{CommandAnswer, Failure};
+use crate::checked::CheckResult;
+use crate::compile::{checked, leave};
+use crate::held::{HeldFile, read_held};
+use crate::report::text_of_report;
+use crate::status::Status;
+use crate::waits::top_of;
+use handler_script::{Script, ScriptFault, read_script};
+use ipdl_base::{Files, Finding, Items, Place, Rule, Schema, Side};
+use schedules::{Stop, Turn};
+use script_steps::choices_are_runs;
+use std::alloc::{AllocError, Global};
+use std::slice::from_ref;
+use world_core::{Driver, RunAnswer, World};
+use world_laws::histories_are_lawful;
+
+/// The script as a whole.
+const WHOLE_SCRIPT: Place = Place {
+    file: 0,
+    line: 0,
+    column: 0,
+};
+
+/// A script to run, and how.
+#[derive(Drop)]
+pub struct RunRequest<'w> {
+    /// The name of the script.
+    pub script: &'w str,
+    /// The turns of the sides, where they are given.
+    pub schedule: Option<Vec<Turn>>,
+    /// The most events of a side.
+    pub limit: u32,
+    /// The death of an end, where one is given.
+    pub death: Option<Stop>,
+}
+
+/// Runs a world by a word of turns, where one is given, and else by the driver.
+fn driven<'s, D: Driver>(
+    world: World<'s>,
+    schedule: &Option<Vec<Turn>>,
+    driver: &mut D,
+) -> (World<'s>, RunAnswer)
+    requires ready { D.ready driver.old }
+    ensures made { IsMadeUnless (D.Gives driver.old) (option_map (λ turns. turns.items) schedule.entry.now) world.entry result.0 result.1 }
+    ensures same { result.0.setting ≡ world.entry.setting }
+    ensures stands { StandsAs result.0 result.1 }
+    ensures case { IsCase result.0 }
+    ensures laws { IsLawful result.0 }
+{
+    match schedule {
+        None => driver.drive(world),
+        Some(word) => {
+            let mut world = world;
+            let ending = world.run_schedule(word.as_slice());
+            (world, ending)
+        }
+    }
+}
+
+/// The answer that is the text of a history, and behind it the line that says how the run ended.
+fn with_ending(
+    alloc: Global,
+    status: Status,
+    text: Vec<u8>,
+    line: &[u8],
+) -> Result<CommandAnswer, AllocError>
+    ensures { IfOk result (λ answer. answer ≡ record { status = status; out = text.items ++ line.now; err = [] }) }
+{
+    let mut out = text;
+    out.extend_from_slice(line)?;
+    Ok(CommandAnswer {
+        status,
+        out: Items::from_vec(out),
+        err: Items::from_vec(Vec::new(alloc)),
+    })
+}
+
+/// The line that says that a side is spent.
+fn spent_line(side: Side) -> &'static [u8]
+    ensures { result.now ≡ ending_line (at_limit side) }
+{
+    match side {
+        Side::Parent => b"spent parent\n",
+        Side::Child => b"spent child\n",
+    }
+}
+
+/// The answer by the text of a history and how its run ended.
+fn ended_answer(
+    alloc: Global,
+    text: Vec<u8>,
+    ending: RunAnswer,
+) -> Result<CommandAnswer, AllocError>
+    ensures { IfOk result (λ answer. (schema : Schema) (lines : List Line) → text.items ≡ transcript_text schema lines → IsPrinted schema lines ending answer) }
+{
+    match ending {
+        RunAnswer::Finished => with_ending(alloc, Status::Done, text, b"finished\n"),
+        RunAnswer::Spent(side) => with_ending(alloc, Status::Spent, text, spent_line(side)),
+        RunAnswer::NoMemory => Err(AllocError),
+    }
+}
+
+/// The answer by a world whose run ended so.
+fn world_answer(
+    alloc: Global,
+    world: World<'_>,
+    ending: RunAnswer,
+) -> Result<CommandAnswer, AllocError>
+    ensures { IfOk result (IsPrinted world.entry.setting.schema world.entry.state.lines ending) }
+{
+    let text = world.transcript(alloc);
+    leave(world);
+    ended_answer(alloc, text?, ending)
+}
+
+/// The answer by the run of a script.
+fn history_answer<D: Driver>(
+    alloc: Global,
+    schema: &Schema,
+    script: &Script,
+    wanted: &RunRequest<'_>,
+    driver: &mut D,
+) -> Result<CommandAnswer, AllocError>
+    requires sound { IsSound schema.now }
+    requires valid { IsValid schema.now script.now }
+    requires limit { wanted.now.limit ≤ most_events }
+    requires ready { D.ready driver.old }
+    ensures { IfOk result (SaysHistory (D.Gives driver.old) (course_of wanted.now) schema.now script.now) }
+{
+    choices_are_runs();
+    histories_are_lawful();
+    let world = World::open(alloc, schema, script, wanted.death, wanted.limit)?;
+    let (world, ending) = driven(world, &wanted.schedule, driver);
+    world_answer(alloc, world, ending)
+}
+
+/// The answer that a script breaks these rules.
+fn broken_answer(
+    alloc: Global,
+    name: &str,
+    findings: &[Finding],
+) -> Result<CommandAnswer, AllocError>
+    ensures { IfOk result (λ answer. answer ≡ bad_script_answer name.now findings.now) }
+{
+    let err = text_of_report(alloc, &[name.as_bytes()], findings)?;
+    Ok(CommandAnswer {
+        status: Status::BadScript,
+        out: Items::from_vec(Vec::new(alloc)),
+        err: Items::from_vec(err),
+    })
+}
+
+/// The answer by the text of a script.
+fn text_answer<D: Driver>(
+    alloc: Global,
+    schema: &Schema,
+    top: u32,
+    wanted: &RunRequest<'_>,
+    text: &[u8],
+    driver: &mut D,
+) -> Result<CommandAnswer, AllocError>
+    requires sound { IsSound schema.now }
+    requires top { top < length schema.now.protocols }
+    requires small { length text.now ≤ 1048576 }
+    requires limit { wanted.now.limit ≤ most_events }
+    requires ready { D.ready driver.old }
+    ensures { IfOk result (SaysText (D.Gives driver.old) (course_of wanted.now) wanted.now.script.now text.now schema.now top) }
+{
+    match read_script(alloc, text, schema, top) {
+        Ok(script) => history_answer(alloc, schema, &script, wanted, driver),
+        Err(ScriptFault::Broken(findings)) => {
+            broken_answer(alloc, wanted.script, findings.as_slice())
+        }
+        Err(ScriptFault::NoMemory) => Err(AllocError),
+    }
+}
+
+/// The answer by what was found of a script.
+fn script_answer<D: Driver>(
+    alloc: Global,
+    schema: &Schema,
+    top: u32,
+    wanted: &RunRequest<'_>,
+    held: &HeldFile,
+    driver: &mut D,
+) -> Result<CommandAnswer, AllocError>
+    requires small { IsSmall held.now }
+    requires sound { IsSound schema.now }
+    requires top { top < length schema.now.protocols }
+    requires limit { wanted.now.limit ≤ most_events }
+    requires ready { D.ready driver.old }
+    ensures { IfOk result (λ answer. (file : Option (List ℕ)) → IsHeld file held.now → SaysScript (D.Gives driver.old) (course_of wanted.now) wanted.now.script.now file schema.now top answer) }
+{
+    match held {
+        HeldFile::Absent | HeldFile::Larger => {
+            let finding = Finding {
+                place: WHOLE_SCRIPT,
+                rule: Rule::UNREADABLE_SCRIPT,
+            };
+            broken_answer(alloc, wanted.script, &[finding])
+        }
+        HeldFile::Bytes(bytes) => {
+            text_answer(alloc, schema, top, wanted, bytes.as_slice(), driver)
+        }
+    }
+}
+
+/// The answer by what was found of a script, under the schema of a file's program.
+fn held_answer<D: Driver>(
+    alloc: Global,
+    schema: &Schema,
+    file: &str,
+    wanted: &RunRequest<'_>,
+    held: &HeldFile,
+    driver: &mut D,
+) -> Result<CommandAnswer, AllocError>
+    requires small { IsSmall held.now }
+    requires sound { IsSound schema.now }
+    requires top { (top : ℕ) × IsTop file.now schema.now top }
+    requires limit { wanted.now.limit ≤ most_events }
+    requires ready { D.ready driver.old }
+    ensures { IfOk result (λ answer. (text : Option (List ℕ)) → IsHeld text held.now → SaysRun (D.Gives driver.old) (course_of wanted.now) wanted.now.script.now text file.now schema.now answer) }
+{
+    let Some(top) = top_of(schema, file) else {
+        unreachable!();
+    };
+    script_answer(alloc, schema, top, wanted, held, driver)
+}
+
+/// The answer by what was found of the files of a command and of the script.
+fn checked_answer<D: Driver>(
+    alloc: Global,
+    checked: CheckResult,
+    file: &str,
+    wanted: &RunRequest<'_>,
+    held: &HeldFile,
+    driver: &mut D,
+) -> Result<CommandAnswer, AllocError>
+    requires small { IsSmall held.now }
+    requires sound { IsSoundChecked checked }
+    requires top { HasTop file.now checked }
+    requires limit { wanted.now.limit ≤ most_events }
+    requires ready { D.ready driver.old }
+    ensures { IfOk result (λ answer. (text : Option (List ℕ)) → IsHeld text held.now → IsToldOf (SaysRun (D.Gives driver.old) (course_of wanted.now) wanted.now.script.now text file.now) checked answer) }
+{
+    match checked {
+        CheckResult::Report(report) => Ok(report),
+        CheckResult::Clean(schema) => {
+            let answer = held_answer(alloc, &schema, file, wanted, held, driver);
+            leave(schema);
+            answer
+        }
+    }
+}
+
+/// Reads the script, and answers by what was found of the files of a command.
+fn answer_with<F: Files, D: Driver>(
+    alloc: Global,
+    files: &mut F,
+    checked: CheckResult,
+    file: &str,
+    wanted: &RunRequest<'_>,
+    driver: &mut D,
+) -> Result<CommandAnswer, Failure>
+    requires sound { IsSoundChecked checked }
+    requires top { HasTop file.now checked }
+    requires limit { wanted.now.limit ≤ most_events }
+    requires ready { D.ready driver.old }
+    ensures answer { load.ForMap (F.told files.old) (λ map'. IfOk result (IsToldOf (SaysRun (D.Gives driver.old) (course_of wanted.now) wanted.now.script.now (map' wanted.now.script.now) file.now) checked)) }
+    ensures read_fault { result ≡ Err Failure.ReadFault → Rose (F.faults files.old) (F.faults files.new) }
+{
+    let held = read_held(alloc, files, wanted.script)?;
+    Ok(checked_answer(alloc, checked, file, wanted, &held, driver)?)
+}
+
+/// The command that runs a script: the report on the file and on what it includes by the path, with
+/// this sync list; or the rules that the script breaks; or a history of both ends, and how it ended.
+pub fn run<F: Files, D: Driver>(
+    alloc: Global,
+    files: &mut F,
+    list: &Option<String>,
+    path: &[String],
+    file: &String,
+    wanted: &RunRequest<'_>,
+    driver: &mut D,
+) -> Result<CommandAnswer, Failure>
+    requires words { AreFileWords (string_bytes file.now ∷ []) }
+    requires ending { (front : List ℕ) × (string_bytes file.now ≡ front ++ codes ".ipdl") }
+    requires limit { wanted.now.limit ≤ most_events }
+    requires ready { D.ready driver.old }
+    ensures answer { ForMap (F.told files.old) (λ seen. IfOk result
+        (IsCompilation (SaysRun (D.Gives driver.old) (course_of wanted.now) wanted.now.script.now (seen.last wanted.now.script.now) (string_bytes file.now)) (given_by seen.files (map string_bytes path.now) (string_bytes file.now ∷ [])) seen.list (option_map string_bytes list.now))) }
+    ensures read_fault { result ≡ Err Failure.ReadFault → Rose (F.faults files.old) (F.faults files.new) }
+{
+    match checked(alloc, files, list, path, from_ref(file)) {
+        Ok(checked) => answer_with(alloc, files, checked, file.as_str(), wanted, driver),
+        Err(failure) => Err(failure),
+    }
+}

@@ -1,0 +1,28 @@
+pub mod Rows
+pub mod Spelled
+pub mod Typed
+mod ReadAlike
+mod Begun
+mod HeldAlike
+pub mod LinesAlike
+pub mod Alike
+pub mod OneList
+pub mod OneText
+pub mod WaitsAlike
+mod RowsAlike
+mod ValuesAlike
+mod SendsAlike
+mod AnswersAlike
+mod DeliveriesAlike
+mod TakesAlike
+mod ReturnsAlike
+mod TermsAlike
+pub mod StepsAlike
+pub mod EventsAlike
+pub mod PicksAlike
+pub mod TextsAlike
+mod NamedAlike
+mod FitsAlike
+mod BlocksAlike
+mod BrokenAlike
+pub mod ScriptsAlike

@@ -1,0 +1,56 @@
+-- What a run of a script, its lines and the script itself do not look at: where the boxes of types and of terms lie.
+use Rattle.std.specs.Prelude.{◌≡◌, ℕ, List}
+use Rattle.ipdl_base.specs.declared.finding.Finding.{Finding}
+use Rattle.ipdl_base.specs.declared.kinds.Side.{Side}
+use Rattle.ipdl_base.specs.declared.line.Line.{Line}
+use Rattle.ipdl_base.specs.declared.schema.Schema.{Schema}
+use Rattle.history.specs.Text.{transcript_text}
+use Rattle.schema_laws.specs.Frames.{AreSchemasAlike}
+use Rattle.channel_model.specs.Ends.{End, Packet}
+use Rattle.channel_model.specs.Events.{Event}
+use Rattle.channel_model.specs.Runs.{RunState}
+use Rattle.channel_model.specs.Steps.{step}
+use Rattle.handler_script.specs.declared.script.Script.{Script}
+use Rattle.handler_script.specs.declared.script.ScriptFault.TheVariants.{Broken}
+use Rattle.handler_script.specs.Broken.{IsReport}
+use Rattle.handler_script.specs.Faults.{IsFault}
+use Rattle.handler_script.specs.Plain.{plain_script}
+use Rattle.handler_script.specs.ScriptOf.{IsScriptOf}
+use Rattle.schedules.specs.declared.turn.Turn.{Turn}
+use Rattle.script_steps.specs.Choices.{Setting, beginning_of, own_event}
+use Rattle.script_steps.specs.Turns.{RunEnding, Picks}
+
+-- Two settings are the same, up to where the boxes of their types and of their terms lie.
+pub record AreSettingsAlike (a b : Setting) : Type 0 where
+  pub schemas : AreSchemasAlike a.schema b.schema
+  pub scripts : plain_script a.script ≡ plain_script b.script
+  pub stop : a.stop ≡ b.stop
+  pub limit : a.limit ≡ b.limit
+
+-- Under schemas that are so alike each event does the same at an end: it makes the same end, lines and packets, or is not possible.
+abbrev pub StepsAlike : Type 0
+StepsAlike = (a b : Schema) → AreSchemasAlike a b → (e : End) (link : List Packet) (event : Event) → step a e link event ≡ step b e link event
+
+-- Under such settings a side does the same next of its own.
+abbrev pub EventsAlike : Type 0
+EventsAlike = (a b : Setting) → AreSettingsAlike a b → (side : Side) (state : RunState) → own_event a side state ≡ own_event b side state
+
+-- So a word makes the same run of both, with the same ending.
+abbrev pub PicksAlike : Type 0
+PicksAlike =
+    (a b : Setting) → AreSettingsAlike a b → (word : List Turn) (state : RunState) (ending : RunEnding)
+    → Picks a word (beginning_of a) state ending → Picks b word (beginning_of b) state ending
+
+-- Under such schemas lines have the same text.
+abbrev pub TextsAlike : Type 0
+TextsAlike = (a b : Schema) → AreSchemasAlike a b → (lines : List Line) → transcript_text a lines ≡ transcript_text b lines
+
+-- Under such schemas a text has the same script, up to where the boxes of its terms lie, or the same report, and never a
+-- script of the one and broken rules of the other.
+pub record ScriptsAlike : Type 0 where
+  pub script : (a b : Schema) → AreSchemasAlike a b → (text : List ℕ) (top : ℕ) (script other : Script)
+      → IsScriptOf text a top script → IsScriptOf text b top other → plain_script script ≡ plain_script other
+  pub report : (a b : Schema) → AreSchemasAlike a b → (text : List ℕ) (top : ℕ) (findings others : List Finding)
+      → IsReport text a top findings → IsReport text b top others → findings ≡ others
+  pub either : (a b : Schema) → AreSchemasAlike a b → (text : List ℕ) (top : ℕ) (script : Script) (findings : List Finding)
+      → IsScriptOf text a top script → ¬ IsFault text b top (Broken findings)

@@ -1,0 +1,11 @@
+//! Laws of schemas that are the same up to where the boxes of their types lie: bytes hold the same frames under them, there
+//! is one report of waits, and a script with a word of turns makes the same run (docs/theorems.md). No function that runs.
+#![tactic(auto)]
+
+mod frames;
+mod runs;
+mod waits;
+
+pub use frames::{frames_alike, frames_have_one_text, one_list_of_frames};
+pub use runs::{events_alike, picks_alike, scripts_alike, steps_alike, texts_alike};
+pub use waits::{one_wait_report, waits_alike};
