@@ -1,0 +1,4 @@
+pub mod Received
+pub mod Alone
+pub mod AloneRuns
+pub mod Laws
