@@ -1,0 +1,3 @@
+pub mod ReplyLists
+pub mod WaitLists
+pub mod RepliesKept

@@ -1,4 +1,5 @@
 pub mod Received
 pub mod Alone
 pub mod AloneRuns
+pub mod KeptReplies
 pub mod Laws
