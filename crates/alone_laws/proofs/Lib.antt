@@ -1,3 +1,4 @@
 pub mod ReplyLists
 pub mod WaitLists
 pub mod RepliesKept
+pub mod AcceptedReplies

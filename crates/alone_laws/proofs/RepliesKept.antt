@@ -42,7 +42,7 @@ use Rattle.channel_model.proofs.Known.{all-append, all-map}
 use Rattle.channel_model.proofs.Sublists.{all-sublist, staying-sublist, without_first-sublist}
 use Rattle.history_reading.specs.Numbers.{has}
 use Rattle.channel_laws.specs.Notes.{Note, In, here, there}
-use Rattle.channel_laws.specs.Origins.{BodyOrigin, ItemOrigin, HasOrigins, HasRow}
+use Rattle.channel_laws.specs.Origins.{BodyOrigin, ItemOrigin, HasOrigins, HasRow, IsRequested}
 use Rattle.channel_laws.proofs.ArrivalParts.{taken-first, staying-all}
 use Rattle.channel_laws.proofs.Leaving.{TakenFrom}
 use Rattle.channel_laws.proofs.Origins.{taken-origin}
@@ -50,25 +50,26 @@ use Rattle.channel_laws.proofs.Replacing.{replaced-taken, none-replaced, alike-r
 use Rattle.alone_laws.specs.KeptReplies.{item_answer, answers_in, PendingAreThere, BodyIsKnown, PacketIsKnown, ItemIsKnown, wait_number, WaitsReceive, FrameReceives, KeepsReplies}
 use Rattle.alone_laws.specs.Received.{answer_in, answer_to, answers_to}
 use Rattle.alone_laws.proofs.ReplyLists.{answer-of, answer-apart, answer-same, answers-none, answers-last, answers-other, items-last, items-taken, none-yet, none-arrived, packets-more, items-more, awaited-last, awaited-rejected, awaited-settled}
-use Rattle.alone_laws.proofs.WaitLists.{waits-none, waits-failed, waits-dropped, waits-handled, waits-released, waits-ended, waits-more, waits-answered, waits-sent, waits-called}
+use Rattle.alone_laws.proofs.WaitLists.{waits-none, waits-failed, waits-dropped, waits-handled, waits-released, waits-ended, waits-more, waits-answered, waits-sent, waits-called, AreRequested, all-requested-more, requested-dropped, requested-released, requested-failed, requested-answered}
 
 -- Ends that differ in what replies do not touch
 
-behind-same : (b : Bool) (e : End) (packets : List Packet) (failed : List ℤ) → KeepsReplies e packets failed → KeepsReplies (end_behind b e) packets failed
-behind-same true e packets failed k = record { pending = k.pending; packets = k.packets; arrived = k.arrived; waits = k.waits }
-behind-same false e packets failed k = k
+behind-same : (b : Bool) (e : End) (packets : List Packet) (failed : List ℤ) (sent : List Note) → KeepsReplies e packets failed sent → KeepsReplies (end_behind b e) packets failed sent
+behind-same true e packets failed sent k = record { pending = k.pending; packets = k.packets; arrived = k.arrived; waits = k.waits; requested = k.requested }
+behind-same false e packets failed sent k = k
 
-without-same : (by : Answering) (e : End) (packets : List Packet) (failed : List ℤ) → KeepsReplies e packets failed → KeepsReplies (record (answering.without_resolver by e) { outbox = [] }) packets failed
-without-same (handled seq) e packets failed k = record { pending = k.pending; packets = k.packets; arrived = k.arrived; waits = waits-released e.side e.sent packets failed seq e.stack k.waits }
-without-same (kept name number) e packets failed k = record { pending = k.pending; packets = k.packets; arrived = k.arrived; waits = k.waits }
+without-same : (by : Answering) (e : End) (packets : List Packet) (failed : List ℤ) (sent : List Note) → KeepsReplies e packets failed sent → KeepsReplies (record (answering.without_resolver by e) { outbox = [] }) packets failed sent
+without-same (handled seq) e packets failed sent k = record { pending = k.pending; packets = k.packets; arrived = k.arrived; waits = waits-released e.side e.sent packets failed seq e.stack k.waits; requested = requested-released sent seq e.stack k.requested }
+without-same (kept name number) e packets failed sent k = record { pending = k.pending; packets = k.packets; arrived = k.arrived; waits = k.waits; requested = k.requested }
 
 -- nothing has arrived, and nothing is taken any more
-emptied : (e f : End) (packets : List Packet) (failed : List ℤ) → f.side ≡ e.side → f.sent ≡ e.sent → f.arrived ≡ [] → take.takes_in_state f.state ≡ false → WaitsReceive f.side f.sent packets failed f.stack → KeepsReplies e packets failed → KeepsReplies f packets failed
-emptied e f packets failed side sent none closed waits k = record {
+emptied : (e f : End) (packets : List Packet) (failed : List ℤ) (sent : List Note) → f.side ≡ e.side → f.sent ≡ e.sent → f.arrived ≡ [] → take.takes_in_state f.state ≡ false → WaitsReceive f.side f.sent packets failed f.stack → AreRequested sent f.stack → KeepsReplies e packets failed sent → KeepsReplies f packets failed sent
+emptied e f packets failed sent side count none closed waits requested k = record {
   pending = λ n awaited takes. absurd (true≢false (sym takes ∙ closed));
-  packets = subst (λ (s : Side). AllByRecursion (PacketIsKnown s f.sent) packets) (sym side) (subst (λ (c : ℕ). AllByRecursion (PacketIsKnown e.side c) packets) (sym sent) k.packets);
+  packets = subst (λ (s : Side). AllByRecursion (PacketIsKnown s f.sent) packets) (sym side) (subst (λ (c : ℕ). AllByRecursion (PacketIsKnown e.side c) packets) (sym count) k.packets);
   arrived = subst (AllByRecursion (ItemIsKnown f.side f.sent)) (sym none) tt;
   waits = waits;
+  requested = requested;
 }
 
 -- Items
@@ -111,14 +112,15 @@ packet-farewell side count (message m) is = by m.body is
 packet-farewell side count mark is = (tt, tt)
 
 -- what is left when an item that answers nothing pending is taken
-left-replies : (e : End) (packets : List Packet) (failed : List ℤ) (x : Item) → take.taken_next e ≡ Some x → ((n : ℤ) → take.is_awaited n e.promises ≡ true → item_answer n x ≡ None) → KeepsReplies e packets failed → KeepsReplies (left_end e) packets failed
-left-replies e packets failed x next none k =
+left-replies : (e : End) (packets : List Packet) (failed : List ℤ) (sent : List Note) (x : Item) → take.taken_next e ≡ Some x → ((n : ℤ) → take.is_awaited n e.promises ≡ true → item_answer n x ≡ None) → KeepsReplies e packets failed sent → KeepsReplies (left_end e) packets failed sent
+left-replies e packets failed sent x next none k =
     let t : TakenFrom e.arrived (left_end e).arrived x = (taken-first e x next).taken in
     record {
       pending = λ n awaited takes. items-taken n e.arrived (left_end e).arrived x t (none n awaited) ∙ k.pending n awaited takes;
       packets = k.packets;
       arrived = all-sublist (ItemIsKnown e.side e.sent) (left_end e).arrived e.arrived (without_first-sublist (is_free (take.holding_of e)) e.arrived) k.arrived;
       waits = k.waits;
+      requested = k.requested;
     }
 
 -- a reply of a message that comes too late answers nothing pending
@@ -154,63 +156,74 @@ sent-waits : (e : End) (packets : List Packet) (failed : List ℤ) (row : Messag
 sent-waits e packets failed row m is known k true = waits-called e.side e.sent packets failed (send.wait_for row m) e.stack m.seq refl (none-yet e.side e.sent m.seq packets known is) is k
 sent-waits e packets failed row m is known k false = waits-sent e.side e.sent packets failed e.stack k
 
-sent-replies : (e : End) (packets : List Packet) (failed : List ℤ) (row : MessageRow) (m : Message) → m.seq ≡ send.next_seq e → KeepsReplies e packets failed → KeepsReplies (parts.sent_end row m e) packets failed
-sent-replies e packets failed row m is k = record {
+sent-requested : (sent : List Note) (row : MessageRow) (m : Message) (es : List StackEntry) → IsRequested sent m.seq m.route m.number → AreRequested sent es → (b : Bool) → AreRequested sent (cond b (send.wait_for row m ∷ es) es)
+sent-requested sent row m es new h true = (new, h)
+sent-requested sent row m es new h false = h
+
+sent-replies : (e : End) (packets : List Packet) (failed : List ℤ) (sent : List Note) (row : MessageRow) (m : Message) → m.seq ≡ send.next_seq e → IsRequested sent m.seq m.route m.number → KeepsReplies e packets failed sent → KeepsReplies (parts.sent_end row m e) packets failed sent
+sent-replies e packets failed sent row m is new k = record {
   pending = sent-pending e packets (parts.promise_for m) is k.packets k.arrived k.pending (makes_promise row);
   packets = packets-more e.side e.sent packets k.packets;
   arrived = items-more e.side e.sent e.arrived k.arrived;
   waits = sent-waits e packets failed row m is k.packets k.waits (is_sync_row row);
+  requested = sent-requested sent row m e.stack new k.requested (is_sync_row row);
 }
 
 -- Parts of a step of the end's own
 
-module _ (schema : Schema) (theirs : List Note) (packets : List Packet) (failed : List ℤ) where
-  pub first-replies : {e f : End} {ws : List What} {ps : List Packet} {q : Phase} → FirstPart schema e ws ps f q → HasOrigins schema theirs e → KeepsReplies e packets failed → KeepsReplies f packets failed
-  first-replies (parts.refuses w is) o k = k
-  first-replies (parts.renames w is) o k = k
-  first-replies (parts.flushes open_end) o k = record { pending = k.pending; packets = k.packets; arrived = k.arrived; waits = k.waits }
-  first-replies {e} (parts.sends row route vs name sent) o k = sent-replies e packets failed row (send.request_of e row route vs) refl k
-  first-replies {e} (parts.answers by vs r row found may ok used) o k = without-same by e packets failed k
-  first-replies {e} {f} (parts.closes open_end waits) o k = emptied e f packets failed refl refl refl refl k.waits k
-  first-replies {e} {f} (parts.dies open_end) o k = emptied e f packets failed refl refl refl refl (waits-none e.side e.sent packets failed) k
-  first-replies {e} {f} (parts.dies_silent closed alive) o k = emptied e f packets failed refl refl refl refl (waits-none e.side e.sent packets failed) k
-  first-replies {e} (parts.takes m sync level row vs next body found stays) o k =
-      let l : KeepsReplies (left_end e) packets failed = left-replies e packets failed (item.Message m sync level) next (λ n awaited. request-none n m sync level vs body) k in
-      record { pending = l.pending; packets = l.packets; arrived = l.arrived; waits = waits-handled e.side e.sent packets failed (take.dispatch_of row m) e.stack refl tt l.waits }
-  first-replies {e} (parts.drops m sync level row vs id replies next body found gone is) o k =
-      behind-same replies (left_end e) packets failed (left-replies e packets failed (item.Message m sync level) next (λ n awaited. request-none n m sync level vs body) k)
-  first-replies {e} (parts.drops_unknown m sync level vs next body none) o k = left-replies e packets failed (item.Message m sync level) next (λ n awaited. request-none n m sync level vs body) k
-  first-replies {e} (parts.takes_reply m sync level a next body late) o k =
-      left-replies e packets failed (item.Message m sync level) next (late-none schema theirs e m sync level a body late (taken-origin schema theirs e (item.Message m sync level) o next)) k
-  first-replies {e} (parts.settles m sync level row a next body found is) o k =
-      let t : TakenFrom e.arrived (left_end e).arrived (item.Message m sync level) = (taken-first e (item.Message m sync level) next).taken in
+module _ (schema : Schema) (theirs : List Note) (packets : List Packet) (failed : List ℤ) (sent : List Note) where
+  -- a request that these lines send is noted
+  abbrev pub SendIsNoted : List What → Type 0
+  SendIsNoted ws = (row : MessageRow) (m : Message) (vs : Values) → ws ≡ send.send_line row m vs ∷ [] → IsRequested sent m.seq m.route m.number
+
+  pub first-replies : {e f : End} {ws : List What} {ps : List Packet} {q : Phase} → FirstPart schema e ws ps f q → HasOrigins schema theirs e → SendIsNoted ws → KeepsReplies e packets failed sent → KeepsReplies f packets failed sent
+  first-replies (parts.refuses w is) o t k = k
+  first-replies (parts.renames w is) o t k = k
+  first-replies (parts.flushes open_end) o t k = record { pending = k.pending; packets = k.packets; arrived = k.arrived; waits = k.waits; requested = k.requested }
+  first-replies {e} (parts.sends row route vs name sent) o t k = sent-replies e packets failed sent row (send.request_of e row route vs) refl (t row (send.request_of e row route vs) vs refl) k
+  first-replies {e} (parts.answers by vs r row found may ok used) o t k = without-same by e packets failed sent k
+  first-replies {e} {f} (parts.closes open_end waits) o t k = emptied e f packets failed sent refl refl refl refl k.waits k.requested k
+  first-replies {e} {f} (parts.dies open_end) o t k = emptied e f packets failed sent refl refl refl refl (waits-none e.side e.sent packets failed) tt k
+  first-replies {e} {f} (parts.dies_silent closed alive) o t k = emptied e f packets failed sent refl refl refl refl (waits-none e.side e.sent packets failed) tt k
+  first-replies {e} (parts.takes m sync level row vs next body found stays) o t k =
+      let l : KeepsReplies (left_end e) packets failed sent = left-replies e packets failed sent (item.Message m sync level) next (λ n awaited. request-none n m sync level vs body) k in
+      record { pending = l.pending; packets = l.packets; arrived = l.arrived; waits = waits-handled e.side e.sent packets failed (take.dispatch_of row m) e.stack refl tt l.waits; requested = (tt, l.requested) }
+  first-replies {e} (parts.drops m sync level row vs id replies next body found gone is) o t k =
+      behind-same replies (left_end e) packets failed sent (left-replies e packets failed sent (item.Message m sync level) next (λ n awaited. request-none n m sync level vs body) k)
+  first-replies {e} (parts.drops_unknown m sync level vs next body none) o t k = left-replies e packets failed sent (item.Message m sync level) next (λ n awaited. request-none n m sync level vs body) k
+  first-replies {e} (parts.takes_reply m sync level a next body late) o t k =
+      left-replies e packets failed sent (item.Message m sync level) next (late-none schema theirs e m sync level a body late (taken-origin schema theirs e (item.Message m sync level) o next)) k
+  first-replies {e} (parts.settles m sync level row a next body found is) o t k =
+      let left : TakenFrom e.arrived (left_end e).arrived (item.Message m sync level) = (taken-first e (item.Message m sync level) next).taken in
       record {
         pending = λ n awaited takes.
             let s = awaited-settled n m.seq (reply_outcome schema e row a) e.promises awaited in
-            items-taken n e.arrived (left_end e).arrived (item.Message m sync level) t (answer-apart n m s.1) ∙ k.pending n s.0 takes;
+            items-taken n e.arrived (left_end e).arrived (item.Message m sync level) left (answer-apart n m s.1) ∙ k.pending n s.0 takes;
         packets = k.packets;
         arrived = all-sublist (ItemIsKnown e.side e.sent) (left_end e).arrived e.arrived (without_first-sublist (is_free (take.holding_of e)) e.arrived) k.arrived;
         waits = k.waits;
+        requested = k.requested;
       }
-  first-replies {e} {f} (parts.shuts last next is) o k = emptied e f packets failed refl refl refl refl k.waits k
-  first-replies {e} (parts.returns entry row vs told lost may t l) o k =
-      behind-same lost (end_behind told (record e { stack = drop 1 e.stack })) packets failed
-      (behind-same told (record e { stack = drop 1 e.stack }) packets failed
-      (record { pending = k.pending; packets = k.packets; arrived = k.arrived; waits = waits-dropped e.side e.sent packets failed e.stack k.waits }))
-  first-replies {e} (parts.resumes wait row on_top found) o k = record { pending = k.pending; packets = k.packets; arrived = k.arrived; waits = waits-dropped e.side e.sent packets failed e.stack k.waits }
+  first-replies {e} {f} (parts.shuts last next is) o t k = emptied e f packets failed sent refl refl refl refl k.waits k.requested k
+  first-replies {e} (parts.returns entry row vs told lost may y z) o t k =
+      behind-same lost (end_behind told (record e { stack = drop 1 e.stack })) packets failed sent
+      (behind-same told (record e { stack = drop 1 e.stack }) packets failed sent
+      (record { pending = k.pending; packets = k.packets; arrived = k.arrived; waits = waits-dropped e.side e.sent packets failed e.stack k.waits; requested = requested-dropped sent e.stack k.requested }))
+  first-replies {e} (parts.resumes wait row on_top found) o t k = record { pending = k.pending; packets = k.packets; arrived = k.arrived; waits = waits-dropped e.side e.sent packets failed e.stack k.waits; requested = requested-dropped sent e.stack k.requested }
 
-  pub later-replies : {p q : Phase} {e f : End} {ws : List What} {ps : List Packet} → LaterPart p e ws ps f q → KeepsReplies e packets failed → KeepsReplies f packets failed
-  later-replies (parts.unnames name may silent) k = record { pending = k.pending; packets = k.packets; arrived = k.arrived; waits = k.waits }
-  later-replies (parts.lets_go name r may held o) k = record { pending = k.pending; packets = k.packets; arrived = k.arrived; waits = k.waits }
-  later-replies (parts.names more holds) k = record { pending = k.pending; packets = k.packets; arrived = k.arrived; waits = k.waits }
-  later-replies {e = e} (parts.releases seq closed) k = record { pending = k.pending; packets = k.packets; arrived = k.arrived; waits = waits-released e.side e.sent packets failed seq e.stack k.waits }
-  later-replies {e = e} (parts.keeps seq name r is o) k = record { pending = k.pending; packets = k.packets; arrived = k.arrived; waits = waits-released e.side e.sent packets failed seq e.stack k.waits }
-  later-replies (parts.builds id protocol rest fresh alive) k = record { pending = k.pending; packets = k.packets; arrived = k.arrived; waits = k.waits }
+  pub later-replies : {p q : Phase} {e f : End} {ws : List What} {ps : List Packet} → LaterPart p e ws ps f q → KeepsReplies e packets failed sent → KeepsReplies f packets failed sent
+  later-replies (parts.unnames name may silent) k = record { pending = k.pending; packets = k.packets; arrived = k.arrived; waits = k.waits; requested = k.requested }
+  later-replies (parts.lets_go name r may held o) k = record { pending = k.pending; packets = k.packets; arrived = k.arrived; waits = k.waits; requested = k.requested }
+  later-replies (parts.names more holds) k = record { pending = k.pending; packets = k.packets; arrived = k.arrived; waits = k.waits; requested = k.requested }
+  later-replies {e = e} (parts.releases seq closed) k = record { pending = k.pending; packets = k.packets; arrived = k.arrived; waits = waits-released e.side e.sent packets failed seq e.stack k.waits; requested = requested-released sent seq e.stack k.requested }
+  later-replies {e = e} (parts.keeps seq name r is o) k = record { pending = k.pending; packets = k.packets; arrived = k.arrived; waits = waits-released e.side e.sent packets failed seq e.stack k.waits; requested = requested-released sent seq e.stack k.requested }
+  later-replies (parts.builds id protocol rest fresh alive) k = record { pending = k.pending; packets = k.packets; arrived = k.arrived; waits = k.waits; requested = k.requested }
   later-replies {e = e} (parts.deletes id is) k = record {
     pending = λ n awaited takes. k.pending n (awaited-rejected n (λ p. lives p.actor (parts.falling id e)) ActorDestroyed e.promises awaited) takes;
     packets = k.packets;
     arrived = k.arrived;
     waits = k.waits;
+    requested = k.requested;
   }
   later-replies {e = e} (parts.falls why is) k = record {
     pending = λ n awaited takes.
@@ -218,19 +231,20 @@ module _ (schema : Schema) (theirs : List Note) (packets : List Packet) (failed 
     packets = k.packets;
     arrived = k.arrived;
     waits = k.waits;
+    requested = k.requested;
   }
 
-  pub laters-replies : {p q : Phase} {e f : End} {ws : List What} {ps : List Packet} → LaterParts p e ws ps f q → KeepsReplies e packets failed → KeepsReplies f packets failed
+  pub laters-replies : {p q : Phase} {e f : End} {ws : List What} {ps : List Packet} → LaterParts p e ws ps f q → KeepsReplies e packets failed sent → KeepsReplies f packets failed sent
   laters-replies parts.done k = k
   laters-replies (parts.then part rest) k = laters-replies rest (later-replies part k)
 
-  pub own-replies : {e f : End} {ws : List What} {ps : List Packet} {q : Phase} → OwnParts schema e ws ps f q → HasOrigins schema theirs e → KeepsReplies e packets failed → KeepsReplies f packets failed
-  own-replies (parts.begun part rest ended) o k = laters-replies rest (first-replies part o k)
-
 -- A delivery
 
-pub more-failed : (e : End) (packets : List Packet) (failed next : List ℤ) → ((n : ℤ) → has failed n ≡ true → has next n ≡ true) → KeepsReplies e packets failed → KeepsReplies e packets next
-more-failed e packets failed next stays k = record { pending = k.pending; packets = k.packets; arrived = k.arrived; waits = waits-failed e.side e.sent packets failed next e.stack stays k.waits }
+pub more-failed : (e : End) (packets : List Packet) (failed next : List ℤ) (sent : List Note) → ((n : ℤ) → has failed n ≡ true → has next n ≡ true) → KeepsReplies e packets failed sent → KeepsReplies e packets next sent
+more-failed e packets failed next sent stays k = record { pending = k.pending; packets = k.packets; arrived = k.arrived; waits = waits-failed e.side e.sent packets failed next e.stack stays k.waits; requested = k.requested }
+
+pub more-noted : (e : End) (packets : List Packet) (failed : List ℤ) (sent more : List Note) → KeepsReplies e packets failed sent → KeepsReplies e packets failed (sent ++ more)
+more-noted e packets failed sent more k = record { pending = k.pending; packets = k.packets; arrived = k.arrived; waits = k.waits; requested = all-requested-more sent more e.stack k.requested }
 
 -- What is known of a reply that is delivered: one to a sync request answers the innermost wait, and one to another request
 -- neither answers a wait nor a request that is still to come.
@@ -269,8 +283,8 @@ staying-answers n row new items (Some old) is =
     let r = replaced-taken row.compress new items old is in
     items-taken n items (staying row.compress new items) old r.taken (is-request-none n old (alike-request new old r.alike))
 
-counted-replies : (e : End) (packets : List Packet) (failed : List ℤ) (row : MessageRow) (m : Message) (vs : Values) → m.body ≡ Request vs → KeepsReplies e packets failed → KeepsReplies (delivery.counted row (delivery.item_of row m) e) (packets ++ message m ∷ []) failed
-counted-replies e packets failed row m vs body k =
+counted-replies : (e : End) (packets : List Packet) (failed : List ℤ) (sent : List Note) (row : MessageRow) (m : Message) (vs : Values) → m.body ≡ Request vs → KeepsReplies e packets failed sent → KeepsReplies (delivery.counted row (delivery.item_of row m) e) (packets ++ message m ∷ []) failed sent
+counted-replies e packets failed sent row m vs body k =
     let new : Item = delivery.item_of row m in
     let none : (n : ℤ) → answer_to n (message m) ≡ None = λ n. answers-none n m (ap answer_in body) in
     record {
@@ -279,42 +293,46 @@ counted-replies e packets failed row m vs body k =
       packets = all-append (PacketIsKnown e.side e.sent) packets (message m ∷ []) k.packets (known-request e.side e.sent m vs body, tt);
       arrived = all-append (ItemIsKnown e.side e.sent) (staying row.compress new e.arrived) (new ∷ []) (all-sublist (ItemIsKnown e.side e.sent) (staying row.compress new e.arrived) e.arrived (staying-sublist row.compress new e.arrived) k.arrived) (known-request e.side e.sent m vs body, tt);
       waits = waits-more e.side e.sent packets (message m) failed e.stack (all-none e (message m) none) k.waits;
+      requested = k.requested;
     }
 
 -- what a delivery leaves, where these calls have failed behind it
-pub delivery-replies : (schema : Schema) (packets : List Packet) (failed next : List ℤ) {packet : Packet} {e f : End} {ws : List What} {ps : List Packet} {q : Phase} → DeliveryPart schema packet e ws ps f q → take.takes_in_state e.state ≡ true
+pub delivery-replies : (schema : Schema) (packets : List Packet) (failed next : List ℤ) (sent : List Note) {packet : Packet} {e f : End} {ws : List What} {ps : List Packet} {q : Phase} → DeliveryPart schema packet e ws ps f q → take.takes_in_state e.state ≡ true
     → ((n : ℤ) → has failed n ≡ true → has next n ≡ true) → ((n : ℤ) → In n (delivery.unanswered e) → is_farewell (farewell_item packet) ≡ true → has next n ≡ true)
     → PacketIsDue schema e packet → ((m : Message) → packet ≡ message m → is_farewell (farewell_item packet) ≡ false → message_of schema m.number ≡ None → ⊥)
-    → KeepsReplies e packets failed → KeepsReplies f (packets ++ packet ∷ []) next
-delivery-replies schema packets failed next {e = e} (parts.gets_request m row vs body found none) open_end stays fails due known k =
-    more-failed (delivery.counted row (delivery.item_of row m) e) (packets ++ message m ∷ []) failed next stays (counted-replies e packets failed row m vs body k)
-delivery-replies schema packets failed next {e = e} (parts.replaces m row vs old sync level replies body found is told) open_end stays fails due known k =
-    behind-same replies (delivery.counted row (delivery.item_of row m) e) (packets ++ message m ∷ []) next
-    (more-failed (delivery.counted row (delivery.item_of row m) e) (packets ++ message m ∷ []) failed next stays (counted-replies e packets failed row m vs body k))
-delivery-replies schema packets failed next {e = e} (parts.gets_answer m row a body found is) open_end stays fails due known k =
+    → KeepsReplies e packets failed sent → KeepsReplies f (packets ++ packet ∷ []) next sent
+delivery-replies schema packets failed next sent {e = e} (parts.gets_request m row vs body found none) open_end stays fails due known k =
+    more-failed (delivery.counted row (delivery.item_of row m) e) (packets ++ message m ∷ []) failed next sent stays (counted-replies e packets failed sent row m vs body k)
+delivery-replies schema packets failed next sent {e = e} (parts.replaces m row vs old sync level replies body found is told) open_end stays fails due known k =
+    behind-same replies (delivery.counted row (delivery.item_of row m) e) (packets ++ message m ∷ []) next sent
+    (more-failed (delivery.counted row (delivery.item_of row m) e) (packets ++ message m ∷ []) failed next sent stays (counted-replies e packets failed sent row m vs body k))
+delivery-replies schema packets failed next sent {e = e} (parts.gets_answer m row a body found is) open_end stays fails due known k =
     let d : ReplyIsDue e m row = due row a body found in
-    more-failed (delivery.answers_wait a e) (packets ++ message m ∷ []) failed next stays (record {
+    more-failed (delivery.answers_wait a e) (packets ++ message m ∷ []) failed next sent stays (record {
       pending = λ n awaited takes. k.pending n awaited takes ∙ sym (answers-other n packets (message m) (answer-apart n m (d.promised is n awaited)));
       packets = all-append (PacketIsKnown e.side e.sent) packets (message m ∷ []) k.packets (known-reply e.side e.sent m a body d.known, tt);
       arrived = k.arrived;
       waits = waits-answered packets (message m) failed a m.seq (answer-same m.seq m a refl body) (λ n apart. answer-apart n m apart) e.side e.sent e.stack (d.awaits is) k.waits;
+      requested = requested-answered sent a e.stack k.requested;
     })
-delivery-replies schema packets failed next {e = e} (parts.gets_reply m row a body found is) open_end stays fails due known k =
+delivery-replies schema packets failed next sent {e = e} (parts.gets_reply m row a body found is) open_end stays fails due known k =
     let d : ReplyIsDue e m row = due row a body found in
     let new : Item = delivery.item_of row m in
-    more-failed (delivery.arrives new e) (packets ++ message m ∷ []) failed next stays (record {
+    more-failed (delivery.arrives new e) (packets ++ message m ∷ []) failed next sent stays (record {
       pending = λ n awaited takes. answers-itself n packets (message m) e.arrived new refl (k.pending n awaited takes);
       packets = all-append (PacketIsKnown e.side e.sent) packets (message m ∷ []) k.packets (known-reply e.side e.sent m a body d.known, tt);
       arrived = all-append (ItemIsKnown e.side e.sent) e.arrived (new ∷ []) k.arrived (known-reply e.side e.sent m a body d.known, tt);
       waits = waits-more e.side e.sent packets (message m) failed e.stack
           (all-map (λ (entry : StackEntry). (n : ℤ) → wait_number entry.frame ≡ n ∷ [] → m.seq ≢ n) (λ (entry : StackEntry). (n : ℤ) → wait_number entry.frame ≡ n ∷ [] → answer_to n (message m) ≡ None) e.stack (λ entry h n number. answer-apart n m (h n number)) (d.waits is)) k.waits;
+      requested = k.requested;
     })
-delivery-replies schema packets failed next {packet} {e = e} (parts.drains _ is) open_end stays fails due known k =
+delivery-replies schema packets failed next sent {packet} {e = e} (parts.drains _ is) open_end stays fails due known k =
     let both = packet-farewell e.side e.sent packet is in
     record {
       pending = λ n awaited takes. answers-itself n packets packet e.arrived (farewell_item packet) (item-farewell n packet) (k.pending n awaited open_end);
       packets = all-append (PacketIsKnown e.side e.sent) packets (packet ∷ []) k.packets (both.0, tt);
       arrived = all-append (ItemIsKnown e.side e.sent) e.arrived (farewell_item packet ∷ []) k.arrived (both.1, tt);
       waits = waits-ended e.side e.sent (packets ++ packet ∷ []) failed next e.stack stays (λ n i. fails n i is) (waits-more e.side e.sent packets packet failed e.stack (all-none e packet (λ n. farewell-none n packet is)) k.waits);
+      requested = requested-failed sent e.stack k.requested;
     }
-delivery-replies schema packets failed next {e = e} (parts.passes_by m ordinary none) open_end stays fails due known k = absurd (known m refl ordinary none)
+delivery-replies schema packets failed next sent {e = e} (parts.passes_by m ordinary none) open_end stays fails due known k = absurd (known m refl ordinary none)

@@ -19,7 +19,10 @@ use Rattle.channel_model.specs.Requests.{IsSeqOf}
 use Rattle.channel_model.proofs.Known.{all-map}
 use Rattle.channel_model.proofs.Numbered.{more_seqs, next-is_free}
 use Rattle.history_reading.specs.Numbers.{has}
-use Rattle.channel_laws.specs.Notes.{In, here, there}
+use Rattle.channel_laws.specs.GivenAnswers.{FrameIsOwn}
+use Rattle.channel_laws.specs.Notes.{Note, In, here, there}
+use Rattle.channel_laws.specs.Origins.{IsRequested}
+use Rattle.channel_laws.proofs.Growing.{in-before}
 use Rattle.alone_laws.specs.KeptReplies.{wait_number, wait_numbers, FrameReceives, WaitsReceive}
 use Rattle.alone_laws.specs.Received.{answer_to, answers_to}
 use Rattle.alone_laws.proofs.ReplyLists.{answers-last, answers-other, first-stays}
@@ -230,3 +233,51 @@ waits-called side count packets failed x es n is given next k = record {
   apart = subst (λ (ns : List ℤ). AreDistinct (ns ++ wait_numbers es)) (sym is) (all-map (IsSeqOf side count) (λ later. n ≢ later) (wait_numbers es) (λ m known same. next-is_free side count m known (sym same ∙ next)) k.known, k.apart);
   given = (given, k.given);
 }
+
+-- Waits are for own requests
+
+abbrev pub AreRequested : List Note → List StackEntry → Type 0
+AreRequested sent es = AllByRecursion (λ (entry : StackEntry). FrameIsOwn sent entry entry.frame) es
+
+requested-more : (sent more : List Note) (x : StackEntry) (f : StackFrame) → FrameIsOwn sent x f → FrameIsOwn (sent ++ more) x f
+requested-more sent more x (Dispatch head) h = tt
+requested-more sent more x (Wait head a) h = record { request = h.request; sent_it = in-before more h.sent_it; seq_is = h.seq_is; route_is = h.route_is; number_is = h.number_is }
+
+pub all-requested-more : (sent more : List Note) (es : List StackEntry) → AreRequested sent es → AreRequested (sent ++ more) es
+all-requested-more sent more es = all-map (λ (x : StackEntry). FrameIsOwn sent x x.frame) (λ (x : StackEntry). FrameIsOwn (sent ++ more) x x.frame) es (λ x. requested-more sent more x x.frame)
+
+pub requested-dropped : (sent : List Note) (es : List StackEntry) → AreRequested sent es → AreRequested sent (drop 1 es)
+requested-dropped sent [] h = tt
+requested-dropped sent (x ∷ es) h = h.1
+
+requested-frame : (sent : List Note) (b : Bool) (x : StackEntry) (f : StackFrame) → FrameIsOwn sent x f → FrameIsOwn sent (if b then record x { resolves = false } else x) f
+requested-frame sent true x (Dispatch head) h = tt
+requested-frame sent true x (Wait head a) h = h
+requested-frame sent false x f h = h
+
+pub requested-released : (sent : List Note) (seq : ℤ) (es : List StackEntry) → AreRequested sent es → AreRequested sent (released seq es)
+requested-released sent seq [] h = tt
+requested-released sent seq (x ∷ es) h = (by (has_resolver seq x), requested-released sent seq es h.1)
+  where
+    by : (b : Bool) → FrameIsOwn sent (if b then record x { resolves = false } else x) (if b then record x { resolves = false } else x).frame
+    by true = requested-frame sent true x x.frame h.0
+    by false = h.0
+
+pub requested-failed : (sent : List Note) (es : List StackEntry) → AreRequested sent es → AreRequested sent (map delivery.with_failed_wait es)
+requested-failed sent [] h = tt
+requested-failed sent (x ∷ es) h = (by x.frame h.0, requested-failed sent es h.1)
+  where
+    by : (f : StackFrame) → FrameIsOwn sent x f → FrameIsOwn sent (record x { frame = delivery.failed f }) (delivery.failed f)
+    by (Dispatch head) h = tt
+    by (Wait head None) h = h
+    by (Wait head (Some a)) h = h
+
+pub requested-answered : (sent : List Note) (a : Answer) (es : List StackEntry) → AreRequested sent es → AreRequested sent (delivery.with_frames (with_answer a (map (λ (x : StackEntry). x.frame) es)) es)
+unfolding frames
+requested-answered sent a [] h = tt
+requested-answered sent a (x ∷ es) h = by x.frame h.0 (requested-answered sent a es h.1)
+  where
+    by : (f : StackFrame) → FrameIsOwn sent x f → AreRequested sent (delivery.with_frames (with_answer a (map (λ (y : StackEntry). y.frame) es)) es) → AreRequested sent (delivery.with_frames (with_answer a (f ∷ map (λ (y : StackEntry). y.frame) es)) (x ∷ es))
+    by (Dispatch head) o rec = (tt, rec)
+    by (Wait head None) o rec = (o, same-entries (λ (y : StackEntry). FrameIsOwn sent y y.frame) es h.1)
+    by (Wait head (Some b)) o rec = (o, rec)

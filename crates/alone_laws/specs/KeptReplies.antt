@@ -17,6 +17,8 @@ use Rattle.channel_model.specs.Ends.{End, Packet, message, mark, PromiseEntry, S
 use Rattle.channel_model.specs.Requests.{IsSeqOf}
 use Rattle.channel_model.specs.Takes.{is_awaited, takes_in_state}
 use Rattle.history_reading.specs.Numbers.{has}
+use Rattle.channel_laws.specs.GivenAnswers.{FrameIsOwn}
+use Rattle.channel_laws.specs.Notes.{Note}
 use Rattle.alone_laws.specs.Received.{answer_to, answers_to}
 
 -- what an item answers to the request of a number, and the answers to it among items
@@ -66,9 +68,11 @@ pub record WaitsReceive (side : Side) (count : ℕ) (packets : List Packet) (fai
   pub apart : AreDistinct (wait_numbers stack)
   pub given : AllByRecursion (λ entry. FrameReceives packets failed entry.frame) stack
 
--- What an end keeps of the packets that were delivered to it, where these calls have failed.
-pub record KeepsReplies (e : End) (packets : List Packet) (failed : List ℤ) : Type 0 where
+-- What an end keeps of the packets that were delivered to it, where these calls have failed and this is noted of what it
+-- has sent.
+pub record KeepsReplies (e : End) (packets : List Packet) (failed : List ℤ) (sent : List Note) : Type 0 where
   pub pending : PendingAreThere e.promises e.state e.arrived packets
   pub packets : AllByRecursion (PacketIsKnown e.side e.sent) packets
   pub arrived : AllByRecursion (ItemIsKnown e.side e.sent) e.arrived
   pub waits : WaitsReceive e.side e.sent packets failed e.stack
+  pub requested : AllByRecursion (λ entry. FrameIsOwn sent entry entry.frame) e.stack
