@@ -148,7 +148,7 @@ reply-refused schema e m row (answer.Fault why) body found accepted =
     ap (λ (b : Body). body_refusal schema e m b row) (sym body) ∙ (sym (ap (λ (r : Option MessageRow). option_map_or (body_refusal schema e m m.body) r None) found) ∙ accepted)
 
 module _ (schema : Schema) (sound : IsSound schema) (e : End) (own : EndReading) (packets : List Packet) (failed : List ℤ) (k : KeepsReplies e packets failed (told_notes e.side own.sent)) (promises : PromisesAreRead e own) (waits : WaitsAreOwn e own) where
-  sent : List Note
+  abbrev sent : List Note
   sent = told_notes e.side own.sent
 
   -- promises
@@ -186,7 +186,7 @@ module _ (schema : Schema) (sound : IsSound schema) (e : End) (own : EndReading)
     requested : IsRequested sent m.seq m.route number
     known : IsSeqOf e.side e.sent m.seq
 
-  promise-test : Message → PromiseEntry → Bool
+  abbrev promise-test : Message → PromiseEntry → Bool
   promise-test m entry = is_replied_to m entry.promise.seq entry.number entry.promise.actor
 
   replied-promise : (m : Message) (entry : PromiseEntry) → Answers m entry.promise.seq entry.number entry.promise.actor → int_eq entry.promise.seq m.seq && ((entry.number == entry.number) && int_eq entry.promise.actor m.route) ≡ true
@@ -208,7 +208,6 @@ module _ (schema : Schema) (sound : IsSound schema) (e : End) (own : EndReading)
       or-right false h = h
 
   answers-promise : (m : Message) (some : List PromiseEntry) → ((x : PromiseEntry) → In x some → In x e.promises) → AllByRecursion (IsSeqOf e.side e.sent) (map promise_seq some) → list_any (promise-test m) some ≡ true → AnswersOwn m
-  unfolding promise-test
   answers-promise m [] sub known is = cc
   answers-promise m (entry ∷ some) sub known is = by (is_replied_to m entry.promise.seq entry.number entry.promise.actor) refl is
     where

@@ -27,7 +27,7 @@ use Rattle.alone_laws.specs.KeptReplies.{wait_number, wait_numbers, FrameReceive
 use Rattle.alone_laws.specs.Received.{answer_to, answers_to}
 use Rattle.alone_laws.proofs.ReplyLists.{answers-last, answers-other, first-stays}
 
-frames : List StackEntry → List StackFrame
+abbrev frames : List StackEntry → List StackFrame
 frames es = map (λ (x : StackEntry). x.frame) es
 
 -- Frames, with more packets and more failures
@@ -101,12 +101,10 @@ waits-handled side count packets failed x es none given k = record {
 
 -- the frames as they are
 pub same-entries : (P : StackEntry → Type 0) (es : List StackEntry) → AllByRecursion P es → AllByRecursion P (delivery.with_frames (frames es) es)
-unfolding frames
 same-entries P [] h = tt
 same-entries P (x ∷ es) h = (h.0, same-entries P es h.1)
 
 same-numbers : (es : List StackEntry) → wait_numbers (delivery.with_frames (frames es) es) ≡ wait_numbers es
-unfolding frames
 same-numbers [] = refl
 same-numbers (x ∷ es) = ap (λ (ns : List ℤ). wait_number x.frame ++ ns) (same-numbers es)
 
@@ -150,7 +148,6 @@ unanswered_numbers fs = map (λ (f : StackFrame). (head_of f).seq) (filter is_un
 
 failed-given : (packets : List Packet) (failed next : List ℤ) (es : List StackEntry) → ((n : ℤ) → has failed n ≡ true → has next n ≡ true) → ((n : ℤ) → In n (unanswered_numbers (frames es)) → has next n ≡ true)
     → AllByRecursion (λ entry. FrameReceives packets failed entry.frame) es → AllByRecursion (λ entry. FrameReceives packets next entry.frame) (map delivery.with_failed_wait es)
-unfolding frames
 failed-given packets failed next [] stays fails h = tt
 failed-given packets failed next (x ∷ es) stays fails h = by x.frame h.0 fails (λ f. failed-given packets failed next es stays f h.1)
   where
@@ -163,7 +160,6 @@ failed-given packets failed next (x ∷ es) stays fails h = by x.frame h.0 fails
 
 pub waits-ended : (side : Side) (count : ℕ) (packets : List Packet) (failed next : List ℤ) (es : List StackEntry) → ((n : ℤ) → has failed n ≡ true → has next n ≡ true) → ((n : ℤ) → In n (unanswered_numbers (map (λ (x : StackEntry). x.frame) es)) → has next n ≡ true)
     → WaitsReceive side count packets failed es → WaitsReceive side count packets next (map delivery.with_failed_wait es)
-unfolding frames
 waits-ended side count packets failed next es stays fails k = record {
   known = subst (AllByRecursion (IsSeqOf side count)) (sym (failed-numbers es)) k.known;
   apart = subst AreDistinct (sym (failed-numbers es)) k.apart;
@@ -188,7 +184,6 @@ module _ (packets : List Packet) (p : Packet) (failed : List ℤ) (a : Answer) (
 
   answered-given : (es : List StackEntry) → awaited (map (λ (x : StackEntry). x.frame) es) ≡ Some n → AreDistinct (wait_numbers es) → AllByRecursion (λ entry. FrameReceives packets failed entry.frame) es
       → AllByRecursion (λ entry. FrameReceives (packets ++ p ∷ []) failed entry.frame) (delivery.with_frames (with_answer a (map (λ (x : StackEntry). x.frame) es)) es)
-  unfolding frames
   answered-given [] w d g = tt
   answered-given (x ∷ es) w d g = by x.frame w d g.0 (λ v. answered-given es v (numbers-distinct x es d) g.1)
     where
@@ -273,7 +268,6 @@ requested-failed sent (x ∷ es) h = (by x.frame h.0, requested-failed sent es h
     by (Wait head (Some a)) h = h
 
 pub requested-answered : (sent : List Note) (a : Answer) (es : List StackEntry) → AreRequested sent es → AreRequested sent (delivery.with_frames (with_answer a (map (λ (x : StackEntry). x.frame) es)) es)
-unfolding frames
 requested-answered sent a [] h = tt
 requested-answered sent a (x ∷ es) h = by x.frame h.0 (requested-answered sent a es h.1)
   where
