@@ -5,3 +5,4 @@ pub mod AcceptedReplies
 pub mod LivingActors
 pub mod AloneLines
 pub mod AloneParts
+pub mod AloneSteps
