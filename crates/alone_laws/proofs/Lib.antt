@@ -6,3 +6,4 @@ pub mod LivingActors
 pub mod AloneLines
 pub mod AloneParts
 pub mod AloneSteps
+pub mod AloneRuns

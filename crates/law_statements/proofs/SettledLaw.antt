@@ -237,7 +237,7 @@ all-settled ns sents = (
     each h goodbye c = refl
     each h broken c = refl
 
-moment-to : (schema : Schema) (end : Side) (before : List Line) → IsTrue (settled_moment (end_reading_of end (read schema before))) → IsTrue (has_closed (said_by end before))
+pub moment-to : (schema : Schema) (end : Side) (before : List Line) → IsTrue (settled_moment (end_reading_of end (read schema before))) → IsTrue (has_closed (said_by end before))
     → (r : Request) → Contains (sent schema (said_by end before)) (request r) → IsTrue r.wants → IsTrue (has (settled (said_by end before)) r.seq)
 moment-to schema end before e closed r c w =
     ap (λ (ns : List ℤ). has ns r.seq) (sym (settled-read schema end before))
