@@ -197,11 +197,10 @@ module _ (schema : Schema) (sound : IsSound schema) (top : ℕ) (side : Side) wh
   settled-at e lines packets k = moment-settled schema e (end_reading_of side (read schema lines)) k.read_is.exchanges.promises k.read_is.over
 
   -- a world with this end at the side, for what is said of moves
-  world_with : End → List Packet → World
+  abbrev world_with : End → List Packet → World
   world_with e link = record { parent = e; child = e; to_parent = link; to_child = link }
 
   moments : (moment : Reading → Bool) (e : End) (link : List Packet) (ev : Event) (output : Output) (r : Reading) (behind : List Line) → step schema e link ev ≡ Some output → moment r ≡ true → LinesPass schema (moment_at moment) r output.lines behind
-  unfolding world_with
   moments moment e link ev output r behind is h = by side
     where
       by : (s : Side) → LinesPass schema (moment_at moment) r output.lines behind

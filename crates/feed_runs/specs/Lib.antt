@@ -1,0 +1,3 @@
+pub mod NextFrame
+pub mod FeedTurns
+pub mod Laws
