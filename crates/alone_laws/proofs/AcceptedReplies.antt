@@ -78,7 +78,7 @@ module _ (schema : Schema) (sound : IsSound schema) (n : ℕ) (row : MessageRow)
           let protocol_is : row.number / 65536 ≡ n / 65536 = omega (arith, odd, k, l, number) in
           let message_is : row.number % 65536 / 2 ≡ n % 65536 / 2 = omega (arith, odd, k, l, number) in
           let even : row.number % 2 ≡ 0 = omega (arith, odd, k, l, number) in
-          request_found schema row.number sound protocol (ap (slice_get schema.protocols) protocol_is ∙ at) m (ap (slice_get protocol.messages) message_is ∙ e) even ∙ ap (λ (x : MessageRow). Some x) same
+          sym (request_found schema row.number sound protocol (ap (slice_get schema.protocols) protocol_is ∙ at) m (ap (slice_get protocol.messages) message_is ∙ e) even) ∙ ap (λ (x : MessageRow). Some x) same
       by false r odd = let k : None ≡ message_of schema n = no_reply schema n sound protocol at m e odd r in cc
 
   at-messages : (protocol : ProtocolRow) → slice_get schema.protocols (n / 65536) ≡ Some protocol → (m : Option MessageRow) → slice_get protocol.messages (n % 65536 / 2) ≡ m → message_of schema row.number ≡ Some row
@@ -155,13 +155,14 @@ module _ (schema : Schema) (sound : IsSound schema) (e : End) (own : EndReading)
 
   promised-noted : (requests : List SentPacket) (seq route : ℤ) (number : ℕ) → list_any (λ (p : Promised). int_eq p.seq seq && ((p.number == number) && int_eq p.route route)) (promised_in (requests_of requests)) ≡ true → IsRequested (told_notes e.side requests) seq route number
   promised-noted [] seq route number is = cc
-  promised-noted (told.request r ∷ rest) seq route number is = by r.wants is
+  promised-noted (told.request r ∷ rest) seq route number is = by r.wants is (λ h. promised-noted rest seq route number h)
     where
       later : IsRequested (told_notes e.side rest) seq route number → IsRequested (told_notes e.side (told.request r ∷ rest)) seq route number
       later h = record { request = h.request; sent_it = there h.sent_it; seq_is = h.seq_is; route_is = h.route_is; number_is = h.number_is }
 
-      here-or : (b : Bool) → int_eq r.seq seq && ((r.number == number) && int_eq r.route route) ≡ b → b || list_any (λ (p : Promised). int_eq p.seq seq && ((p.number == number) && int_eq p.route route)) (promised_in (requests_of rest)) ≡ true → IsRequested (told_notes e.side (told.request r ∷ rest)) seq route number
-      here-or true same h =
+      here-or : (b : Bool) → int_eq r.seq seq && ((r.number == number) && int_eq r.route route) ≡ b → b || list_any (λ (p : Promised). int_eq p.seq seq && ((p.number == number) && int_eq p.route route)) (promised_in (requests_of rest)) ≡ true
+          → (list_any (λ (p : Promised). int_eq p.seq seq && ((p.number == number) && int_eq p.route route)) (promised_in (requests_of rest)) ≡ true → IsRequested (told_notes e.side rest) seq route number) → IsRequested (told_notes e.side (told.request r ∷ rest)) seq route number
+      here-or true same h rec =
           let both = and-right (int_eq r.seq seq) ((r.number == number) && int_eq r.route route) same in
           record {
             request = request_note e.side r;
@@ -170,11 +171,12 @@ module _ (schema : Schema) (sound : IsSound schema) (e : End) (own : EndReading)
             route_is = (Decides-int_eq r.route route).0 (and-right (r.number == number) (int_eq r.route route) both);
             number_is = eqb-true r.number number (and-left (r.number == number) (int_eq r.route route) both);
           }
-      here-or false same h = later (promised-noted rest seq route number h)
+      here-or false same h rec = later (rec h)
 
-      by : (w : Bool) → list_any (λ (p : Promised). int_eq p.seq seq && ((p.number == number) && int_eq p.route route)) (cond w (record { seq = r.seq; route = r.route; number = r.number } ∷ []) [] ++ promised_in (requests_of rest)) ≡ true → IsRequested (told_notes e.side (told.request r ∷ rest)) seq route number
-      by true h = here-or (int_eq r.seq seq && ((r.number == number) && int_eq r.route route)) refl h
-      by false h = later (promised-noted rest seq route number h)
+      by : (w : Bool) → list_any (λ (p : Promised). int_eq p.seq seq && ((p.number == number) && int_eq p.route route)) (cond w (record { seq = r.seq; route = r.route; number = r.number } ∷ []) [] ++ promised_in (requests_of rest)) ≡ true
+          → (list_any (λ (p : Promised). int_eq p.seq seq && ((p.number == number) && int_eq p.route route)) (promised_in (requests_of rest)) ≡ true → IsRequested (told_notes e.side rest) seq route number) → IsRequested (told_notes e.side (told.request r ∷ rest)) seq route number
+      by true h rec = here-or (int_eq r.seq seq && ((r.number == number) && int_eq r.route route)) refl h rec
+      by false h rec = later (rec h)
   promised-noted (told.said n content ∷ rest) seq route number is = let h = promised-noted rest seq route number is in record { request = h.request; sent_it = there h.sent_it; seq_is = h.seq_is; route_is = h.route_is; number_is = h.number_is }
   promised-noted (told.goodbye ∷ rest) seq route number is = let h = promised-noted rest seq route number is in record { request = h.request; sent_it = there h.sent_it; seq_is = h.seq_is; route_is = h.route_is; number_is = h.number_is }
   promised-noted (told.broken ∷ rest) seq route number is = let h = promised-noted rest seq route number is in record { request = h.request; sent_it = there h.sent_it; seq_is = h.seq_is; route_is = h.route_is; number_is = h.number_is }
@@ -198,10 +200,10 @@ module _ (schema : Schema) (sound : IsSound schema) (e : End) (own : EndReading)
       both true y p q = q
       both false y p q = cc
 
-  among : (m : Message) (number : ℕ) (promises : List PromiseEntry) (entry : PromiseEntry) → In entry promises → int_eq entry.promise.seq m.seq && ((entry.number == number) && int_eq entry.promise.actor m.route) ≡ true
+  among : (m : Message) (number : ℕ) (entry : PromiseEntry) (promises : List PromiseEntry) → In entry promises → int_eq entry.promise.seq m.seq && ((entry.number == number) && int_eq entry.promise.actor m.route) ≡ true
       → list_any (λ (p : Promised). int_eq p.seq m.seq && ((p.number == number) && int_eq p.route m.route)) (map promised_entry promises) ≡ true
-  among m number _ entry (here {xs}) is = ap (λ (b : Bool). b || list_any (λ (p : Promised). int_eq p.seq m.seq && ((p.number == number) && int_eq p.route m.route)) (map promised_entry xs)) is
-  among m number _ entry (there {y} {xs} i) is = or-right (int_eq y.promise.seq m.seq && ((y.number == number) && int_eq y.promise.actor m.route)) (among m number xs entry i is)
+  among m number entry _ (here {xs}) is = ap (λ (b : Bool). b || list_any (λ (p : Promised). int_eq p.seq m.seq && ((p.number == number) && int_eq p.route m.route)) (map promised_entry xs)) is
+  among m number entry _ (there {y} {xs} i) is = or-right (int_eq y.promise.seq m.seq && ((y.number == number) && int_eq y.promise.actor m.route)) (among m number entry xs i is)
     where
       or-right : (b : Bool) {c : Bool} → c ≡ true → b || c ≡ true
       or-right true h = refl
@@ -209,18 +211,18 @@ module _ (schema : Schema) (sound : IsSound schema) (e : End) (own : EndReading)
 
   answers-promise : (m : Message) (some : List PromiseEntry) → ((x : PromiseEntry) → In x some → In x e.promises) → AllByRecursion (IsSeqOf e.side e.sent) (map promise_seq some) → list_any (promise-test m) some ≡ true → AnswersOwn m
   answers-promise m [] sub known is = cc
-  answers-promise m (entry ∷ some) sub known is = by (is_replied_to m entry.promise.seq entry.number entry.promise.actor) refl is
+  answers-promise m (entry ∷ some) sub known is = by (is_replied_to m entry.promise.seq entry.number entry.promise.actor) refl is (λ h. answers-promise m some (λ x i. sub x (there i)) known.1 h)
     where
-      by : (b : Bool) → is_replied_to m entry.promise.seq entry.number entry.promise.actor ≡ b → b || list_any (λ (x : PromiseEntry). is_replied_to m x.promise.seq x.number x.promise.actor) some ≡ true → AnswersOwn m
-      by true same h =
+      by : (b : Bool) → is_replied_to m entry.promise.seq entry.number entry.promise.actor ≡ b → b || list_any (λ (x : PromiseEntry). is_replied_to m x.promise.seq x.number x.promise.actor) some ≡ true → (list_any (λ (x : PromiseEntry). is_replied_to m x.promise.seq x.number x.promise.actor) some ≡ true → AnswersOwn m) → AnswersOwn m
+      by true same h rec =
           let a : Answers m entry.promise.seq entry.number entry.promise.actor = answers m entry.promise.seq entry.number entry.promise.actor same in
           record {
             number = entry.number;
             is = a.number_is;
-            requested = promised-noted own.sent m.seq m.route entry.number (ap (list_any (λ (p : Promised). int_eq p.seq m.seq && ((p.number == entry.number) && int_eq p.route m.route))) (sym promises.promises_are) ∙ among m entry.number e.promises entry (sub entry here) (replied-promise m entry a));
+            requested = promised-noted own.sent m.seq m.route entry.number (ap (list_any (λ (p : Promised). int_eq p.seq m.seq && ((p.number == entry.number) && int_eq p.route m.route))) (sym promises.promises_are) ∙ among m entry.number entry e.promises (sub entry here) (replied-promise m entry a));
             known = subst (IsSeqOf e.side e.sent) (sym a.seq_is) known.0;
           }
-      by false same h = answers-promise m some (λ x i. sub x (there i)) known.1 h
+      by false same h rec = rec h
 
   -- waits
 

@@ -4,9 +4,10 @@ use Rattle.std.specs.List.{AllByRecursion, cons_option, slice_get}
 use Rattle.std.specs.Option.{option_map_or}
 use Rattle.std.proofs.lemmas.Bool.{false≢true, true≢false}
 use Rattle.std.proofs.lemmas.Bool.Decides.{Decides-int_eq}
-use Rattle.std.proofs.lemmas.List.{append-nil, length-map, map-append, take-all}
+use Rattle.std.proofs.lemmas.List.{append-nil, length-map, map-append, take_all}
 use Rattle.std.proofs.lemmas.List.Elements.{filter_map-append}
 use Rattle.std.proofs.lemmas.Option.{same_Some}
+use Rattle.ipdl_base.specs.declared.kinds.Destroy.{Destroy}
 use Rattle.ipdl_base.specs.declared.kinds.Level.{Level}
 use Rattle.ipdl_base.specs.declared.kinds.Reason.{Reason}
 use Rattle.ipdl_base.specs.declared.kinds.Reason.TheVariants as reason
@@ -42,7 +43,7 @@ use Rattle.channel_model.specs.Numbers.{is_sync_row, request_row}
 use Rattle.channel_model.specs.Outputs.{AnsweredRequest, body_of, line_at, request_answered, resolver_answered}
 use Rattle.channel_model.specs.Parts as parts
 use Rattle.channel_model.specs.Parts.{FirstPart, LaterPart, LaterParts, OwnParts, DeliveryPart, IsRefusal, IsRenaming, reply_lines, reply_outcome, left_end}
-use Rattle.channel_model.specs.Phases.{Phase}
+use Rattle.channel_model.specs.Phases.{Phase, closing}
 use Rattle.channel_model.specs.Returns as return
 use Rattle.channel_model.specs.Sends as send
 use Rattle.channel_model.specs.Takes as take
@@ -54,7 +55,7 @@ use Rattle.history_reading.specs.EndReading.{EndReading, opening, own_request}
 use Rattle.history_reading.specs.Numbers.{has, same_packet}
 use Rattle.history_reading.specs.Reading.{Reading, after_what, end_reading_of, other_of, read}
 use Rattle.history_reading.specs.SentPacket as told
-use Rattle.history_reading.specs.Settled.{settled_line}
+use Rattle.history_reading.specs.Settled.{is_close_event, settled_line}
 use Rattle.history_reading.specs.SentPacket.{SentPacket, request_of}
 use Rattle.channel_laws.specs.Arrivals.{item_kind}
 use Rattle.channel_laws.specs.Delivered.{body_kind, delivered_kind}
@@ -72,13 +73,13 @@ use Rattle.channel_laws.proofs.ActorsKept.{first-kept, later-kept}
 use Rattle.channel_laws.proofs.ArrivalParts.{reply-is-taken}
 use Rattle.channel_laws.proofs.Arriving.{Leaves}
 use Rattle.channel_laws.proofs.Counting.{int-same}
-use Rattle.channel_laws.proofs.EffectLines.{AreEffectLines, laters-effects}
+use Rattle.channel_laws.proofs.EffectLines.{IsEffectLine, answers_fault, answers_ok, built, effects-leave, fails, fell, later-effects, laters-effects, rejected, resolved}
 use Rattle.channel_laws.proofs.Growing.{own-request, whats-append}
 use Rattle.channel_laws.proofs.Leaving.{ShowOthers}
 use Rattle.channel_laws.proofs.PrefixRuns.{all-taken}
 use Rattle.channel_laws.proofs.PromiseParts.{first-keeps-promises, later-keeps-promises}
 use Rattle.channel_laws.proofs.Rows.{request-message}
-use Rattle.channel_laws.proofs.SettledLines.{ClosesWith, awaited-unsettled, first-closes, later-closes, later-settles}
+use Rattle.channel_laws.proofs.SettledLines.{ClosesWith, awaited-unsettled, first-closes, later-settles}
 use Rattle.channel_laws.proofs.Settling.{pending-unsettled}
 use Rattle.channel_laws.proofs.Takes.{found-passes}
 use Rattle.law_statements.specs.Packets.{delivered, failed, sent}
@@ -99,8 +100,8 @@ use Rattle.alone_laws.proofs.ReplyLists.{answer-of, answer-same, answers-none}
 -- all packets were delivered by then
 all-delivered : (schema : Schema) (side : Side) (before : List Line) (packets : List Packet) → (end_reading_of side (read schema before)).delivered ≡ map delivered_kind packets → delivered_by_then (said_by side before) packets ≡ packets
 all-delivered schema side before packets is =
-    let count : length (delivered (said_by side before)) ≡ length packets = ap length (sym (delivered-read schema side before) ∙ is) ∙ length-map delivered_kind packets in
-    ap (λ (n : ℕ). take n packets) count ∙ take-all packets
+    let count : length (delivered (said_by side before)) ≡ length packets = ap length (sym (delivered-read schema side before) ∙ is) ∙ length-map packets delivered_kind in
+    ap (λ (n : ℕ). take n packets) count ∙ take_all (length packets) packets (omega arith)
 
 -- no packet that fits says that the channel has closed
 no-closed : (schema : Schema) (n : ℤ) (packets : List Packet) → AllByRecursion (FitsPacket schema) packets → slice_get (answers_to n packets) 0 ≡ Some (answer.Fault ChannelClosed) → ⊥
@@ -391,11 +392,34 @@ pass-both schema side place (w ∷ ws) vs own a b = (
   pass-both schema side (place + 1) ws vs (after_what schema place w own) a.1 b,
 )
 
+-- a closing that is due behind a later part was due before, and its effects leave the event
+event-left : (schema : Schema) (place : ℕ) (w : What) (own : EndReading) → IsEffectLine w → (after_what schema place w own).event ≡ own.event
+event-left schema place w own (built id protocol) = refl
+event-left schema place w own (answers_ok n vs) = refl
+event-left schema place w own (answers_fault n why) = refl
+event-left schema place w own (fails n) = refl
+event-left schema place w own (resolved n vs) = refl
+event-left schema place w own (rejected n why) = refl
+event-left schema place w own (fell id why) = refl
+
+later-due : {p q : Phase} {e f : End} {ws : List What} {ps : List Packet} → LaterPart p e ws ps f q → (why : Destroy) → q.due ≡ closing why → p.due ≡ closing why
+later-due (parts.unnames name may is) why due = due
+later-due (parts.lets_go name r may held o) why due = due
+later-due (parts.names more holds) why due = due
+later-due (parts.releases seq is) why due = due
+later-due (parts.keeps seq name r is o) why due = due
+later-due (parts.builds id protocol rest fresh alive) why due = due
+later-due (parts.deletes id is) why due = cc
+later-due (parts.falls other is) why due = cc
+
+later-closes : (schema : Schema) (side : Side) {p q : Phase} {e f : End} {ws : List What} {ps : List Packet} (place : ℕ) (own : EndReading) → LaterPart p e ws ps f q → ClosesWith schema side opening p own → ClosesWith schema side opening q (after_whats schema place ws own)
+later-closes schema side {ws = ws} place own part closes why is = ap is_close_event (effects-leave (λ (read : EndReading). read.event) schema (event-left schema) place ws own (later-effects part)) ∙ closes why (later-due part why is)
+
 laters-pass : (schema : Schema) (side : Side) {p q : Phase} {e f : End} {ws : List What} {ps : List Packet} (place : ℕ) (own : EndReading) → LaterParts p e ws ps f q → KeepsActors schema p e (actor_reading own) → ClosesWith schema side opening p own → PromisesAreRead e own → SettledPass schema side opening place ws own
 laters-pass schema side place own parts.done actors closes h = tt
 laters-pass schema side place own (parts.then {ws = ws} {vs = vs} part rest) actors closes h =
     pass-both schema side place ws vs own (later-settles schema side opening place own part actors.ids.tree closes h)
-    (λ at. laters-pass schema side at (after_whats schema place ws own) rest (later-kept schema place own part actors).kept (later-closes schema side opening place own part closes) (later-keeps-promises schema place own part h))
+    (λ at. laters-pass schema side at (after_whats schema place ws own) rest (later-kept schema place own part actors).kept (later-closes schema side place own part closes) (later-keeps-promises schema place own part h))
 
 module _ (schema : Schema) (rows : HasSoundRows schema) (top : ℕ) (side : Side) (packets : List Packet) (before : List Line) where
   pub own-alone : {e f : End} {ws : List What} {ps : List Packet} {q : Phase} → KeepsAlone schema top side e before packets → OwnParts schema e ws ps f q → LinesAreAlone schema top side packets before ws

@@ -215,9 +215,9 @@ module _ (schema : Schema) (sound : IsSound schema) (top : ℕ) (side : Side) wh
     passes : (behind : List Line) → LinesPass schema alone_test (read schema lines) output.lines behind
     alone : LinesAreAlone schema top side given lines whats
 
-  step-passes : (e : End) (lines : List Line) (packets : List Packet) (link : List Packet) (ev : Event) (output : Output) (ws : List What) (ps : List Packet) (q : Phase) → Kept e lines packets → step schema e link ev ≡ Some output → StepParts schema e link ev ws ps output.end q → output.lines ≡ map (line_at side) ws
+  step-passes : (e : End) (lines : List Line) (packets : List Packet) (link : List Packet) (ev shown : Event) (output : Output) (ws : List What) (ps : List Packet) (q : Phase) → Kept e lines packets → step schema e link ev ≡ Some output → StepParts schema e link shown ws ps output.end q → output.lines ≡ map (line_at side) ws
       → EndLinesPass schema IsFallenLine (read schema lines).lines ws (end_reading_of side (read schema lines)) → (behind : List Line) → LinesPass schema alone_test (read schema lines) output.lines behind
-  step-passes e lines packets link ev output ws ps q k is part said fallen behind =
+  step-passes e lines packets link ev shown output ws ps q k is part said fallen behind =
       let r : Reading = read schema lines in
       let readable : LinesPass schema reads_test r output.lines behind =
       pass-both schema event_test (test_at (λ own other said. is_readable_what schema own.stack said)) r output.lines behind
@@ -245,7 +245,7 @@ module _ (schema : Schema) (sound : IsSound schema) (top : ℕ) (side : Side) wh
         whats = m.whats;
         is = said;
         kept = subst (λ (ls : List Line). Kept output.end (lines ++ ls) packets) (sym said) (own-keeps-alone schema sound top side e lines packets own output m.whats m.phase k is m.parts m.lines);
-        passes = step-passes e lines packets [] event.flush output m.whats output.packets m.phase k is (acts refl m.parts) said
+        passes = step-passes e lines packets [] own event.flush output m.whats output.packets m.phase k is (acts refl m.parts) said
             (subst (λ (ws : List What). EndLinesPass schema IsFallenLine (read schema lines).lines ws (end_reading_of side (read schema lines))) (whats-same e.side fallen.whats m.whats (sym fallen.lines ∙ m.lines)) fallen.pass);
         alone = own-alone schema rows top side packets lines k m.parts;
       }
@@ -262,7 +262,7 @@ module _ (schema : Schema) (sound : IsSound schema) (top : ℕ) (side : Side) wh
             whats = m.whats;
             is = said;
             kept = subst (λ (ls : List Line). Kept output.end (lines ++ ls) (packets ++ packet ∷ [])) (sym said) (delivery-keeps-alone schema sound top side e lines packets packet output m.whats m.phase k fits accepted is o m.parts m.lines);
-            passes = step-passes e lines packets (packet ∷ []) event.deliver output m.whats output.packets m.phase k is (delivers packet refl o m.parts) said
+            passes = step-passes e lines packets (packet ∷ []) event.deliver event.deliver output m.whats output.packets m.phase k is (delivers packet refl o m.parts) said
                 (subst (λ (ws : List What). EndLinesPass schema IsFallenLine (read schema lines).lines ws (end_reading_of side (read schema lines))) (whats-same e.side fallen.whats m.whats (sym fallen.lines ∙ m.lines)) fallen.pass);
             alone = delivery-alone schema rows top side (packets ++ packet ∷ []) lines m.parts;
           }
@@ -280,7 +280,7 @@ module _ (schema : Schema) (sound : IsSound schema) (top : ℕ) (side : Side) wh
       sym (filter_map-append delivery (said_by side before) (said_by side rest))
       ∙ (ap delivered (sym (filter_map-append (said_in side) before rest) ∙ ap (said_by side) (sym is)) ∙ (sym (delivered-read schema side lines) ∙ k.read_is.delivered))
       in
-      let count : length (delivered (said_by side before)) + length (delivered (said_by side rest)) ≡ length packets = sym (length-append (delivered (said_by side before)) (delivered (said_by side rest))) ∙ (ap length whole ∙ length-map delivered_kind packets) in
+      let count : length (delivered (said_by side before)) + length (delivered (said_by side rest)) ≡ length packets = sym (length-append (delivered (said_by side before)) (delivered (said_by side rest))) ∙ (ap length whole ∙ length-map packets delivered_kind) in
       omega (arith, count)
 
   adds : (e : End) (lines : List Line) (packets given more : List Packet) (output : Output) → given ≡ packets ++ more → RunKept e lines packets → StepAdds lines given output → RunKept output.end (lines ++ output.lines) given
@@ -308,7 +308,7 @@ module _ (schema : Schema) (sound : IsSound schema) (top : ℕ) (side : Side) wh
     account = record { lost = []; whole = refl; kept = λ o. refl; numbers = refl; syncs = tt };
     replied = record { arrived = tt; said_by = tt };
     over = λ is. cc;
-    replies = record { pending = λ n awaited takes. cc; packets = tt; arrived = tt; waits = record { known = tt; apart = tt; given = tt }; requested = tt };
+    replies = record { pending = λ n awaited takes. cc; known = tt; arrived = tt; waits = record { known = tt; apart = tt; given = tt }; requested = tt };
     delivered = refl;
     fits = tt;
   }

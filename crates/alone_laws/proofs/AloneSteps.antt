@@ -84,7 +84,7 @@ use Rattle.alone_laws.proofs.RepliesKept.{SendIsNoted, delivery-replies, first-r
 
 -- Lines of one side are what they say
 
-whats-same : (side : Side) (xs ys : List What) → map (line_at side) xs ≡ map (line_at side) ys → xs ≡ ys
+pub whats-same : (side : Side) (xs ys : List What) → map (line_at side) xs ≡ map (line_at side) ys → xs ≡ ys
 whats-same side [] [] e = refl
 whats-same side [] (y ∷ ys) e = cc
 whats-same side (x ∷ xs) [] e = cc
@@ -95,18 +95,6 @@ whats-same side (x ∷ xs) (y ∷ ys) e =
 
 -- What has failed
 
-has-here : (ns : List ℤ) (n : ℤ) → In n ns → has ns n ≡ true
-has-here _ n (here {xs}) = ap (λ (b : Bool). b || has xs n) (int-same n)
-has-here _ n (there {y} {xs} i) = or-right (int_eq y n) (has-here xs n i)
-  where
-    or-right : (b : Bool) {c : Bool} → c ≡ true → b || c ≡ true
-    or-right true h = refl
-    or-right false h = h
-
-failed-all : (ns : List ℤ) → filter_map number_failed (map what.Fails ns) ≡ ns
-failed-all [] = refl
-failed-all (n ∷ ns) = ap (λ (xs : List ℤ). n ∷ xs) (failed-all ns)
-
 or-left : (b c : Bool) → b ≡ true → b || c ≡ true
 or-left true c e = refl
 or-left false c e = cc
@@ -114,6 +102,14 @@ or-left false c e = cc
 or-behind : (b c : Bool) → c ≡ true → b || c ≡ true
 or-behind true c e = refl
 or-behind false c e = e
+
+has-here : (n : ℤ) (ns : List ℤ) → In n ns → has ns n ≡ true
+has-here n _ (here {xs}) = ap (λ (b : Bool). b || has xs n) (int-same n)
+has-here n _ (there {y} {xs} i) = or-behind (int_eq y n) (has xs n) (has-here n xs i)
+
+failed-all : (ns : List ℤ) → filter_map number_failed (map what.Fails ns) ≡ ns
+failed-all [] = refl
+failed-all (n ∷ ns) = ap (λ (xs : List ℤ). n ∷ xs) (failed-all ns)
 
 module _ (schema : Schema) (side : Side) (lines : List Line) (ws : List What) where
   abbrev own : EndReading
@@ -138,7 +134,7 @@ farewell-fails : (packet : Packet) (ns : List ℤ) (n : ℤ) → In n ns → has
 farewell-fails packet ns n i = by packet
   where
     all : has (filter_map number_failed (map what.Fails ns)) n ≡ true
-    all = ap (λ (xs : List ℤ). has xs n) (failed-all ns) ∙ has-here ns n i
+    all = ap (λ (xs : List ℤ). has xs n) (failed-all ns) ∙ has-here n ns i
 
     by : (packet : Packet) → has (filter_map number_failed (farewell_line packet ∷ map what.Fails ns)) n ≡ true
     by (message m) = all
@@ -173,7 +169,7 @@ reply-ordinary (answer.Fault why) = refl
 
 -- A step of the end's own
 
-own-made : (schema : Schema) (e : End) (own : Event) (output : Output) → IsStepOfParts schema e [] own output → IsMadeOf (OwnParts schema e) e.side output
+pub own-made : (schema : Schema) (e : End) (own : Event) (output : Output) → IsStepOfParts schema e [] own output → IsMadeOf (OwnParts schema e) e.side output
 own-made schema e event.deliver output (packet, first, opened, m) = cc
 own-made schema e (event.send route number vs name) output m = m
 own-made schema e (event.answer by vs) output m = m

@@ -130,15 +130,15 @@ shown-standing f (x ∷ xs) = by (not (has f x.id)) (shown-standing f xs)
 abbrev plain_actor : Actor → Actor
 plain_actor a = built_actor (shown_actor a)
 
-has-in : (xs : List Actor) (a : Actor) (i : ℤ) → In a xs → a.id ≡ i → Has i (map plain_actor xs)
-has-in _ a i (here {xs}) e = inl e
-has-in _ a i (there {y} {xs} at) e = inr (has-in xs a i at e)
+has-in : (a : Actor) (i : ℤ) → a.id ≡ i → (xs : List Actor) → In a xs → Has i (map plain_actor xs)
+has-in a i e _ (here {xs}) = inl e
+has-in a i e _ (there {y} {xs} at) = inr (has-in a i e xs at)
 
-once-same : (xs : List Actor) (a b : Actor) → EachOnce (map plain_actor xs) → In a xs → In b xs → a.id ≡ b.id → a ≡ b
-once-same _ a _ o (here {xs}) here e = refl
-once-same _ a b o (here {xs}) (there i) e = absurd (true≢false (sym (lives-true a.id (map plain_actor xs) (has-in xs b a.id i (sym e))) ∙ o.0))
-once-same _ a b o (there {xs} i) here e = absurd (true≢false (sym (lives-true b.id (map plain_actor xs) (has-in xs a b.id i e)) ∙ o.0))
-once-same _ a b o (there {xs} i) (there j) e = once-same xs a b o.1 i j e
+once-same : (a b : Actor) → a.id ≡ b.id → (xs : List Actor) → EachOnce (map plain_actor xs) → In a xs → In b xs → a ≡ b
+once-same a _ e _ o (here {xs}) here = refl
+once-same a b e _ o (here {xs}) (there i) = absurd (true≢false (sym (lives-true a.id (map plain_actor xs) (has-in b a.id (sym e) xs i)) ∙ o.0))
+once-same a b e _ o (there {xs = xs} i) here = absurd (true≢false (sym (lives-true b.id (map plain_actor xs) (has-in a b.id e xs i)) ∙ o.0))
+once-same a b e _ o (there {xs = xs} i) (there j) = once-same a b e xs o.1 i j
 
 actor-same : (x y : Actor) → x.id ≡ y.id → x.protocol ≡ y.protocol → x.manager ≡ y.manager → x ≡ y
 actor-same x y i p m =
@@ -153,7 +153,7 @@ lists-same top said once (x ∷ xs) (y ∷ ys) e h k =
     let first : shown_actor x ≡ shown_actor y = cc in
     let rest : map shown_actor xs ≡ map shown_actor ys = cc in
     let id : x.id ≡ y.id = ap (λ (b : BuiltActor). b.id) first in
-    let built : k.0.0 ≡ x = once-same (actors_built top said) k.0.0 x once k.0.1 h.0 (k.0.2 ∙ sym id) in
+    let built : k.0.0 ≡ x = once-same k.0.0 x (k.0.2 ∙ sym id) (actors_built top said) once k.0.1 h.0 in
     let same : x ≡ y = actor-same x y id (ap (λ (a : Actor). a.protocol) (sym built) ∙ k.0.3) (ap (λ (b : BuiltActor). b.manager) first) in
     ap (λ (a : Actor). a ∷ xs) same ∙ ap (λ (zs : List Actor). y ∷ zs) (lists-same top said once xs ys rest h.1 k.1)
 

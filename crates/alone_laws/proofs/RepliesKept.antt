@@ -55,18 +55,18 @@ use Rattle.alone_laws.proofs.WaitLists.{waits-none, waits-failed, waits-dropped,
 -- Ends that differ in what replies do not touch
 
 behind-same : (b : Bool) (e : End) (packets : List Packet) (failed : List ℤ) (sent : List Note) → KeepsReplies e packets failed sent → KeepsReplies (end_behind b e) packets failed sent
-behind-same true e packets failed sent k = record { pending = k.pending; packets = k.packets; arrived = k.arrived; waits = k.waits; requested = k.requested }
+behind-same true e packets failed sent k = record { pending = k.pending; known = k.known; arrived = k.arrived; waits = k.waits; requested = k.requested }
 behind-same false e packets failed sent k = k
 
 without-same : (by : Answering) (e : End) (packets : List Packet) (failed : List ℤ) (sent : List Note) → KeepsReplies e packets failed sent → KeepsReplies (record (answering.without_resolver by e) { outbox = [] }) packets failed sent
-without-same (handled seq) e packets failed sent k = record { pending = k.pending; packets = k.packets; arrived = k.arrived; waits = waits-released e.side e.sent packets failed seq e.stack k.waits; requested = requested-released sent seq e.stack k.requested }
-without-same (kept name number) e packets failed sent k = record { pending = k.pending; packets = k.packets; arrived = k.arrived; waits = k.waits; requested = k.requested }
+without-same (handled seq) e packets failed sent k = record { pending = k.pending; known = k.known; arrived = k.arrived; waits = waits-released e.side e.sent packets failed seq e.stack k.waits; requested = requested-released sent seq e.stack k.requested }
+without-same (kept name number) e packets failed sent k = record { pending = k.pending; known = k.known; arrived = k.arrived; waits = k.waits; requested = k.requested }
 
 -- nothing has arrived, and nothing is taken any more
 emptied : (e f : End) (packets : List Packet) (failed : List ℤ) (sent : List Note) → f.side ≡ e.side → f.sent ≡ e.sent → f.arrived ≡ [] → take.takes_in_state f.state ≡ false → WaitsReceive f.side f.sent packets failed f.stack → AreRequested sent f.stack → KeepsReplies e packets failed sent → KeepsReplies f packets failed sent
 emptied e f packets failed sent side count none closed waits requested k = record {
   pending = λ n awaited takes. absurd (true≢false (sym takes ∙ closed));
-  packets = subst (λ (s : Side). AllByRecursion (PacketIsKnown s f.sent) packets) (sym side) (subst (λ (c : ℕ). AllByRecursion (PacketIsKnown e.side c) packets) (sym count) k.packets);
+  known = subst (λ (s : Side). AllByRecursion (PacketIsKnown s f.sent) packets) (sym side) (subst (λ (c : ℕ). AllByRecursion (PacketIsKnown e.side c) packets) (sym count) k.known);
   arrived = subst (AllByRecursion (ItemIsKnown f.side f.sent)) (sym none) tt;
   waits = waits;
   requested = requested;
@@ -117,7 +117,7 @@ left-replies e packets failed sent x next none k =
     let t : TakenFrom e.arrived (left_end e).arrived x = (taken-first e x next).taken in
     record {
       pending = λ n awaited takes. items-taken n e.arrived (left_end e).arrived x t (none n awaited) ∙ k.pending n awaited takes;
-      packets = k.packets;
+      known = k.known;
       arrived = all-sublist (ItemIsKnown e.side e.sent) (left_end e).arrived e.arrived (without_first-sublist (is_free (take.holding_of e)) e.arrived) k.arrived;
       waits = k.waits;
       requested = k.requested;
@@ -162,10 +162,10 @@ sent-requested sent row m es new h false = h
 
 sent-replies : (e : End) (packets : List Packet) (failed : List ℤ) (sent : List Note) (row : MessageRow) (m : Message) → m.seq ≡ send.next_seq e → IsRequested sent m.seq m.route m.number → KeepsReplies e packets failed sent → KeepsReplies (parts.sent_end row m e) packets failed sent
 sent-replies e packets failed sent row m is new k = record {
-  pending = sent-pending e packets (parts.promise_for m) is k.packets k.arrived k.pending (makes_promise row);
-  packets = packets-more e.side e.sent packets k.packets;
+  pending = sent-pending e packets (parts.promise_for m) is k.known k.arrived k.pending (makes_promise row);
+  known = packets-more e.side e.sent packets k.known;
   arrived = items-more e.side e.sent e.arrived k.arrived;
-  waits = sent-waits e packets failed row m is k.packets k.waits (is_sync_row row);
+  waits = sent-waits e packets failed row m is k.known k.waits (is_sync_row row);
   requested = sent-requested sent row m e.stack new k.requested (is_sync_row row);
 }
 
@@ -179,15 +179,15 @@ module _ (schema : Schema) (theirs : List Note) (packets : List Packet) (failed 
   pub first-replies : {e f : End} {ws : List What} {ps : List Packet} {q : Phase} → FirstPart schema e ws ps f q → HasOrigins schema theirs e → SendIsNoted ws → KeepsReplies e packets failed sent → KeepsReplies f packets failed sent
   first-replies (parts.refuses w is) o t k = k
   first-replies (parts.renames w is) o t k = k
-  first-replies (parts.flushes open_end) o t k = record { pending = k.pending; packets = k.packets; arrived = k.arrived; waits = k.waits; requested = k.requested }
-  first-replies {e} (parts.sends row route vs name sent) o t k = sent-replies e packets failed sent row (send.request_of e row route vs) refl (t row (send.request_of e row route vs) vs refl) k
+  first-replies (parts.flushes open_end) o t k = record { pending = k.pending; known = k.known; arrived = k.arrived; waits = k.waits; requested = k.requested }
+  first-replies {e} (parts.sends row route vs name is_sent) o t k = sent-replies e packets failed sent row (send.request_of e row route vs) refl (t row (send.request_of e row route vs) vs refl) k
   first-replies {e} (parts.answers by vs r row found may ok used) o t k = without-same by e packets failed sent k
   first-replies {e} {f} (parts.closes open_end waits) o t k = emptied e f packets failed sent refl refl refl refl k.waits k.requested k
   first-replies {e} {f} (parts.dies open_end) o t k = emptied e f packets failed sent refl refl refl refl (waits-none e.side e.sent packets failed) tt k
   first-replies {e} {f} (parts.dies_silent closed alive) o t k = emptied e f packets failed sent refl refl refl refl (waits-none e.side e.sent packets failed) tt k
   first-replies {e} (parts.takes m sync level row vs next body found stays) o t k =
       let l : KeepsReplies (left_end e) packets failed sent = left-replies e packets failed sent (item.Message m sync level) next (λ n awaited. request-none n m sync level vs body) k in
-      record { pending = l.pending; packets = l.packets; arrived = l.arrived; waits = waits-handled e.side e.sent packets failed (take.dispatch_of row m) e.stack refl tt l.waits; requested = (tt, l.requested) }
+      record { pending = l.pending; known = l.known; arrived = l.arrived; waits = waits-handled e.side e.sent packets failed (take.dispatch_of row m) e.stack refl tt l.waits; requested = (tt, l.requested) }
   first-replies {e} (parts.drops m sync level row vs id replies next body found gone is) o t k =
       behind-same replies (left_end e) packets failed sent (left-replies e packets failed sent (item.Message m sync level) next (λ n awaited. request-none n m sync level vs body) k)
   first-replies {e} (parts.drops_unknown m sync level vs next body none) o t k = left-replies e packets failed sent (item.Message m sync level) next (λ n awaited. request-none n m sync level vs body) k
@@ -199,7 +199,7 @@ module _ (schema : Schema) (theirs : List Note) (packets : List Packet) (failed 
         pending = λ n awaited takes.
             let s = awaited-settled n m.seq (reply_outcome schema e row a) e.promises awaited in
             items-taken n e.arrived (left_end e).arrived (item.Message m sync level) left (answer-apart n m s.1) ∙ k.pending n s.0 takes;
-        packets = k.packets;
+        known = k.known;
         arrived = all-sublist (ItemIsKnown e.side e.sent) (left_end e).arrived e.arrived (without_first-sublist (is_free (take.holding_of e)) e.arrived) k.arrived;
         waits = k.waits;
         requested = k.requested;
@@ -208,19 +208,19 @@ module _ (schema : Schema) (theirs : List Note) (packets : List Packet) (failed 
   first-replies {e} (parts.returns entry row vs told lost may y z) o t k =
       behind-same lost (end_behind told (record e { stack = drop 1 e.stack })) packets failed sent
       (behind-same told (record e { stack = drop 1 e.stack }) packets failed sent
-      (record { pending = k.pending; packets = k.packets; arrived = k.arrived; waits = waits-dropped e.side e.sent packets failed e.stack k.waits; requested = requested-dropped sent e.stack k.requested }))
-  first-replies {e} (parts.resumes wait row on_top found) o t k = record { pending = k.pending; packets = k.packets; arrived = k.arrived; waits = waits-dropped e.side e.sent packets failed e.stack k.waits; requested = requested-dropped sent e.stack k.requested }
+      (record { pending = k.pending; known = k.known; arrived = k.arrived; waits = waits-dropped e.side e.sent packets failed e.stack k.waits; requested = requested-dropped sent e.stack k.requested }))
+  first-replies {e} (parts.resumes wait row on_top found) o t k = record { pending = k.pending; known = k.known; arrived = k.arrived; waits = waits-dropped e.side e.sent packets failed e.stack k.waits; requested = requested-dropped sent e.stack k.requested }
 
   pub later-replies : {p q : Phase} {e f : End} {ws : List What} {ps : List Packet} → LaterPart p e ws ps f q → KeepsReplies e packets failed sent → KeepsReplies f packets failed sent
-  later-replies (parts.unnames name may silent) k = record { pending = k.pending; packets = k.packets; arrived = k.arrived; waits = k.waits; requested = k.requested }
-  later-replies (parts.lets_go name r may held o) k = record { pending = k.pending; packets = k.packets; arrived = k.arrived; waits = k.waits; requested = k.requested }
-  later-replies (parts.names more holds) k = record { pending = k.pending; packets = k.packets; arrived = k.arrived; waits = k.waits; requested = k.requested }
-  later-replies {e = e} (parts.releases seq closed) k = record { pending = k.pending; packets = k.packets; arrived = k.arrived; waits = waits-released e.side e.sent packets failed seq e.stack k.waits; requested = requested-released sent seq e.stack k.requested }
-  later-replies {e = e} (parts.keeps seq name r is o) k = record { pending = k.pending; packets = k.packets; arrived = k.arrived; waits = waits-released e.side e.sent packets failed seq e.stack k.waits; requested = requested-released sent seq e.stack k.requested }
-  later-replies (parts.builds id protocol rest fresh alive) k = record { pending = k.pending; packets = k.packets; arrived = k.arrived; waits = k.waits; requested = k.requested }
+  later-replies (parts.unnames name may silent) k = record { pending = k.pending; known = k.known; arrived = k.arrived; waits = k.waits; requested = k.requested }
+  later-replies (parts.lets_go name r may held o) k = record { pending = k.pending; known = k.known; arrived = k.arrived; waits = k.waits; requested = k.requested }
+  later-replies (parts.names more holds) k = record { pending = k.pending; known = k.known; arrived = k.arrived; waits = k.waits; requested = k.requested }
+  later-replies {e = e} (parts.releases seq closed) k = record { pending = k.pending; known = k.known; arrived = k.arrived; waits = waits-released e.side e.sent packets failed seq e.stack k.waits; requested = requested-released sent seq e.stack k.requested }
+  later-replies {e = e} (parts.keeps seq name r is o) k = record { pending = k.pending; known = k.known; arrived = k.arrived; waits = waits-released e.side e.sent packets failed seq e.stack k.waits; requested = requested-released sent seq e.stack k.requested }
+  later-replies (parts.builds id protocol rest fresh alive) k = record { pending = k.pending; known = k.known; arrived = k.arrived; waits = k.waits; requested = k.requested }
   later-replies {e = e} (parts.deletes id is) k = record {
     pending = λ n awaited takes. k.pending n (awaited-rejected n (λ p. lives p.actor (parts.falling id e)) ActorDestroyed e.promises awaited) takes;
-    packets = k.packets;
+    known = k.known;
     arrived = k.arrived;
     waits = k.waits;
     requested = k.requested;
@@ -228,7 +228,7 @@ module _ (schema : Schema) (theirs : List Note) (packets : List Packet) (failed 
   later-replies {e = e} (parts.falls why is) k = record {
     pending = λ n awaited takes.
         k.pending n (awaited-rejected n (λ p. true) ChannelClosed e.promises (awaited-rejected n (λ p. lives p.actor (parts.falling top_id (parts.abandoned_end e))) ActorDestroyed (parts.abandoned_end e).promises awaited)) takes;
-    packets = k.packets;
+    known = k.known;
     arrived = k.arrived;
     waits = k.waits;
     requested = k.requested;
@@ -241,10 +241,10 @@ module _ (schema : Schema) (theirs : List Note) (packets : List Packet) (failed 
 -- A delivery
 
 pub more-failed : (e : End) (packets : List Packet) (failed next : List ℤ) (sent : List Note) → ((n : ℤ) → has failed n ≡ true → has next n ≡ true) → KeepsReplies e packets failed sent → KeepsReplies e packets next sent
-more-failed e packets failed next sent stays k = record { pending = k.pending; packets = k.packets; arrived = k.arrived; waits = waits-failed e.side e.sent packets failed next e.stack stays k.waits; requested = k.requested }
+more-failed e packets failed next sent stays k = record { pending = k.pending; known = k.known; arrived = k.arrived; waits = waits-failed e.side e.sent packets failed next e.stack stays k.waits; requested = k.requested }
 
 pub more-noted : (e : End) (packets : List Packet) (failed : List ℤ) (sent more : List Note) → KeepsReplies e packets failed sent → KeepsReplies e packets failed (sent ++ more)
-more-noted e packets failed sent more k = record { pending = k.pending; packets = k.packets; arrived = k.arrived; waits = k.waits; requested = all-requested-more sent more e.stack k.requested }
+more-noted e packets failed sent more k = record { pending = k.pending; known = k.known; arrived = k.arrived; waits = k.waits; requested = all-requested-more sent more e.stack k.requested }
 
 -- What is known of a reply that is delivered: one to a sync request answers the innermost wait, and one to another request
 -- neither answers a wait nor a request that is still to come.
@@ -290,7 +290,7 @@ counted-replies e packets failed sent row m vs body k =
     record {
       pending = λ n awaited takes.
           answers-itself n packets (message m) (staying row.compress new e.arrived) new refl (staying-answers n row new e.arrived (replaced row.compress new e.arrived) refl ∙ k.pending n awaited takes);
-      packets = all-append (PacketIsKnown e.side e.sent) packets (message m ∷ []) k.packets (known-request e.side e.sent m vs body, tt);
+      known = all-append (PacketIsKnown e.side e.sent) packets (message m ∷ []) k.known (known-request e.side e.sent m vs body, tt);
       arrived = all-append (ItemIsKnown e.side e.sent) (staying row.compress new e.arrived) (new ∷ []) (all-sublist (ItemIsKnown e.side e.sent) (staying row.compress new e.arrived) e.arrived (staying-sublist row.compress new e.arrived) k.arrived) (known-request e.side e.sent m vs body, tt);
       waits = waits-more e.side e.sent packets (message m) failed e.stack (all-none e (message m) none) k.waits;
       requested = k.requested;
@@ -310,7 +310,7 @@ delivery-replies schema packets failed next sent {e = e} (parts.gets_answer m ro
     let d : ReplyIsDue e m row = due row a body found in
     more-failed (delivery.answers_wait a e) (packets ++ message m ∷ []) failed next sent stays (record {
       pending = λ n awaited takes. k.pending n awaited takes ∙ sym (answers-other n packets (message m) (answer-apart n m (d.promised is n awaited)));
-      packets = all-append (PacketIsKnown e.side e.sent) packets (message m ∷ []) k.packets (known-reply e.side e.sent m a body d.known, tt);
+      known = all-append (PacketIsKnown e.side e.sent) packets (message m ∷ []) k.known (known-reply e.side e.sent m a body d.known, tt);
       arrived = k.arrived;
       waits = waits-answered packets (message m) failed a m.seq (answer-same m.seq m a refl body) (λ n apart. answer-apart n m apart) e.side e.sent e.stack (d.awaits is) k.waits;
       requested = requested-answered sent a e.stack k.requested;
@@ -320,7 +320,7 @@ delivery-replies schema packets failed next sent {e = e} (parts.gets_reply m row
     let new : Item = delivery.item_of row m in
     more-failed (delivery.arrives new e) (packets ++ message m ∷ []) failed next sent stays (record {
       pending = λ n awaited takes. answers-itself n packets (message m) e.arrived new refl (k.pending n awaited takes);
-      packets = all-append (PacketIsKnown e.side e.sent) packets (message m ∷ []) k.packets (known-reply e.side e.sent m a body d.known, tt);
+      known = all-append (PacketIsKnown e.side e.sent) packets (message m ∷ []) k.known (known-reply e.side e.sent m a body d.known, tt);
       arrived = all-append (ItemIsKnown e.side e.sent) e.arrived (new ∷ []) k.arrived (known-reply e.side e.sent m a body d.known, tt);
       waits = waits-more e.side e.sent packets (message m) failed e.stack
           (all-map (λ (entry : StackEntry). (n : ℤ) → wait_number entry.frame ≡ n ∷ [] → m.seq ≢ n) (λ (entry : StackEntry). (n : ℤ) → wait_number entry.frame ≡ n ∷ [] → answer_to n (message m) ≡ None) e.stack (λ entry h n number. answer-apart n m (h n number)) (d.waits is)) k.waits;
@@ -330,7 +330,7 @@ delivery-replies schema packets failed next sent {packet} {e = e} (parts.drains 
     let both = packet-farewell e.side e.sent packet is in
     record {
       pending = λ n awaited takes. answers-itself n packets packet e.arrived (farewell_item packet) (item-farewell n packet) (k.pending n awaited open_end);
-      packets = all-append (PacketIsKnown e.side e.sent) packets (packet ∷ []) k.packets (both.0, tt);
+      known = all-append (PacketIsKnown e.side e.sent) packets (packet ∷ []) k.known (both.0, tt);
       arrived = all-append (ItemIsKnown e.side e.sent) e.arrived (farewell_item packet ∷ []) k.arrived (both.1, tt);
       waits = waits-ended e.side e.sent (packets ++ packet ∷ []) failed next e.stack stays (λ n i. fails n i is) (waits-more e.side e.sent packets packet failed e.stack (all-none e packet (λ n. farewell-none n packet is)) k.waits);
       requested = requested-failed sent e.stack k.requested;

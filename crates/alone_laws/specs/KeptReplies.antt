@@ -72,7 +72,7 @@ pub record WaitsReceive (side : Side) (count : ℕ) (packets : List Packet) (fai
 -- has sent.
 pub record KeepsReplies (e : End) (packets : List Packet) (failed : List ℤ) (sent : List Note) : Type 0 where
   pub pending : PendingAreThere e.promises e.state e.arrived packets
-  pub packets : AllByRecursion (PacketIsKnown e.side e.sent) packets
+  pub known : AllByRecursion (PacketIsKnown e.side e.sent) packets
   pub arrived : AllByRecursion (ItemIsKnown e.side e.sent) e.arrived
   pub waits : WaitsReceive e.side e.sent packets failed e.stack
   pub requested : AllByRecursion (λ entry. FrameIsOwn sent entry entry.frame) e.stack
