@@ -1,1 +1,2 @@
 pub mod FeedRuns
+mod WorkedFeeds
