@@ -24,7 +24,7 @@ use Rattle.handler_script.specs.declared.term.Terms.TheVariants as terms
 use Rattle.script_reader.specs.declared.written.Who.TheVariants as who
 use Rattle.value_codec.specs.Decoding.{begins}
 use Rattle.value_codec.specs.Frames.{ended, made_at, request_at, returns_at}
-use Rattle.value_codec.specs.Reading.{flag_at, flag_value_at, signed_at, value_at, values_at, zeros}
+use Rattle.value_codec.specs.Reading.{field_at, flag_at, flag_value_at, signed_at, value_at, values_at, zeros}
 use Rattle.feed_runs.specs.declared.fault.FeedFault.{FeedFault}
 use Rattle.feed_runs.specs.declared.fault.FeedFault.TheVariants as fault
 use Rattle.feed_runs.specs.FeedTurns.{FeedSetting, beginning_of, fed}
@@ -87,7 +87,7 @@ settles : shown asks_once (reply_frame 1) ≡ Some (record {
   fault = None;
   spent = false;
 })
-unfolding begins ended returns_at signed_at value_at values_at zeros
+unfolding begins ended field_at returns_at signed_at value_at values_at zeros
 settles = refl
 
 -- a reply to a request that was not sent is stray, and nothing behind it is read: the promise is rejected as the end closes
@@ -102,7 +102,7 @@ stray : shown asks_once (reply_frame 2 ++ reply_frame 1) ≡ Some (record {
   fault = Some (fault.Stray 0 (pos 2));
   spent = false;
 })
-unfolding begins ended returns_at signed_at value_at values_at zeros
+unfolding begins ended field_at returns_at signed_at value_at values_at zeros
 stray = refl
 
 -- bytes that end inside of a frame
