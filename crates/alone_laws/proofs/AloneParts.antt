@@ -385,22 +385,22 @@ module _ (schema : Schema) (rows : HasSoundRows schema) (top : ℕ) (side : Side
 
 -- Later parts pass the law of settlings, whatever the other end has said
 
-pass-both : (schema : Schema) (side : Side) (place : ℕ) (ws vs : List What) (own : EndReading) → SettledPass schema side opening place ws own → ((at : ℕ) → SettledPass schema side opening at vs (after_whats schema place ws own)) → SettledPass schema side opening place (ws ++ vs) own
-pass-both schema side place [] vs own a b = b place
-pass-both schema side place (w ∷ ws) vs own a b = (
-  (λ more. ap (settled_line schema side own opening w) (ap (λ (ls : List Line). ls ++ more) (map-append (line_at side) ws vs) ∙ append_assoc (map (line_at side) ws) (map (line_at side) vs) more) ∙ a.0 (map (line_at side) vs ++ more)),
-  pass-both schema side (place + 1) ws vs (after_what schema place w own) a.1 b,
+pass-both : (schema : Schema) (side : Side) (place : ℕ) (ws vs : List What) (told : EndReading) → SettledPass schema side opening place ws told → ((at : ℕ) → SettledPass schema side opening at vs (after_whats schema place ws told)) → SettledPass schema side opening place (ws ++ vs) told
+pass-both schema side place [] vs told a b = b place
+pass-both schema side place (w ∷ ws) vs told a b = (
+  (λ more. ap (settled_line schema side told opening w) (ap (λ (ls : List Line). ls ++ more) (map-append (line_at side) ws vs) ∙ append_assoc (map (line_at side) ws) (map (line_at side) vs) more) ∙ a.0 (map (line_at side) vs ++ more)),
+  pass-both schema side (place + 1) ws vs (after_what schema place w told) a.1 b,
 )
 
 -- a closing that is due behind a later part was due before, and its effects leave the event
-event-left : (schema : Schema) (place : ℕ) (w : What) (own : EndReading) → IsEffectLine w → (after_what schema place w own).event ≡ own.event
-event-left schema place w own (built id protocol) = refl
-event-left schema place w own (answers_ok n vs) = refl
-event-left schema place w own (answers_fault n why) = refl
-event-left schema place w own (fails n) = refl
-event-left schema place w own (resolved n vs) = refl
-event-left schema place w own (rejected n why) = refl
-event-left schema place w own (fell id why) = refl
+event-left : (schema : Schema) (place : ℕ) (w : What) (told : EndReading) → IsEffectLine w → (after_what schema place w told).event ≡ told.event
+event-left schema place w told (built id protocol) = refl
+event-left schema place w told (answers_ok n vs) = refl
+event-left schema place w told (answers_fault n why) = refl
+event-left schema place w told (fails n) = refl
+event-left schema place w told (resolved n vs) = refl
+event-left schema place w told (rejected n why) = refl
+event-left schema place w told (fell id why) = refl
 
 later-due : {p q : Phase} {e f : End} {ws : List What} {ps : List Packet} → LaterPart p e ws ps f q → (why : Destroy) → q.due ≡ closing why → p.due ≡ closing why
 later-due (parts.unnames name may is) why due = due
@@ -412,14 +412,14 @@ later-due (parts.builds id protocol rest fresh alive) why due = due
 later-due (parts.deletes id is) why due = cc
 later-due (parts.falls other is) why due = cc
 
-later-closes : (schema : Schema) (side : Side) {p q : Phase} {e f : End} {ws : List What} {ps : List Packet} (place : ℕ) (own : EndReading) → LaterPart p e ws ps f q → ClosesWith schema side opening p own → ClosesWith schema side opening q (after_whats schema place ws own)
-later-closes schema side {ws = ws} place own part closes why is = ap is_close_event (effects-leave (λ (read : EndReading). read.event) schema (event-left schema) place ws own (later-effects part)) ∙ closes why (later-due part why is)
+later-closes : (schema : Schema) (side : Side) {p q : Phase} {e f : End} {ws : List What} {ps : List Packet} (place : ℕ) (told : EndReading) → LaterPart p e ws ps f q → ClosesWith schema side opening p told → ClosesWith schema side opening q (after_whats schema place ws told)
+later-closes schema side {ws = ws} place told part closes why is = ap is_close_event (effects-leave (λ (read : EndReading). read.event) schema (event-left schema) place ws told (later-effects part)) ∙ closes why (later-due part why is)
 
-laters-pass : (schema : Schema) (side : Side) {p q : Phase} {e f : End} {ws : List What} {ps : List Packet} (place : ℕ) (own : EndReading) → LaterParts p e ws ps f q → KeepsActors schema p e (actor_reading own) → ClosesWith schema side opening p own → PromisesAreRead e own → SettledPass schema side opening place ws own
-laters-pass schema side place own parts.done actors closes h = tt
-laters-pass schema side place own (parts.then {ws = ws} {vs = vs} part rest) actors closes h =
-    pass-both schema side place ws vs own (later-settles schema side opening place own part actors.ids.tree closes h)
-    (λ at. laters-pass schema side at (after_whats schema place ws own) rest (later-kept schema place own part actors).kept (later-closes schema side place own part closes) (later-keeps-promises schema place own part h))
+laters-pass : (schema : Schema) (side : Side) {p q : Phase} {e f : End} {ws : List What} {ps : List Packet} (place : ℕ) (told : EndReading) → LaterParts p e ws ps f q → KeepsActors schema p e (actor_reading told) → ClosesWith schema side opening p told → PromisesAreRead e told → SettledPass schema side opening place ws told
+laters-pass schema side place told parts.done actors closes h = tt
+laters-pass schema side place told (parts.then {ws = ws} {vs = vs} part rest) actors closes h =
+    pass-both schema side place ws vs told (later-settles schema side opening place told part actors.ids.tree closes h)
+    (λ at. laters-pass schema side at (after_whats schema place ws told) rest (later-kept schema place told part actors).kept (later-closes schema side place told part closes) (later-keeps-promises schema place told part h))
 
 module _ (schema : Schema) (rows : HasSoundRows schema) (top : ℕ) (side : Side) (packets : List Packet) (before : List Line) where
   pub own-alone : {e f : End} {ws : List What} {ps : List Packet} {q : Phase} → KeepsAlone schema top side e before packets → OwnParts schema e ws ps f q → LinesAreAlone schema top side packets before ws
