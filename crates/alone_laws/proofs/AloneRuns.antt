@@ -401,5 +401,9 @@ module _ (schema : Schema) (sound : IsSound schema) (top : ℕ) (side : Side) wh
 pub one_end_obeys_alone : OneEndObeysAlone
 one_end_obeys_alone schema sound top side e lines packets run = obeys-alone schema sound top side e lines packets (run-kept schema sound top side e lines packets run)
 
+-- what is kept of an end and its lines
+pub runs-keep : (schema : Schema) → IsSound schema → (top : ℕ) (side : Side) (e : End) (lines : List Line) (packets : List Packet) → RunsAlone schema top side e lines packets → KeepsAlone schema top side e lines packets
+runs-keep schema sound top side e lines packets run = (run-kept schema sound top side e lines packets run).kept
+
 pub one_end_obeys_fallen : OneEndObeysFallen
 one_end_obeys_fallen schema sound top side e lines packets run = obeys-fallen schema sound top side e lines packets (run-kept schema sound top side e lines packets run)

@@ -48,15 +48,15 @@ feeds_have_one_result = one-result
 -- A run of one end
 
 -- a frame that the end takes fits, and is not refused
-record IsTaken (schema : Schema) (e : End) (m : Message) : Type 0 where
-  fits : Fits schema m
-  accepted : packet_refusal schema e (message m) ≡ None
+pub record IsTaken (schema : Schema) (e : End) (m : Message) : Type 0 where
+  pub fits : Fits schema m
+  pub accepted : packet_refusal schema e (message m) ≡ None
 
 not-refused : (schema : Schema) (e : End) (place : ℕ) (m n : Message) (size count : ℕ) (refusal : Option DeliveryRefusal) → option_map_or (λ (r : DeliveryRefusal). refused (fault_of place r)) refusal (taken m size) ≡ taken n count → (refusal ≡ None) × (m ≡ n)
 not-refused schema e place m n size count None is = (refl, cc)
 not-refused schema e place m n size count (Some r) is = cc
 
-taken-frame : (schema : Schema) (e : End) (place : ℕ) (bytes : List ℕ) → AreBytes (drop place bytes) → (d : Decoded) → begins NEW schema (drop place bytes) ≡ d → (m : Message) (size : ℕ) → frame_at schema e place d ≡ taken m size → IsTaken schema e m
+pub taken-frame : (schema : Schema) (e : End) (place : ℕ) (bytes : List ℕ) → AreBytes (drop place bytes) → (d : Decoded) → begins NEW schema (drop place bytes) ≡ d → (m : Message) (size : ℕ) → frame_at schema e place d ≡ taken m size → IsTaken schema e m
 taken-frame schema e place bytes fits (decoded.Frame n count) is m size at =
     let r = not-refused schema e place n m count size (delivery_refusal schema e n) at in
     let begun : FrameBegins NEW schema (drop place bytes) n count = subst (IsTold NEW schema (drop place bytes) fits) is (begins_told NEW schema (drop place bytes) fits) in
