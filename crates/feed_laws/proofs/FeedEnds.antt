@@ -36,6 +36,7 @@ use Rattle.script_runs.specs.Allowed.{IsAllowed}
 use Rattle.script_runs.specs.Dispatches.{dispatches}
 use Rattle.script_runs.specs.Handlers.{IsHandlerOf}
 use Rattle.script_runs.proofs.CaseRuns.{IsCaseEnd}
+use Rattle.script_runs.proofs.Changes.{end-apart}
 use Rattle.script_runs.proofs.Handlers.{IsKept, delivery-kept, names-kept, next-kept}
 use Rattle.script_runs.proofs.KeptRuns.{stand-all}
 use Rattle.script_runs.proofs.Leaves.{NameNoNulls}
@@ -83,11 +84,12 @@ module _ (setting : FeedSetting) (sound : IsSound setting.schema) (valid : IsVal
     fits : IsFitting setting.schema e
     counted : IsCounted e
     sent : e.sent ≤ (progress lines).events
+    delivered : e.delivered ≤ (progress lines).events
 
   begins-kept : KeepsFeed (beginning_of setting).end [] []
   begins-kept =
       let first = first_ends_fit setting.schema setting.script.top setting.side in
-      record { run = alone.begins; handled = tt; names = tt; fits = first.0; counted = first.1; sent = omega arith }
+      record { run = alone.begins; handled = tt; names = tt; fits = first.0; counted = first.1; sent = omega arith; delivered = omega arith }
 
   module _ (e : End) (lines : List Line) (packets : List Packet) (k : KeepsFeed e lines packets) where
     kept : KeepsAlone setting.schema setting.script.top setting.side e lines packets
@@ -145,6 +147,8 @@ module _ (setting : FeedSetting) (sound : IsSound setting.schema) (valid : IsVal
           let counts : HasCounted e output.end × (IsCounted e → IsCounted output.end) = counts_grow setting.schema e link x output is in
           let one : output.end.sent ≤ e.sent + 1 = counts.0.sent.1 in
           let sent : e.sent ≤ (progress lines).events = k.sent in
+          let arrives : output.end.delivered ≤ e.delivered + 1 = counts.0.delivered.1 in
+          let delivered : e.delivered ≤ (progress lines).events = k.delivered in
           let more : (progress (lines ++ output.lines)).events ≡ (progress lines).events + 1 = grown in
           let short : output.end.sent ≤ 268435456 = omega (arith, one, sent, few, limit) in
           record {
@@ -156,6 +160,7 @@ module _ (setting : FeedSetting) (sound : IsSound setting.schema) (valid : IsVal
             fits = (fitting_ends_stay setting.schema e link x output is sound k.counted short fitting k.fits).end;
             counted = counts.1 k.counted;
             sent = omega (arith, one, sent, more);
+            delivered = omega (arith, arrives, delivered, more);
           }
 
     own-keeps : (x : Event) (output : Output) → next_event setting.script None e (progress lines) ≡ Some x → step setting.schema e [] x ≡ Some output → (progress lines).events < setting.limit → KeepsFeed output.end (lines ++ output.lines) packets
@@ -258,6 +263,12 @@ feed_turns_are_possible setting bytes state sound valid limit are reached =
     record {
       allowed = own-allowed setting sound valid limit state.end state.lines state.packets k;
       own = own-possible setting sound valid limit state.end state.lines state.packets k;
+      fitting = k.fits;
+      handlers = stands setting sound valid limit state.end state.lines state.packets k;
+      apart = end-apart setting.schema state.end (known setting sound valid limit state.end state.lines state.packets k);
+      side = (kept setting sound valid limit state.end state.lines state.packets k).side_is;
+      sent = k.sent;
+      delivered = k.delivered;
       delivery = delivery-possible setting sound valid limit state.end state.lines state.packets k;
     }
 
