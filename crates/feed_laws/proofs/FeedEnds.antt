@@ -85,11 +85,12 @@ module _ (setting : FeedSetting) (sound : IsSound setting.schema) (valid : IsVal
     counted : IsCounted e
     sent : e.sent ≤ (progress lines).events
     delivered : e.delivered ≤ (progress lines).events
+    within_limit : (progress lines).events ≤ setting.limit
 
   begins-kept : KeepsFeed (beginning_of setting).end [] []
   begins-kept =
       let first = first_ends_fit setting.schema setting.script.top setting.side in
-      record { run = alone.begins; handled = tt; names = tt; fits = first.0; counted = first.1; sent = omega arith; delivered = omega arith }
+      record { run = alone.begins; handled = tt; names = tt; fits = first.0; counted = first.1; sent = omega arith; delivered = omega arith; within_limit = omega arith }
 
   module _ (e : End) (lines : List Line) (packets : List Packet) (k : KeepsFeed e lines packets) where
     kept : KeepsAlone setting.schema setting.script.top setting.side e lines packets
@@ -161,6 +162,7 @@ module _ (setting : FeedSetting) (sound : IsSound setting.schema) (valid : IsVal
             counted = counts.1 k.counted;
             sent = omega (arith, one, sent, more);
             delivered = omega (arith, arrives, delivered, more);
+            within_limit = omega (arith, few, more);
           }
 
     own-keeps : (x : Event) (output : Output) → next_event setting.script None e (progress lines) ≡ Some x → step setting.schema e [] x ≡ Some output → (progress lines).events < setting.limit → KeepsFeed output.end (lines ++ output.lines) packets
@@ -213,7 +215,7 @@ module _ (setting : FeedSetting) (sound : IsSound setting.schema) (valid : IsVal
     frame-turn : (state : FeedState) → Keeps state → (next : NextFrame) → next_frame setting.schema state.end state.place bytes ≡ next → is_open state.end.state ≡ true → is_within setting state ≡ true
         → TurnKeeps state (behind_frame setting bytes state next)
     frame-turn state k (taken m size) is opened few =
-        let t : IsTaken setting.schema state.end m = taken-frame setting.schema state.end state.place bytes (IsBytes-drop state.place bytes are) (begins NEW setting.schema (drop state.place bytes)) refl m size is in
+        let t : IsTaken setting.schema state.end (drop state.place bytes) m size = taken-frame setting.schema state.end state.place bytes (IsBytes-drop state.place bytes are) (begins NEW setting.schema (drop state.place bytes)) refl m size is in
         let d : TurnKeeps state (behind_delivery setting state (message m)) = delivery-turn state k (message m) t.fits t.accepted opened few in
         record { kept = d.kept; few = d.few; more = d.more }
     frame-turn state k (refused fault) is opened few =
@@ -269,6 +271,7 @@ feed_turns_are_possible setting bytes state sound valid limit are reached =
       side = (kept setting sound valid limit state.end state.lines state.packets k).side_is;
       sent = k.sent;
       delivered = k.delivered;
+      within = k.within_limit;
       delivery = delivery-possible setting sound valid limit state.end state.lines state.packets k;
     }
 

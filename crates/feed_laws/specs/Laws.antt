@@ -20,8 +20,8 @@ use Rattle.feed_runs.specs.FeedTurns.{FeedSetting, FeedState, Feeds, beginning_o
 use Rattle.feed_laws.specs.Reached.{Reaches}
 
 -- What the end does next may be tried, and is possible; and so is a delivery while it is open. What it keeps fits the
--- schema, its handlers stand as they were taken, no two of them have one resolver, and it has sent and been delivered no
--- more requests than it has events.
+-- schema, its handlers stand as they were taken, no two of them have one resolver, it has sent and been delivered no
+-- more requests than it has events, and has no more of these than the limit.
 pub record CanGoOn (setting : FeedSetting) (state : FeedState) : Type 0 where
   pub allowed : (x : Event) → own_event setting state ≡ Some x → IsAllowed setting.schema state.end x
   pub own : (x : Event) → own_event setting state ≡ Some x → is_some (step setting.schema state.end [] x) ≡ true
@@ -31,6 +31,7 @@ pub record CanGoOn (setting : FeedSetting) (state : FeedState) : Type 0 where
   pub side : state.end.side ≡ setting.side
   pub sent : state.end.sent ≤ (progress_of setting.side state.lines).events
   pub delivered : state.end.delivered ≤ (progress_of setting.side state.lines).events
+  pub within : (progress_of setting.side state.lines).events ≤ setting.limit
   pub delivery : (packet : Packet) → is_open state.end.state ≡ true → is_some (step setting.schema state.end (packet ∷ []) event.deliver) ≡ true
 
 -- So it is in each state of a feed, of a sound schema by a valid script, with fewer than 2^28 events.
