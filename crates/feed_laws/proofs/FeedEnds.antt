@@ -236,7 +236,6 @@ module _ (setting : FeedSetting) (sound : IsSound setting.schema) (valid : IsVal
     reached-keeps from _ k stays = k
     reached-keeps from _ k (turns state next before is) = (turn-keeps state next (own_event setting state) refl is (reached-keeps from state k before)).kept
 
-
     ends-by : (state : FeedState) (turn : FeedTurn) → feed_turn setting bytes state ≡ turn → ((next : FeedState) → feed_turn setting bytes state ≡ leads next → (last : FeedState) × (spent : Bool) × Feeds setting bytes next last spent)
         → (last : FeedState) × (spent : Bool) × Feeds setting bytes state last spent
     ends-by state idles is more = (state, false, rests state is)
