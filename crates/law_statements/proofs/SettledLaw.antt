@@ -147,10 +147,10 @@ next-from end id (line ∷ settlings) why later a =
     ap (λ (b : Bool). if b then falls_next end id (settlings ++ line_of end (what.Fall id why) ∷ later) else is_fall_at end id line) (settle-same line.what ∙ (and_parts (is_settling line) (list_all is_settling settlings) a).0)
     ∙ next-from end id settlings why later ((and_parts (is_settling line) (list_all is_settling settlings) a).1)
 
-next : (end : Side) (id : ℤ) (behind : List Line) → Decides (falls_next end id behind) (FallsNext end id behind)
+pub next : (end : Side) (id : ℤ) (behind : List Line) → Decides (falls_next end id behind) (FallsNext end id behind)
 next end id behind = (next-to end id behind, λ f. ap (falls_next end id) f.3 ∙ next-from end id f.0 f.1 f.2 f.4)
 
-closes : (o : Option What) → is_close_event (option_map_or kind_of o event.Other) ≡ option_map_or is_closing o false
+pub closes : (o : Option What) → is_close_event (option_map_or kind_of o event.Other) ≡ option_map_or is_closing o false
 closes None = refl
 closes (Some what.Close) = refl
 closes (Some _) = refl
@@ -237,7 +237,7 @@ all-settled ns sents = (
     each h goodbye c = refl
     each h broken c = refl
 
-moment-to : (schema : Schema) (end : Side) (before : List Line) → IsTrue (settled_moment (end_reading_of end (read schema before))) → IsTrue (has_closed (said_by end before))
+pub moment-to : (schema : Schema) (end : Side) (before : List Line) → IsTrue (settled_moment (end_reading_of end (read schema before))) → IsTrue (has_closed (said_by end before))
     → (r : Request) → Contains (sent schema (said_by end before)) (request r) → IsTrue r.wants → IsTrue (has (settled (said_by end before)) r.seq)
 moment-to schema end before e closed r c w =
     ap (λ (ns : List ℤ). has ns r.seq) (sym (settled-read schema end before))

@@ -27,7 +27,7 @@ use Rattle.channel_laws.proofs.Answering.{filter-fewer}
 use Rattle.channel_laws.proofs.Counting.{none-passes, int-same}
 use Rattle.script_runs.specs.Dispatches.{dispatches, dispatches_after}
 use Rattle.script_runs.specs.Laws.{StepsChangeDispatches, ResolversAreApart}
-use Rattle.script_runs.proofs.CaseRuns.{case-end}
+use Rattle.script_runs.proofs.CaseRuns.{IsCaseEnd, case-end}
 use Rattle.script_runs.proofs.Handlers.{none-owe, owes-all, one-left}
 use Rattle.script_runs.proofs.KeptRuns.{resolver-is}
 use Rattle.script_runs.proofs.Shows.{ShowsAct, TakeShows, taken_dispatch, step-shows}
@@ -131,14 +131,18 @@ first-dispatch (x ∷ xs) top below h = by (is_dispatch x.frame) refl h (λ k. f
     by true is k rest = let same : x ≡ top = cc in ap (λ (y : StackEntry). is_dispatch y.frame) (sym same) ∙ is
     by false is k rest = rest k
 
-pub resolvers_are_apart : ResolversAreApart
-resolvers_are_apart setting choices state sound h side top below is resolves =
-    let e : End = end_of side state.world in
+-- at an end that answers each request once
+pub end-apart : (schema : Schema) (e : End) → IsCaseEnd schema e → (top : StackEntry) (below : List StackEntry) → dispatches e.stack ≡ top ∷ below → top.resolves ≡ true → released (head_of top.frame).seq (top ∷ below) ≡ record top { resolves = false } ∷ below
+end-apart schema e known top below is resolves =
     let n : ℤ = (head_of top.frame).seq in
     let owes : owes_answer n top ≡ true = owes-all (is_dispatch top.frame) top.resolves (head_of top.frame).sync (int_eq (head_of top.frame).seq n) (first-dispatch e.stack top below is) resolves (int-same n) in
-    let once : how_many (owes_answer n) e.stack ≤ 1 = (case-end setting state side sound (record { choices = choices; plays = h })).once n in
+    let once : how_many (owes_answer n) e.stack ≤ 1 = known.once n in
     let fewer : how_many (owes_answer n) (dispatches e.stack) ≤ how_many (owes_answer n) e.stack = filter-fewer (owes_answer n) (λ entry. is_dispatch entry.frame) e.stack in
     let few : how_many (owes_answer n) (top ∷ below) ≤ 1 = subst (λ (xs : List StackEntry). how_many (owes_answer n) xs ≤ 1) is (omega (arith, once, fewer)) in
     let there : has_resolver n top ≡ true = resolver-is n top (first-dispatch e.stack top below is) resolves (int-same n) in
     ap (λ b. (if b then record top { resolves = false } else top) ∷ released n below) there
     ∙ ap (λ xs. record top { resolves = false } ∷ xs) (released-same n below (none-owe n below (none-passes (owes_answer n) below (one-left n top below owes few))))
+
+pub resolvers_are_apart : ResolversAreApart
+resolvers_are_apart setting choices state sound h side top below is resolves =
+    end-apart setting.schema (end_of side state.world) (case-end setting state side sound (record { choices = choices; plays = h })) top below is resolves

@@ -220,7 +220,7 @@ module _ (setting : Setting) (side : Side) (e : End) (limit : HasLimit setting) 
             ap (λ (xs : List StackEntry). option_map resolver_in (find (has_resolver request.seq) xs)) is ∙ ap (option_map resolver_in) (found-through request.seq x before behind h few);
       }
 
-  stand-all : (before xs : List StackEntry) (requests : List HandledRequest) → e.stack ≡ before ++ xs → AllByRecursion (FitsEntry setting.schema) xs → AllZip (IsKept setting side) (dispatches xs) requests → AllZip (IsHandlerOf setting.schema setting.script side e) (dispatches xs) requests
+  pub stand-all : (before xs : List StackEntry) (requests : List HandledRequest) → e.stack ≡ before ++ xs → AllByRecursion (FitsEntry setting.schema) xs → AllZip (IsKept setting side) (dispatches xs) requests → AllZip (IsHandlerOf setting.schema setting.script side e) (dispatches xs) requests
   stand-all before [] requests is f zip = by requests zip
     where
       by : (ys : List HandledRequest) → AllZip (IsKept setting side) [] ys → AllZip (IsHandlerOf setting.schema setting.script side e) [] ys

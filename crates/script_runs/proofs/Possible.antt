@@ -85,11 +85,11 @@ delivered-some true change e None h = cc
 delivered-some false change e found h = cc
 
 -- an event that is no delivery
-abbrev IsNoDelivery : Event → Type 0
+abbrev pub IsNoDelivery : Event → Type 0
 IsNoDelivery event.deliver = ⊥
 IsNoDelivery _ = Unit {0}
 
-allowed-possible : (schema : Schema) (e : End) (link : List Packet) (x : Event) → IsNoDelivery x → IsAllowed schema e x → is_some (step schema e link x) ≡ true
+pub allowed-possible : (schema : Schema) (e : End) (link : List Packet) (x : Event) → IsNoDelivery x → IsAllowed schema e x → is_some (step schema e link x) ≡ true
 allowed-possible schema e link (event.send route number vs name) own h = found-some (λ row. provided (may_send schema e row vs name) (send schema e row route vs name) e) (request_row schema number) h.0 h.1 (provided-some (may_send schema e h.0 vs name) (send schema e h.0 route vs name) e h.2)
 allowed-possible schema e link (event.answer by vs) own h = found-some (λ row. provided (may_answer schema e row vs) (answer schema e row by vs) e) (answered_row schema e by) h.0 h.1 (provided-some (may_answer schema e h.0 vs) (answer schema e h.0 by vs) e h.2)
 allowed-possible schema e link (event.keep seq name) own h = provided-some (may_keep e seq) (keep e seq name) e h
@@ -302,7 +302,7 @@ module _ (setting : Setting) (e : End) (p : Progress) (valid : IsValid setting.s
   take-allowed None is h = cc
   take-allowed (Some item) is h = (item, is)
 
-  next-allowed : (x : Event) → IsNext setting.script e p x → IsAllowed setting.schema e x
+  pub next-allowed : (x : Event) → IsNext setting.script e p x → IsAllowed setting.schema e x
   next-allowed _ next.stops = ap not alive
   next-allowed _ (next.acts head request below a on_top is found) = handler-allowed head (dispatch-top e.stack head on_top) request below is a (may-act-on (top.Dispatch head) on_top refl) found
   next-allowed _ (next.returns head request below on_top is) =
@@ -327,7 +327,7 @@ action-own context seq (action.RejectNamed name number) = tt
 action-own context seq action.Close = tt
 action-own context seq action.Die = tt
 
-next-own : (setting : Setting) (e : End) (p : Progress) (x : Event) → IsNext setting.script e p x → IsNoDelivery x
+pub next-own : (setting : Setting) (e : End) (p : Progress) (x : Event) → IsNext setting.script e p x → IsNoDelivery x
 next-own setting e p _ next.stops = tt
 next-own setting e p _ (next.acts head request below a on_top is found) = action-own (context_of e (request ∷ below)) request.seq a
 next-own setting e p _ (next.returns head request below on_top is) = tt

@@ -1,0 +1,5 @@
+use Rattle.alone_laws.proofs.AloneRuns as law
+use Rattle.alone_laws.proofs.laws.one_end_obeys_alone.Goals as goal
+
+pub returns : goal.returns
+returns c = law.one_end_obeys_alone

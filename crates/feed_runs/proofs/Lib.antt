@@ -1,0 +1,2 @@
+pub mod FeedRuns
+mod WorkedFeeds

@@ -1,0 +1,4 @@
+pub mod NextFrame
+pub mod FeedTurns
+pub mod ReadFrames
+pub mod Laws
