@@ -1,6 +1,5 @@
 -- What the texts of histories tell of them.
-use Rattle.std.specs.Prelude.{◌≡◌, List, [], ◌∷◌, ◌++◌, Some}
-use Rattle.std.specs.List.{filter_map}
+use Rattle.std.specs.Prelude.{◌≡◌, ◌↔◌, ℕ, List, ◌++◌, Some}
 use Rattle.handler_script.specs.Valid.{IsValid}
 use Rattle.ipdl_base.specs.declared.line.Line.{Line}
 use Rattle.ipdl_base.specs.declared.schema.Schema.{Schema}
@@ -8,9 +7,10 @@ use Rattle.ipdl_base.specs.Sound.{IsSound}
 use Rattle.channel_model.specs.Runs.{RunState}
 use Rattle.history.specs.Text.{line_text, transcript_text}
 use Rattle.script_runs.specs.Laws.{HasLimit}
-use Rattle.script_steps.specs.Choices.{Setting, Choice, IsCaseHistory, beginning_of, choice_of, choices_of, played}
+use Rattle.script_steps.specs.Choices.{Setting, Choice, beginning_of, choice_of, played}
 use Rattle.script_steps.specs.Turns.{RunEnding}
-use Rattle.script_transcripts.specs.Legal.{EndsAs}
+use Rattle.script_transcripts.specs.Legal.{AreFirstLines, EndsAs}
+use Rattle.script_transcripts.specs.Replays.{ArePrinted, Follows}
 use Rattle.transcript_laws.specs.Printed.{SayWords}
 use Rattle.script_transcripts.specs.Told.{choice_told}
 
@@ -42,3 +42,10 @@ abbrev pub CasesEnd : Type 0
 CasesEnd =
     (setting : Setting) (choices : List Choice) (state : RunState) → IsSound setting.schema → IsValid setting.schema setting.script → HasLimit setting
     → played setting choices (beginning_of setting) ≡ Some state → Ends setting state
+
+-- What is printed of a run that follows the lines of a text decides how many of these are first lines of what a run may
+-- print: those that are printed.
+abbrev pub ReplaysDecide : Type 0
+ReplaysDecide =
+    (setting : Setting) (front rest : List (List ℕ)) (last : RunState) → IsSound setting.schema → IsValid setting.schema setting.script → HasLimit setting
+    → Follows setting (front ++ rest) last → AreFirstLines setting front ↔ ArePrinted setting last front

@@ -5,4 +5,5 @@ mod laws;
 
 pub use laws::{
     case_names_are_words, case_texts_tell_histories, cases_end, line_texts_tell_choices,
+    replays_decide,
 };
