@@ -12,10 +12,11 @@ use Rattle.channel_model.specs.Outputs.{line_at}
 use Rattle.channel_model.specs.Runs.{RunState}
 use Rattle.schedules.specs.declared.turn.Turn.{Turn}
 use Rattle.script_runs.specs.Laws.{EventsArePossible, HasLimit, HasRoom}
-use Rattle.script_runs.proofs.CaseRuns.{IsCase, case-next}
+use Rattle.script_runs.proofs.CaseRuns.{IsCase}
 use Rattle.script_runs.proofs.Possible.{script_events_are_possible}
 use Rattle.script_runs.proofs.Room.{cases_have_room}
 use Rattle.script_steps.proofs.Choosing.{choices_are_read}
+use Rattle.script_steps.proofs.Playing.{PlaysOn, plays_on}
 use Rattle.script_steps.specs.Choices.{Setting, Choice, beginning_of, choice_of, choices_of, chosen, is_delivery_line, is_within, may_deliver, own_event, played}
 use Rattle.script_steps.specs.Progress.{lines_of}
 use Rattle.script_steps.specs.Turns.{RunEnding, at_limit, at_rest, delivery_choice, is_quiet, is_quiet_at, led_to, turn_choice, whole_turn}
@@ -72,6 +73,15 @@ busy-side setting state h = by (is_quiet_at setting state sides.Parent) refl h
 abbrev too_many : Setting → ℕ
 too_many setting = 10 * setting.limit + 3
 
+-- choices behind others
+pub plays-behind : (setting : Setting) (first more : List Choice) (from between last : RunState) → played setting first from ≡ Some between → played setting more between ≡ Some last → played setting (first ++ more) from ≡ Some last
+plays-behind setting [] more from between last h k =
+    let same : from ≡ between = cc in
+    ap (played setting more) same ∙ k
+plays-behind setting (choice ∷ first) more from between last h k =
+    let p : PlaysOn setting choice first from between = plays_on setting choice first from between h in
+    ap (option_and_then (played setting (first ++ more))) p.first ∙ plays-behind setting first more p.next between last p.rest k
+
 module _ (setting : Setting) (sound : IsSound setting.schema) (valid : IsValid setting.schema setting.script) (limit : HasLimit setting) where
   few-choices : (choices : List Choice) (state : RunState) → played setting choices (beginning_of setting) ≡ Some state → length choices < too_many setting
   few-choices choices state plays =
@@ -85,8 +95,8 @@ module _ (setting : Setting) (sound : IsSound setting.schema) (valid : IsValid s
       omega (arith, parent, parent_limit, child, child_limit, told, read)
 
   -- one more choice, and then the others
-  ends-behind : (state next last : RunState) (choice : Choice) → chosen setting choice state ≡ Some next → Ends setting next → Ends setting state
-  ends-behind state next last choice is e = record { more = choice ∷ e.more; last = e.last; plays = ap (option_and_then (played setting e.more)) is ∙ e.plays; ending = e.ending; ends = e.ends }
+  ends-behind : (state next : RunState) (choice : Choice) → chosen setting choice state ≡ Some next → Ends setting next → Ends setting state
+  ends-behind state next choice is e = record { more = choice ∷ e.more; last = e.last; plays = ap (option_and_then (played setting e.more)) is ∙ e.plays; ending = e.ending; ends = e.ends }
 
   ends-busy : (fuel : ℕ) → ((next : RunState) (c : IsCase setting next) → too_many setting ≤ length c.choices + fuel → Ends setting next) → (state : RunState) (c : IsCase setting state) → too_many setting ≤ length c.choices + suc fuel
       → (side : Side) → is_quiet_at setting state side ≡ false → (within : Bool) → is_within setting side state ≡ within → Ends setting state
@@ -96,9 +106,9 @@ module _ (setting : Setting) (sound : IsSound setting.schema) (valid : IsValid s
       let possible : EventsArePossible setting state = script_events_are_possible setting c.choices state sound valid limit c.plays in
       let next : RunState = led_to setting w.choice state in
       let goes : chosen setting w.choice state ≡ Some next = possible.turn (whole_turn side) w.choice w.chooses is in
-      let n : IsCase setting next = case-next setting w.choice state next c goes in
-      let longer : length n.choices ≡ length c.choices + 1 = ? in
-      ends-behind state next next w.choice goes (more next n (omega (arith, few, longer)))
+      let plays : played setting (c.choices ++ w.choice ∷ []) (beginning_of setting) ≡ Some next = plays-behind setting c.choices (w.choice ∷ []) (beginning_of setting) state next c.plays (ap (option_and_then (played setting [])) goes) in
+      let longer : length (c.choices ++ w.choice ∷ []) ≡ length c.choices + 1 = length-append c.choices (w.choice ∷ []) in
+      ends-behind state next w.choice goes (more next (record { choices = c.choices ++ w.choice ∷ []; plays = plays }) (omega (arith, few, longer)))
 
   ends-step : (fuel : ℕ) → ((next : RunState) (c : IsCase setting next) → too_many setting ≤ length c.choices + fuel → Ends setting next) → (state : RunState) (c : IsCase setting state) → too_many setting ≤ length c.choices + suc fuel
       → (quiet : Bool) → is_quiet setting state ≡ quiet → Ends setting state

@@ -1,5 +1,5 @@
 -- What is printed of a run that follows lines decides how many of these a run may print.
-use Rattle.std.proofs.Common.{◌≡◌, ℕ, Bool, true, false, List, [], ◌∷◌, ◌++◌, map, Option, Some, None, option_and_then, ◌⊎◌, inl, inr, refl, sym, ap, subst, ◌∙◌, append_assoc}
+use Rattle.std.proofs.Common.{◌≡◌, ℕ, Bool, true, false, if◌then◌else◌, List, [], ◌∷◌, ◌++◌, map, Option, Some, None, option_and_then, ◌⊎◌, inl, inr, refl, sym, ap, subst, ◌∙◌, append_assoc}
 use Rattle.std.specs.Prelude.{◌↔◌}
 use Rattle.std.specs.List.{AllByRecursion, cons_option}
 use Rattle.std.proofs.lemmas.List.{append-nil, append_cancel_left}
@@ -22,10 +22,10 @@ use Rattle.script_steps.proofs.StepLines.{Prints, step-prints}
 use Rattle.script_steps.specs.Choices.{Setting, Choice, beginning_of, choice_of, choices_of, chosen, is_delivery_line, played}
 use Rattle.script_steps.specs.Laws.{GoesOn}
 use Rattle.script_steps.specs.Turns.{RunEnding, at_limit, at_rest}
-use Rattle.script_transcripts.specs.Laws.{Ends, ReplaysDecide}
+use Rattle.script_transcripts.specs.Laws.{Ends, LegalTextsDecide, ReplaysDecide}
 use Rattle.script_transcripts.specs.Legal.{AreFirstLines, EndsAs, IsLegalText, ending_line}
 use Rattle.script_transcripts.specs.Replays.{ArePrinted, Follows, IsStuck, choices_told, printed_lines}
-use Rattle.script_transcripts.proofs.Ends.{cases_end}
+use Rattle.script_transcripts.proofs.Ends.{cases_end, plays-behind}
 use Rattle.script_transcripts.proofs.Texts.{texts-told, transcript-lines}
 use Rattle.transcript_laws.specs.Printed.{line_texts}
 use Rattle.transcript_laws.specs.TextLines.{text_lines}
@@ -136,7 +136,7 @@ has-made setting told done first others state (inr stuck) is plays = by (seams f
         absurd (stuck-not setting told done first state stuck s.1 (s.2 ∙ ap (λ c. stuck.first ++ c ∷ s.1) (sym same)) plays)
 
 module _ (setting : Setting) (sound : IsSound setting.schema) (valid : IsValid setting.schema setting.script) where
-  schema : Schema
+  abbrev schema : Schema
   schema = setting.schema
 
   -- lines that a run has, when their choices have been made
@@ -223,22 +223,14 @@ module _ (setting : Setting) (sound : IsSound setting.schema) (valid : IsValid s
           let same : l.state ≡ last = whole-follows rest last l.choices l.state l.ending (subst (λ ts. Follows setting (ts ++ rest) last) front_is follows) l.plays in
           inr (l.ending, subst (λ (x : RunState). EndsAs setting x l.ending) same l.ends, front_is ∙ ap (λ (x : RunState). printed_lines setting x ++ ending_line l.ending ∷ []) same)
 
-  -- what a run that goes on and ends prints
-  whole-of : (choices : List Choice) (state : RunState) (ending : RunEnding) → played setting choices (beginning_of setting) ≡ Some state → EndsAs setting state ending → IsLegalText setting (transcript_text schema state.lines ++ ending_line ending)
+  -- what a run that ends prints
+  abbrev whole-of : (choices : List Choice) (state : RunState) (ending : RunEnding) → played setting choices (beginning_of setting) ≡ Some state → EndsAs setting state ending → IsLegalText setting (transcript_text schema state.lines ++ ending_line ending)
   whole-of choices state ending plays ends = record { choices = choices; state = state; plays = plays; ending = ending; ends = ends; is = refl }
-
-  plays-behind : (first more : List Choice) (from between last : RunState) → played setting first from ≡ Some between → played setting more between ≡ Some last → played setting (first ++ more) from ≡ Some last
-  plays-behind [] more from between last h k =
-      let same : from ≡ between = cc in
-      ap (played setting more) same ∙ k
-  plays-behind (choice ∷ first) more from between last h k =
-      let p : PlaysOn setting choice first from between = plays_on setting choice first from between h in
-      ap (option_and_then (played setting (first ++ more))) p.first ∙ plays-behind first more p.next between last p.rest k
 
   pub printed-first : (front : List (List ℕ)) (done : List Choice) (last : RunState) → HasLimit setting → played setting done (beginning_of setting) ≡ Some last → ArePrinted setting last front → AreFirstLines setting front
   printed-first front done last limit plays (inl h) =
       let e : Ends setting last = cases_end setting done last sound valid limit plays in
-      let whole_plays : played setting (done ++ e.more) (beginning_of setting) ≡ Some e.last = plays-behind done e.more (beginning_of setting) last e.last plays e.plays in
+      let whole_plays : played setting (done ++ e.more) (beginning_of setting) ≡ Some e.last = plays-behind setting done e.more (beginning_of setting) last e.last plays e.plays in
       let added = adds-event setting e.more last e.last e.plays in
       let legal = whole-of (done ++ e.more) e.last e.ending whole_plays e.ends in
       let more : List (List ℕ) = line_texts schema last.lines added.0 in
@@ -256,3 +248,12 @@ module _ (setting : Setting) (sound : IsSound setting.schema) (valid : IsValid s
 pub replays_decide : ReplaysDecide
 replays_decide setting front rest last sound valid limit follows =
     (first-printed setting sound valid front rest last follows, printed-first setting sound valid front follows.done last limit follows.plays)
+
+pub legal_texts_decide : LegalTextsDecide
+legal_texts_decide setting text last sound valid follows = (
+  λ l.
+      let lines : text_lines text ≡ (printed_lines setting l.state ++ ending_line l.ending ∷ []) ++ [] = legal-lines setting sound valid text l ∙ sym (append-nil (printed_lines setting l.state ++ ending_line l.ending ∷ [])) in
+      let same : l.state ≡ last = whole-follows setting sound valid [] last l.choices l.state l.ending (subst (λ ts. Follows setting ts last) lines follows) l.plays in
+      (l.ending, subst (λ (x : RunState). EndsAs setting x l.ending) same l.ends, l.is ∙ ap (λ (x : RunState). transcript_text setting.schema x.lines ++ ending_line l.ending) same),
+  λ h. record { choices = follows.done; state = last; plays = follows.plays; ending = h.0; ends = h.1; is = h.2 },
+)

@@ -9,10 +9,11 @@ use Rattle.history.specs.Text.{line_text, transcript_text}
 use Rattle.script_runs.specs.Laws.{HasLimit}
 use Rattle.script_steps.specs.Choices.{Setting, Choice, beginning_of, choice_of, played}
 use Rattle.script_steps.specs.Turns.{RunEnding}
-use Rattle.script_transcripts.specs.Legal.{AreFirstLines, EndsAs}
+use Rattle.script_transcripts.specs.Legal.{AreFirstLines, EndsAs, IsLegalText, ending_line}
 use Rattle.script_transcripts.specs.Replays.{ArePrinted, Follows}
 use Rattle.transcript_laws.specs.Printed.{SayWords}
 use Rattle.script_transcripts.specs.Told.{choice_told}
+use Rattle.transcript_laws.specs.TextLines.{text_lines}
 
 -- The text of a line tells the choice that the line tells of: which side went on, and whether by a delivery.
 abbrev pub LineTextsTellChoices : Type 0
@@ -49,3 +50,9 @@ abbrev pub ReplaysDecide : Type 0
 ReplaysDecide =
     (setting : Setting) (front rest : List (List ℕ)) (last : RunState) → IsSound setting.schema → IsValid setting.schema setting.script → HasLimit setting
     → Follows setting (front ++ rest) last → AreFirstLines setting front ↔ ArePrinted setting last front
+
+-- And the text is what a run may print exactly where it is what this one prints that follows its lines.
+abbrev pub LegalTextsDecide : Type 0
+LegalTextsDecide =
+    (setting : Setting) (text : List ℕ) (last : RunState) → IsSound setting.schema → IsValid setting.schema setting.script → Follows setting (text_lines text) last
+    → IsLegalText setting text ↔ ((ending : RunEnding) × EndsAs setting last ending × (text ≡ transcript_text setting.schema last.lines ++ ending_line ending))

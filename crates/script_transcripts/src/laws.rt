@@ -1,4 +1,4 @@
-ghost use Rattle.script_transcripts.specs.Laws.{CaseNamesAreWords, CaseTextsTellHistories, CasesEnd, LineTextsTellChoices, ReplaysDecide};
+ghost use Rattle.script_transcripts.specs.Laws.{CaseNamesAreWords, CaseTextsTellHistories, CasesEnd, LegalTextsDecide, LineTextsTellChoices, ReplaysDecide};
 
 /// The law of names: those in the histories of a valid script are words.
 pub fn case_names_are_words()
@@ -14,6 +14,11 @@ pub fn case_texts_tell_histories()
 /// The law of ends: every run of a valid script can go on until it ends.
 pub fn cases_end()
     ensures { CasesEnd }
+{}
+
+/// The law of legal texts: one is what the run prints that follows its lines.
+pub fn legal_texts_decide()
+    ensures { LegalTextsDecide }
 {}
 
 /// The law of line texts: each tells which side went on, and whether by a delivery.

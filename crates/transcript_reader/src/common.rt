@@ -15,8 +15,8 @@ pub struct CommonLines<'t> {
 // The first line of a text, and what stands behind it.
 fn split_line(text: &[u8]) -> (&[u8], &[u8])
     requires { text.now ≢ [] }
-    ensures { text_lines text.now ≡ result.0.now ∷ text_lines result.1.now }
-    ensures { length result.1.now < length text.now }
+    ensures lines { text_lines text.now ≡ result.0.now ∷ text_lines result.1.now }
+    ensures shorter { length result.1.now < length text.now }
 {
     text.split_at(first_line_len(text))
 }
