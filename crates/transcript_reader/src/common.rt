@@ -1,4 +1,4 @@
-ghost use Rattle.std.specs.Prelude.{◌≡◌, ◌≢◌, ◌<◌, [], ◌∷◌};
+ghost use Rattle.std.specs.Prelude.{◌≡◌, ◌≢◌, ◌<◌, [], ◌∷◌, length};
 ghost use Rattle.transcript_laws.specs.TextLines.{text_lines};
 ghost use Rattle.transcript_reader.specs.Common.{AreCommon};
 
@@ -25,6 +25,7 @@ fn split_line(text: &[u8]) -> (&[u8], &[u8])
 pub fn common_lines<'t>(one: &'t [u8], other: &'t [u8]) -> CommonLines<'t>
     ensures { AreCommon one.now other.now result.count result.one.now result.other.now }
 {
+    let _total = one.len();
     let mut common = CommonLines {
         count: 0,
         one,

@@ -1,4 +1,4 @@
-ghost use Rattle.std.specs.Prelude.{◌≡◌, ◌≢◌, ◌==◌, ◌≤◌, []};
+ghost use Rattle.std.specs.Prelude.{◌≡◌, ◌≢◌, ◌≤◌, [], length};
 ghost use Rattle.std.specs.List.{prefix_len};
 ghost use Rattle.transcript_laws.specs.Told.{begins_with};
 ghost use Rattle.transcript_reader.specs.Lines.{EndingIs, IsFirstLine, IsReadAs, is_no_feed};
@@ -7,7 +7,7 @@ use ipdl_base::Side;
 use schedules::Turn;
 
 /// What the first words of a line tell.
-#[derive(Clone, Copy, Debug, PartialEq, Eq)]
+#[derive(Clone, Copy)]
 pub enum LineReading {
     /// An event: of the turn's side, and by a delivery where the turn is for deliveries alone.
     Event(Turn),
@@ -18,7 +18,7 @@ pub enum LineReading {
 }
 
 /// How a run ended, as the last line of what it prints says.
-#[derive(Clone, Copy, Debug, PartialEq, Eq)]
+#[derive(Clone, Copy)]
 pub enum Ending {
     Finished,
     Spent(Side),
