@@ -33,13 +33,13 @@ use Rattle.transcript_laws.specs.TextLines.{text_lines}
 -- Lists with two seams
 
 -- the second seam of a list lies at the first one or behind it, or before it
-abbrev SeamsOf : {A : Type 0} → List A → List A → List A → List A → Type 0
+abbrev pub SeamsOf : {A : Type 0} → List A → List A → List A → List A → Type 0
 SeamsOf {A} xs ys zs ws = ((us : List A) × (zs ≡ xs ++ us) × (ys ≡ us ++ ws)) ⊎ ((u : A) × (us : List A) × (xs ≡ zs ++ u ∷ us) × (ws ≡ u ∷ us ++ ys))
 
-cons-head : {A : Type 0} (x y : A) (xs ys : List A) → x ∷ xs ≡ y ∷ ys → (x ≡ y) × (xs ≡ ys)
+pub cons-head : {A : Type 0} (x y : A) (xs ys : List A) → x ∷ xs ≡ y ∷ ys → (x ≡ y) × (xs ≡ ys)
 cons-head x y xs ys h = (cc, cc)
 
-seams : {A : Type 0} (xs ys zs ws : List A) → xs ++ ys ≡ zs ++ ws → SeamsOf xs ys zs ws
+pub seams : {A : Type 0} (xs ys zs ws : List A) → xs ++ ys ≡ zs ++ ws → SeamsOf xs ys zs ws
 seams [] ys zs ws h = inl (zs, refl, h)
 seams (x ∷ xs) ys [] ws h = inr (x, xs, refl, sym h)
 seams (x ∷ xs) ys (z ∷ zs) ws h = by (cons-head x z (xs ++ ys) (zs ++ ws) h) (seams xs ys zs ws (cons-head x z (xs ++ ys) (zs ++ ws) h).1)
@@ -194,7 +194,7 @@ module _ (setting : Setting) (sound : IsSound setting.schema) (valid : IsValid s
       by (inl same) told = one-state setting choices state last plays (subst (λ cs. played setting cs (beginning_of setting) ≡ Some last) (sym same ∙ told) follows.plays)
       by (inr stuck) told = absurd (stuck-not setting _ follows.done choices state stuck stuck.rest (sym told ∙ stuck.told_are) plays)
 
-  ending-alone : (e : RunEnding) → text_lines (ending_line e) ≡ ending_line e ∷ []
+  pub ending-alone : (e : RunEnding) → text_lines (ending_line e) ≡ ending_line e ∷ []
   ending-alone at_rest = refl
   ending-alone (at_limit sides.Parent) = refl
   ending-alone (at_limit sides.Child) = refl

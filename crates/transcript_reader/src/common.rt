@@ -12,8 +12,8 @@ pub struct CommonLines<'t> {
     pub other: &'t [u8],
 }
 
-// The first line of a text, and what stands behind it.
-fn split_line(text: &[u8]) -> (&[u8], &[u8])
+/// The first line of a text, and what stands behind it. It takes no memory.
+pub fn split_line(text: &[u8]) -> (&[u8], &[u8])
     requires { text.now ≢ [] }
     ensures lines { text_lines text.now ≡ result.0.now ∷ text_lines result.1.now }
     ensures shorter { length result.1.now < length text.now }

@@ -5,5 +5,5 @@
 mod common;
 mod line;
 
-pub use common::{CommonLines, common_lines};
+pub use common::{CommonLines, common_lines, split_line};
 pub use line::{Ending, LineReading, first_line_len, read_ending, read_line};
