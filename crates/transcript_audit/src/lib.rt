@@ -3,9 +3,9 @@
 #![tactic(auto)]
 
 mod answer;
-mod audit;
+mod auditing;
 mod ends;
 mod follow;
 
 pub use answer::Audit;
-pub use audit::audit;
+pub use auditing::audit;
