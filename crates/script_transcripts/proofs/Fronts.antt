@@ -93,8 +93,7 @@ adds-event setting (choice ∷ more) from last h =
     let prints : Prints (end_of choice.side from.world) c.event made.output = step-prints setting.schema (end_of choice.side from.world) (link_to choice.side from.world) c.event made.output made.is in
     let others = adds-event setting more p.next last p.rest in
     let effects : List Line = map (line_at (end_of choice.side from.world).side) prints.rest in
-    let event : Line = line_at (end_of choice.side from.world).side prints.first in
-    (
+    let event : Line = line_at (end_of choice.side from.world).side prints.first in (
       event ∷ effects ++ others.0,
       others.1 ∙ ap (λ ls. ls ++ others.0) (made.lines ∙ ap (λ ls. from.lines ++ ls) prints.lines) ∙ append_assoc from.lines (event ∷ effects) others.0,
       prints.is_event,
@@ -168,8 +167,7 @@ module _ (setting : Setting) (sound : IsSound setting.schema) (valid : IsValid s
       let own = lines-made choices state g.between s.first s.others (choices_of s.others) s.lines_are g.before g.after in
       let on : GoesOn setting (choices_of s.first) made.0 (beginning_of setting) last = choices_grow setting (choices_of s.first) made.0 (beginning_of setting) last (subst (λ cs. played setting cs (beginning_of setting) ≡ Some last) made.1 follows.plays) in
       let same : on.between ≡ g.between = one-state setting (choices_of s.first) on.between g.between on.before g.before in
-      let lines : last.lines ≡ s.first ++ (own.0 ++ on.lines) = on.behind ∙ ap (λ (x : RunState). x.lines ++ on.lines) same ∙ ap (λ ls. ls ++ on.lines) own.1 ∙ append_assoc s.first own.0 on.lines in
-      (
+      let lines : last.lines ≡ s.first ++ (own.0 ++ on.lines) = on.behind ∙ ap (λ (x : RunState). x.lines ++ on.lines) same ∙ ap (λ ls. ls ++ on.lines) own.1 ∙ append_assoc s.first own.0 on.lines in (
         line_texts schema s.first (own.0 ++ on.lines),
         ap (line_texts schema []) lines ∙ texts-append schema [] s.first (own.0 ++ on.lines) ∙ ap (λ ts. ts ++ line_texts schema s.first (own.0 ++ on.lines)) (sym s.texts_are),
       )

@@ -65,7 +65,7 @@ not-apart : (line : List ℕ) (lines others left behind : List (List ℕ)) → l
 not-apart line lines others left behind one other apart = subst (BeginApart (line ∷ lines)) other (subst (λ ls. BeginApart ls behind) one apart) refl
 
 module _ (setting : Setting) (sound : IsSound setting.schema) (valid : IsValid setting.schema setting.script) (limit : HasLimit setting) (text written : List ℕ) (last : RunState) (follows : Follows setting (text_lines text) last) (printed_is : written ≡ transcript_text setting.schema last.lines)
-  (count : ℕ) (one_left other_left : List ℕ) (c : AreCommon text written count one_left other_left) where
+    (count : ℕ) (one_left other_left : List ℕ) (c : AreCommon text written count one_left other_left) where
   abbrev own : List (List ℕ)
   own = text_lines one_left
 
@@ -104,39 +104,31 @@ module _ (setting : Setting) (sound : IsSound setting.schema) (valid : IsValid s
   bounded : NoEnding → (more : ℕ) → more ≤ length (text_lines text) → AreFirstLines setting (take more (text_lines text)) → more ≤ count
   bounded none more there a = by (taken-printed more a)
     where
-      front : List (List ℕ)
-      front = take more (text_lines text)
-
-      left : List (List ℕ)
-      left = drop more (text_lines text)
-
-      split : front ++ left ≡ c.front ++ own
-      unfolding front left
+      split : (take more (text_lines text)) ++ (drop more (text_lines text)) ≡ c.front ++ own
       split = take-append-drop more (text_lines text) ∙ c.one_is
 
-      long : length front ≡ more
-      unfolding front
+      long : length (take more (text_lines text)) ≡ more
       long = length-take-le more (text_lines text) there
 
-      at-seam : (others : List (List ℕ)) → printed_lines setting last ≡ front ++ others → SeamsOf front left c.front own → more ≤ count
-      at-seam others is (inl s) = let n : length c.front ≡ length front + length s.0 = ap length s.1 ∙ length-append front s.0 in let k = c.count_is in let l = long in omega (arith, n, k, l)
+      at-seam : (others : List (List ℕ)) → printed_lines setting last ≡ (take more (text_lines text)) ++ others → SeamsOf (take more (text_lines text)) (drop more (text_lines text)) c.front own → more ≤ count
+      at-seam others is (inl s) = let n : length c.front ≡ length (take more (text_lines text)) + length s.0 = ap length s.1 ∙ length-append (take more (text_lines text)) s.0 in let k = c.count_is in let l = long in omega (arith, n, k, l)
       at-seam others is (inr s) =
           let rest : printed ≡ (s.0 ∷ s.1) ++ others =
           append_cancel_left c.front printed ((s.0 ∷ s.1) ++ others) (sym all-printed ∙ is ∙ ap (λ ls. ls ++ others) s.2 ∙ append_assoc c.front (s.0 ∷ s.1) others)
           in
-          absurd (not-apart s.0 (s.1 ++ left) (s.1 ++ others) own printed s.3 rest c.apart)
+          absurd (not-apart s.0 (s.1 ++ (drop more (text_lines text))) (s.1 ++ others) own printed s.3 rest c.apart)
 
-      at-end : (e : RunEnding) → EndsAs setting last e → (ls : List (List ℕ)) → printed ≡ ls → own ≡ ls ++ (ending_line e ∷ left) → more ≤ count
-      at-end e ends [] is owns = absurd (none e left ends is owns)
-      at-end e ends (l ∷ ls) is owns = absurd (not-apart l (ls ++ (ending_line e ∷ left)) ls own printed owns is c.apart)
+      at-end : (e : RunEnding) → EndsAs setting last e → (ls : List (List ℕ)) → printed ≡ ls → own ≡ ls ++ (ending_line e ∷ (drop more (text_lines text))) → more ≤ count
+      at-end e ends [] is owns = absurd (none e (drop more (text_lines text)) ends is owns)
+      at-end e ends (l ∷ ls) is owns = absurd (not-apart l (ls ++ (ending_line e ∷ (drop more (text_lines text)))) ls own printed owns is c.apart)
 
-      by : ArePrinted setting last front → more ≤ count
-      by (inl h) = at-seam h.0 h.1 (seams front left c.front own split)
+      by : ArePrinted setting last (take more (text_lines text)) → more ≤ count
+      by (inl h) = at-seam h.0 h.1 (seams (take more (text_lines text)) (drop more (text_lines text)) c.front own split)
       by (inr h) =
           let line : List ℕ = ending_line h.0 in
           at-end h.0 h.1 printed refl
-          (append_cancel_left c.front own (printed ++ (line ∷ left))
-          (sym split ∙ ap (λ ls. ls ++ left) (h.2 ∙ ap (λ ls. ls ++ line ∷ []) all-printed) ∙ append_assoc (c.front ++ printed) (line ∷ []) left ∙ append_assoc c.front printed (line ∷ left)))
+          (append_cancel_left c.front own (printed ++ (line ∷ (drop more (text_lines text))))
+          (sym split ∙ ap (λ ls. ls ++ (drop more (text_lines text))) (h.2 ∙ ap (λ ls. ls ++ line ∷ []) all-printed) ∙ append_assoc (c.front ++ printed) (line ∷ []) (drop more (text_lines text)) ∙ append_assoc c.front printed (line ∷ (drop more (text_lines text)))))
 
   legal-so-far : NoEnding → AreLegalSoFar setting text count
   legal-so-far none = let n = length-all in record { there = omega (arith, n); first = subst (AreFirstLines setting) (sym take-front) front-first; most = bounded none }
@@ -145,8 +137,7 @@ module _ (setting : Setting) (sound : IsSound setting.schema) (valid : IsValid s
   pub early : one_left ≡ [] → IsAudited setting text (audit.Early (count + 1))
   early none =
       let own_none : own ≡ [] = ap text_lines none in
-      let all : length (text_lines text) ≡ count = let n = length-all in let k : length own ≡ 0 = ap length own_none in omega (arith, n, k) in
-      (
+      let all : length (text_lines text) ≡ count = let n = length-all in let k : length own ≡ 0 = ap length own_none in omega (arith, n, k) in (
         λ l.
             let h = (legal_texts_decide setting text last sound valid follows).0 l in
             let n : length (text_lines text) ≡ length (printed_lines setting last) + 1 = ap length (ap text_lines h.2 ∙ behind-printed h.0) ∙ length-append (printed_lines setting last) (ending_line h.0 ∷ []) in
@@ -230,8 +221,7 @@ module _ (setting : Setting) (sound : IsSound setting.schema) (valid : IsValid s
             let n : length (text_lines text) ≡ (count + 1) + suc (length ls) =
             ap length lines-are ∙ length-append (printed_lines setting last ++ ending_line e ∷ []) (text_lines behind) ∙ ap (λ m. m + length (text_lines behind)) printed-long ∙ ap (λ bs. (count + 1) + length bs) is
             in
-            let two : count + 2 ≡ (count + 1) + 1 = omega arith in
-            (
+            let two : count + 2 ≡ (count + 1) + 1 = omega arith in (
               count + 1,
               record { there = omega (arith, n); first = subst (AreFirstLines setting) (sym take-all) whole-first-lines; most = whole-bounded },
               omega (arith, n),
