@@ -1,0 +1,330 @@
+//! Runs whose halves go on apart from one another.
+ghost use Rattle.std.specs.Prelude.{◌≡◌, List};
+ghost use Rattle.channel_model.specs.Numbers.{other};
+ghost use Rattle.handler_script.specs.Valid.{IsValid};
+ghost use Rattle.ipdl_base.specs.declared.kinds.Side.{Side as EndSide};
+ghost use Rattle.ipdl_base.specs.declared.kinds.Side.TheVariants as sides;
+ghost use Rattle.ipdl_base.specs.declared.line.Line.{Line};
+ghost use Rattle.ipdl_base.specs.Sound.{IsSound};
+ghost use Rattle.script_steps.specs.Choices.{Setting};
+ghost use Rattle.world_core.specs.HalfView.{HalfView};
+ghost use Rattle.world_core.specs.Halves.{FitsBehind, IsEmptied, IsHome, IsSplit};
+
+use super::apart_rows::{APART, HALVES};
+use super::courses::{Printout, course_of, opened, printed_of};
+use super::deep_rows::DEEP;
+use super::given::script_of;
+use super::run_rows::RUNS;
+use super::texts::{Row, lines_and_ending, row_named};
+use super::transcripts::fault_of;
+use handler_script::Script;
+use history_of_text::schema_of;
+use ipdl_base::{Schema, Side};
+use std::alloc::Global;
+use std::test::Fail;
+use world_core::{Half, Link, MeetAnswer, RunAnswer, StepAnswer, World, halves_fit_behind_more};
+
+/// What is seen of both halves and of their link.
+#[derive(Clone, Copy)]
+struct Sight {
+    parent_open: bool,
+    parent_left: usize,
+    child_open: bool,
+    child_left: usize,
+    lines: usize,
+    history: usize,
+}
+
+/// What is seen of halves and their link.
+fn sight_of(parent: &Half<'_>, child: &Half<'_>, link: &Link) -> Sight {
+    Sight {
+        parent_open: parent.is_open(),
+        parent_left: link.left(Side::Parent),
+        child_open: child.is_open(),
+        child_left: link.left(Side::Child),
+        lines: link.lines(),
+        history: link.history().lines().len(),
+    }
+}
+
+/// The same half, taken apart and put together.
+fn put_together<'s>(schema: &'s Schema, script: &'s Script, half: Half<'s>) -> Half<'s>
+    requires schema { half.end.schema ≡ schema.now }
+    requires script { half.script ≡ script.now }
+    ensures { result ≡ half.entry }
+{
+    Half::of_parts(schema, script, half.into_parts())
+}
+
+/// Own steps of a half, until it rests, or an answer says that it cannot go on.
+fn go_on(half: &mut Half<'_>) -> StepAnswer
+    ghost at: { Setting × EndSide × List Line }
+    requires { FitsBehind at.0 at.1 at.2 half.old }
+    ensures { FitsBehind at.0 at.1 at.2 half.new }
+{
+    for _ in 0..10_000 {
+        if half.rests() {
+            return StepAnswer::Nothing;
+        }
+        let answer = half.own();
+        if answer != StepAnswer::Did {
+            return answer;
+        }
+    }
+    StepAnswer::Did
+}
+
+/// A half hands in to the link.
+fn hand_in(half: &mut Half<'_>, link: &mut Link)
+    ghost at: { Setting × EndSide × List Line }
+    requires seen { link.old.lines ≡ at.2 }
+    requires fits { FitsBehind at.0 at.1 at.2 half.old }
+    requires home { IsHome at.0 link.old }
+    ensures home { IsHome at.0 link.new }
+    ensures fits { FitsBehind at.0 at.1 link.new.lines half.new }
+    ensures others { (rest : HalfView) → FitsBehind at.0 (other at.1) at.2 rest → FitsBehind at.0 (other at.1) link.new.lines rest }
+{
+    halves_fit_behind_more();
+    half.hand_in(link);
+}
+
+/// A half meets the link.
+fn meet(half: &mut Half<'_>, link: &mut Link) -> MeetAnswer
+    ghost at: { Setting × EndSide × List Line }
+    requires seen { link.old.lines ≡ at.2 }
+    requires fits { FitsBehind at.0 at.1 at.2 half.old }
+    requires home { IsHome at.0 link.old }
+    ensures home { IsHome at.0 link.new }
+    ensures fits { FitsBehind at.0 at.1 link.new.lines half.new }
+    ensures emptied { IsEmptied half.new }
+    ensures others { (rest : HalfView) → FitsBehind at.0 (other at.1) at.2 rest → FitsBehind at.0 (other at.1) link.new.lines rest }
+{
+    halves_fit_behind_more();
+    half.meet(link)
+}
+
+/// How a run ends where an own step was answered so, if it does.
+fn end_of_steps(answer: StepAnswer) -> Option<RunAnswer> {
+    match answer {
+        StepAnswer::Did | StepAnswer::Nothing => None,
+        StepAnswer::Spent(side) => Some(RunAnswer::Spent(side)),
+        StepAnswer::NoMemory => Some(RunAnswer::NoMemory),
+    }
+}
+
+/// How a run ends where a meeting was answered so, if it does.
+fn end_of_meeting(answer: MeetAnswer) -> Option<RunAnswer> {
+    match answer {
+        MeetAnswer::Moved(_) => None,
+        MeetAnswer::Spent(side) => Some(RunAnswer::Spent(side)),
+        MeetAnswer::NoMemory => Some(RunAnswer::NoMemory),
+    }
+}
+
+/// Whether neither half has an own step, or a packet that waits for its open end.
+fn are_at_rest(parent: &Half<'_>, child: &Half<'_>, link: &Link) -> bool {
+    let seen = sight_of(parent, child, link);
+    parent.rests()
+        && child.rests()
+        && !(seen.parent_open && seen.parent_left > 0)
+        && !(seen.child_open && seen.child_left > 0)
+}
+
+/// Both halves do own steps apart from the link; how the run ends by that, if it does.
+fn both_go_on(parent: &mut Half<'_>, child: &mut Half<'_>) -> Option<RunAnswer>
+    ghost at: { Setting × List Line }
+    requires parent { FitsBehind at.0 sides.Parent at.1 parent.old }
+    requires child { FitsBehind at.0 sides.Child at.1 child.old }
+    ensures parent { FitsBehind at.0 sides.Parent at.1 parent.new }
+    ensures child { FitsBehind at.0 sides.Child at.1 child.new }
+{
+    let parent_went = go_on(parent);
+    let child_went = go_on(child);
+    end_of_steps(parent_went).or(end_of_steps(child_went))
+}
+
+/// The parent hands in, and then the child and the parent meet the link; how the run ends by that, if
+/// it does.
+fn both_meet(parent: &mut Half<'_>, child: &mut Half<'_>, link: &mut Link) -> Option<RunAnswer>
+    ghost setting: { Setting }
+    requires home { IsHome setting link.old }
+    requires parent { FitsBehind setting sides.Parent link.old.lines parent.old }
+    requires child { FitsBehind setting sides.Child link.old.lines child.old }
+    ensures { IsSplit setting parent.new child.new link.new }
+{
+    hand_in(parent, link);
+    let child_met = meet(child, link);
+    let parent_met = meet(parent, link);
+    end_of_meeting(parent_met).or(end_of_meeting(child_met))
+}
+
+/// Both halves go on and meet the link; how the run ends by that, if it does.
+fn round(parent: &mut Half<'_>, child: &mut Half<'_>, link: &mut Link) -> Option<RunAnswer>
+    ghost at: { Setting × List Line }
+    requires seen { link.old.lines ≡ at.1 }
+    requires apart { IsSplit at.0 parent.old child.old link.old }
+    ensures { IsSplit at.0 parent.new child.new link.new }
+{
+    let stopped = both_go_on(parent, child);
+    let ended = both_meet(parent, child, link);
+    let rest = are_at_rest(parent, child, link).then_some(RunAnswer::Finished);
+    stopped.or(ended).or(rest)
+}
+
+/// Two rounds, or fewer where the run ends in one; how it ends, if it does.
+fn two_rounds(parent: &mut Half<'_>, child: &mut Half<'_>, link: &mut Link) -> Option<RunAnswer>
+    ghost setting: { Setting }
+    requires { IsSplit setting parent.old child.old link.old }
+    ensures { IsSplit setting parent.new child.new link.new }
+{
+    let first = round(parent, child, link);
+    if first.is_some() {
+        return first;
+    }
+    round(parent, child, link)
+}
+
+/// How a run by halves stands behind some of its rounds: how it ended, if it did, and what is seen.
+#[derive(Clone, Copy)]
+struct Progress {
+    ended: Option<RunAnswer>,
+    seen: Sight,
+}
+
+/// A world is split, its halves go on for two rounds, and it is joined again.
+fn go_apart<'s>(schema: &'s Schema, script: &'s Script, world: World<'s>) -> (World<'s>, Progress)
+    requires schema { world.setting.schema ≡ schema.now }
+    requires script { world.setting.script ≡ script.now }
+    ensures same { result.0.setting ≡ world.entry.setting }
+{
+    let (parent, child, mut link) = world.split();
+    let mut parent = put_together(schema, script, parent);
+    let mut child = put_together(schema, script, child);
+    let ended = two_rounds(&mut parent, &mut child, &mut link);
+    let seen = sight_of(&parent, &child, &link);
+    (World::join(parent, child, link), Progress { ended, seen })
+}
+
+/// The run of a world by its halves, and how it stands at its end.
+fn run_apart<'s>(schema: &'s Schema, script: &'s Script, world: World<'s>) -> (World<'s>, Progress)
+    requires schema { world.setting.schema ≡ schema.now }
+    requires script { world.setting.script ≡ script.now }
+{
+    let (mut world, mut progress) = go_apart(schema, script, world);
+    for _ in 0..1_000 {
+        if progress.ended.is_some() {
+            break;
+        }
+        (world, progress) = go_apart(schema, script, world);
+    }
+    (world, progress)
+}
+
+/// What a run by halves prints, and how it stands at its end.
+fn printed_apart(
+    alloc: Global,
+    schema: &Schema,
+    script: &Script,
+    row: Row<'_>,
+) -> Result<(Printout, Sight), Fail>
+    requires sound { IsSound schema.now }
+    requires valid { IsValid schema.now script.now }
+{
+    let course = course_of(alloc, row.course)?;
+    let world = opened(alloc, schema, script, &course)?;
+    let (world, progress) = run_apart(schema, script, world);
+    let found = printed_of(
+        alloc,
+        schema,
+        &world,
+        progress.ended.unwrap_or(RunAnswer::NoMemory),
+    );
+    drop(world);
+    Ok((found?, progress.seen))
+}
+
+/// The word for an end that is open, or not.
+fn openness(is_open: bool) -> &'static str {
+    if is_open { "open" } else { "shut" }
+}
+
+/// What is seen of halves, as a row of `HALVES` has it.
+fn seen_text(alloc: Global, seen: Sight) -> Result<String, Fail> {
+    let parent = openness(seen.parent_open);
+    let child = openness(seen.child_open);
+    Ok(format!(in alloc; "{parent} {} {child} {}", seen.parent_left, seen.child_left)?)
+}
+
+/// What is wrong with a run by halves: it prints something else than its row has, a law does not hold,
+/// the link has another count of lines, or the halves stand otherwise than wanted.
+fn fault_apart(
+    alloc: Global,
+    schema: &Schema,
+    script: &Script,
+    row: Row<'_>,
+    wanted: &str,
+) -> Result<&'static str, Fail>
+    requires sound { IsSound schema.now }
+    requires valid { IsValid schema.now script.now }
+{
+    let (run, seen) = printed_apart(alloc, schema, script, row)?;
+    let (lines, _) = lines_and_ending(row.printed).ok_or("a row that does not say how it ends")?;
+    let count = lines.lines().count();
+    if seen.lines != count || seen.history != count {
+        return Ok("another count of lines");
+    }
+    if seen_text(alloc, seen)?.as_str() != wanted {
+        return Ok("halves that stand otherwise");
+    }
+    Ok(fault_of(&run, row.printed))
+}
+
+/// The row of any table with this name.
+fn row_of_any(name: &str) -> Option<Row<'static>> {
+    row_named(APART, name)
+        .or(row_named(RUNS, name))
+        .or(row_named(DEEP, name))
+}
+
+/// What is wrong with the run by halves of a row under the schema of its protocol.
+fn fault_under(
+    alloc: Global,
+    schema: &Schema,
+    row: Row<'_>,
+    wanted: &str,
+) -> Result<&'static str, Fail>
+    requires { IsSound schema.now }
+{
+    let script = script_of(alloc, schema, row.file, row.script)?;
+    fault_apart(alloc, schema, &script, row, wanted)
+}
+
+/// Notes a run by halves with which something is wrong.
+fn check(alloc: Global, line: &str, wrong: &mut String) -> Result<(), Fail> {
+    let (name, wanted) = line.split_once(" ").ok_or("a name alone")?;
+    let row = row_of_any(name).ok_or("no such row")?;
+    let schema = schema_of(alloc, row.file)?;
+    let found = fault_under(alloc, &schema, row, wanted)?;
+    if !found.is_empty() {
+        writeln!(wrong, "{name}: {found}")?;
+    }
+    Ok(())
+}
+
+/// The runs by halves with which something is wrong, and how many there are.
+fn checked(alloc: Global, table: &str) -> Result<String, Fail> {
+    let mut shown = String::new(alloc);
+    let mut count = 0u32;
+    for line in table.lines() {
+        check(alloc, line, &mut shown)?;
+        count = count.wrapping_add(1);
+    }
+    write!(shown, "{count}")?;
+    Ok(shown)
+}
+
+#[test]
+fn halves_run_apart(rt: HostRuntime) -> Result<(), Fail> {
+    assert_eq!(rt; checked(rt.alloc(), HALVES)?.as_str(), "14");
+    Ok(())
+}
