@@ -24,9 +24,11 @@ use std::alloc::Global;
 use std::test::Fail;
 use world_core::{Half, Link, MeetAnswer, RunAnswer, StepAnswer, World, halves_fit_behind_more};
 
-/// What is seen of both halves and of their link.
+/// What is seen of a run by halves: how it ended, if it did; of either side, whether its end is open,
+/// and how many packets wait for it; and how many lines the link has, and its history.
 #[derive(Clone, Copy)]
 struct Sight {
+    ended: Option<RunAnswer>,
     parent_open: bool,
     parent_left: usize,
     child_open: bool,
@@ -35,9 +37,10 @@ struct Sight {
     history: usize,
 }
 
-/// What is seen of halves and their link.
-fn sight_of(parent: &Half<'_>, child: &Half<'_>, link: &Link) -> Sight {
+/// What is seen of halves and their link, where the run ended so.
+fn sight_of(ended: Option<RunAnswer>, parent: &Half<'_>, child: &Half<'_>, link: &Link) -> Sight {
     Sight {
+        ended,
         parent_open: parent.is_open(),
         parent_left: link.left(Side::Parent),
         child_open: child.is_open(),
@@ -74,30 +77,28 @@ fn go_on(half: &mut Half<'_>) -> StepAnswer
     StepAnswer::Did
 }
 
-/// A half hands in to the link.
+/// A half hands in to the link. The other one fits behind the link as before.
 fn hand_in(half: &mut Half<'_>, link: &mut Link)
-    ghost at: { Setting × EndSide × List Line }
-    requires seen { link.old.lines ≡ at.2 }
-    requires fits { FitsBehind at.0 at.1 at.2 half.old }
+    ghost at: { Setting × EndSide }
+    requires fits { FitsBehind at.0 at.1 link.old.lines half.old }
     requires home { IsHome at.0 link.old }
     ensures home { IsHome at.0 link.new }
     ensures fits { FitsBehind at.0 at.1 link.new.lines half.new }
-    ensures others { (rest : HalfView) → FitsBehind at.0 (other at.1) at.2 rest → FitsBehind at.0 (other at.1) link.new.lines rest }
+    ensures others { (rest : HalfView) → FitsBehind at.0 (other at.1) link.old.lines rest → FitsBehind at.0 (other at.1) link.new.lines rest }
 {
     halves_fit_behind_more();
     half.hand_in(link);
 }
 
-/// A half meets the link.
+/// A half meets the link. The other one fits behind the link as before.
 fn meet(half: &mut Half<'_>, link: &mut Link) -> MeetAnswer
-    ghost at: { Setting × EndSide × List Line }
-    requires seen { link.old.lines ≡ at.2 }
-    requires fits { FitsBehind at.0 at.1 at.2 half.old }
+    ghost at: { Setting × EndSide }
+    requires fits { FitsBehind at.0 at.1 link.old.lines half.old }
     requires home { IsHome at.0 link.old }
     ensures home { IsHome at.0 link.new }
     ensures fits { FitsBehind at.0 at.1 link.new.lines half.new }
     ensures emptied { IsEmptied half.new }
-    ensures others { (rest : HalfView) → FitsBehind at.0 (other at.1) at.2 rest → FitsBehind at.0 (other at.1) link.new.lines rest }
+    ensures others { (rest : HalfView) → FitsBehind at.0 (other at.1) link.old.lines rest → FitsBehind at.0 (other at.1) link.new.lines rest }
 {
     halves_fit_behind_more();
     half.meet(link)
@@ -121,13 +122,9 @@ fn end_of_meeting(answer: MeetAnswer) -> Option<RunAnswer> {
     }
 }
 
-/// Whether neither half has an own step, or a packet that waits for its open end.
-fn are_at_rest(parent: &Half<'_>, child: &Half<'_>, link: &Link) -> bool {
-    let seen = sight_of(parent, child, link);
-    parent.rests()
-        && child.rests()
-        && !(seen.parent_open && seen.parent_left > 0)
-        && !(seen.child_open && seen.child_left > 0)
+/// Whether a half has an own step, or a packet that waits for its open end.
+fn is_busy(half: &Half<'_>, link: &Link, side: Side) -> bool {
+    !half.rests() || half.is_open() && link.left(side) > 0
 }
 
 /// Both halves do own steps apart from the link; how the run ends by that, if it does.
@@ -167,7 +164,8 @@ fn round(parent: &mut Half<'_>, child: &mut Half<'_>, link: &mut Link) -> Option
 {
     let stopped = both_go_on(parent, child);
     let ended = both_meet(parent, child, link);
-    let rest = are_at_rest(parent, child, link).then_some(RunAnswer::Finished);
+    let busy = is_busy(parent, link, Side::Parent) || is_busy(child, link, Side::Child);
+    let rest = (!busy).then_some(RunAnswer::Finished);
     stopped.or(ended).or(rest)
 }
 
@@ -184,43 +182,36 @@ fn two_rounds(parent: &mut Half<'_>, child: &mut Half<'_>, link: &mut Link) -> O
     round(parent, child, link)
 }
 
-/// How a run by halves stands behind some of its rounds: how it ended, if it did, and what is seen.
-#[derive(Clone, Copy)]
-struct Progress {
-    ended: Option<RunAnswer>,
-    seen: Sight,
-}
-
-/// A world is split, its halves go on for two rounds, and it is joined again.
-fn go_apart<'s>(schema: &'s Schema, script: &'s Script, world: World<'s>) -> (World<'s>, Progress)
+/// A world is split, its halves go on for two rounds, and it is joined again; what is seen before.
+fn go_apart<'s>(schema: &'s Schema, script: &'s Script, world: World<'s>) -> (World<'s>, Sight)
     requires schema { world.setting.schema ≡ schema.now }
     requires script { world.setting.script ≡ script.now }
-    ensures same { result.0.setting ≡ world.entry.setting }
+    ensures { result.0.setting ≡ world.entry.setting }
 {
     let (parent, child, mut link) = world.split();
     let mut parent = put_together(schema, script, parent);
     let mut child = put_together(schema, script, child);
     let ended = two_rounds(&mut parent, &mut child, &mut link);
-    let seen = sight_of(&parent, &child, &link);
-    (World::join(parent, child, link), Progress { ended, seen })
+    let seen = sight_of(ended, &parent, &child, &link);
+    (World::join(parent, child, link), seen)
 }
 
-/// The run of a world by its halves, and how it stands at its end.
-fn run_apart<'s>(schema: &'s Schema, script: &'s Script, world: World<'s>) -> (World<'s>, Progress)
+/// The run of a world by its halves, and what is seen at its end.
+fn run_apart<'s>(schema: &'s Schema, script: &'s Script, world: World<'s>) -> (World<'s>, Sight)
     requires schema { world.setting.schema ≡ schema.now }
     requires script { world.setting.script ≡ script.now }
 {
-    let (mut world, mut progress) = go_apart(schema, script, world);
+    let (mut world, mut seen) = go_apart(schema, script, world);
     for _ in 0..1_000 {
-        if progress.ended.is_some() {
+        if seen.ended.is_some() {
             break;
         }
-        (world, progress) = go_apart(schema, script, world);
+        (world, seen) = go_apart(schema, script, world);
     }
-    (world, progress)
+    (world, seen)
 }
 
-/// What a run by halves prints, and how it stands at its end.
+/// What a run by halves prints, and what is seen at its end.
 fn printed_apart(
     alloc: Global,
     schema: &Schema,
@@ -232,15 +223,11 @@ fn printed_apart(
 {
     let course = course_of(alloc, row.course)?;
     let world = opened(alloc, schema, script, &course)?;
-    let (world, progress) = run_apart(schema, script, world);
-    let found = printed_of(
-        alloc,
-        schema,
-        &world,
-        progress.ended.unwrap_or(RunAnswer::NoMemory),
-    );
+    let (world, seen) = run_apart(schema, script, world);
+    let ending = seen.ended.unwrap_or(RunAnswer::NoMemory);
+    let found = printed_of(alloc, schema, &world, ending);
     drop(world);
-    Ok((found?, progress.seen))
+    Ok((found?, seen))
 }
 
 /// The word for an end that is open, or not.
