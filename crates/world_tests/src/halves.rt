@@ -59,25 +59,40 @@ fn put_together<'s>(schema: &'s Schema, script: &'s Script, half: Half<'s>) -> H
     Half::of_parts(schema, script, half.into_parts())
 }
 
-/// Own steps of a half, until it rests, or an answer says that it cannot go on.
-fn go_on(half: &mut Half<'_>) -> StepAnswer
+/// How a run ends where an own step of a side was answered so, if it does.
+fn end_of_steps(side: Side, answer: StepAnswer) -> Option<RunAnswer> {
+    match answer {
+        StepAnswer::Did | StepAnswer::Nothing => None,
+        StepAnswer::Spent(_) => Some(RunAnswer::Spent(side)),
+        StepAnswer::NoMemory => Some(RunAnswer::NoMemory),
+    }
+}
+
+/// How a run ends where a meeting of a side was answered so, if it does.
+fn end_of_meeting(side: Side, answer: MeetAnswer) -> Option<RunAnswer> {
+    match answer {
+        MeetAnswer::Moved(_) => None,
+        MeetAnswer::Spent(_) => Some(RunAnswer::Spent(side)),
+        MeetAnswer::NoMemory => Some(RunAnswer::NoMemory),
+    }
+}
+
+/// Own steps of the half of a side, until it rests; how the run ends by that, if it does.
+fn go_on(half: &mut Half<'_>, side: Side) -> Option<RunAnswer>
     ghost at: { Setting × EndSide × List Line }
     requires { FitsBehind at.0 at.1 at.2 half.old }
     ensures { FitsBehind at.0 at.1 at.2 half.new }
 {
     for _ in 0..10_000 {
-        if half.rests() {
-            return StepAnswer::Nothing;
-        }
         let answer = half.own();
         if answer != StepAnswer::Did {
-            return answer;
+            return end_of_steps(side, answer);
         }
     }
-    StepAnswer::Did
+    None
 }
 
-/// A half hands in to the link. The other one fits behind the link as before.
+/// A half hands in to the link. The other half fits behind the link as before.
 fn hand_in(half: &mut Half<'_>, link: &mut Link)
     ghost at: { Setting × EndSide }
     requires fits { FitsBehind at.0 at.1 link.old.lines half.old }
@@ -90,8 +105,9 @@ fn hand_in(half: &mut Half<'_>, link: &mut Link)
     half.hand_in(link);
 }
 
-/// A half meets the link. The other one fits behind the link as before.
-fn meet(half: &mut Half<'_>, link: &mut Link) -> MeetAnswer
+/// The half of a side meets the link; how the run ends by that, if it does. The other half fits behind
+/// the link as before.
+fn meet(half: &mut Half<'_>, link: &mut Link, side: Side) -> Option<RunAnswer>
     ghost at: { Setting × EndSide }
     requires fits { FitsBehind at.0 at.1 link.old.lines half.old }
     requires home { IsHome at.0 link.old }
@@ -101,25 +117,7 @@ fn meet(half: &mut Half<'_>, link: &mut Link) -> MeetAnswer
     ensures others { (rest : HalfView) → FitsBehind at.0 (other at.1) link.old.lines rest → FitsBehind at.0 (other at.1) link.new.lines rest }
 {
     halves_fit_behind_more();
-    half.meet(link)
-}
-
-/// How a run ends where an own step was answered so, if it does.
-fn end_of_steps(answer: StepAnswer) -> Option<RunAnswer> {
-    match answer {
-        StepAnswer::Did | StepAnswer::Nothing => None,
-        StepAnswer::Spent(side) => Some(RunAnswer::Spent(side)),
-        StepAnswer::NoMemory => Some(RunAnswer::NoMemory),
-    }
-}
-
-/// How a run ends where a meeting was answered so, if it does.
-fn end_of_meeting(answer: MeetAnswer) -> Option<RunAnswer> {
-    match answer {
-        MeetAnswer::Moved(_) => None,
-        MeetAnswer::Spent(side) => Some(RunAnswer::Spent(side)),
-        MeetAnswer::NoMemory => Some(RunAnswer::NoMemory),
-    }
+    end_of_meeting(side, half.meet(link))
 }
 
 /// Whether a half has an own step, or a packet that waits for its open end.
@@ -135,9 +133,9 @@ fn both_go_on(parent: &mut Half<'_>, child: &mut Half<'_>) -> Option<RunAnswer>
     ensures parent { FitsBehind at.0 sides.Parent at.1 parent.new }
     ensures child { FitsBehind at.0 sides.Child at.1 child.new }
 {
-    let parent_went = go_on(parent);
-    let child_went = go_on(child);
-    end_of_steps(parent_went).or(end_of_steps(child_went))
+    let parent_ended = go_on(parent, Side::Parent);
+    let child_ended = go_on(child, Side::Child);
+    parent_ended.or(child_ended)
 }
 
 /// The parent hands in, and then the child and the parent meet the link; how the run ends by that, if
@@ -150,9 +148,9 @@ fn both_meet(parent: &mut Half<'_>, child: &mut Half<'_>, link: &mut Link) -> Op
     ensures { IsSplit setting parent.new child.new link.new }
 {
     hand_in(parent, link);
-    let child_met = meet(child, link);
-    let parent_met = meet(parent, link);
-    end_of_meeting(parent_met).or(end_of_meeting(child_met))
+    let child_ended = meet(child, link, Side::Child);
+    let parent_ended = meet(parent, link, Side::Parent);
+    parent_ended.or(child_ended)
 }
 
 /// Both halves go on and meet the link; how the run ends by that, if it does.
@@ -162,11 +160,11 @@ fn round(parent: &mut Half<'_>, child: &mut Half<'_>, link: &mut Link) -> Option
     requires apart { IsSplit at.0 parent.old child.old link.old }
     ensures { IsSplit at.0 parent.new child.new link.new }
 {
-    let stopped = both_go_on(parent, child);
-    let ended = both_meet(parent, child, link);
+    let apart = both_go_on(parent, child);
+    let met = both_meet(parent, child, link);
     let busy = is_busy(parent, link, Side::Parent) || is_busy(child, link, Side::Child);
     let rest = (!busy).then_some(RunAnswer::Finished);
-    stopped.or(ended).or(rest)
+    apart.or(met).or(rest)
 }
 
 /// Two rounds, or fewer where the run ends in one; how it ends, if it does.
