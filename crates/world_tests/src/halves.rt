@@ -204,7 +204,9 @@ fn run_apart<'s>(schema: &'s Schema, script: &'s Script, world: World<'s>) -> (W
         if seen.ended.is_some() {
             break;
         }
-        (world, seen) = go_apart(schema, script, world);
+        let (next, sight) = go_apart(schema, script, world);
+        world = next;
+        seen = sight;
     }
     (world, seen)
 }
