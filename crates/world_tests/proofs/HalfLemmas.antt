@@ -5,7 +5,6 @@ use Rattle.channel_model.specs.Numbers.{other}
 use Rattle.ipdl_base.specs.declared.kinds.Side.{Side}
 use Rattle.ipdl_base.specs.declared.line.Line.{Line}
 use Rattle.ipdl_base.specs.declared.line.What.{What}
-use Rattle.end_parts.specs.declared.packet.Packet.{Packet}
 use Rattle.script_steps.proofs.Counting.{lines_of-append}
 use Rattle.script_steps.specs.Choices.{IsCaseHistory, Setting}
 use Rattle.script_steps.specs.Progress.{lines_of}
@@ -13,7 +12,7 @@ use Rattle.world_core.proofs.Chosen.{run-sides}
 use Rattle.world_core.proofs.SideChoices.{RanAlone, all-alone, all-same}
 use Rattle.world_core.specs.HalfView.{HalfView, setting_of}
 use Rattle.world_core.specs.Halves.{FitsBehind, HalvesFitBehindMore, HasMet, IsHome, IsSplit, own_choices}
-use Rattle.world_core.specs.LinkView.{IsAppended, LinkView}
+use Rattle.world_core.specs.LinkView.{LinkView}
 
 -- a half fits behind lines of the other side too, where the link that has them is home
 other-fits : HalvesFitBehindMore → (setting : Setting) (side : Side) (seen others : List Line) (link : LinkView) (rest : HalfView) → FitsBehind setting (other side) seen rest → lines_of (other side) others ≡ [] → link.lines ≡ seen ++ others
@@ -30,10 +29,9 @@ stored-own setting side seen half fits =
     ap (lines_of (other side)) (append_cancel_left fits.from.lines half.end.lines alone.lines (sym fits.stored.lines ∙ alone.behind)) ∙ alone.own
 
 -- where a half has handed in, the other one fits behind the link too
-pub fits-behind-handed : HalvesFitBehindMore → (setting : Setting) (side : Side) (half : HalfView) (link link' : LinkView) (packets : List Packet) → FitsBehind setting side link.lines half → IsAppended link half.end.lines (other side) packets link'
+pub fits-behind-handed : HalvesFitBehindMore → (setting : Setting) (side : Side) (half : HalfView) (link link' : LinkView) → FitsBehind setting side link.lines half → link'.lines ≡ link.lines ++ half.end.lines
     → IsHome setting link' → (rest : HalfView) → FitsBehind setting (other side) link.lines rest → FitsBehind setting (other side) link'.lines rest
-fits-behind-handed law setting side half link link' packets own appends home rest fits =
-    other-fits law setting side link.lines half.end.lines link' rest fits (stored-own setting side link.lines half own) (ap (λ (l : LinkView). l.lines) appends.is) home
+fits-behind-handed law setting side half link link' own lines home rest fits = other-fits law setting side link.lines half.end.lines link' rest fits (stored-own setting side link.lines half own) lines home
 
 -- and where it has met the link
 pub fits-behind-met : HalvesFitBehindMore → (setting : Setting) (side : Side) (half half' : HalfView) (link link' : LinkView) → HasMet setting side half link half' link' → (rest : HalfView) → FitsBehind setting (other side) link.lines rest
