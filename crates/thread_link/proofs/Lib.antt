@@ -1,0 +1,7 @@
+pub mod Views
+pub mod Fronts
+pub mod RuleSteps
+pub mod Ends
+pub mod Seats
+pub mod HalfMeetings
+pub mod Together
