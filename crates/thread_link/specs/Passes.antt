@@ -1,5 +1,6 @@
 -- What contracts see of a pass and of an exchange.
 use Rattle.std.specs.Prelude.{◌≡◌, List}
+use Rattle.ipdl_base.specs.declared.kinds.Side.{Side}
 use Rattle.ipdl_base.specs.declared.line.Line.{Line}
 use Rattle.script_steps.specs.Choices.{Setting}
 use Rattle.thread_link.specs.declared.pass.Exchange.{Exchange}
@@ -10,6 +11,10 @@ use Rattle.world_core.specs.HalfView.{setting_of}
 -- the lines that the side of a pass has seen
 abbrev pub seen : Pass → List Line
 seen pass = seen_by pass.side pass.seat.me.0
+
+-- where a half of the side of a pass stands: in which run, on which side, and behind which lines
+abbrev pub place_of : Pass → Setting × Side × List Line
+place_of pass = (pass.seat.me.0.setting, pass.side, seen pass)
 
 -- what the run of an exchange is about
 abbrev pub about : Exchange → Setting

@@ -26,3 +26,14 @@ pub struct Pass {
     pub(crate) seat: Place,
     pub(crate) ghost is_pass: { IsSeatOf side seat },
 }
+
+impl Pass {
+    ghost use Rattle.std.specs.Prelude.{◌≡◌};
+
+    /// The side whose pass it is. It takes no memory.
+    pub fn side(&self) -> Side
+        ensures { result ≡ self.now.side }
+    {
+        self.side
+    }
+}

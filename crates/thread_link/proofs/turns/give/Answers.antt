@@ -41,5 +41,5 @@ returns c =
     let s = c.store.ensures in
     let l = c.args.shared in
     let more = rest c.fetch_add-turns.new.seat.me.1 in
-    given-so c.args.side c.args.seat.now c.exchange.new.seat c.store.new.seat l more c.free_word-word.result _ c.requires.seat.is_of (x.3 ∙ ap (λ (m : Me (Option SharedLink) SeatView). (m.0, (0, Some l) ∷ more)) f.2)
+    given-so c.args.side c.args.seat.now c.exchange.new.seat c.store.new.seat l more c.free_word-word.result (step c.args.board.now.table_id.slots 0 c.free_word-word.result 0 none) c.requires.seat.is_of (x.3 ∙ ap (λ (m : Me (Option SharedLink) SeatView). (m.0, (0, Some l) ∷ more)) f.2)
     (ap (λ (m : Me (Option SharedLink) SeatView). rest m.1) f.2 ∙ ap (λ (cs : List (ℕ × Option SharedLink)). rest cs) c.requires.seat.slot) s.2 (s.0 ∙ (x.0 ∙ f.0))

@@ -1,9 +1,9 @@
 use Rattle.thread_link.proofs.workers.work.Given as goal
-use Rattle.thread_link.specs.Passes.{about, seen}
+use Rattle.thread_link.specs.Passes.{about, place_of}
 use Rattle.thread_link.specs.Work.{IsAtWork}
 
 abbrev pub ghost-go_on : goal.ghost-go_on
-ghost-go_on g a = (a.pass.now.seat.me.0.setting, a.pass.now.side, seen a.pass.now)
+ghost-go_on g a = place_of a.pass.now
 
 abbrev pub ghost-turn : goal.ghost-turn
 ghost-turn g a = (about a.self.now, a.pass.now.side)

@@ -22,12 +22,12 @@ opens-with half topic shared link told n slots same e f four home is =
     (subst (λ (l : Link). IsLawful (setting_of half) (opening (n ∷ 0 ∷ []) (Some shared ∷ []) (first_view (setting_of half) l.lines))) (e ∙ sym f) o))
 
 pub free_word-word-requires : goal.free_word-word-requires
-free_word-word-requires c = subst (λ (n : ℕ). 4 * n < 2 ^ 64) (sym c.lines.ensures) (few (setting_of c.args.half.now) c.args.link c.requires)
+free_word-word-requires c = subst (λ (n : ℕ). 4 * n < 2 ^ 64) (sym c.lines.ensures) (few (setting_of c.args.half.now) c.args.link c.requires.home)
 
 pub new-requires : goal.new-requires
 new-requires c =
     opens-with c.args.half.now c.topic_of-topic.result.half.value c.untouched.result c.args.link c.topic_of-topic.result.link.value c.free_word-word.result c.in-Ok.slots.items c.topic_of-topic.ensures.half c.untouched.ensures c.topic_of-topic.ensures.link
-    (c.free_word-word.ensures ∙ ap (λ (n : ℕ). 4 * n) c.lines.ensures) c.requires c.in-Ok.ensures.ok
+    (c.free_word-word.ensures ∙ ap (λ (n : ℕ). 4 * n) c.lines.ensures) c.requires.home c.in-Ok.ensures.ok
 
 pub split_seat-child-requires : goal.split_seat-child-requires
 split_seat-child-requires c =
