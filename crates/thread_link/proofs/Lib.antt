@@ -5,3 +5,4 @@ pub mod Ends
 pub mod Seats
 pub mod HalfMeetings
 pub mod Together
+pub mod Sent

@@ -25,9 +25,9 @@ told-seen holds side lines v m carried e = ap (λ (n : Me (Option SharedLink) Se
 pub told-setting : (holds : Bool) (side : Side) (lines : List Line) (v : SeatView) (m : Me (Option SharedLink) SeatView) (carried : List (ℕ × Option SharedLink)) → m ≡ (with_seen holds side lines v, carried) → m.0.setting ≡ v.setting
 told-setting holds side lines v m carried e = ap (λ (n : Me (Option SharedLink) SeatView). n.0.setting) e ∙ setting-with holds side lines v
 
-first_slot : Option SharedLink → List (ℕ × Option SharedLink) → Option SharedLink
-first_slot none [] = none
-first_slot none (x ∷ xs) = x.1
+abbrev first_slot : Option SharedLink → List (ℕ × Option SharedLink) → Option SharedLink
+first_slot other [] = other
+first_slot other (x ∷ xs) = x.1
 
 pub taken-so : (side : Side) (before mid after : Place) (result : Option SharedLink) (shared : SharedLink) → IsOf side before.me.0 → HasTakenLink (side_of before.me.0) before.me mid.me → result ≡ Some shared → mid.me.1 ≡ (0, result) ∷ rest mid.me.1
     → after.me ≡ (mid.me.0, (0, None) ∷ rest mid.me.1) → after.table_id ≡ before.table_id → HasTaken side before after shared

@@ -16,16 +16,16 @@ meet-answer-requires g c =
     let setting = about c.args.self.now in
     let side = c.args.pass.now.side in
     let link = c.take-shared.result.link in
-    let home : IsHome setting link = subst (λ (s : Setting). IsHome s link) c.requires.may.belongs.setting t.home in (
-      subst (λ (at : Setting × Side). FitsBehind at.0 at.1 link.lines c.args.half.now) (sym c.requires.at) (fits-on c.halves_fit_behind_more.ensures setting side _ link c.args.half.now c.requires.may.fits t.seen home),
-      subst (λ (at : Setting × Side). IsHome at.0 link) (sym c.requires.at) home,
+    let home : IsHome setting link = subst (λ (s : Setting). IsHome s link) c.requires.1.1.belongs.setting t.home in (
+      subst (λ (at : Setting × Side). FitsBehind at.0 at.1 link.lines c.args.half.now) (sym c.requires.1.0) (fits-on c.halves_fit_behind_more.ensures setting side _ link c.args.half.now c.requires.1.1.fits t.seen home),
+      subst (λ (at : Setting × Side). IsHome at.0 link) (sym c.requires.1.0) home,
     )
 
 pub give-turns-requires-clause-adds : goal.give-turns-requires-clause-adds
 give-turns-requires-clause-adds g c =
     let t = c.take-shared.ensures in
     let side = c.args.pass.now.side in
-    let met = subst (λ (at : Setting × Side). HasMet at.0 at.1 c.args.half.now c.take-shared.result.link c.meet-answer.new.self c.meet-answer.new.link) c.requires.at c.meet-answer.ensures.met in
+    let met = subst (λ (at : Setting × Side). HasMet at.0 at.1 c.args.half.now c.take-shared.result.link c.meet-answer.new.self c.meet-answer.new.link) c.requires.1.0 c.meet-answer.ensures.met in
     subst (λ (ls : List Line). Adds side ls c.tell.new.self.link.lines) (sym (told-seen true side _ _ c.take-shared.new.seat.me _ t.me))
     (subst (λ (l : Link). Adds side c.take-shared.result.link.lines l.lines) (sym c.tell.ensures) (met-adds (about c.args.self.now) side _ _ _ _ met))
 
@@ -33,26 +33,26 @@ pub give-turns-requires-clause-home : goal.give-turns-requires-clause-home
 give-turns-requires-clause-home g c =
     let t = c.take-shared.ensures in
     let side = c.args.pass.now.side in
-    let met = subst (λ (at : Setting × Side). HasMet at.0 at.1 c.args.half.now c.take-shared.result.link c.meet-answer.new.self c.meet-answer.new.link) c.requires.at c.meet-answer.ensures.met in
-    subst (λ (s : Setting). IsHome s c.tell.new.self.link) (sym (told-setting true side _ _ c.take-shared.new.seat.me _ t.me ∙ c.requires.may.belongs.setting))
+    let met = subst (λ (at : Setting × Side). HasMet at.0 at.1 c.args.half.now c.take-shared.result.link c.meet-answer.new.self c.meet-answer.new.link) c.requires.1.0 c.meet-answer.ensures.met in
+    subst (λ (s : Setting). IsHome s c.tell.new.self.link) (sym (told-setting true side _ _ c.take-shared.new.seat.me _ t.me ∙ c.requires.1.1.belongs.setting))
     (subst (IsHome (about c.args.self.now)) (sym c.tell.ensures) met.home)
 
 pub give-turns-requires-clause-short : goal.give-turns-requires-clause-short
 give-turns-requires-clause-short g c =
-    let met = subst (λ (at : Setting × Side). HasMet at.0 at.1 c.args.half.now c.take-shared.result.link c.meet-answer.new.self c.meet-answer.new.link) c.requires.at c.meet-answer.ensures.met in
+    let met = subst (λ (at : Setting × Side). HasMet at.0 at.1 c.args.half.now c.take-shared.result.link c.meet-answer.new.self c.meet-answer.new.link) c.requires.1.0 c.meet-answer.ensures.met in
     few (about c.args.self.now) c.tell.new.self.link (subst (IsHome (about c.args.self.now)) (sym c.tell.ensures) met.home)
 
 pub returns-clause-meets : goal.returns-clause-meets
 returns-clause-meets g c =
     let t = c.take-shared.ensures in
     let side = c.args.pass.now.side in
-    let met = subst (λ (at : Setting × Side). HasMet at.0 at.1 c.args.half.now c.take-shared.result.link c.meet-answer.new.self c.meet-answer.new.link) c.requires.at c.meet-answer.ensures.met in
+    let met = subst (λ (at : Setting × Side). HasMet at.0 at.1 c.args.half.now c.take-shared.result.link c.meet-answer.new.self c.meet-answer.new.link) c.requires.1.0 c.meet-answer.ensures.met in
     record {
       found = c.take-shared.result.link;
       left = c.meet-answer.new.link;
       front = t.seen;
       met = met;
-      ends = subst (λ (at : Setting × Side). MeetEnds at.1 c.args.half.now c.meet-answer.result c.meet-answer.new.self c.meet-answer.new.link) c.requires.at c.meet-answer.ensures.ends;
+      ends = subst (λ (at : Setting × Side). MeetEnds at.1 c.args.half.now c.meet-answer.result c.meet-answer.new.self c.meet-answer.new.link) c.requires.1.0 c.meet-answer.ensures.ends;
       told = told-seen false side _ _ c.give-turns.new.seat.me _ c.give-turns.ensures.me ∙ ap (λ (l : Link). l.lines) c.tell.ensures;
     }
 
@@ -61,7 +61,7 @@ returns-clause-worked g c =
     let t = c.take-shared.ensures in
     let side = c.args.pass.now.side in
     let setting = about c.args.self.now in
-    let met = subst (λ (at : Setting × Side). HasMet at.0 at.1 c.args.half.now c.take-shared.result.link c.meet-answer.new.self c.meet-answer.new.link) c.requires.at c.meet-answer.ensures.met in
+    let met = subst (λ (at : Setting × Side). HasMet at.0 at.1 c.args.half.now c.take-shared.result.link c.meet-answer.new.self c.meet-answer.new.link) c.requires.1.0 c.meet-answer.ensures.met in
     let gave = c.give-turns.ensures in
     let told = told-seen false side _ _ c.give-turns.new.seat.me _ gave.me ∙ ap (λ (l : Link). l.lines) c.tell.ensures in
     record {
@@ -69,8 +69,8 @@ returns-clause-worked g c =
         side = refl;
         may = record {
           belongs = record {
-            table = gave.table ∙ (t.table ∙ c.requires.may.belongs.table);
-            setting = told-setting false side _ _ c.give-turns.new.seat.me _ gave.me ∙ (told-setting true side _ _ c.take-shared.new.seat.me _ t.me ∙ c.requires.may.belongs.setting);
+            table = gave.table ∙ (t.table ∙ c.requires.1.1.belongs.table);
+            setting = told-setting false side _ _ c.give-turns.new.seat.me _ gave.me ∙ (told-setting true side _ _ c.take-shared.new.seat.me _ t.me ∙ c.requires.1.1.belongs.setting);
           };
           fits = subst (λ (ls : List Line). FitsBehind setting side ls c.meet-answer.new.self) (sym told) met.fits;
         };

@@ -1,0 +1,18 @@
+-- What threads are given.
+use denote.Param.Send.{IsSend, IsSync, sendable}
+use Rattle.handler_script.specs.contracts.script.Script as scripts
+use Rattle.ipdl_base.specs.contracts.schema.Schema as schemas
+use Rattle.thread_link.specs.contracts.pass.Pass as passes
+use Rattle.world_core.specs.contracts.link.Link as links
+
+pub link_send : IsSend links.the_row
+link_send = search sendable
+
+pub pass_send : IsSend passes.the_row
+pass_send = search sendable
+
+pub schema_sync : IsSync schemas.the_row
+schema_sync = search sendable
+
+pub script_sync : IsSync scripts.the_row
+script_sync = search sendable
