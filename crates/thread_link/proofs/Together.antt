@@ -28,6 +28,16 @@ work-begins exchange pass half may = record { side = refl; may = may; grows = gr
 pub works-on : (exchange : Exchange) (first before after : Pass) (half half' : HalfView) → IsAtWork exchange first before half → IsAtWork exchange before after half' → IsAtWork exchange first after half'
 works-on exchange first before after half half' a b = record { side = b.side ∙ a.side; may = b.may; grows = grows-on (seen first) (seen before) (seen after) a.grows b.grows }
 
+pub has-worked : (exchange : Exchange) (first before after : Pass) (half half' : HalfView) → IsAtWork exchange first before half → HasWorked exchange before after half' → HasWorked exchange first after half'
+has-worked exchange first before after half half' a b = record { at_work = works-on exchange first before after half half' a b.at_work; emptied = b.emptied }
+
+-- a half that fits behind what a pass knows fits behind what its exchange is about, and the other way round
+pub stands-at : (exchange : Exchange) (pass : Pass) (half : HalfView) → MayWork exchange pass half → FitsBehind pass.seat.me.0.setting pass.side (seen pass) half
+stands-at exchange pass half may = subst (λ (s : Setting). FitsBehind s pass.side (seen pass) half) (sym may.belongs.setting) may.fits
+
+pub may-go-on : (exchange : Exchange) (pass : Pass) (half : HalfView) → Belongs exchange pass → FitsBehind pass.seat.me.0.setting pass.side (seen pass) half → MayWork exchange pass half
+may-go-on exchange pass half belongs fits = record { belongs = belongs; fits = subst (λ (s : Setting). FitsBehind s pass.side (seen pass) half) belongs.setting fits }
+
 pub may-work : (exchange : Exchange) (pass : Pass) (half : HalfView) (setting : Setting) (side : Side) (lines : List Line) → Belongs exchange pass → about exchange ≡ setting → pass.side ≡ side → seen pass ≡ lines → FitsBehind setting side lines half
     → MayWork exchange pass half
 may-work exchange pass half setting side lines belongs topic is told fits = record {
@@ -59,6 +69,10 @@ worked-split law exchange one one' two two' parent child setting link first seco
 -- halves apart are so in the setting of the parent
 pub split-own : (setting : Setting) (parent child : HalfView) (link : LinkView) → IsSplit setting parent child link → IsSplit (setting_of parent) parent child link
 split-own setting parent child link h = subst (λ (s : Setting). IsSplit s parent child link) (sym h.parent_fits.come.about) h
+
+-- and where others are in a half's setting, they are so in their own
+pub split-again : (half parent child : HalfView) (link : LinkView) → IsSplit (setting_of half) parent child link → IsSplit (setting_of parent) parent child link
+split-again half parent child link h = split-own (setting_of half) parent child link h
 
 -- A world goes on from another: it is about the same, and its history goes on from the other's.
 pub record GoesOn (before after : WorldView) : Type 0 where
