@@ -201,7 +201,7 @@ releases setting id v side l more m word st e holds is adds home four =
             (for-side side v w (λ (k : Side). HasSeen k (seen_by k w) l.link.lines) is same
             (subst (λ (ls : List Line). HasSeen side ls l.link.lines) (sym (seen-with false side l.link.lines v)) (seen-all side l.link.lines)) d)
             (λ j u far there h. subst (HasSeen d (seen_by d u)) (sym all)
-                (seen-more d (seen_by d u) law.all adds.more (elsewhere side d u adds.own (λ k. far (law.apart side j id u v there at k is.0)) h) (law.seen d j u there h)));
+            (seen-more d (seen_by d u) law.all adds.more (elsewhere side d u adds.own (λ k. far (law.apart side j id u v there at k is.0)) h) (law.seen d j u there h)));
         about = λ d. each-set (λ (u : SeatView). has d u ≡ true → u.setting ≡ setting) s.views id w
             (λ h. setting-with false side l.link.lines v ∙ law.about d id v at (sym (same d) ∙ h))
             (λ j u _ there. law.about d j u there);

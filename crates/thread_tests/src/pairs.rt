@@ -18,9 +18,7 @@ use std::sync::Wait;
 use std::test::Fail;
 use std::thread::{Threads, join_mut};
 use thread_link::{Exchange, OpenFault, Pass};
-use world_core::{
-    Half, Link, MeetAnswer, StepAnswer, World, halves_fit_behind_more,
-};
+use world_core::{Half, Link, MeetAnswer, StepAnswer, World, halves_fit_behind_more};
 
 /// How many rounds each side does behind its first.
 const MORE_ROUNDS: u32 = 7;
