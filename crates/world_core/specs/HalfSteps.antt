@@ -10,6 +10,9 @@ use Rattle.channel_model.specs.Outputs.{Output}
 use Rattle.channel_model.specs.Steps.{step}
 use Rattle.end_parts.specs.declared.packet.Packet.{Packet}
 use Rattle.end_parts.specs.PacketReading.{carried, packet_read}
+use Rattle.channel_core.specs.declared.answers.DeliverAnswer.{DeliverAnswer}
+use Rattle.channel_core.specs.declared.answers.DeliverAnswer.TheVariants as delivery
+use Rattle.channel_core.specs.Delivered.{delivery_answer}
 use Rattle.channel_core.specs.EndView.{IsFramed, behind}
 use Rattle.script_runs.specs.Allowed.{IsAllowed}
 use Rattle.script_runs.specs.Dispatches.{dispatches}
@@ -82,3 +85,9 @@ DeliveryGives before progress packet answer.Did after = IsHalfDelivery before pr
 DeliveryGives before progress packet answer.Nothing after = ⊥
 DeliveryGives before progress packet (answer.Spent side) after = ⊥
 DeliveryGives before progress packet answer.NoMemory after = after ≡ before
+
+-- A packet of anyone is offered: it is delivered, or refused with no change.
+abbrev pub OfferGives : HalfView → Progress → Packet → DeliverAnswer → HalfView → Type 0
+OfferGives before progress packet delivery.Done after = (delivery_answer before.end packet ≡ delivery.Done) × IsHalfDelivery before progress packet after
+OfferGives before progress packet delivery.NoMemory after = after ≡ before
+OfferGives before progress packet other after = (delivery_answer before.end packet ≡ other) × (after ≡ before)

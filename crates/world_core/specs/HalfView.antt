@@ -33,6 +33,10 @@ pub record IsCountedBy (half : HalfView) (progress : Progress) : Type 0 where
 abbrev pub whats_of : List Line → List What
 whats_of lines = map (λ line. line.what) lines
 
+-- a half whose lines went elsewhere
+abbrev pub drained : HalfView → HalfView
+drained half = record half { end = record half.end { lines = [] } }
+
 -- a half with nothing to append
 abbrev pub appended : HalfView → HalfView
 appended half = record half { end = record { end = half.end.end; schema = half.end.schema; lines = []; packets = [] } }

@@ -1,4 +1,4 @@
-ghost use Rattle.std.specs.Prelude.{◌≡◌, ◌<◌, ◌^◌, IfOk, length};
+ghost use Rattle.std.specs.Prelude.{◌≡◌, ◌<◌, ◌^◌, IfOk, OnErr, OnOk, length};
 ghost use Rattle.channel_model.specs.Numbers.{other};
 ghost use Rattle.ipdl_base.specs.Sound.{IsSound};
 ghost use Rattle.script_steps.specs.Progress.{Progress};
@@ -19,6 +19,7 @@ use crate::counts::Counts;
 use crate::link::Link;
 use channel_core::{DeliverAnswer, End, EndState, Packet};
 use handler_script::Script;
+use history::History;
 use ipdl_base::{Schema, Side};
 use schedules::Stop;
 use std::alloc::{AllocError, Global};
@@ -66,16 +67,17 @@ impl<'s> Half<'s> {
     ghost use Rattle.channel_core.specs.Delivered.{delivery_answer};
     ghost use Rattle.channel_core.specs.EndView.{opened};
     ghost use Rattle.channel_model.specs.Outputs.{is_open};
+    ghost use Rattle.end_parts.specs.MovedLines.{HasMoved};
     ghost use Rattle.script_steps.specs.Progress.{no_progress};
     ghost use Rattle.std.specs.Prelude.{true, nat_lt, not};
     ghost use Rattle.world_core.specs.declared.half.next.NextStep.TheVariants as next;
     ghost use Rattle.world_core.specs.NextSteps.{IsDue};
-    ghost use Rattle.world_core.specs.HalfSteps.{MayGoOn, OwnGives, DeliveryGives};
-    ghost use Rattle.world_core.specs.HalfView.{IsCountedBy, appended};
+    ghost use Rattle.world_core.specs.HalfSteps.{MayGoOn, OwnGives, DeliveryGives, OfferGives};
+    ghost use Rattle.world_core.specs.HalfView.{IsCountedBy, appended, drained};
     ghost use Rattle.world_core.specs.LinkView.{IsAppended, LinkHasRoom};
 
     /// A side of a run as it begins. The only error is want of memory.
-    pub(crate) fn open(
+    pub fn open(
         alloc: Global,
         side: Side,
         schema: &'s Schema,
@@ -101,7 +103,7 @@ impl<'s> Half<'s> {
     }
 
     /// One own step, at a known progress.
-    pub(crate) fn own_step(&mut self) -> StepAnswer
+    pub fn own_step(&mut self) -> StepAnswer
         ghost progress: { Progress }
         requires { MayGoOn self.old progress }
         ensures { OwnGives self.old progress result self.new }
@@ -174,11 +176,41 @@ impl<'s> Half<'s> {
         self.counts.events() < self.limit
     }
 
-    /// Whether the side has as many events as it may have.
-    pub(crate) fn is_spent(&self) -> bool
+    /// Whether the side has as many events as it may have. It takes no memory.
+    pub fn is_spent(&self) -> bool
         ensures { result ≡ not (nat_lt self.now.counts.events self.now.limit) }
     {
         self.counts.events() >= self.limit
+    }
+
+    /// Has a packet delivered, whoever wrote it, or refuses it and changes nothing.
+    pub fn offer(&mut self, packet: &Packet) -> DeliverAnswer
+        ghost progress: { Progress }
+        requires counted { IsCountedBy self.old progress }
+        requires open { is_open self.old.end.end.state ≡ true }
+        requires few { self.old.end.end.delivered < 268435456 }
+        requires within { nat_lt self.old.counts.events self.old.limit ≡ true }
+        ensures { OfferGives self.old progress packet.now result self.new }
+    {
+        let _within = self.may_count();
+        match self.end.deliver(packet) {
+            DeliverAnswer::Done => {
+                self.counts.count_event();
+                DeliverAnswer::Done
+            }
+            DeliverAnswer::NoMemory => DeliverAnswer::NoMemory,
+            DeliverAnswer::Bad(offset, rule) => DeliverAnswer::Bad(offset, rule),
+            DeliverAnswer::Stray(seq) => DeliverAnswer::Stray(seq),
+            DeliverAnswer::WrongActor(id, number) => DeliverAnswer::WrongActor(id, number),
+        }
+    }
+
+    /// Moves the lines that were not appended to the link to a history. Want of memory moves none.
+    pub fn drain(&mut self, into: &mut History) -> Result<(), AllocError>
+        ensures ok { OnOk result ((self.new ≡ drained self.old) × HasMoved self.old.end.lines into.old into.new) }
+        ensures err { OnErr result (self.new ≡ self.old) }
+    {
+        self.end.drain(into)
     }
 
     /// Has a packet of the other side delivered.
