@@ -38,6 +38,7 @@ says_history runs lawful Gives shown course schema script opened after ended ans
     let about : after.setting ≡ setting = same ∙ ap (λ (w : WorldView). w.setting) opens in
     let run = runs after.setting case'.leading after.state case'.plays in
     let legal : IsLegalHistory schema script.top after.state.lines = subst (λ (s : Setting). IsLegalHistory s.schema s.script.top after.state.lines) about (run.moves, ap (λ (s : RunState). s.lines) run.runs) in
+    let laws : IsLawfulHistory schema after.state.lines = subst (IsLawfulHistory schema) legal.1 (lawful schema sound script.top legal.0) in
     record {
       after = after;
       ending = printed.ending;
@@ -46,7 +47,12 @@ says_history runs lawful Gives shown course schema script opened after ended ans
       about = about;
       scripted = subst (λ (s : Setting). IsCaseHistory s after.state.lines) about case'.history;
       legal = legal;
-      lawful = subst (IsLawfulHistory schema) legal.1 (lawful schema sound script.top legal.0);
+      readable = laws.readable;
+      prefix = laws.prefix;
+      living = laws.living;
+      waits = laws.waits;
+      settled = laws.settled;
+      fallen = laws.fallen;
       stands = subst (λ (answer : RunAnswer). StandsAs after answer) printed.ends stands;
       says = printed.says ∙ ap (λ (s : Setting). run_answer shown s.schema after.state.lines printed.ending) about;
     }

@@ -21,7 +21,12 @@ use Rattle.world_core.specs.declared.answers.RunAnswer.{RunAnswer}
 use Rattle.world_core.specs.declared.answers.RunAnswer.TheVariants as run
 use Rattle.world_core.specs.Turns.{StandsAs, WordGives}
 use Rattle.world_core.specs.WorldView.{WorldView, opening_of}
-use Rattle.world_laws.specs.Statements.{IsLawfulHistory}
+use Rattle.law_statements.specs.Fallen.{Fallen}
+use Rattle.law_statements.specs.Living.{Living}
+use Rattle.law_statements.specs.Prefix.{Prefix}
+use Rattle.law_statements.specs.Readable.{Readable}
+use Rattle.law_statements.specs.Settled.{Settled}
+use Rattle.law_statements.specs.Waits.{Waits}
 use Rattle.ipdl_top.specs.declared.answer.CommandAnswer.{CommandAnswer}
 use Rattle.ipdl_top.specs.declared.rendering.Rendering.{Rendering}
 use Rattle.ipdl_top.specs.declared.rendering.Rendering.TheVariants as rendering
@@ -79,7 +84,12 @@ pub record SaysHistory (Gives : Driving) (shown : Rendering) (course : Course) (
   pub about : after.setting ≡ setting_by schema script course
   pub scripted : IsCaseHistory (setting_by schema script course) after.state.lines
   pub legal : IsLegalHistory schema script.top after.state.lines
-  pub lawful : IsLawfulHistory schema after.state.lines
+  pub readable : Readable schema after.state.lines
+  pub prefix : Prefix schema after.state.lines
+  pub living : Living schema after.state.lines
+  pub waits : Waits schema after.state.lines
+  pub settled : Settled schema after.state.lines
+  pub fallen : Fallen schema after.state.lines
   pub stands : StandsAs after (answer_of ending)
   pub says : answer ≡ run_answer shown schema after.state.lines ending
 
