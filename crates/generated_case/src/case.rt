@@ -25,7 +25,7 @@ const ACTOR_ROOM: usize = 64;
 /// The most bytes of the script for a round.
 const ROUND_ROOM: usize = 64;
 
-/// The files and the script of a run that is made from two numbers (docs/generated.md).
+/// The files and the script of a run that is made from two numbers (docs/gen.md).
 #[derive(Debug, Drop)]
 pub struct GeneratedCase {
     /// The text of `PGen.ipdl`, the file of the top protocol.
@@ -125,7 +125,7 @@ fn script_of(alloc: Global, rounds: u32, actors: u32) -> Result<String, AllocErr
     Ok(script)
 }
 
-/// The files and the script of so many rounds over so many actors (docs/generated.md). The only error is
+/// The files and the script of so many rounds over so many actors (docs/gen.md). The only error is
 /// want of memory.
 pub fn generate(alloc: Global, rounds: u32, actors: u32) -> Result<GeneratedCase, AllocError>
     requires some_rounds { 1 ≤ rounds }

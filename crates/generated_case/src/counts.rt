@@ -6,7 +6,7 @@ use history::History;
 use ipdl_base::{Line, Side, What, is_effect};
 
 /// How many lines of a history are events of each side, and how many are what a summary tells
-/// (docs/generated.md).
+/// (docs/gen.md).
 #[derive(Clone, Copy, Debug, PartialEq, Eq)]
 pub struct Counts {
     /// The events of the parent.

@@ -40,7 +40,7 @@ fn push_counts(out: &mut Vec<u8>, counts: &Counts) -> Result<(), AllocError>
     push_count(out, b"fallen", counts.fallen)
 }
 
-/// The text that sums up the history of a case of so many rounds and actors (docs/generated.md). The only
+/// The text that sums up the history of a case of so many rounds and actors (docs/gen.md). The only
 /// error is want of memory.
 pub fn summary_text(
     alloc: Global,
