@@ -132,15 +132,21 @@ fn summaries(rt: HostRuntime) -> Result<(), Fail> {
     assert_eq!(rt; summary(alloc, 1, 1)?.as_str(), ONE);
     assert_eq!(rt; last_line(summary(alloc, 7, 3)?.as_str()), "finished");
     assert_eq!(rt; last_line(summary(alloc, 3, 7)?.as_str()), "finished");
+    assert_eq!(rt; last_line(summary(alloc, 40, 100)?.as_str()), "finished");
     Ok(())
+}
+
+/// What `gen` prints of the largest case.
+fn largest_summary(alloc: Global) -> Result<String, Fail> {
+    printed(alloc, "gen --actors 100 1000", no_files(alloc)?)
 }
 
 #[test]
 fn largest(rt: HostRuntime) -> Result<(), Fail> {
     let alloc = rt.alloc();
-    let first = summary(alloc, 1000, 100)?;
+    let first = largest_summary(alloc)?;
     assert_eq!(rt; last_line(first.as_str()), "finished");
-    assert_eq!(rt; summary(alloc, 1000, 100)?.as_str(), first.as_str());
+    assert_eq!(rt; largest_summary(alloc)?.as_str(), first.as_str());
     Ok(())
 }
 

@@ -398,7 +398,7 @@ fn checked(alloc: Global) -> Result<String, Fail> {
 
 #[test]
 fn lists_of_words(rt: HostRuntime) -> Result<(), Fail> {
-    assert_eq!(rt; checked(rt.alloc())?.as_str(), "199");
+    assert_eq!(rt; checked(rt.alloc())?.as_str(), "231");
     Ok(())
 }
 
