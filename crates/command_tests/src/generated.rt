@@ -88,7 +88,9 @@ fn summary_of(
     let built = count(transcript, "  built ", "parent");
     let fallen = count(transcript, "  fall ", "parent");
     let last = last_line(transcript);
-    format!(in alloc; "gen {rounds} actors {actors}\nparent steps {parent}\nchild steps {child}\ntaken {taken}\ndropped {dropped}\nreplaced {replaced}\nsettled {settled}\nbuilt {built}\nfallen {fallen}\n{last}\n")
+    format!(in alloc;
+        "gen {rounds} actors {actors}\nparent steps {parent}\nchild steps {child}\ntaken {taken}\ndropped {dropped}\nreplaced {replaced}\nsettled {settled}\nbuilt {built}\nfallen {fallen}\n{last}\n"
+    )
 }
 
 /// What `gen` prints of a case, where that is the summary of what `run` prints of its files, and else why not.
@@ -154,6 +156,10 @@ fn largest(rt: HostRuntime) -> Result<(), Fail> {
 fn files_break_no_rule(rt: HostRuntime) -> Result<(), Fail> {
     let alloc = rt.alloc();
     let table = printed(alloc, "PGen.ipdl", files_of(alloc, 1, 1)?)?;
-    assert!(rt; table.as_str().starts_with("protocol 0 PGen sync inside_sync\n"));
+    assert!(rt;
+        table
+            .as_str()
+            .starts_with("protocol 0 PGen sync inside_sync\n")
+    );
     Ok(())
 }

@@ -9,12 +9,10 @@ use crate::options::{Choice, read_options};
 use std::alloc::Global;
 
 /// The options of the command that runs a generated case.
-const GEN_OPTIONS: [Choice; 1] = [
-    Choice {
-        name: "actors",
-        letter: None,
-    },
-];
+const GEN_OPTIONS: [Choice; 1] = [Choice {
+    name: "actors",
+    letter: None,
+}];
 
 /// The most rounds.
 const MOST_ROUNDS: u32 = 1_000;

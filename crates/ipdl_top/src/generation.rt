@@ -118,7 +118,15 @@ fn case_answer<D: Driver>(
         death: None,
         rendering: Rendering::Summary(rounds, actors),
     };
-    run(alloc, files, &None, path.as_slice(), &holder, &wanted, driver)
+    run(
+        alloc,
+        files,
+        &None,
+        path.as_slice(),
+        &holder,
+        &wanted,
+        driver,
+    )
 }
 
 /// The command that runs a generated case of so many rounds over so many actors: the summary of its

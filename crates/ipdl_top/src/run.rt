@@ -124,11 +124,7 @@ fn ended_answer(
 }
 
 /// What is printed of the history of a world. Of a transcript nothing is made where a summary is wanted.
-fn text_of(
-    alloc: Global,
-    world: &World<'_>,
-    rendering: Rendering,
-) -> Result<Vec<u8>, AllocError>
+fn text_of(alloc: Global, world: &World<'_>, rendering: Rendering) -> Result<Vec<u8>, AllocError>
     ensures { IfOk result (λ text. text.items ≡ rendered rendering world.now.setting.schema world.now.state.lines) }
 {
     match rendering {
