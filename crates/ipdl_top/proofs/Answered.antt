@@ -2,15 +2,18 @@
 use Rattle.std.proofs.Common.{◌≡◌, ◌≢◌, ℕ, Bool, List, [], ◌∷◌, ap, ◌∙◌, sym, inl, inr}
 use Rattle.std.specs.Prelude.{Option, Some, None}
 use Rattle.ipdl_base.specs.Outside.{FileMap}
-use Rattle.command_words.specs.Command.{CommandView, IsNoCommand, compile, frames, run, waits}
+use Rattle.command_words.specs.Command.{CommandView, IsNoCommand, compile, frames, gen, run, waits}
 use Rattle.command_words.specs.Run.{Course}
 use Rattle.frame_list.specs.declared.list.FrameListFault.{FrameListFault}
 use Rattle.ipdl_base.specs.declared.schema.Schema.{Schema}
 use Rattle.ipdl_top.specs.declared.answer.CommandAnswer.{CommandAnswer}
+use Rattle.ipdl_top.specs.declared.rendering.Rendering.{Rendering}
+use Rattle.ipdl_top.specs.declared.rendering.Rendering.TheVariants.{Summary, Transcript}
 use Rattle.ipdl_top.specs.declared.status.Status.TheVariants.{Usage}
 use Rattle.ipdl_top.specs.CommandAnswer.{AnswersTo, IsAnswer, IsCompilation, SaysTables, given_by, usage_answer}
 use Rattle.ipdl_top.specs.Frames.{SaysFrames, frames_answer, frames_out}
 use Rattle.ipdl_top.specs.FileViews.{FileViews, ForMap, steady}
+use Rattle.ipdl_top.specs.Gen.{SaysGen, case_course, case_files, case_path, holder_name, script_name}
 use Rattle.ipdl_top.specs.Run.{Driving, SaysHistory, SaysRun, SaysScript, run_answer}
 use Rattle.ipdl_top.specs.Waits.{SaysWaits}
 use Rattle.ipdl_base.specs.declared.line.Line.{Line}
@@ -43,21 +46,21 @@ of_frames name convert (Some bytes) schema answer (inr told) = not_usage _ _ tol
 of_waits : (file : List ℕ) (schema : Schema) (answer : CommandAnswer) → SaysWaits file schema answer → IsNoUsage answer
 of_waits file schema answer told = not_usage _ _ told.says (λ e. cc)
 
-of_lines : (schema : Schema) (lines : List Line) (ending : RunEnding) → IsNoUsage (run_answer schema lines ending)
-of_lines schema lines at_rest e = cc
-of_lines schema lines (at_limit side) e = cc
+of_lines : (shown : Rendering) (schema : Schema) (lines : List Line) (ending : RunEnding) → IsNoUsage (run_answer shown schema lines ending)
+of_lines shown schema lines at_rest e = cc
+of_lines shown schema lines (at_limit side) e = cc
 
-of_history : (Gives : Driving) (course : Course) (schema : Schema) (script : Script) (answer : CommandAnswer) → SaysHistory Gives course schema script answer → IsNoUsage answer
-of_history Gives course schema script answer told = not_usage _ _ told.says (of_lines schema told.after.state.lines told.ending)
+of_history : (Gives : Driving) (shown : Rendering) (course : Course) (schema : Schema) (script : Script) (answer : CommandAnswer) → SaysHistory Gives shown course schema script answer → IsNoUsage answer
+of_history Gives shown course schema script answer told = not_usage _ _ told.says (of_lines shown schema told.after.state.lines told.ending)
 
-of_script : (Gives : Driving) (course : Course) (name : List ℕ) (held : Option (List ℕ)) (schema : Schema) (top : ℕ) (answer : CommandAnswer) → SaysScript Gives course name held schema top answer → IsNoUsage answer
-of_script Gives course name None schema top answer says = not_usage _ _ says (λ e. cc)
-of_script Gives course name (Some text) schema top answer (inl larger) = not_usage _ _ larger.1 (λ e. cc)
-of_script Gives course name (Some text) schema top answer (inr (small, inl broken)) = not_usage _ _ broken.says (λ e. cc)
-of_script Gives course name (Some text) schema top answer (inr (small, inr told)) = of_history Gives course schema told.script answer told.history
+of_script : (Gives : Driving) (shown : Rendering) (course : Course) (name : List ℕ) (held : Option (List ℕ)) (schema : Schema) (top : ℕ) (answer : CommandAnswer) → SaysScript Gives shown course name held schema top answer → IsNoUsage answer
+of_script Gives shown course name None schema top answer says = not_usage _ _ says (λ e. cc)
+of_script Gives shown course name (Some text) schema top answer (inl larger) = not_usage _ _ larger.1 (λ e. cc)
+of_script Gives shown course name (Some text) schema top answer (inr (small, inl broken)) = not_usage _ _ broken.says (λ e. cc)
+of_script Gives shown course name (Some text) schema top answer (inr (small, inr told)) = of_history Gives shown course schema told.script answer told.history
 
-of_run : (Gives : Driving) (course : Course) (name : List ℕ) (held : Option (List ℕ)) (file : List ℕ) (schema : Schema) (answer : CommandAnswer) → SaysRun Gives course name held file schema answer → IsNoUsage answer
-of_run Gives course name held file schema answer told = of_script Gives course name held schema told.top answer told.says
+of_run : (Gives : Driving) (shown : Rendering) (course : Course) (name : List ℕ) (held : Option (List ℕ)) (file : List ℕ) (schema : Schema) (answer : CommandAnswer) → SaysRun Gives shown course name held file schema answer → IsNoUsage answer
+of_run Gives shown course name held file schema answer told = of_script Gives shown course name held schema told.top answer told.says
 
 -- nor is that of a compilation
 compiled : (Says : Schema → CommandAnswer → Type 0) → ((schema : Schema) (answer : CommandAnswer) → Says schema answer → IsNoUsage answer)
@@ -71,7 +74,9 @@ of_command Gives seen (compile list path names) answer h = compiled SaysTables o
 of_command Gives seen (frames list path file name convert) answer h = compiled (SaysFrames name convert (seen.last name)) (of_frames name convert (seen.last name)) (given_by seen.files path (file ∷ [])) seen.list list answer h
 of_command Gives seen (waits list path file) answer h = compiled (SaysWaits file) (of_waits file) (given_by seen.files path (file ∷ [])) seen.list list answer h
 of_command Gives seen (run list path course script file) answer h =
-    compiled (SaysRun Gives course script (seen.last script) file) (of_run Gives course script (seen.last script) file) (given_by seen.files path (file ∷ [])) seen.list list answer h
+    compiled (SaysRun Gives Transcript course script (seen.last script) file) (of_run Gives Transcript course script (seen.last script) file) (given_by seen.files path (file ∷ [])) seen.list list answer h
+of_command Gives seen (gen rounds actors) answer h =
+    compiled (SaysGen Gives rounds actors) (of_run Gives (Summary rounds actors) case_course script_name (case_files rounds actors script_name) holder_name) (given_by (case_files rounds actors) case_path (holder_name ∷ [])) (case_files rounds actors) None answer h
 
 -- words that are no command have the usage answer
 pub of_no_command : (Gives : Driving) (seen : FileViews) (words : List (List ℕ)) (answer : CommandAnswer) → IsNoCommand words → IsAnswer Gives seen words answer → answer ≡ usage_answer

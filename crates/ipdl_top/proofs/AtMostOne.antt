@@ -39,6 +39,8 @@ use Rattle.ipdl_top.specs.declared.answer.CommandAnswer.{CommandAnswer}
 use Rattle.ipdl_top.specs.CommandAnswer.{IsBrokenFile, BreaksRules, IsFileReport, IsReading, IsRuleReport, IsSaidOf, IsCompilation, AnswersTo, SaysTables, given_by, report_answer, table_answer}
 use Rattle.ipdl_top.specs.Frames.{SaysBytes, SaysFrames, frames_answer, frames_out}
 use Rattle.ipdl_top.specs.Laws.{LeavesNothing, OneAnswer}
+use Rattle.ipdl_top.specs.declared.rendering.Rendering.TheVariants.{Summary, Transcript}
+use Rattle.ipdl_top.specs.Gen.{SaysGen, case_course, case_files, case_path, holder_name, script_name}
 use Rattle.ipdl_top.specs.Run.{Driving, SaysRun}
 use Rattle.ipdl_top.specs.Waits.{IsTop, SaysWaits, bears_name, pair_line, waits_text}
 use Rattle.ipdl_top.specs.Lists.{AreSections, list_names}
@@ -217,6 +219,7 @@ leaves_none words (command.compile list path names) said leaves = tt
 leaves_none words (command.frames list path file name convert) said leaves = tt
 leaves_none words (command.waits list path file) said leaves = tt
 leaves_none words (command.run list path course script file) said leaves = leaves list path course script file said
+leaves_none words (command.gen rounds actors) said leaves = tt
 
 -- so has each command
 commands : TheLaws → (Gives : Driving) (seen : FileViews) (command : CommandView) → LeavesNone command → (one other : CommandAnswer) → AnswersTo Gives seen command one → AnswersTo Gives seen command other → one ≡ other
@@ -225,7 +228,10 @@ commands laws Gives seen (command.frames list path file name convert) leaves one
     compilations laws (SaysFrames name convert (seen.last name)) (frames_one laws name convert (seen.last name)) (given_by seen.files path (file ∷ [])) seen.list list one other x y
 commands laws Gives seen (command.waits list path file) leaves one other x y = compilations laws (SaysWaits file) (waits_one laws file) (given_by seen.files path (file ∷ [])) seen.list list one other x y
 commands laws Gives seen (command.run list path course script file) leaves one other x y =
-    compilations laws (SaysRun Gives course script (seen.last script) file) (run_one laws.runs Gives course leaves script (seen.last script) file) (given_by seen.files path (file ∷ [])) seen.list list one other x y
+    compilations laws (SaysRun Gives Transcript course script (seen.last script) file) (run_one laws.runs Gives Transcript course leaves script (seen.last script) file) (given_by seen.files path (file ∷ [])) seen.list list one other x y
+commands laws Gives seen (command.gen rounds actors) leaves one other x y =
+    compilations laws (SaysGen Gives rounds actors) (run_one laws.runs Gives (Summary rounds actors) case_course (λ e. cc) script_name (case_files rounds actors script_name) holder_name) (given_by (case_files rounds actors) case_path (holder_name ∷ []))
+    (case_files rounds actors) None one other x y
 
 -- words are one command or none
 pub answer_is_determined : TheLaws → (Gives : Driving) → OneAnswer Gives
