@@ -1,0 +1,5 @@
+pub mod Tells
+pub mod Names
+pub mod Texts
+pub mod Ends
+pub mod Fronts

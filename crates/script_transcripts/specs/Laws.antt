@@ -1,0 +1,58 @@
+-- What the texts of histories tell of them.
+use Rattle.std.specs.Prelude.{◌≡◌, ◌↔◌, ℕ, List, ◌++◌, Some}
+use Rattle.handler_script.specs.Valid.{IsValid}
+use Rattle.ipdl_base.specs.declared.line.Line.{Line}
+use Rattle.ipdl_base.specs.declared.schema.Schema.{Schema}
+use Rattle.ipdl_base.specs.Sound.{IsSound}
+use Rattle.channel_model.specs.Runs.{RunState}
+use Rattle.history.specs.Text.{line_text, transcript_text}
+use Rattle.script_runs.specs.Laws.{HasLimit}
+use Rattle.script_steps.specs.Choices.{Setting, Choice, beginning_of, choice_of, played}
+use Rattle.script_steps.specs.Turns.{RunEnding}
+use Rattle.script_transcripts.specs.Legal.{AreFirstLines, EndsAs, IsLegalText, ending_line}
+use Rattle.script_transcripts.specs.Replays.{ArePrinted, Follows}
+use Rattle.transcript_laws.specs.Printed.{SayWords}
+use Rattle.script_transcripts.specs.Told.{choice_told}
+use Rattle.transcript_laws.specs.TextLines.{text_lines}
+
+-- The text of a line tells the choice that the line tells of: which side went on, and whether by a delivery.
+abbrev pub LineTextsTellChoices : Type 0
+LineTextsTellChoices = (schema : Schema) (before : List Line) (line : Line) → choice_told (line_text schema before line) ≡ choice_of line
+
+-- The names in the histories of a valid script are words.
+abbrev pub CaseNamesAreWords : Type 0
+CaseNamesAreWords = (setting : Setting) (choices : List Choice) (state : RunState) → IsValid setting.schema setting.script → played setting choices (beginning_of setting) ≡ Some state → SayWords state.lines
+
+-- Two runs of a valid script by a sound schema that print the same transcript are one.
+abbrev pub CaseTextsTellHistories : Type 0
+CaseTextsTellHistories =
+    (setting : Setting) (one other : List Choice) (state next : RunState) → IsSound setting.schema → IsValid setting.schema setting.script
+    → played setting one (beginning_of setting) ≡ Some state → played setting other (beginning_of setting) ≡ Some next
+    → transcript_text setting.schema state.lines ≡ transcript_text setting.schema next.lines → (one ≡ other) × (state ≡ next)
+
+-- A run goes on to an end.
+pub record Ends (setting : Setting) (state : RunState) : Type 0 where
+  pub more : List Choice
+  pub last : RunState
+  pub plays : played setting more state ≡ Some last
+  pub ending : RunEnding
+  pub ends : EndsAs setting last ending
+
+-- Every run of a valid script can go on until it ends.
+abbrev pub CasesEnd : Type 0
+CasesEnd =
+    (setting : Setting) (choices : List Choice) (state : RunState) → IsSound setting.schema → IsValid setting.schema setting.script → HasLimit setting
+    → played setting choices (beginning_of setting) ≡ Some state → Ends setting state
+
+-- What is printed of a run that follows the lines of a text decides how many of these are first lines of what a run may
+-- print: those that are printed.
+abbrev pub ReplaysDecide : Type 0
+ReplaysDecide =
+    (setting : Setting) (front rest : List (List ℕ)) (last : RunState) → IsSound setting.schema → IsValid setting.schema setting.script → HasLimit setting
+    → Follows setting (front ++ rest) last → AreFirstLines setting front ↔ ArePrinted setting last front
+
+-- And the text is what a run may print exactly where it is what this one prints that follows its lines.
+abbrev pub LegalTextsDecide : Type 0
+LegalTextsDecide =
+    (setting : Setting) (text : List ℕ) (last : RunState) → IsSound setting.schema → IsValid setting.schema setting.script → Follows setting (text_lines text) last
+    → IsLegalText setting text ↔ ((ending : RunEnding) × EndsAs setting last ending × (text ≡ transcript_text setting.schema last.lines ++ ending_line ending))

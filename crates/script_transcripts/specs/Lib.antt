@@ -1,0 +1,4 @@
+pub mod Told
+pub mod Legal
+pub mod Replays
+pub mod Laws

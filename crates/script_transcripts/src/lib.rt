@@ -1,0 +1,9 @@
+//! What the transcript of a script's run tells of it (docs/transcripts.md): which choices made it. No function that runs.
+#![tactic(auto)]
+
+mod laws;
+
+pub use laws::{
+    case_names_are_words, case_texts_tell_histories, cases_end, legal_texts_decide,
+    line_texts_tell_choices, replays_decide,
+};

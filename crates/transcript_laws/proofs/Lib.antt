@@ -1,0 +1,2 @@
+pub mod Feedless
+pub mod Lines

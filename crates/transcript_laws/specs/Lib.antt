@@ -1,0 +1,4 @@
+pub mod TextLines
+pub mod Told
+pub mod Printed
+pub mod Laws
