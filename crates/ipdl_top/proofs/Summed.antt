@@ -1,6 +1,6 @@
 -- A summary counts the same wherever the boxes of values lie.
-use Rattle.std.proofs.Common.{◌≡◌, ◌&&◌, ◌+◌, ℕ, not, Bool, List, [], ◌∷◌, map, cond, refl, ap, ap₂}
-use Rattle.std.specs.List.{count_by}
+use Rattle.std.proofs.Common.{◌≡◌, ◌∙◌, ◌&&◌, ◌+◌, ℕ, not, Bool, List, [], ◌∷◌, map, cond, refl, ap}
+use Rattle.std.specs.List.{count_by, fold}
 use Rattle.end_parts.specs.PlainLines.{plain_line, plain_what}
 use Rattle.ipdl_base.specs.Lines.{is_effect, same_side}
 use Rattle.ipdl_base.specs.declared.kinds.Side.{Side}
@@ -10,10 +10,14 @@ use Rattle.ipdl_base.specs.declared.line.What.{What}
 use Rattle.ipdl_base.specs.declared.line.What.TheVariants as what
 use Rattle.generated_case.specs.Counts.{counts_of, is_built, is_dropped, is_fallen, is_replaced, is_settled, is_step_of, is_taken}
 
--- a test that looks at no box counts the same
+-- a test that looks at no box counts the same, behind any count
+folds_plain : (test : Line → Bool) → ((line : Line) → test (plain_line line) ≡ test line) → (n : ℕ) (lines : List Line) → fold (λ a x. a + cond (test x) 1 0) n (map plain_line lines) ≡ fold (λ a x. a + cond (test x) 1 0) n lines
+folds_plain test blind n [] = refl
+folds_plain test blind n (line ∷ lines) =
+    folds_plain test blind (n + cond (test (plain_line line)) 1 0) lines ∙ ap (λ (here : Bool). fold (λ a x. a + cond (test x) 1 0) (n + cond here 1 0) lines) (blind line)
+
 counts_plain : (test : Line → Bool) → ((line : Line) → test (plain_line line) ≡ test line) → (lines : List Line) → count_by test (map plain_line lines) ≡ count_by test lines
-counts_plain test blind [] = refl
-counts_plain test blind (line ∷ lines) = ap₂ (λ (here : Bool) (more : ℕ). cond here 1 0 + more) (blind line) (counts_plain test blind lines)
+counts_plain test blind lines = folds_plain test blind 0 lines
 
 effect_plain : (says : What) → is_effect (plain_what says) ≡ is_effect says
 effect_plain (what.Send n route number vs) = refl

@@ -23,9 +23,9 @@ run_limit (word ∷ words) list path course script file (e, h) = given_limit (va
 -- the numbers of a generated case
 pub record AreNumbers (rounds actors : ℕ) : Type 0 where
   pub some_rounds : 1 ≤ rounds
-  pub rounds : rounds ≤ 1000
+  pub few_rounds : rounds ≤ 1000
   pub some_actors : 1 ≤ actors
-  pub actors : actors ≤ 100
+  pub few_actors : actors ≤ 100
 
 given_actors : (value : Option (List ℕ)) (actors : ℕ) → IsActors value actors → (1 ≤ actors) × (actors ≤ 100)
 given_actors None actors is = (omega (arith, is), omega (arith, is))
@@ -35,7 +35,7 @@ pub case_numbers : (words : List (List ℕ)) (rounds actors : ℕ) → IsGen wor
 case_numbers [] rounds actors h = absurd h
 case_numbers (word ∷ words) rounds actors (e, h) =
     let given = given_actors (value_of (codes "actors") h.said) actors h.actors_is in
-    record { some_rounds = h.rounds_is.count.least; rounds = h.rounds_is.count.greatest; some_actors = given.0; actors = given.1 }
+    record { some_rounds = h.rounds_is.count.least; few_rounds = h.rounds_is.count.greatest; some_actors = given.0; few_actors = given.1 }
 
 abbrev pub is_gen : CommandView → Bool
 is_gen (gen rounds actors) = true

@@ -128,13 +128,13 @@ pub generation-requires-clause-some_rounds : goal.generation-requires-clause-som
 generation-requires-clause-some_rounds g c = (case_numbers (map string_bytes c.args.words.now) c.in-Ok-Gen.rounds c.in-Ok-Gen.actors (subst (CommandOf (map string_bytes c.args.words.now)) c.in-Ok-Gen.field-0-is c.in-Ok-Gen.ensures.command)).some_rounds
 
 pub generation-requires-clause-rounds : goal.generation-requires-clause-rounds
-generation-requires-clause-rounds g c = (case_numbers (map string_bytes c.args.words.now) c.in-Ok-Gen.rounds c.in-Ok-Gen.actors (subst (CommandOf (map string_bytes c.args.words.now)) c.in-Ok-Gen.field-0-is c.in-Ok-Gen.ensures.command)).rounds
+generation-requires-clause-rounds g c = (case_numbers (map string_bytes c.args.words.now) c.in-Ok-Gen.rounds c.in-Ok-Gen.actors (subst (CommandOf (map string_bytes c.args.words.now)) c.in-Ok-Gen.field-0-is c.in-Ok-Gen.ensures.command)).few_rounds
 
 pub generation-requires-clause-some_actors : goal.generation-requires-clause-some_actors
 generation-requires-clause-some_actors g c = (case_numbers (map string_bytes c.args.words.now) c.in-Ok-Gen.rounds c.in-Ok-Gen.actors (subst (CommandOf (map string_bytes c.args.words.now)) c.in-Ok-Gen.field-0-is c.in-Ok-Gen.ensures.command)).some_actors
 
 pub generation-requires-clause-actors : goal.generation-requires-clause-actors
-generation-requires-clause-actors g c = (case_numbers (map string_bytes c.args.words.now) c.in-Ok-Gen.rounds c.in-Ok-Gen.actors (subst (CommandOf (map string_bytes c.args.words.now)) c.in-Ok-Gen.field-0-is c.in-Ok-Gen.ensures.command)).actors
+generation-requires-clause-actors g c = (case_numbers (map string_bytes c.args.words.now) c.in-Ok-Gen.rounds c.in-Ok-Gen.actors (subst (CommandOf (map string_bytes c.args.words.now)) c.in-Ok-Gen.field-0-is c.in-Ok-Gen.ensures.command)).few_actors
 
 pub returns-in-Ok-Compile-clause-unread : goal.returns-in-Ok-Compile-clause-unread
 returns-in-Ok-Compile-clause-unread g c =
