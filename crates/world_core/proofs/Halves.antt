@@ -25,7 +25,7 @@ use Rattle.script_steps.specs.Progress.{Progress, after_lines, lines_of, progres
 use Rattle.world_core.proofs.Chosen.{run-sides}
 use Rattle.world_core.proofs.OwnRuns.{IsPlayedAgain, play-again}
 use Rattle.world_core.proofs.Played.{all-append, chosen-is, ends-own, own-progress, played-last, puts, run_behind}
-use Rattle.world_core.proofs.SideChoices.{RanAlone, all-alone, others-choose, played-append}
+use Rattle.world_core.proofs.SideChoices.{RanAlone, all-alone, all-same, others-choose, played-append}
 use Rattle.world_core.proofs.Standing.{has-at, may-go-on-at, own-within, schema-at, step-at}
 use Rattle.world_core.specs.declared.answers.StepAnswer.{StepAnswer}
 use Rattle.world_core.specs.declared.answers.StepAnswer.TheVariants as answer
@@ -43,6 +43,13 @@ reached setting side seen half fits = fits.stored.lines ∙ ap (λ (ls : List Li
 -- and that is a history of the script
 pub stored_lines_follow : StoredLinesFollow
 stored_lines_follow setting side seen half fits = record { choices = fits.come.choices; state = fits.to; plays = fits.come.plays; made = reached setting side seen half fits }
+
+-- What a half has stored is of its side.
+pub stored-own : (setting : Setting) (side : Side) (seen : List Line) (half : HalfView) → FitsBehind setting side seen half → lines_of (other side) half.end.lines ≡ []
+stored-own setting side seen half fits =
+    let alone : RanAlone side fits.from fits.to =
+    all-alone setting side (own_choices side fits.stored.count) fits.from fits.to (all-same side false fits.stored.count) fits.stored.plays (run-sides setting fits.leading fits.from fits.leads) in
+    ap (lines_of (other side)) (append_cancel_left fits.from.lines half.end.lines alone.lines (sym fits.stored.lines ∙ alone.behind)) ∙ alone.own
 
 -- Own steps
 

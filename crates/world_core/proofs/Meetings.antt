@@ -21,7 +21,7 @@ use Rattle.script_steps.proofs.Counting.{lines_of-append}
 use Rattle.script_steps.specs.Choices.{Choice, Setting, may_deliver, played}
 use Rattle.script_steps.specs.Progress.{Progress, lines_of, progress_of}
 use Rattle.world_core.proofs.Chosen.{chosen-less, left_of, run-sides}
-use Rattle.world_core.proofs.Halves.{reached}
+use Rattle.world_core.proofs.Halves.{reached, stored-own}
 use Rattle.world_core.proofs.OwnRuns.{IsPlayedAgain, play-again}
 use Rattle.world_core.proofs.Played.{all-append, few-lines, few-packets, link-of, played-last}
 use Rattle.world_core.proofs.SideChoices.{RanAlone, all-alone, all-same, one-alone}
@@ -156,13 +156,6 @@ module _ (setting : Setting) (side : Side) (half : HalfView) (link : LinkView) (
       let same : again.to ≡ fits.to = cc in
       ap (λ (s : RunState). link_to side s.world) (sym same) ∙ again.alike.kept
 
-  -- what the half has stored is of its side
-  stored-own : lines_of (other side) half.end.lines ≡ []
-  stored-own =
-      let alone : RanAlone side fits.from fits.to =
-      all-alone setting side (own_choices side fits.stored.count) fits.from fits.to (all-same side false fits.stored.count) fits.stored.plays (run-sides setting fits.leading fits.from fits.leads) in
-      ap (lines_of (other side)) (append_cancel_left fits.from.lines half.end.lines alone.lines (sym fits.stored.lines ∙ alone.behind)) ∙ alone.own
-
   module _ (last : LinkView) (appends : IsAppended link half.end.lines (other side) half.end.packets last) where
     own-link : Holds link side half.end.lines half.end.packets last → IsLinkOf setting fits.from side link → IsLinkOf setting fits.to side last
     own-link h l = record {
@@ -230,7 +223,7 @@ module _ (setting : Setting) (side : Side) (half : HalfView) (link : LinkView) (
       appends = appends;
       count = fits.stored.count;
       plays = plays-to;
-      own = stored-own;
+      own = stored-own setting side link.lines half fits;
       delivers = delivers;
       lines =
           stands.run.lines ∙ delivers.behind

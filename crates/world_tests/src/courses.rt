@@ -1,3 +1,4 @@
+ghost use Rattle.std.specs.Prelude.{◌≡◌, IfOk};
 ghost use Rattle.ipdl_base.specs.Sound.{IsSound};
 ghost use Rattle.handler_script.specs.Valid.{IsValid};
 
@@ -6,7 +7,7 @@ use handler_script::Script;
 use ipdl_base::{Schema, Side};
 use std::alloc::Global;
 use std::test::Fail;
-use world_core::{RunAnswer, Stop, Turn, World};
+use world_core::{Driver, OneThread, RunAnswer, Stop, Turn, World};
 
 /// How a run goes: by this word of turns, with so many events of a side at most, and with the death
 /// of an end.
@@ -36,9 +37,12 @@ fn turn_of(letter: char) -> Result<Turn, Fail> {
     Ok(Turn { side, only_deliver })
 }
 
-/// The turns of a word.
+/// The turns of a word, of which `-` has none.
 pub fn word_of(alloc: Global, letters: &str) -> Result<Vec<Turn>, Fail> {
     let mut word = Vec::new(alloc);
+    if letters == "-" {
+        return Ok(word);
+    }
     for letter in letters.chars() {
         word.push(turn_of(letter)?)?;
     }
@@ -88,7 +92,7 @@ fn ending_of(answer: RunAnswer) -> Result<&'static str, Fail> {
 }
 
 /// What a world prints whose run ended so.
-fn printed_of(
+pub fn printed_of(
     alloc: Global,
     schema: &Schema,
     world: &World<'_>,
@@ -105,6 +109,24 @@ fn printed_of(
     })
 }
 
+/// The world in which a run begins.
+pub fn opened<'s>(
+    alloc: Global,
+    schema: &'s Schema,
+    script: &'s Script,
+    course: &Course,
+) -> Result<World<'s>, Fail>
+    requires sound { IsSound schema.now }
+    requires valid { IsValid schema.now script.now }
+    ensures schema { IfOk result (λ w. w.setting.schema ≡ schema.entry.now) }
+    ensures script { IfOk result (λ w. w.setting.script ≡ script.entry.now) }
+{
+    if course.limit > 20_000 {
+        return Err("a limit that is too large".into());
+    }
+    Ok(World::open(alloc, schema, script, course.stop, course.limit)?)
+}
+
 /// What a run of a script prints.
 pub fn printed(
     alloc: Global,
@@ -115,11 +137,26 @@ pub fn printed(
     requires sound { IsSound schema.now }
     requires valid { IsValid schema.now script.now }
 {
-    if course.limit > 20_000 {
-        return Err("a limit that is too large".into());
-    }
-    let mut world = World::open(alloc, schema, script, course.stop, course.limit)?;
+    let mut world = opened(alloc, schema, script, course)?;
     let ending = world.run_schedule(course.word.as_slice());
+    let found = printed_of(alloc, schema, &world, ending);
+    drop(world);
+    found
+}
+
+/// What the same run prints where a driver does the turns of its word.
+pub fn driven(
+    alloc: Global,
+    schema: &Schema,
+    script: &Script,
+    course: Course,
+) -> Result<Printout, Fail>
+    requires sound { IsSound schema.now }
+    requires valid { IsValid schema.now script.now }
+{
+    let world = opened(alloc, schema, script, &course)?;
+    let mut driver = OneThread::new(course.word);
+    let (world, ending) = driver.drive(world);
     let found = printed_of(alloc, schema, &world, ending);
     drop(world);
     found

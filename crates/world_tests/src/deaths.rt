@@ -5,7 +5,7 @@ use super::courses::{course_of, printed};
 use super::given::script_of;
 use super::laws::ALL_LAWS;
 use super::run_rows::RUNS;
-use super::texts::{events_of, script_named};
+use super::texts::{events_of, row_named};
 use handler_script::Script;
 use history_of_text::schema_of;
 use ipdl_base::Schema;
@@ -87,8 +87,8 @@ fn deaths_of(alloc: Global, schema: &Schema, script: &Script) -> Result<String, 
 fn deaths_under(alloc: Global, schema: &Schema) -> Result<String, Fail>
     requires { IsSound schema.now }
 {
-    let text = script_named(RUNS, "four-nested-calls ").ok_or("no such row")?;
-    let script = script_of(alloc, schema, "PW.ipdl", text)?;
+    let row = row_named(RUNS, "four-nested-calls").ok_or("no such row")?;
+    let script = script_of(alloc, schema, row.file, row.script)?;
     deaths_of(alloc, schema, &script)
 }
 

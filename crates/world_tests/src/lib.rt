@@ -1,8 +1,11 @@
 //! Tests of runs (docs/scripts.md): worked runs and orders of own steps, each with the word, the limit
-//! and the death with which it is run, and with what it prints; deaths under nested calls; and limits
-//! that cut a run. Of each history every law is tested.
+//! and the death with which it is run, and with what it prints, by the world alone and by a driver;
+//! halves that go on apart; deaths under nested calls; and limits that cut a run. Of each history every
+//! law is tested.
 #![tactic(auto)]
 
+#[cfg(test)]
+mod apart_rows;
 #[cfg(test)]
 mod courses;
 #[cfg(test)]
@@ -11,6 +14,8 @@ mod deaths;
 mod deep_rows;
 #[cfg(test)]
 mod given;
+#[cfg(test)]
+mod halves;
 #[cfg(test)]
 mod laws;
 #[cfg(test)]

@@ -5,7 +5,7 @@ use super::courses::{Course, printed, word_of};
 use super::given::script_of;
 use super::laws::ALL_LAWS;
 use super::run_rows::RUNS;
-use super::texts::{events_of, lines_and_ending, script_named};
+use super::texts::{events_of, lines_and_ending, row_named};
 use handler_script::Script;
 use history_of_text::schema_of;
 use ipdl_base::Schema;
@@ -131,8 +131,8 @@ fn limits_of(alloc: Global, schema: &Schema, script: &Script) -> Result<String, 
 fn limits_under(alloc: Global, schema: &Schema) -> Result<String, Fail>
     requires { IsSound schema.now }
 {
-    let text = script_named(RUNS, "both-call-at-once ").ok_or("no such row")?;
-    let script = script_of(alloc, schema, "PW.ipdl", text)?;
+    let row = row_named(RUNS, "both-call-at-once").ok_or("no such row")?;
+    let script = script_of(alloc, schema, row.file, row.script)?;
     limits_of(alloc, schema, &script)
 }
 

@@ -331,4 +331,20 @@ child return 1
 parent deliver reply 1
 parent resume 1 ok (1)
 finished
+====
+turns-without-a-word PW.ipdl - 10000 -
+parent main
+send top PW.Tell(1)
+send top PW.Tell(2)
+end
+----
+parent send 1 to 2147483647 PW.Tell(1)
+child deliver request 1
+parent send 2 to 2147483647 PW.Tell(2)
+child take 1 at 2147483647 PW.Tell(1)
+child return 1
+child deliver request 2
+child take 2 at 2147483647 PW.Tell(2)
+child return 2
+finished
 ";

@@ -1,13 +1,14 @@
 ghost use Rattle.ipdl_base.specs.Sound.{IsSound};
 ghost use Rattle.handler_script.specs.Valid.{IsValid};
 
-use super::courses::{course_of, printed};
+use super::apart_rows::APART;
+use super::courses::{Printout, course_of, driven, printed};
 use super::deep_rows::DEEP;
 use super::given::script_of;
 use super::laws::{ALL_LAWS, lawful};
 use super::order_rows::ORDERS;
 use super::run_rows::RUNS;
-use super::texts::lines_and_ending;
+use super::texts::{Row, lines_and_ending, row_of};
 use handler_script::Script;
 use history::history_text;
 use history_of_text::{history_of, schema_of};
@@ -31,34 +32,35 @@ fn fault(alloc: Global, schema: &Schema, lines: &str) -> Result<&'static str, Fa
     Ok("")
 }
 
-/// What is wrong with the run of a script: it prints something else, or a law does not hold.
+/// What is wrong with what a run prints: something else is wanted, or a law does not hold.
+pub fn fault_of(run: &Printout, wanted: &str) -> &'static str {
+    if run.text.as_str() != wanted {
+        "another run"
+    } else if run.laws != ALL_LAWS {
+        "a law that does not hold of the run"
+    } else {
+        ""
+    }
+}
+
+/// What is wrong with the run of a script, by its world alone, or by a driver.
 fn fault_of_run(
     alloc: Global,
     schema: &Schema,
     script: &Script,
-    course: &str,
-    wanted: &str,
+    row: Row<'_>,
 ) -> Result<&'static str, Fail>
     requires sound { IsSound schema.now }
     requires valid { IsValid schema.now script.now }
 {
-    let run = printed(alloc, schema, script, &course_of(alloc, course)?)?;
-    if run.text.as_str() != wanted {
-        Ok("another run")
-    } else if run.laws != ALL_LAWS {
-        Ok("a law that does not hold of the run")
-    } else {
-        Ok("")
+    let course = course_of(alloc, row.course)?;
+    let run = printed(alloc, schema, script, &course)?;
+    let found = fault_of(&run, row.printed);
+    if !found.is_empty() {
+        return Ok(found);
     }
-}
-
-/// A row: the file of its protocol, how it is run, its script, and what it prints.
-#[derive(Clone, Copy)]
-struct Row<'a> {
-    file: &'a str,
-    course: &'a str,
-    script: &'a str,
-    printed: &'a str,
+    let run = driven(alloc, schema, script, course)?;
+    Ok(fault_of(&run, row.printed))
 }
 
 /// What is wrong with a row under the schema of its protocol: its lines, or the run.
@@ -71,32 +73,16 @@ fn fault_under(alloc: Global, schema: &Schema, row: Row<'_>) -> Result<&'static 
         return Ok(found);
     }
     let script = script_of(alloc, schema, row.file, row.script)?;
-    fault_of_run(alloc, schema, &script, row.course, row.printed)
-}
-
-/// What is wrong with a row, whose head names the file of its protocol first.
-fn fault_of_row(alloc: Global, head: &str, whole: &str) -> Result<&'static str, Fail> {
-    let (file, course) = head.split_once(" ").ok_or("a row without its word")?;
-    let (script, printed) = whole
-        .split_once("----\n")
-        .ok_or("a row without what it prints")?;
-    let row = Row {
-        file,
-        course,
-        script,
-        printed,
-    };
-    let schema = schema_of(alloc, file)?;
-    fault_under(alloc, &schema, row)
+    fault_of_run(alloc, schema, &script, row)
 }
 
 /// Notes a row with which something is wrong.
-fn check(alloc: Global, row: &str, wrong: &mut String) -> Result<(), Fail> {
-    let (head, whole) = row.split_once("\n").ok_or("a row of one line")?;
-    let (name, head) = head.split_once(" ").ok_or("a row without its file")?;
-    let found = fault_of_row(alloc, head, whole)?;
+fn check(alloc: Global, text: &str, wrong: &mut String) -> Result<(), Fail> {
+    let row = row_of(text).ok_or("a row without one of its parts")?;
+    let schema = schema_of(alloc, row.file)?;
+    let found = fault_under(alloc, &schema, row)?;
     if !found.is_empty() {
-        writeln!(wrong, "{name}: {found}")?;
+        writeln!(wrong, "{}: {found}", row.name)?;
     }
     Ok(())
 }
@@ -122,6 +108,12 @@ fn worked_runs(rt: HostRuntime) -> Result<(), Fail> {
 
 #[test]
 fn orders_of_own_steps(rt: HostRuntime) -> Result<(), Fail> {
-    assert_eq!(rt; checked(rt.alloc(), ORDERS)?.as_str(), "20");
+    assert_eq!(rt; checked(rt.alloc(), ORDERS)?.as_str(), "21");
+    Ok(())
+}
+
+#[test]
+fn orders_of_halves(rt: HostRuntime) -> Result<(), Fail> {
+    assert_eq!(rt; checked(rt.alloc(), APART)?.as_str(), "4");
     Ok(())
 }
