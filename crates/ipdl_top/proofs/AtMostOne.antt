@@ -1,14 +1,13 @@
 -- Words have at most one answer with some files.
-use Rattle.std.proofs.Common.{◌≡◌, ◌≢◌, ℕ, zero, ◌+◌, Bool, true, false, cond, List, [], ◌∷◌, ◌++◌, map, length, refl, sym, ◌∙◌, ap, subst, inl, inr, arith}
+use Rattle.std.proofs.Common.{◌≡◌, ◌≢◌, ℕ, zero, Bool, true, false, List, [], ◌∷◌, ◌++◌, map, length, refl, sym, ◌∙◌, ap, subst, inl, inr, arith}
 use Rattle.std.specs.Prelude.{Option, Some, None, codes}
-use Rattle.std.specs.List.{flat_map, position_or_len}
+use Rattle.std.specs.List.{flat_map}
 use Rattle.std.proofs.lemmas.Option.{same_Some}
 use Rattle.ipdl_base.specs.Outside.{FileMap}
 use Rattle.ipdl_base.specs.declared.finding.Finding.{Finding}
 use Rattle.ipdl_syntax.specs.declared.program.Entry.{Entry}
 use Rattle.command_words.specs.Command.{CommandView, OneCommand, Say}
 use Rattle.command_words.specs.Command as command
-use Rattle.command_words.specs.Run.{Course}
 use Rattle.findings.specs.Report.{IsReport}
 use Rattle.findings.proofs.Reports.{same_report}
 use Rattle.include_graph.specs.Load.{keys_of}
@@ -16,7 +15,7 @@ use Rattle.include_graph.specs.Sources.{LoadInput, text_of}
 use Rattle.include_graph.proofs.OneReach.{one_reach}
 use Rattle.include_graph.proofs.OneUnit.{AtMostOne}
 use Rattle.answer_laws.specs.Programs.{BreakAlike, AreListedAlike, HaveSchemasAlike, AreProgramsAlike}
-use Rattle.program_schema.specs.Laws.{OneSchema, plain_protocol_row, plain_schema}
+use Rattle.program_schema.specs.Laws.{OneSchema, plain_schema}
 use Rattle.schema_laws.specs.Frames.{FramesAlike, OneListOfFrames}
 use Rattle.schema_laws.specs.Waits.{OneWaitReport, WaitsAlike}
 use Rattle.frame_list.specs.declared.list.PlacedMessage.{PlacedMessage}
@@ -25,7 +24,6 @@ use Rattle.frame_list.specs.Frames.{Holds, all_plain}
 use Rattle.frame_list.specs.Lines.{frames_lines}
 use Rattle.frame_list.proofs.PlainFrames.{new_plain}
 use Rattle.frame_list.proofs.PlainLines.{plain_lines}
-use Rattle.ipdl_base.specs.declared.schema.ProtocolRow.{ProtocolRow}
 use Rattle.ipdl_base.specs.declared.schema.Schema.{Schema}
 use Rattle.value_types.specs.Laws.{BoxesSayNothing}
 use Rattle.wait_report.specs.declared.pair.Pair.{Pair}
@@ -42,7 +40,7 @@ use Rattle.ipdl_top.specs.Laws.{LeavesNothing, OneAnswer}
 use Rattle.ipdl_top.specs.declared.rendering.Rendering.TheVariants.{Summary, Transcript}
 use Rattle.ipdl_top.specs.Gen.{SaysGen, case_course, case_files, case_path, holder_name, script_name}
 use Rattle.ipdl_top.specs.Run.{Driving, SaysRun}
-use Rattle.ipdl_top.specs.Waits.{IsTop, SaysWaits, bears_name, pair_line, waits_text}
+use Rattle.ipdl_top.specs.Waits.{SaysWaits, pair_line, waits_text}
 use Rattle.ipdl_top.specs.Lists.{AreSections, list_names}
 use Rattle.ipdl_top.specs.FileViews.{FileViews}
 use Rattle.ipdl_top.proofs.Alike.{alike, same_keys}

@@ -1,7 +1,6 @@
 -- A script has one answer where its run goes by a word of turns.
-use Rattle.std.proofs.Common.{◌≡◌, ◌≢◌, ◌∙◌, ◌<◌, ◌≤◌, ◌++◌, ℕ, List, [], refl, sym, ap, subst, arith, inl, inr}
+use Rattle.std.proofs.Common.{◌≡◌, ◌≢◌, ◌∙◌, ◌++◌, ℕ, List, [], refl, sym, ap, subst, arith, inl, inr}
 use Rattle.std.specs.Prelude.{Option, None, Some}
-use Rattle.ipdl_base.specs.declared.finding.Finding.{Finding}
 use Rattle.ipdl_base.specs.declared.line.Line.{Line}
 use Rattle.ipdl_base.specs.declared.schema.Schema.{Schema}
 use Rattle.schema_laws.specs.Frames.{AreSchemasAlike}
@@ -18,7 +17,6 @@ use Rattle.world_core.specs.WorldView.{WorldView, opening_of}
 use Rattle.ipdl_top.specs.declared.answer.CommandAnswer.{CommandAnswer}
 use Rattle.ipdl_top.specs.declared.rendering.Rendering.{Rendering}
 use Rattle.ipdl_top.specs.declared.rendering.Rendering.TheVariants.{Summary, Transcript}
-use Rattle.ipdl_top.specs.declared.status.Status.TheVariants as status
 use Rattle.ipdl_top.specs.Run.{Driving, IsMade, SaysHistory, SaysRun, SaysScript, SaysText, answer_of, bad_script_answer, ending_line, rendered, run_answer, run_status, setting_by}
 use Rattle.ipdl_top.proofs.OneTop.{one_top}
 

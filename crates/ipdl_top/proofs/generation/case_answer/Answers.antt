@@ -1,11 +1,10 @@
-use Rattle.std.proofs.Common.{◌≡◌, ◌∙◌, ◌++◌, List, ℕ, [], ◌∷◌, codes, refl, sym, ap, subst, arith, map, string_bytes, inl, inr}
+use Rattle.std.proofs.Common.{◌∙◌, List, ℕ, [], ◌∷◌, codes, refl, sym, ap, subst, arith, map, string_bytes, inl}
 use Rattle.std.specs.Prelude.{IfOk, Some, None}
-use Rattle.ipdl_base.specs.Outside.{FileMap, Rose}
-use Rattle.command_words.specs.Run.{Course}
+use Rattle.ipdl_base.specs.Outside.{FileMap}
 use Rattle.include_graph.specs.Keys.{AreFileWords}
 use Rattle.schedules.specs.declared.turn.Turn.{Turn}
 use Rattle.ipdl_top.specs.CommandAnswer.{IsCompilation, given_by}
-use Rattle.ipdl_top.specs.Gen.{case_course, case_files, case_path, files_of, holder_name, script_name}
+use Rattle.ipdl_top.specs.Gen.{case_path, files_of, holder_name, script_name}
 use Rattle.ipdl_top.specs.Run.{SaysRun}
 use Rattle.ipdl_top.specs.declared.rendering.Rendering.TheVariants.{Summary}
 use Rattle.ipdl_top.proofs.generation.case_answer.Goals as goal

@@ -1,10 +1,10 @@
-use Rattle.std.proofs.Common.{◌≡◌, List, ℕ, [], ◌∷◌, inl, inr, map, refl, subst, rules}
+use Rattle.std.proofs.Common.{List, ℕ, [], ◌∷◌, inl, inr, map, refl, subst, rules}
 use Rattle.std.specs.Prelude.{Err, None, string_bytes, IfOk, option_map}
 use Rattle.std.proofs.lemmas.Result.{IfOk-weaker}
 use Rattle.ipdl_top.specs.declared.answer.Failure.TheVariants.{NoMemory}
 use Rattle.command_words.specs.Command.{CommandOf, Say, compile, frames, gen, run, waits}
 use Rattle.command_words.specs.Run.{Course}
-use Rattle.ipdl_top.specs.CommandAnswer.{AnswersTo, IsAnswer, IsCompilation, SaysTables, given_by}
+use Rattle.ipdl_top.specs.CommandAnswer.{IsAnswer, IsCompilation, SaysTables, given_by}
 use Rattle.ipdl_top.specs.declared.rendering.Rendering.TheVariants.{Transcript}
 use Rattle.ipdl_top.specs.Frames.{SaysFrames}
 use Rattle.ipdl_top.specs.Gen.{SaysGen, case_files, case_path, holder_name}
@@ -12,7 +12,7 @@ use Rattle.ipdl_top.specs.FileViews.{FileViews, ForMap}
 use Rattle.ipdl_top.specs.Run.{SaysRun}
 use Rattle.ipdl_top.specs.Waits.{SaysWaits}
 use Rattle.ipdl_top.proofs.Maps.{for_all_seen, for_each_seen}
-use Rattle.ipdl_top.proofs.Words.{AreNumbers, case_numbers, command_files, no_case, run_limit}
+use Rattle.ipdl_top.proofs.Words.{case_numbers, command_files, no_case, run_limit}
 use Rattle.ipdl_top.proofs.program.answer_to.Goals as goal
 
 pub compile-requires : goal.compile-requires
