@@ -62,6 +62,16 @@ a/PHello.ipdl PHello.ipdl
 run PHello.ipdl
 2
 @ @ usage
+====
+gen-zero
+gen 0
+2
+@ @ usage
+====
+gen-too-many
+gen 1001
+2
+@ @ usage
 ";
 
 /// Sync lists, of which each call has `LISTED` too.

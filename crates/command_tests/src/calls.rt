@@ -12,6 +12,7 @@ const USAGE: &str = "usage: ipdl [-s LIST] [--path DIRS] FILES
        ipdl run [-s LIST] [--path DIRS] [--schedule WORD] [--limit N] [--die SIDE:K] SCRIPT FILE
        ipdl frames [-s LIST] [--path DIRS] [--to 2] FILE FRAMES
        ipdl waits [-s LIST] [--path DIRS] FILE
+       ipdl gen [--actors A] N
 ";
 
 /// A file by its name.
@@ -39,7 +40,7 @@ struct Left {
 }
 
 /// Strings of the words of a text.
-fn strings(alloc: Global, words: &str) -> Result<Vec<String>, AllocError> {
+pub fn strings(alloc: Global, words: &str) -> Result<Vec<String>, AllocError> {
     let mut strings = Vec::new(alloc);
     for word in words.split(' ') {
         if !word.is_empty() {

@@ -9,6 +9,8 @@ mod calls;
 #[cfg(test)]
 mod frame_rows;
 #[cfg(test)]
+mod generated;
+#[cfg(test)]
 mod run_rows;
 #[cfg(test)]
 mod wait_rows;

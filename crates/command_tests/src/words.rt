@@ -8,7 +8,7 @@ use std::test::Fail;
 /// with `:` between them; and the files. Behind these stands `<-` and the file of frames where the
 /// command is the one that prints frames, or `<2` where it converts them. Behind `!` stand the script,
 /// the file, the word of turns behind `=`, the limit and the death of a run. Nothing stands where the
-/// words are no command. An empty word is written as two single quotes.
+/// words are no command. `%` stands before the rounds and the actors of a generated case. An empty word is written as two single quotes.
 const ROWS: &str = "x.ipdl => none . x.ipdl
 x.ipdlh => none . x.ipdlh
 a.ipdl b.ipdlh c.ipdl => none . a.ipdl b.ipdlh c.ipdl
@@ -193,6 +193,38 @@ run -s.ids x.ipdl =>
 run run run.ipdl => none . ! run run.ipdl - 10000 -
 run --to 2 s.ids x.ipdl =>
 -s l run s.ids x.ipdl =>
+gen 1 => % 1 4
+gen 1000 => % 1000 4
+gen 007 => % 7 4
+gen --actors 1 1 => % 1 1
+gen --actors=100 20 => % 20 100
+gen 20 --actors 0030 => % 20 30
+gen -- 1 => % 1 4
+gen 0 =>
+gen 1001 =>
+gen +1 =>
+gen -1 =>
+gen -- -1 =>
+gen 1a =>
+gen '' =>
+gen 4294967297 =>
+gen 1 2 =>
+gen =>
+gen --actors 0 1 =>
+gen --actors 101 1 =>
+gen --actors +4 1 =>
+gen --actors= 1 =>
+gen --actors 4294967300 1 =>
+gen --actors 1 --actors 1 1 =>
+gen --actors 1 =>
+gen 1 --actors =>
+gen -a 1 1 =>
+gen --limit 3 1 =>
+gen --path d 1 =>
+gen -s l 1 =>
+gen gen =>
+-s l gen 1 =>
+gen.ipdl => none . gen.ipdl
 a/PX.ipdl b/PX.ipdl =>
 PX.ipdl ./PX.ipdl =>
 PD.ipdl PD.ipdl => none . PD.ipdl
@@ -313,6 +345,7 @@ fn push_command(line: &mut String, command: &Command) -> Result<(), AllocError> 
             write!(line, " {limit} ")?;
             push_death(line, death)
         }
+        Command::Gen { rounds, actors } => write!(line, "% {rounds} {actors}"),
     }
 }
 
@@ -365,7 +398,7 @@ fn checked(alloc: Global) -> Result<String, Fail> {
 
 #[test]
 fn lists_of_words(rt: HostRuntime) -> Result<(), Fail> {
-    assert_eq!(rt; checked(rt.alloc())?.as_str(), "199");
+    assert_eq!(rt; checked(rt.alloc())?.as_str(), "231");
     Ok(())
 }
 

@@ -16,4 +16,5 @@ pub mod FramesFound
 pub mod WaitsFound
 pub mod OneCourse
 pub mod RunFound
+pub mod GenFound
 pub mod OneCommand

@@ -4,15 +4,17 @@ use Rattle.command_words.specs.declared.command.Command.{Command}
 use Rattle.command_words.specs.declared.command.Command.TheVariants as commands
 use Rattle.command_words.specs.Compile.{HasWord, IsCompile, unbuilt_commands}
 use Rattle.command_words.specs.Frames.{IsFrames}
+use Rattle.command_words.specs.Gen.{IsGen}
 use Rattle.command_words.specs.Run.{Course, IsRun}
 use Rattle.command_words.specs.Waits.{IsWaits}
 
--- What a command says: the sync list, the folders, and what is its own.
+-- What a command says: the sync list, the folders, and what is its own; one that runs a generated case, its rounds and its actors.
 pub data CommandView : Type 0 where
   compile : Option (List ℕ) → List (List ℕ) → List (List ℕ) → CommandView
   frames : Option (List ℕ) → List (List ℕ) → List ℕ → List ℕ → Bool → CommandView
   waits : Option (List ℕ) → List (List ℕ) → List ℕ → CommandView
   run : Option (List ℕ) → List (List ℕ) → Course → List ℕ → List ℕ → CommandView
+  gen : ℕ → ℕ → CommandView
 
 abbrev pub view_of : Command → CommandView
 view_of (commands.Compile list path files) = compile (option_map string_bytes list) (map string_bytes path.items) (map string_bytes files.items)
@@ -20,6 +22,7 @@ view_of (commands.Frames list path file given convert) = frames (option_map stri
 view_of (commands.Waits list path file) = waits (option_map string_bytes list) (map string_bytes path.items) (string_bytes file)
 view_of (commands.Run list path schedule limit death script file) =
     run (option_map string_bytes list) (map string_bytes path.items) (record { schedule = option_map (λ turns. turns.items) schedule; limit = limit; death = death }) (string_bytes script) (string_bytes file)
+view_of (commands.Gen rounds actors) = gen rounds actors
 
 -- the words say this
 abbrev pub Say : List (List ℕ) → CommandView → Type 0
@@ -27,6 +30,7 @@ Say words (compile list path files) = IsCompile words list path files
 Say words (frames list path file given convert) = IsFrames words list path file given convert
 Say words (waits list path file) = IsWaits words list path file
 Say words (run list path course script file) = IsRun words list path course script file
+Say words (gen rounds actors) = IsGen words rounds actors
 
 -- the words are this command
 abbrev pub CommandOf : List (List ℕ) → Command → Type 0

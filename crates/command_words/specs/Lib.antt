@@ -7,5 +7,6 @@ pub mod Frames
 pub mod Waits
 pub mod RunOptions
 pub mod Run
+pub mod Gen
 pub mod Command
 pub mod Listed

@@ -7,6 +7,7 @@ ghost use Rattle.command_words.specs.Compile.{HasWord, unbuilt_commands};
 use crate::WordsFault;
 use crate::compile::compile;
 use crate::frames::frames;
+use crate::generation::generation;
 use crate::run::run;
 use crate::waits::waits;
 use schedules::{Stop, Turn};
@@ -63,10 +64,17 @@ pub enum Command {
         /// The name of the file of the top protocol.
         file: String,
     },
+    /// Run a generated case, and sum its history up.
+    Gen {
+        /// The number of rounds, from 1 to 1,000.
+        rounds: u32,
+        /// The number of actors, from 1 to 100.
+        actors: u32,
+    },
 }
 
 /// The first words that will choose a command of their own which is not built yet.
-const UNBUILT_COMMANDS: [&str; 4] = ["gen", "feed", "relay", "audit"];
+const UNBUILT_COMMANDS: [&str; 3] = ["feed", "relay", "audit"];
 
 /// Whether the word is one of these.
 fn has_word(words: &[&str], word: &str) -> bool
@@ -97,6 +105,9 @@ pub fn read_words(alloc: Global, words: &[String]) -> Result<Command, WordsFault
         }
         if first.as_str() == "run" {
             return run(alloc, rest);
+        }
+        if first.as_str() == "gen" {
+            return generation(alloc, rest);
         }
         if is_unbuilt_command(first.as_str()) {
             return Err(WordsFault::Usage);

@@ -9,6 +9,7 @@ mod fault;
 mod files;
 mod folders;
 mod frames;
+mod generation;
 mod laws;
 mod numbers;
 mod options;

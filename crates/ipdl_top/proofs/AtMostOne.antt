@@ -1,14 +1,13 @@
 -- Words have at most one answer with some files.
-use Rattle.std.proofs.Common.{◌≡◌, ◌≢◌, ℕ, zero, ◌+◌, Bool, true, false, cond, List, [], ◌∷◌, ◌++◌, map, length, refl, sym, ◌∙◌, ap, subst, inl, inr, arith}
+use Rattle.std.proofs.Common.{◌≡◌, ◌≢◌, ℕ, zero, Bool, true, false, List, [], ◌∷◌, ◌++◌, map, length, refl, sym, ◌∙◌, ap, subst, inl, inr, arith}
 use Rattle.std.specs.Prelude.{Option, Some, None, codes}
-use Rattle.std.specs.List.{flat_map, position_or_len}
+use Rattle.std.specs.List.{flat_map}
 use Rattle.std.proofs.lemmas.Option.{same_Some}
 use Rattle.ipdl_base.specs.Outside.{FileMap}
 use Rattle.ipdl_base.specs.declared.finding.Finding.{Finding}
 use Rattle.ipdl_syntax.specs.declared.program.Entry.{Entry}
 use Rattle.command_words.specs.Command.{CommandView, OneCommand, Say}
 use Rattle.command_words.specs.Command as command
-use Rattle.command_words.specs.Run.{Course}
 use Rattle.findings.specs.Report.{IsReport}
 use Rattle.findings.proofs.Reports.{same_report}
 use Rattle.include_graph.specs.Load.{keys_of}
@@ -16,7 +15,7 @@ use Rattle.include_graph.specs.Sources.{LoadInput, text_of}
 use Rattle.include_graph.proofs.OneReach.{one_reach}
 use Rattle.include_graph.proofs.OneUnit.{AtMostOne}
 use Rattle.answer_laws.specs.Programs.{BreakAlike, AreListedAlike, HaveSchemasAlike, AreProgramsAlike}
-use Rattle.program_schema.specs.Laws.{OneSchema, plain_protocol_row, plain_schema}
+use Rattle.program_schema.specs.Laws.{OneSchema, plain_schema}
 use Rattle.schema_laws.specs.Frames.{FramesAlike, OneListOfFrames}
 use Rattle.schema_laws.specs.Waits.{OneWaitReport, WaitsAlike}
 use Rattle.frame_list.specs.declared.list.PlacedMessage.{PlacedMessage}
@@ -25,7 +24,6 @@ use Rattle.frame_list.specs.Frames.{Holds, all_plain}
 use Rattle.frame_list.specs.Lines.{frames_lines}
 use Rattle.frame_list.proofs.PlainFrames.{new_plain}
 use Rattle.frame_list.proofs.PlainLines.{plain_lines}
-use Rattle.ipdl_base.specs.declared.schema.ProtocolRow.{ProtocolRow}
 use Rattle.ipdl_base.specs.declared.schema.Schema.{Schema}
 use Rattle.value_types.specs.Laws.{BoxesSayNothing}
 use Rattle.wait_report.specs.declared.pair.Pair.{Pair}
@@ -39,8 +37,10 @@ use Rattle.ipdl_top.specs.declared.answer.CommandAnswer.{CommandAnswer}
 use Rattle.ipdl_top.specs.CommandAnswer.{IsBrokenFile, BreaksRules, IsFileReport, IsReading, IsRuleReport, IsSaidOf, IsCompilation, AnswersTo, SaysTables, given_by, report_answer, table_answer}
 use Rattle.ipdl_top.specs.Frames.{SaysBytes, SaysFrames, frames_answer, frames_out}
 use Rattle.ipdl_top.specs.Laws.{LeavesNothing, OneAnswer}
+use Rattle.ipdl_top.specs.declared.rendering.Rendering.TheVariants.{Summary, Transcript}
+use Rattle.ipdl_top.specs.Gen.{SaysGen, case_course, case_files, case_path, holder_name, script_name}
 use Rattle.ipdl_top.specs.Run.{Driving, SaysRun}
-use Rattle.ipdl_top.specs.Waits.{IsTop, SaysWaits, bears_name, pair_line, waits_text}
+use Rattle.ipdl_top.specs.Waits.{SaysWaits, pair_line, waits_text}
 use Rattle.ipdl_top.specs.Lists.{AreSections, list_names}
 use Rattle.ipdl_top.specs.FileViews.{FileViews}
 use Rattle.ipdl_top.proofs.Alike.{alike, same_keys}
@@ -217,6 +217,7 @@ leaves_none words (command.compile list path names) said leaves = tt
 leaves_none words (command.frames list path file name convert) said leaves = tt
 leaves_none words (command.waits list path file) said leaves = tt
 leaves_none words (command.run list path course script file) said leaves = leaves list path course script file said
+leaves_none words (command.gen rounds actors) said leaves = tt
 
 -- so has each command
 commands : TheLaws → (Gives : Driving) (seen : FileViews) (command : CommandView) → LeavesNone command → (one other : CommandAnswer) → AnswersTo Gives seen command one → AnswersTo Gives seen command other → one ≡ other
@@ -225,7 +226,10 @@ commands laws Gives seen (command.frames list path file name convert) leaves one
     compilations laws (SaysFrames name convert (seen.last name)) (frames_one laws name convert (seen.last name)) (given_by seen.files path (file ∷ [])) seen.list list one other x y
 commands laws Gives seen (command.waits list path file) leaves one other x y = compilations laws (SaysWaits file) (waits_one laws file) (given_by seen.files path (file ∷ [])) seen.list list one other x y
 commands laws Gives seen (command.run list path course script file) leaves one other x y =
-    compilations laws (SaysRun Gives course script (seen.last script) file) (run_one laws.runs Gives course leaves script (seen.last script) file) (given_by seen.files path (file ∷ [])) seen.list list one other x y
+    compilations laws (SaysRun Gives Transcript course script (seen.last script) file) (run_one laws.runs Gives Transcript course leaves script (seen.last script) file) (given_by seen.files path (file ∷ [])) seen.list list one other x y
+commands laws Gives seen (command.gen rounds actors) leaves one other x y =
+    compilations laws (SaysGen Gives rounds actors) (run_one laws.runs Gives (Summary rounds actors) case_course (λ e. cc) script_name (case_files rounds actors script_name) holder_name) (given_by (case_files rounds actors) case_path (holder_name ∷ []))
+    (case_files rounds actors) None one other x y
 
 -- words are one command or none
 pub answer_is_determined : TheLaws → (Gives : Driving) → OneAnswer Gives

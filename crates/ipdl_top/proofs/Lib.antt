@@ -12,3 +12,4 @@ pub mod Tops
 pub mod Runs
 pub mod OneTop
 pub mod OneRun
+pub mod Summed

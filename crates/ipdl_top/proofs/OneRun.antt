@@ -1,7 +1,7 @@
 -- A script has one answer where its run goes by a word of turns.
-use Rattle.std.proofs.Common.{◌≡◌, ◌≢◌, ◌∙◌, ◌<◌, ◌≤◌, ◌++◌, ℕ, List, [], refl, sym, ap, subst, arith, inl, inr}
+use Rattle.std.proofs.Common.{◌≡◌, ◌≢◌, ◌∙◌, ◌++◌, ℕ, List, [], refl, sym, ap, subst, arith, inl, inr}
 use Rattle.std.specs.Prelude.{Option, None, Some}
-use Rattle.ipdl_base.specs.declared.finding.Finding.{Finding}
+use Rattle.ipdl_base.specs.declared.line.Line.{Line}
 use Rattle.ipdl_base.specs.declared.schema.Schema.{Schema}
 use Rattle.schema_laws.specs.Frames.{AreSchemasAlike}
 use Rattle.channel_model.specs.Runs.{RunState}
@@ -15,8 +15,9 @@ use Rattle.script_steps.specs.Laws.{WordsHaveOneResult}
 use Rattle.script_steps.specs.Turns.{Picks, RunEnding, at_limit, at_rest}
 use Rattle.world_core.specs.WorldView.{WorldView, opening_of}
 use Rattle.ipdl_top.specs.declared.answer.CommandAnswer.{CommandAnswer}
-use Rattle.ipdl_top.specs.declared.status.Status.TheVariants as status
-use Rattle.ipdl_top.specs.Run.{Driving, IsMade, SaysHistory, SaysRun, SaysScript, SaysText, answer_of, bad_script_answer, ending_line, run_answer, run_status, setting_by}
+use Rattle.ipdl_top.specs.declared.rendering.Rendering.{Rendering}
+use Rattle.ipdl_top.specs.declared.rendering.Rendering.TheVariants.{Summary, Transcript}
+use Rattle.ipdl_top.specs.Run.{Driving, IsMade, SaysHistory, SaysRun, SaysScript, SaysText, answer_of, bad_script_answer, ending_line, rendered, run_answer, run_status, setting_by}
 use Rattle.ipdl_top.proofs.OneTop.{one_top}
 
 -- the laws that a run rests on
@@ -31,11 +32,16 @@ picked_by : (Gives : Driving) (word : List Turn) (before after : WorldView) (end
 picked_by Gives word before after at_rest made = made
 picked_by Gives word before after (at_limit side) made = made
 
--- the text of a run under schemas that are the same up to boxes
-same_text : TextsAlike → (a b : Schema) → AreSchemasAlike a b → (s t : RunState) (e f : RunEnding) → s ≡ t → e ≡ f → run_answer a s.lines e ≡ run_answer b t.lines f
-same_text texts a b alike s t e f states endings =
-    ap (λ (text : List ℕ). record { status = run_status e; out = text ++ ending_line e; err = [] }) (texts a b alike s.lines)
-    ∙ ap (λ (state : RunState). run_answer b state.lines e) states ∙ ap (run_answer b t.lines) endings
+-- the text of lines under schemas that are the same up to boxes: a summary looks at no schema
+one_text : TextsAlike → (shown : Rendering) (a b : Schema) → AreSchemasAlike a b → (lines : List Line) → rendered shown a lines ≡ rendered shown b lines
+one_text texts Transcript a b alike lines = texts a b alike lines
+one_text texts (Summary rounds actors) a b alike lines = refl
+
+-- the answer of a run under such schemas
+same_text : TextsAlike → (shown : Rendering) (a b : Schema) → AreSchemasAlike a b → (s t : RunState) (e f : RunEnding) → s ≡ t → e ≡ f → run_answer shown a s.lines e ≡ run_answer shown b t.lines f
+same_text texts shown a b alike s t e f states endings =
+    ap (λ (text : List ℕ). record { status = run_status e; out = text ++ ending_line e; err = [] }) (one_text texts shown a b alike s.lines)
+    ∙ ap (λ (state : RunState). run_answer shown b state.lines e) states ∙ ap (run_answer shown b t.lines) endings
 
 word_one : RunLaws → (Gives : Driving) (word : List Turn) (S T : Setting) → AreSettingsAlike S T → (after other : WorldView) (e f : RunEnding)
     → IsMade Gives (Some word) (opening_of S) after (answer_of e) → IsMade Gives (Some word) (opening_of T) other (answer_of f) → (after.state ≡ other.state) × (e ≡ f)
@@ -47,32 +53,32 @@ history_one : RunLaws → (Gives : Driving) (schedule : Option (List Turn)) → 
 history_one laws Gives None some S T alike after other e f x y = absurd (some refl)
 history_one laws Gives (Some word) some S T alike after other e f x y = word_one laws Gives word S T alike after other e f x y
 
-run_of_one : RunLaws → (Gives : Driving) (course : Course) → course.schedule ≢ None → (a b : Schema) → AreSchemasAlike a b → (s t : Script) → plain_script s ≡ plain_script t → (one other : CommandAnswer)
-    → SaysHistory Gives course a s one → SaysHistory Gives course b t other → one ≡ other
-run_of_one laws Gives course some a b alike s t same one other x y =
+run_of_one : RunLaws → (Gives : Driving) (shown : Rendering) (course : Course) → course.schedule ≢ None → (a b : Schema) → AreSchemasAlike a b → (s t : Script) → plain_script s ≡ plain_script t → (one other : CommandAnswer)
+    → SaysHistory Gives shown course a s one → SaysHistory Gives shown course b t other → one ≡ other
+run_of_one laws Gives shown course some a b alike s t same one other x y =
     let settings : AreSettingsAlike (setting_by a s course) (setting_by b t course) = record { schemas = alike; scripts = same; stop = refl; limit = refl } in
     let ends = history_one laws Gives course.schedule some (setting_by a s course) (setting_by b t course) settings x.after y.after x.ending y.ending x.made y.made in
-    x.says ∙ same_text laws.texts a b alike x.after.state y.after.state x.ending y.ending ends.0 ends.1 ∙ sym y.says
+    x.says ∙ same_text laws.texts shown a b alike x.after.state y.after.state x.ending y.ending ends.0 ends.1 ∙ sym y.says
 
-text_one : RunLaws → (Gives : Driving) (course : Course) → course.schedule ≢ None → (name text : List ℕ) (a b : Schema) → AreSchemasAlike a b → (top : ℕ) (one other : CommandAnswer)
-    → SaysText Gives course name text a top one → SaysText Gives course name text b top other → one ≡ other
-text_one laws Gives course some name text a b alike top one other (inl x) (inl y) =
+text_one : RunLaws → (Gives : Driving) (shown : Rendering) (course : Course) → course.schedule ≢ None → (name text : List ℕ) (a b : Schema) → AreSchemasAlike a b → (top : ℕ) (one other : CommandAnswer)
+    → SaysText Gives shown course name text a top one → SaysText Gives shown course name text b top other → one ≡ other
+text_one laws Gives shown course some name text a b alike top one other (inl x) (inl y) =
     x.says ∙ ap (bad_script_answer name) (laws.scripts.report a b alike text top x.findings y.findings x.report y.report) ∙ sym y.says
-text_one laws Gives course some name text a b alike top one other (inl x) (inr y) = absurd (laws.scripts.either b a (sym alike) text top y.script x.findings y.script_of (x.report, x.some))
-text_one laws Gives course some name text a b alike top one other (inr x) (inl y) = absurd (laws.scripts.either a b alike text top x.script y.findings x.script_of (y.report, y.some))
-text_one laws Gives course some name text a b alike top one other (inr x) (inr y) =
-    run_of_one laws Gives course some a b alike x.script y.script (laws.scripts.script a b alike text top x.script y.script x.script_of y.script_of) one other x.history y.history
+text_one laws Gives shown course some name text a b alike top one other (inl x) (inr y) = absurd (laws.scripts.either b a (sym alike) text top y.script x.findings y.script_of (x.report, x.some))
+text_one laws Gives shown course some name text a b alike top one other (inr x) (inl y) = absurd (laws.scripts.either a b alike text top x.script y.findings x.script_of (y.report, y.some))
+text_one laws Gives shown course some name text a b alike top one other (inr x) (inr y) =
+    run_of_one laws Gives shown course some a b alike x.script y.script (laws.scripts.script a b alike text top x.script y.script x.script_of y.script_of) one other x.history y.history
 
-script_one : RunLaws → (Gives : Driving) (course : Course) → course.schedule ≢ None → (name : List ℕ) (held : Option (List ℕ)) (a b : Schema) → AreSchemasAlike a b → (top : ℕ) (one other : CommandAnswer)
-    → SaysScript Gives course name held a top one → SaysScript Gives course name held b top other → one ≡ other
-script_one laws Gives course some name None a b alike top one other x y = x ∙ sym y
-script_one laws Gives course some name (Some text) a b alike top one other (inl x) (inl y) = x.1 ∙ sym y.1
-script_one laws Gives course some name (Some text) a b alike top one other (inl x) (inr y) = absurd (omega (arith, x.0, y.0))
-script_one laws Gives course some name (Some text) a b alike top one other (inr x) (inl y) = absurd (omega (arith, x.0, y.0))
-script_one laws Gives course some name (Some text) a b alike top one other (inr x) (inr y) = text_one laws Gives course some name text a b alike top one other x.1 y.1
+script_one : RunLaws → (Gives : Driving) (shown : Rendering) (course : Course) → course.schedule ≢ None → (name : List ℕ) (held : Option (List ℕ)) (a b : Schema) → AreSchemasAlike a b → (top : ℕ) (one other : CommandAnswer)
+    → SaysScript Gives shown course name held a top one → SaysScript Gives shown course name held b top other → one ≡ other
+script_one laws Gives shown course some name None a b alike top one other x y = x ∙ sym y
+script_one laws Gives shown course some name (Some text) a b alike top one other (inl x) (inl y) = x.1 ∙ sym y.1
+script_one laws Gives shown course some name (Some text) a b alike top one other (inl x) (inr y) = absurd (omega (arith, x.0, y.0))
+script_one laws Gives shown course some name (Some text) a b alike top one other (inr x) (inl y) = absurd (omega (arith, x.0, y.0))
+script_one laws Gives shown course some name (Some text) a b alike top one other (inr x) (inr y) = text_one laws Gives shown course some name text a b alike top one other x.1 y.1
 
-pub run_one : RunLaws → (Gives : Driving) (course : Course) → course.schedule ≢ None → (name : List ℕ) (held : Option (List ℕ)) (file : List ℕ) (a b : Schema) → AreSchemasAlike a b → (one other : CommandAnswer)
-    → SaysRun Gives course name held file a one → SaysRun Gives course name held file b other → one ≡ other
-run_one laws Gives course some name held file a b alike one other x y =
+pub run_one : RunLaws → (Gives : Driving) (shown : Rendering) (course : Course) → course.schedule ≢ None → (name : List ℕ) (held : Option (List ℕ)) (file : List ℕ) (a b : Schema) → AreSchemasAlike a b → (one other : CommandAnswer)
+    → SaysRun Gives shown course name held file a one → SaysRun Gives shown course name held file b other → one ≡ other
+run_one laws Gives shown course some name held file a b alike one other x y =
     let top : x.top ≡ y.top = one_top file a b alike x.top y.top x.is_top y.is_top in
-    script_one laws Gives course some name held a b alike y.top one other (subst (λ (top : ℕ). SaysScript Gives course name held a top one) top x.says) y.says
+    script_one laws Gives shown course some name held a b alike y.top one other (subst (λ (top : ℕ). SaysScript Gives shown course name held a top one) top x.says) y.says

@@ -4,10 +4,9 @@ use Rattle.std.specs.Prelude.{Option, None, Some}
 use Rattle.ipdl_base.specs.declared.line.Line.{Line}
 use Rattle.ipdl_base.specs.declared.schema.Schema.{Schema}
 use Rattle.ipdl_base.specs.Sound.{IsSound}
-use Rattle.channel_model.specs.Runs.{IsLegalHistory, RunState, history_of}
+use Rattle.channel_model.specs.Runs.{IsLegalHistory, RunState}
 use Rattle.command_words.specs.Run.{Course}
 use Rattle.handler_script.specs.declared.script.Script.{Script}
-use Rattle.history.specs.Text.{transcript_text}
 use Rattle.schedules.specs.declared.turn.Turn.{Turn}
 use Rattle.script_steps.specs.Choices.{IsCaseHistory, Setting}
 use Rattle.script_steps.specs.Laws.{ChoicesAreRuns}
@@ -18,7 +17,8 @@ use Rattle.world_core.specs.WorldView.{WorldView, opening_of}
 use Rattle.world_core.specs.Worlds.{IsCase}
 use Rattle.world_laws.specs.Statements.{HistoriesAreLawful, IsLawfulHistory}
 use Rattle.ipdl_top.specs.declared.answer.CommandAnswer.{CommandAnswer}
-use Rattle.ipdl_top.specs.Run.{Driving, IsMade, SaysHistory, answer_of, ending_line, run_answer, run_status, setting_by}
+use Rattle.ipdl_top.specs.declared.rendering.Rendering.{Rendering}
+use Rattle.ipdl_top.specs.Run.{Driving, IsMade, SaysHistory, answer_of, ending_line, rendered, run_answer, run_status, setting_by}
 use Rattle.ipdl_top.specs.RunSteps.{IsMadeUnless, IsPrinted}
 
 -- a run that did not run out of memory was made
@@ -30,10 +30,10 @@ made_so Gives (Some word) before after (at_limit side) made = made
 
 -- The history that a world has made by a word of turns or a driver is the script's own, legal and lawful, and ended as its
 -- answer says.
-pub says_history : ChoicesAreRuns → HistoriesAreLawful → (Gives : Driving) (course : Course) (schema : Schema) (script : Script) (opened after : WorldView) (ended : RunAnswer) (answer : CommandAnswer)
+pub says_history : ChoicesAreRuns → HistoriesAreLawful → (Gives : Driving) (shown : Rendering) (course : Course) (schema : Schema) (script : Script) (opened after : WorldView) (ended : RunAnswer) (answer : CommandAnswer)
     → IsSound schema → opened ≡ opening_of (setting_by schema script course) → IsMadeUnless Gives course.schedule opened after ended → after.setting ≡ opened.setting → StandsAs after ended → IsCase after
-    → IsPrinted after.setting.schema after.state.lines ended answer → SaysHistory Gives course schema script answer
-says_history runs lawful Gives course schema script opened after ended answer sound opens made same stands case' printed =
+    → IsPrinted shown after.setting.schema after.state.lines ended answer → SaysHistory Gives shown course schema script answer
+says_history runs lawful Gives shown course schema script opened after ended answer sound opens made same stands case' printed =
     let setting : Setting = setting_by schema script course in
     let about : after.setting ≡ setting = same ∙ ap (λ (w : WorldView). w.setting) opens in
     let run = runs after.setting case'.leading after.state case'.plays in
@@ -54,13 +54,13 @@ says_history runs lawful Gives course schema script opened after ended answer so
       settled = laws.settled;
       fallen = laws.fallen;
       stands = subst (λ (answer : RunAnswer). StandsAs after answer) printed.ends stands;
-      says = printed.says ∙ ap (λ (s : Setting). run_answer s.schema after.state.lines printed.ending) about;
+      says = printed.says ∙ ap (λ (s : Setting). run_answer shown s.schema after.state.lines printed.ending) about;
     }
 
 -- An answer that is the text of lines and the line of an ending prints them.
-pub printed : (schema : Schema) (lines : List Line) (text line : List ℕ) (ending : RunEnding) (answer : CommandAnswer) → line ≡ ending_line ending → text ≡ transcript_text schema lines
-    → answer ≡ record { status = run_status ending; out = text ++ line; err = [] } → IsPrinted schema lines (answer_of ending) answer
-printed schema lines text line ending answer line_is text_is is = record {
+pub printed : (shown : Rendering) (schema : Schema) (lines : List Line) (text line : List ℕ) (ending : RunEnding) (answer : CommandAnswer) → line ≡ ending_line ending → text ≡ rendered shown schema lines
+    → answer ≡ record { status = run_status ending; out = text ++ line; err = [] } → IsPrinted shown schema lines (answer_of ending) answer
+printed shown schema lines text line ending answer line_is text_is is = record {
   ending = ending;
   ends = refl;
   says =

@@ -1,11 +1,11 @@
 -- What the program answers.
-use Rattle.std.specs.Prelude.{◌≡◌, ◌≢◌, ◌⊎◌, ℕ, List, [], ◌∷◌, ◌++◌, map, length, Option, IsSomeAnd}
+use Rattle.std.specs.Prelude.{◌≡◌, ◌≢◌, ◌⊎◌, ℕ, List, [], ◌∷◌, ◌++◌, map, length, Option, None, IsSomeAnd}
 use Rattle.ipdl_base.specs.Outside.{FileMap}
 use Rattle.ipdl_base.specs.declared.finding.Finding.{Finding}
 use Rattle.ipdl_base.specs.declared.schema.Schema.{Schema}
 use Rattle.ipdl_syntax.specs.declared.program.Entry.{Entry}
 use Rattle.ipdl_syntax.specs.Programs.{IsProgram}
-use Rattle.command_words.specs.Command.{CommandView, IsNoCommand, Say, compile, frames, run, waits}
+use Rattle.command_words.specs.Command.{CommandView, IsNoCommand, Say, compile, frames, gen, run, waits}
 use Rattle.findings.specs.Report.{IsReport}
 use Rattle.include_graph.specs.Load.{IsProgramOf}
 use Rattle.include_graph.specs.Reach.{IsReach}
@@ -18,9 +18,11 @@ use Rattle.proto_rules.specs.Broken as protocols
 use Rattle.program_schema.specs.SchemaOf.{IsSchemaOf}
 use Rattle.actor_tables.specs.TableText.{table_text}
 use Rattle.ipdl_top.specs.declared.answer.CommandAnswer.{CommandAnswer}
+use Rattle.ipdl_top.specs.declared.rendering.Rendering.TheVariants.{Transcript}
 use Rattle.ipdl_top.specs.declared.status.Status.TheVariants.{Done, Broken, Usage}
 use Rattle.ipdl_top.specs.Command.{usage_text}
 use Rattle.ipdl_top.specs.Frames.{SaysFrames}
+use Rattle.ipdl_top.specs.Gen.{SaysGen, case_files, case_path, holder_name}
 use Rattle.ipdl_top.specs.Lists.{IsFaultOfList, AreSections, list_names}
 use Rattle.ipdl_top.specs.Report.{report_text}
 use Rattle.ipdl_top.specs.Run.{Driving, SaysRun}
@@ -104,12 +106,14 @@ SaysTables schema answer = answer ≡ table_answer (table_text schema)
 abbrev pub given_by : FileMap → List (List ℕ) → List (List ℕ) → LoadInput
 given_by files path names = record { files = files; words = names; path = path }
 
--- The answer to what words say, with these files; a run goes as the driver has it, where no word of turns is given.
+-- The answer to what words say, with these files; a run goes as the driver has it, where no word of turns is given. A
+-- generated case has files of its own, and no others are looked at.
 abbrev pub AnswersTo : Driving → FileViews → CommandView → CommandAnswer → Type 0
 AnswersTo Gives seen (compile list path names) answer = IsCompilation SaysTables (given_by seen.files path names) seen.list list answer
 AnswersTo Gives seen (frames list path file name convert) answer = IsCompilation (SaysFrames name convert (seen.last name)) (given_by seen.files path (file ∷ [])) seen.list list answer
 AnswersTo Gives seen (waits list path file) answer = IsCompilation (SaysWaits file) (given_by seen.files path (file ∷ [])) seen.list list answer
-AnswersTo Gives seen (run list path course script file) answer = IsCompilation (SaysRun Gives course script (seen.last script) file) (given_by seen.files path (file ∷ [])) seen.list list answer
+AnswersTo Gives seen (run list path course script file) answer = IsCompilation (SaysRun Gives Transcript course script (seen.last script) file) (given_by seen.files path (file ∷ [])) seen.list list answer
+AnswersTo Gives seen (gen rounds actors) answer = IsCompilation (SaysGen Gives rounds actors) (given_by (case_files rounds actors) case_path (holder_name ∷ [])) (case_files rounds actors) None answer
 
 -- the words are a command, and the answer is the one to it
 pub record IsCommandAnswer (Gives : Driving) (seen : FileViews) (words : List (List ℕ)) (answer : CommandAnswer) : Type 0 where

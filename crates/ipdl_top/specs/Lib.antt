@@ -4,6 +4,7 @@ pub mod Frames
 pub mod Waits
 pub mod Run
 pub mod RunSteps
+pub mod Gen
 pub mod Command
 pub mod Laws
 pub mod Lists

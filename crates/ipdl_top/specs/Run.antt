@@ -9,6 +9,8 @@ use Rattle.channel_model.specs.Runs.{IsLegalHistory}
 use Rattle.handler_script.specs.declared.script.Script.{Script}
 use Rattle.handler_script.specs.Broken.{IsReport}
 use Rattle.handler_script.specs.ScriptOf.{IsScriptOf}
+use Rattle.generated_case.specs.Counts.{counts_of}
+use Rattle.generated_case.specs.Summary.{summary_text}
 use Rattle.history.specs.Text.{transcript_text}
 use Rattle.history.specs.Words.{side_word}
 use Rattle.include_graph.specs.Rules.{whole_file}
@@ -26,6 +28,8 @@ use Rattle.law_statements.specs.Readable.{Readable}
 use Rattle.law_statements.specs.Settled.{Settled}
 use Rattle.law_statements.specs.Waits.{Waits}
 use Rattle.ipdl_top.specs.declared.answer.CommandAnswer.{CommandAnswer}
+use Rattle.ipdl_top.specs.declared.rendering.Rendering.{Rendering}
+use Rattle.ipdl_top.specs.declared.rendering.Rendering.TheVariants as rendering
 use Rattle.ipdl_top.specs.declared.status.Status.{Status}
 use Rattle.ipdl_top.specs.declared.status.Status.TheVariants as status
 use Rattle.ipdl_top.specs.Lists.{finding_at}
@@ -59,16 +63,21 @@ abbrev pub answer_of : RunEnding → RunAnswer
 answer_of at_rest = run.Finished
 answer_of (at_limit side) = run.Spent side
 
--- the answer that is a transcript, and behind it how the run ended
-abbrev pub run_answer : Schema → List Line → RunEnding → CommandAnswer
-run_answer schema lines ending = record { status = run_status ending; out = transcript_text schema lines ++ ending_line ending; err = [] }
+-- the text of a history: its transcript, or its summary
+abbrev pub rendered : Rendering → Schema → List Line → List ℕ
+rendered rendering.Transcript schema lines = transcript_text schema lines
+rendered (rendering.Summary rounds actors) schema lines = summary_text rounds actors (counts_of lines)
+
+-- the answer that is a text of a history, and behind it how the run ended
+abbrev pub run_answer : Rendering → Schema → List Line → RunEnding → CommandAnswer
+run_answer shown schema lines ending = record { status = run_status ending; out = rendered shown schema lines ++ ending_line ending; err = [] }
 
 -- The answer is one history of both ends. It is made by the word or as the driver has it, and is the script's own and legal.
 -- It can be read, and all five laws hold of it: what is delivered is what was sent; what is taken goes to the living actor
 -- of its id, or is dropped; no two waits block each other; a closed end's promises are settled once each; and managed
 -- actors fall before managers. Where it is finished nothing is left to do and no end waits; and where it is spent, that
 -- side has something to do but as many events as the limit.
-pub record SaysHistory (Gives : Driving) (course : Course) (schema : Schema) (script : Script) (answer : CommandAnswer) : Type 0 where
+pub record SaysHistory (Gives : Driving) (shown : Rendering) (course : Course) (schema : Schema) (script : Script) (answer : CommandAnswer) : Type 0 where
   pub after : WorldView
   pub ending : RunEnding
   pub made : IsMade Gives course.schedule (opening_of (setting_by schema script course)) after (answer_of ending)
@@ -82,7 +91,7 @@ pub record SaysHistory (Gives : Driving) (course : Course) (schema : Schema) (sc
   pub settled : Settled schema after.state.lines
   pub fallen : Fallen schema after.state.lines
   pub stands : StandsAs after (answer_of ending)
-  pub says : answer ≡ run_answer schema after.state.lines ending
+  pub says : answer ≡ run_answer shown schema after.state.lines ending
 
 -- the answer that a script of this name breaks rules
 abbrev pub bad_script_answer : List ℕ → List Finding → CommandAnswer
@@ -95,25 +104,25 @@ pub record SaysBroken (name text : List ℕ) (schema : Schema) (top : ℕ) (answ
   pub some : findings ≢ []
   pub says : answer ≡ bad_script_answer name findings
 
-pub record SaysRunOf (Gives : Driving) (course : Course) (text : List ℕ) (schema : Schema) (top : ℕ) (answer : CommandAnswer) : Type 0 where
+pub record SaysRunOf (Gives : Driving) (shown : Rendering) (course : Course) (text : List ℕ) (schema : Schema) (top : ℕ) (answer : CommandAnswer) : Type 0 where
   pub script : Script
   pub script_of : IsScriptOf text schema top script
-  pub history : SaysHistory Gives course schema script answer
+  pub history : SaysHistory Gives shown course schema script answer
 
-abbrev pub SaysText : Driving → Course → List ℕ → List ℕ → Schema → ℕ → CommandAnswer → Type 0
-SaysText Gives course name text schema top answer = SaysBroken name text schema top answer ⊎ SaysRunOf Gives course text schema top answer
+abbrev pub SaysText : Driving → Rendering → Course → List ℕ → List ℕ → Schema → ℕ → CommandAnswer → Type 0
+SaysText Gives shown course name text schema top answer = SaysBroken name text schema top answer ⊎ SaysRunOf Gives shown course text schema top answer
 
 -- the answer for a script that is not there, or has too many bytes
 abbrev pub unreadable_answer : List ℕ → CommandAnswer
 unreadable_answer name = bad_script_answer name (finding_at rule.UNREADABLE_SCRIPT (whole_file 0) ∷ [])
 
-abbrev pub SaysScript : Driving → Course → List ℕ → Option (List ℕ) → Schema → ℕ → CommandAnswer → Type 0
-SaysScript Gives course name None schema top answer = answer ≡ unreadable_answer name
-SaysScript Gives course name (Some text) schema top answer =
-    ((1048576 < length text) × (answer ≡ unreadable_answer name)) ⊎ ((length text ≤ 1048576) × SaysText Gives course name text schema top answer)
+abbrev pub SaysScript : Driving → Rendering → Course → List ℕ → Option (List ℕ) → Schema → ℕ → CommandAnswer → Type 0
+SaysScript Gives shown course name None schema top answer = answer ≡ unreadable_answer name
+SaysScript Gives shown course name (Some text) schema top answer =
+    ((1048576 < length text) × (answer ≡ unreadable_answer name)) ⊎ ((length text ≤ 1048576) × SaysText Gives shown course name text schema top answer)
 
 -- The answer is that for a script of this name, of which this is held, where the protocol of the file is the top.
-pub record SaysRun (Gives : Driving) (course : Course) (name : List ℕ) (held : Option (List ℕ)) (file : List ℕ) (schema : Schema) (answer : CommandAnswer) : Type 0 where
+pub record SaysRun (Gives : Driving) (shown : Rendering) (course : Course) (name : List ℕ) (held : Option (List ℕ)) (file : List ℕ) (schema : Schema) (answer : CommandAnswer) : Type 0 where
   pub top : ℕ
   pub is_top : IsTop file schema top
-  pub says : SaysScript Gives course name held schema top answer
+  pub says : SaysScript Gives shown course name held schema top answer

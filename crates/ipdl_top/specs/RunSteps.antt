@@ -1,5 +1,5 @@
 -- What the steps of a run make.
-use Rattle.std.specs.Prelude.{◌≡◌, ℕ, List, Option, Some, None, option_map}
+use Rattle.std.specs.Prelude.{◌≡◌, List, Option, Some, None, option_map}
 use Rattle.ipdl_base.specs.declared.line.Line.{Line}
 use Rattle.ipdl_base.specs.declared.schema.Schema.{Schema}
 use Rattle.command_words.specs.Run.{Course}
@@ -9,6 +9,7 @@ use Rattle.world_core.specs.declared.answers.RunAnswer.{RunAnswer}
 use Rattle.world_core.specs.Turns.{GivesUnless, WordGives}
 use Rattle.world_core.specs.WorldView.{WorldView}
 use Rattle.ipdl_top.specs.declared.answer.CommandAnswer.{CommandAnswer}
+use Rattle.ipdl_top.specs.declared.rendering.Rendering.{Rendering}
 use Rattle.ipdl_top.specs.declared.run.RunRequest.{RunRequest}
 use Rattle.ipdl_top.specs.Run.{Driving, answer_of, run_answer}
 
@@ -21,8 +22,8 @@ abbrev pub IsMadeUnless : Driving → Option (List Turn) → WorldView → World
 IsMadeUnless Gives None before after answer = GivesUnless Gives before after answer
 IsMadeUnless Gives (Some word) before after answer = WordGives before word answer after
 
--- The answer prints lines, and says how their run ended, which it did.
-pub record IsPrinted (schema : Schema) (lines : List Line) (ended : RunAnswer) (answer : CommandAnswer) : Type 0 where
+-- The answer shows lines so, and says how their run ended, which it did.
+pub record IsPrinted (shown : Rendering) (schema : Schema) (lines : List Line) (ended : RunAnswer) (answer : CommandAnswer) : Type 0 where
   pub ending : RunEnding
   pub ends : ended ≡ answer_of ending
-  pub says : answer ≡ run_answer schema lines ending
+  pub says : answer ≡ run_answer shown schema lines ending

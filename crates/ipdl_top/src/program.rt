@@ -1,7 +1,8 @@
-ghost use Rattle.std.specs.Prelude.{◌≡◌, ◌≢◌, ◌⊎◌, IfOk, map, string_bytes};
+ghost use Rattle.std.specs.Prelude.{◌≡◌, ◌≢◌, ◌⊎◌, ℕ, IfOk, map, string_bytes};
 ghost use Rattle.ipdl_base.specs.Outside.{Rose};
 ghost use Rattle.ipdl_top.specs.CommandAnswer.{IsAnswer, usage_answer};
 ghost use Rattle.command_words.specs.Command.{IsNoCommand};
+ghost use Rattle.command_words.specs.Gen.{IsGen};
 ghost use Rattle.ipdl_top.specs.Outcome.{IsOutcome};
 ghost use Rattle.ipdl_top.specs.FileViews.{ForMap};
 ghost use Rattle.ipdl_top.specs.Written.{WritesAll};
@@ -9,11 +10,13 @@ ghost use Rattle.ipdl_top.specs.Written.{WritesAll};
 use crate::answer::{CommandAnswer, Failure};
 use crate::compile::compile;
 use crate::frames::{FramesRequest, frames};
+use crate::generation::generation;
+use crate::rendering::Rendering;
 use crate::run::{RunRequest, run};
 use crate::status::Status;
 use crate::waits::waits;
 use crate::write::write_answer;
-use command_words::{Command, WordsFault, read_words};
+use command_words::{Command, WordsFault, one_command, read_words};
 use ipdl_base::{Files, Sink};
 use std::alloc::Global;
 use world_core::Driver;
@@ -29,7 +32,9 @@ fn answer_to<F: Files, D: Driver>(
     ensures answer { ForMap (F.told files.old) (λ map'. IfOk result (IsAnswer (D.Gives driver.old) map' (map string_bytes words.now))) }
     ensures no_command { IsNoCommand (map string_bytes words.now) → result ≢ Err Failure.ReadFault }
     ensures read_fault { result ≡ Err Failure.ReadFault → Rose (F.faults files.old) (F.faults files.new) }
+    ensures unread { (rounds actors : ℕ) → IsGen (map string_bytes words.now) rounds actors → files.new ≡ files.old }
 {
+    one_command();
     match read_words(alloc, words) {
         Ok(
             Command::Compile {
@@ -72,9 +77,11 @@ fn answer_to<F: Files, D: Driver>(
                 schedule,
                 limit,
                 death,
+                rendering: Rendering::Transcript,
             };
             run(alloc, files, &list, path.as_slice(), &file, &wanted, driver)
         }
+        Ok(Command::Gen { rounds, actors }) => generation(alloc, rounds, actors, driver),
         Err(WordsFault::Usage) => CommandAnswer::of_no_command(alloc),
         Err(WordsFault::NoMemory) => Err(Failure::NoMemory),
     }
@@ -108,6 +115,9 @@ pub fn ipdl<F: Files, O: Sink, E: Sink, D: Driver>(
     ensures read_fault { result ≡ Status.ReadFault → Rose (F.faults files.old) (F.faults files.new) }
     ensures write_fault { result ≡ Status.WriteFault → Rose (O.faults out.old) (O.faults out.new) ⊎ Rose (E.faults err.old) (E.faults err.new) }
     ensures nothing { (result ≡ Status.ReadFault) ⊎ (result ≡ Status.NoMemory) → (out.new ≡ out.old) × (err.new ≡ err.old) }
+
+    // A generated case reads no file.
+    ensures unread { (rounds actors : ℕ) → IsGen (map string_bytes words.now) rounds actors → files.new ≡ files.old }
 {
     match answer_to(alloc, words, files, driver) {
         Ok(answer) => match write_answer(&answer, out, err) {

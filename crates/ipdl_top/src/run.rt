@@ -3,16 +3,16 @@ ghost use Rattle.handler_script.specs.Valid.{IsValid};
 ghost use Rattle.include_graph.specs.Keys.{AreFileWords};
 ghost use Rattle.include_graph.specs.Load as load;
 ghost use Rattle.ipdl_base.specs.Outside.{Rose};
-ghost use Rattle.history.specs.Text.{transcript_text};
 ghost use Rattle.ipdl_base.specs.Sound.{IsSound};
 ghost use Rattle.ipdl_base.specs.declared.line.Line.{Line};
+ghost use Rattle.ipdl_top.specs.declared.rendering.Rendering.{Rendering as Shown};
 ghost use Rattle.script_steps.specs.Turns.{at_limit};
 ghost use Rattle.world_core.specs.Turns.{StandsAs};
 ghost use Rattle.world_core.specs.WorldView.{WorldView};
 ghost use Rattle.world_core.specs.Worlds.{IsCase, IsLawful, most_events};
 ghost use Rattle.ipdl_top.specs.CommandAnswer.{IsCompilation, given_by};
 ghost use Rattle.ipdl_top.specs.FileViews.{ForMap};
-ghost use Rattle.ipdl_top.specs.Run.{SaysHistory, SaysRun, SaysScript, SaysText, bad_script_answer, ending_line};
+ghost use Rattle.ipdl_top.specs.Run.{SaysHistory, SaysRun, SaysScript, SaysText, bad_script_answer, ending_line, rendered};
 ghost use Rattle.ipdl_top.specs.RunSteps.{IsMadeUnless, IsPrinted, course_of};
 ghost use Rattle.ipdl_top.specs.Steps.{HasTop, IsHeld, IsSmall, IsSoundChecked, IsToldOf};
 ghost use Rattle.ipdl_top.specs.Waits.{IsTop};
@@ -21,9 +21,11 @@ use crate::answer::{CommandAnswer, Failure};
 use crate::checked::CheckResult;
 use crate::compile::{checked, leave};
 use crate::held::{HeldFile, read_held};
+use crate::rendering::Rendering;
 use crate::report::text_of_report;
 use crate::status::Status;
 use crate::waits::top_of;
+use generated_case::{Counts, summary_text};
 use handler_script::{Script, ScriptFault, read_script};
 use ipdl_base::{Files, Finding, Items, Place, Rule, Schema, Side};
 use schedules::{Stop, Turn};
@@ -51,6 +53,8 @@ pub struct RunRequest<'w> {
     pub limit: u32,
     /// The death of an end, where one is given.
     pub death: Option<Stop>,
+    /// What is printed of the history.
+    pub rendering: Rendering,
 }
 
 /// Runs a world by a word of turns, where one is given, and else by the driver.
@@ -76,7 +80,7 @@ fn driven<'s, D: Driver>(
     }
 }
 
-/// The answer that is the text of a history, and behind it the line that says how the run ended.
+/// The answer that is a text of a history, and behind it the line that says how the run ended.
 fn with_ending(
     alloc: Global,
     status: Status,
@@ -104,13 +108,13 @@ fn spent_line(side: Side) -> &'static [u8]
     }
 }
 
-/// The answer by the text of a history and how its run ended.
+/// The answer by a text of a history and how its run ended.
 fn ended_answer(
     alloc: Global,
     text: Vec<u8>,
     ending: RunAnswer,
 ) -> Result<CommandAnswer, AllocError>
-    ensures { IfOk result (λ answer. (schema : Schema) (lines : List Line) → text.items ≡ transcript_text schema lines → IsPrinted schema lines ending answer) }
+    ensures { IfOk result (λ answer. (shown : Shown) (schema : Schema) (lines : List Line) → text.items ≡ rendered shown schema lines → IsPrinted shown schema lines ending answer) }
 {
     match ending {
         RunAnswer::Finished => with_ending(alloc, Status::Done, text, b"finished\n"),
@@ -119,15 +123,28 @@ fn ended_answer(
     }
 }
 
+/// What is printed of the history of a world. Of a transcript nothing is made where a summary is wanted.
+fn text_of(alloc: Global, world: &World<'_>, rendering: Rendering) -> Result<Vec<u8>, AllocError>
+    ensures { IfOk result (λ text. text.items ≡ rendered rendering world.now.setting.schema world.now.state.lines) }
+{
+    match rendering {
+        Rendering::Transcript => world.transcript(alloc),
+        Rendering::Summary(rounds, actors) => {
+            summary_text(alloc, rounds, actors, &Counts::of(world.history()))
+        }
+    }
+}
+
 /// The answer by a world whose run ended so.
 fn world_answer(
     alloc: Global,
     world: World<'_>,
+    rendering: Rendering,
     ending: RunAnswer,
 ) -> Result<CommandAnswer, AllocError>
-    ensures { IfOk result (IsPrinted world.entry.setting.schema world.entry.state.lines ending) }
+    ensures { IfOk result (IsPrinted rendering world.entry.setting.schema world.entry.state.lines ending) }
 {
-    let text = world.transcript(alloc);
+    let text = text_of(alloc, &world, rendering);
     leave(world);
     ended_answer(alloc, text?, ending)
 }
@@ -144,13 +161,13 @@ fn history_answer<D: Driver>(
     requires valid { IsValid schema.now script.now }
     requires limit { wanted.now.limit ≤ most_events }
     requires ready { D.ready driver.old }
-    ensures { IfOk result (SaysHistory (D.Gives driver.old) (course_of wanted.now) schema.now script.now) }
+    ensures { IfOk result (SaysHistory (D.Gives driver.old) wanted.now.rendering (course_of wanted.now) schema.now script.now) }
 {
     choices_are_runs();
     histories_are_lawful();
     let world = World::open(alloc, schema, script, wanted.death, wanted.limit)?;
     let (world, ending) = driven(world, &wanted.schedule, driver);
-    world_answer(alloc, world, ending)
+    world_answer(alloc, world, wanted.rendering, ending)
 }
 
 /// The answer that a script breaks these rules.
@@ -183,7 +200,7 @@ fn text_answer<D: Driver>(
     requires small { length text.now ≤ 1048576 }
     requires limit { wanted.now.limit ≤ most_events }
     requires ready { D.ready driver.old }
-    ensures { IfOk result (SaysText (D.Gives driver.old) (course_of wanted.now) wanted.now.script.now text.now schema.now top) }
+    ensures { IfOk result (SaysText (D.Gives driver.old) wanted.now.rendering (course_of wanted.now) wanted.now.script.now text.now schema.now top) }
 {
     match read_script(alloc, text, schema, top) {
         Ok(script) => history_answer(alloc, schema, &script, wanted, driver),
@@ -208,7 +225,7 @@ fn script_answer<D: Driver>(
     requires top { top < length schema.now.protocols }
     requires limit { wanted.now.limit ≤ most_events }
     requires ready { D.ready driver.old }
-    ensures { IfOk result (λ answer. (file : Option (List ℕ)) → IsHeld file held.now → SaysScript (D.Gives driver.old) (course_of wanted.now) wanted.now.script.now file schema.now top answer) }
+    ensures { IfOk result (λ answer. (file : Option (List ℕ)) → IsHeld file held.now → SaysScript (D.Gives driver.old) wanted.now.rendering (course_of wanted.now) wanted.now.script.now file schema.now top answer) }
 {
     match held {
         HeldFile::Absent | HeldFile::Larger => {
@@ -238,7 +255,7 @@ fn held_answer<D: Driver>(
     requires top { (top : ℕ) × IsTop file.now schema.now top }
     requires limit { wanted.now.limit ≤ most_events }
     requires ready { D.ready driver.old }
-    ensures { IfOk result (λ answer. (text : Option (List ℕ)) → IsHeld text held.now → SaysRun (D.Gives driver.old) (course_of wanted.now) wanted.now.script.now text file.now schema.now answer) }
+    ensures { IfOk result (λ answer. (text : Option (List ℕ)) → IsHeld text held.now → SaysRun (D.Gives driver.old) wanted.now.rendering (course_of wanted.now) wanted.now.script.now text file.now schema.now answer) }
 {
     let Some(top) = top_of(schema, file) else {
         unreachable!();
@@ -260,7 +277,7 @@ fn checked_answer<D: Driver>(
     requires top { HasTop file.now checked }
     requires limit { wanted.now.limit ≤ most_events }
     requires ready { D.ready driver.old }
-    ensures { IfOk result (λ answer. (text : Option (List ℕ)) → IsHeld text held.now → IsToldOf (SaysRun (D.Gives driver.old) (course_of wanted.now) wanted.now.script.now text file.now) checked answer) }
+    ensures { IfOk result (λ answer. (text : Option (List ℕ)) → IsHeld text held.now → IsToldOf (SaysRun (D.Gives driver.old) wanted.now.rendering (course_of wanted.now) wanted.now.script.now text file.now) checked answer) }
 {
     match checked {
         CheckResult::Report(report) => Ok(report),
@@ -285,7 +302,7 @@ fn answer_with<F: Files, D: Driver>(
     requires top { HasTop file.now checked }
     requires limit { wanted.now.limit ≤ most_events }
     requires ready { D.ready driver.old }
-    ensures answer { load.ForMap (F.told files.old) (λ map'. IfOk result (IsToldOf (SaysRun (D.Gives driver.old) (course_of wanted.now) wanted.now.script.now (map' wanted.now.script.now) file.now) checked)) }
+    ensures answer { load.ForMap (F.told files.old) (λ map'. IfOk result (IsToldOf (SaysRun (D.Gives driver.old) wanted.now.rendering (course_of wanted.now) wanted.now.script.now (map' wanted.now.script.now) file.now) checked)) }
     ensures read_fault { result ≡ Err Failure.ReadFault → Rose (F.faults files.old) (F.faults files.new) }
 {
     let held = read_held(alloc, files, wanted.script)?;
@@ -293,7 +310,8 @@ fn answer_with<F: Files, D: Driver>(
 }
 
 /// The command that runs a script: the report on the file and on what it includes by the path, with
-/// this sync list; or the rules that the script breaks; or a history of both ends, and how it ended.
+/// this sync list; or the rules that the script breaks; or what is wanted of a history of both ends,
+/// and how it ended.
 pub fn run<F: Files, D: Driver>(
     alloc: Global,
     files: &mut F,
@@ -308,7 +326,7 @@ pub fn run<F: Files, D: Driver>(
     requires limit { wanted.now.limit ≤ most_events }
     requires ready { D.ready driver.old }
     ensures answer { ForMap (F.told files.old) (λ seen. IfOk result
-        (IsCompilation (SaysRun (D.Gives driver.old) (course_of wanted.now) wanted.now.script.now (seen.last wanted.now.script.now) (string_bytes file.now)) (given_by seen.files (map string_bytes path.now) (string_bytes file.now ∷ [])) seen.list (option_map string_bytes list.now))) }
+        (IsCompilation (SaysRun (D.Gives driver.old) wanted.now.rendering (course_of wanted.now) wanted.now.script.now (seen.last wanted.now.script.now) (string_bytes file.now)) (given_by seen.files (map string_bytes path.now) (string_bytes file.now ∷ [])) seen.list (option_map string_bytes list.now))) }
     ensures read_fault { result ≡ Err Failure.ReadFault → Rose (F.faults files.old) (F.faults files.new) }
 {
     match checked(alloc, files, list, path, from_ref(file)) {

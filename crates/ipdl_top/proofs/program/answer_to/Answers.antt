@@ -1,17 +1,18 @@
-use Rattle.std.proofs.Common.{◌≤◌, ◌++◌, ◌≡◌, List, ℕ, [], ◌∷◌, inl, inr, map, codes, subst, rules}
-use Rattle.std.specs.Prelude.{Err, Option, string_bytes, IfOk, option_map}
+use Rattle.std.proofs.Common.{List, ℕ, [], ◌∷◌, inl, inr, map, refl, subst, rules}
+use Rattle.std.specs.Prelude.{Err, None, string_bytes, IfOk, option_map}
 use Rattle.std.proofs.lemmas.Result.{IfOk-weaker}
-use Rattle.ipdl_top.specs.declared.answer.CommandAnswer.{CommandAnswer}
 use Rattle.ipdl_top.specs.declared.answer.Failure.TheVariants.{NoMemory}
-use Rattle.command_words.specs.Command.{CommandOf, CommandView, Say, compile, frames, run, waits}
+use Rattle.command_words.specs.Command.{CommandOf, Say, compile, frames, gen, run, waits}
 use Rattle.command_words.specs.Run.{Course}
-use Rattle.ipdl_top.specs.CommandAnswer.{AnswersTo, IsAnswer, IsCompilation, SaysTables, given_by}
+use Rattle.ipdl_top.specs.CommandAnswer.{IsAnswer, IsCompilation, SaysTables, given_by}
+use Rattle.ipdl_top.specs.declared.rendering.Rendering.TheVariants.{Transcript}
 use Rattle.ipdl_top.specs.Frames.{SaysFrames}
+use Rattle.ipdl_top.specs.Gen.{SaysGen, case_files, case_path, holder_name}
 use Rattle.ipdl_top.specs.FileViews.{FileViews, ForMap}
-use Rattle.ipdl_top.specs.Run.{Driving, SaysRun}
+use Rattle.ipdl_top.specs.Run.{SaysRun}
 use Rattle.ipdl_top.specs.Waits.{SaysWaits}
 use Rattle.ipdl_top.proofs.Maps.{for_all_seen, for_each_seen}
-use Rattle.ipdl_top.proofs.Words.{command_files, given_limit}
+use Rattle.ipdl_top.proofs.Words.{case_numbers, command_files, no_case, run_limit}
 use Rattle.ipdl_top.proofs.program.answer_to.Goals as goal
 
 pub compile-requires : goal.compile-requires
@@ -81,3 +82,96 @@ returns-in-Ok-Waits-clause-answer g c =
     (λ seen h. IfOk-weaker c.waits.result (IsCompilation (SaysWaits file) (given_by seen.files path (file ∷ [])) seen.list list) (IsAnswer Gives seen words)
     (λ answer k. inl (record { command = waits list path file; said = said; answers = k })) h)
     (subst (λ p. ForMap told (K (map string_bytes p))) c.as_slice-in-Ok-Waits.ensures.value c.waits.ensures.answer)
+
+pub run-requires-clause-limit : goal.run-requires-clause-limit
+run-requires-clause-limit g c =
+    let words = map string_bytes c.args.words.now in
+    let list = option_map string_bytes c.in-Ok-Run.list in
+    let path = map string_bytes c.in-Ok-Run.path.items in
+    let file = string_bytes c.in-Ok-Run.file in
+    let script = string_bytes c.in-Ok-Run.script in
+    let course : Course = record { schedule = option_map (λ turns. turns.items) c.in-Ok-Run.schedule; limit = c.in-Ok-Run.limit; death = c.in-Ok-Run.death } in
+    run_limit words list path course script file (subst (CommandOf words) c.in-Ok-Run.field-0-is c.in-Ok-Run.ensures.command)
+
+pub returns-in-Ok-Run-clause-answer : goal.returns-in-Ok-Run-clause-answer
+returns-in-Ok-Run-clause-answer g c =
+    let words = map string_bytes c.args.words.now in
+    let Gives = g.D.Driver.Gives c.args.driver.now in
+    let told = g.F.Files.told c.args.files.now in
+    let list = option_map string_bytes c.in-Ok-Run.list in
+    let path = map string_bytes c.in-Ok-Run.path.items in
+    let file = string_bytes c.in-Ok-Run.file in
+    let script = string_bytes c.in-Ok-Run.script in
+    let course : Course = record { schedule = option_map (λ turns. turns.items) c.in-Ok-Run.schedule; limit = c.in-Ok-Run.limit; death = c.in-Ok-Run.death } in
+    let said : Say words (run list path course script file) = subst (CommandOf words) c.in-Ok-Run.field-0-is c.in-Ok-Run.ensures.command in
+    let K : List ℕ → List (List ℕ) → FileViews → Type 0 = λ n p seen. IfOk c.run.result (IsCompilation (SaysRun Gives Transcript course n (seen.last n) file) (given_by seen.files p (file ∷ [])) seen.list list) in
+    let R : FileViews → Type 0 = λ seen. IfOk c.run.result (IsAnswer Gives seen words) in
+    for_each_seen told (K script path) R
+    (λ seen h. IfOk-weaker c.run.result (IsCompilation (SaysRun Gives Transcript course script (seen.last script) file) (given_by seen.files path (file ∷ [])) seen.list list) (IsAnswer Gives seen words)
+    (λ answer k. inl (record { command = run list path course script file; said = said; answers = k })) h)
+    (subst (λ (n : List ℕ). ForMap told (K n path)) c.as_str-in-Ok-Run.ensures.value
+    (subst (λ p. ForMap told (K c.as_str-in-Ok-Run.result.now (map string_bytes p))) c.as_slice-in-Ok-Run.ensures.value c.run.ensures.answer))
+
+pub returns-in-Ok-Gen-clause-answer : goal.returns-in-Ok-Gen-clause-answer
+returns-in-Ok-Gen-clause-answer g c =
+    let words = map string_bytes c.args.words.now in
+    let Gives = g.D.Driver.Gives c.args.driver.now in
+    let rounds = c.in-Ok-Gen.rounds in
+    let actors = c.in-Ok-Gen.actors in
+    let said : Say words (gen rounds actors) = subst (CommandOf words) c.in-Ok-Gen.field-0-is c.in-Ok-Gen.ensures.command in
+    let R : FileViews → Type 0 = λ seen. IfOk c.generation.result (IsAnswer Gives seen words) in
+    for_all_seen (g.F.Files.told c.args.files.now) R
+    (λ seen. IfOk-weaker c.generation.result (IsCompilation (SaysGen Gives rounds actors) (given_by (case_files rounds actors) case_path (holder_name ∷ [])) (case_files rounds actors) None) (IsAnswer Gives seen words)
+    (λ answer k. inl (record { command = gen rounds actors; said = said; answers = k })) c.generation.ensures.answer)
+
+pub generation-requires-clause-some_rounds : goal.generation-requires-clause-some_rounds
+generation-requires-clause-some_rounds g c = (case_numbers (map string_bytes c.args.words.now) c.in-Ok-Gen.rounds c.in-Ok-Gen.actors (subst (CommandOf (map string_bytes c.args.words.now)) c.in-Ok-Gen.field-0-is c.in-Ok-Gen.ensures.command)).some_rounds
+
+pub generation-requires-clause-rounds : goal.generation-requires-clause-rounds
+generation-requires-clause-rounds g c = (case_numbers (map string_bytes c.args.words.now) c.in-Ok-Gen.rounds c.in-Ok-Gen.actors (subst (CommandOf (map string_bytes c.args.words.now)) c.in-Ok-Gen.field-0-is c.in-Ok-Gen.ensures.command)).few_rounds
+
+pub generation-requires-clause-some_actors : goal.generation-requires-clause-some_actors
+generation-requires-clause-some_actors g c = (case_numbers (map string_bytes c.args.words.now) c.in-Ok-Gen.rounds c.in-Ok-Gen.actors (subst (CommandOf (map string_bytes c.args.words.now)) c.in-Ok-Gen.field-0-is c.in-Ok-Gen.ensures.command)).some_actors
+
+pub generation-requires-clause-actors : goal.generation-requires-clause-actors
+generation-requires-clause-actors g c = (case_numbers (map string_bytes c.args.words.now) c.in-Ok-Gen.rounds c.in-Ok-Gen.actors (subst (CommandOf (map string_bytes c.args.words.now)) c.in-Ok-Gen.field-0-is c.in-Ok-Gen.ensures.command)).few_actors
+
+pub returns-in-Ok-Compile-clause-unread : goal.returns-in-Ok-Compile-clause-unread
+returns-in-Ok-Compile-clause-unread g c =
+    let words = map string_bytes c.args.words.now in
+    let list = option_map string_bytes c.in-Ok-Compile.list in
+    let path = map string_bytes c.in-Ok-Compile.path.items in
+    let names = map string_bytes c.in-Ok-Compile.names.items in
+    λ rounds actors is.
+    absurd (no_case c.one_command.ensures words (compile list path names) (subst (CommandOf words) c.in-Ok-Compile.field-0-is c.in-Ok-Compile.ensures.command) refl rounds actors is)
+
+pub returns-in-Ok-Frames-clause-unread : goal.returns-in-Ok-Frames-clause-unread
+returns-in-Ok-Frames-clause-unread g c =
+    let words = map string_bytes c.args.words.now in
+    let list = option_map string_bytes c.in-Ok-Frames.list in
+    let path = map string_bytes c.in-Ok-Frames.path.items in
+    let file = string_bytes c.in-Ok-Frames.file in
+    let name = string_bytes c.in-Ok-Frames.name in
+    let convert = c.in-Ok-Frames.convert in
+    λ rounds actors is.
+    absurd (no_case c.one_command.ensures words (frames list path file name convert) (subst (CommandOf words) c.in-Ok-Frames.field-0-is c.in-Ok-Frames.ensures.command) refl rounds actors is)
+
+pub returns-in-Ok-Waits-clause-unread : goal.returns-in-Ok-Waits-clause-unread
+returns-in-Ok-Waits-clause-unread g c =
+    let words = map string_bytes c.args.words.now in
+    let list = option_map string_bytes c.in-Ok-Waits.list in
+    let path = map string_bytes c.in-Ok-Waits.path.items in
+    let file = string_bytes c.in-Ok-Waits.file in
+    λ rounds actors is.
+    absurd (no_case c.one_command.ensures words (waits list path file) (subst (CommandOf words) c.in-Ok-Waits.field-0-is c.in-Ok-Waits.ensures.command) refl rounds actors is)
+
+pub returns-in-Ok-Run-clause-unread : goal.returns-in-Ok-Run-clause-unread
+returns-in-Ok-Run-clause-unread g c =
+    let words = map string_bytes c.args.words.now in
+    let list = option_map string_bytes c.in-Ok-Run.list in
+    let path = map string_bytes c.in-Ok-Run.path.items in
+    let file = string_bytes c.in-Ok-Run.file in
+    let script = string_bytes c.in-Ok-Run.script in
+    let course : Course = record { schedule = option_map (λ turns. turns.items) c.in-Ok-Run.schedule; limit = c.in-Ok-Run.limit; death = c.in-Ok-Run.death } in
+    λ rounds actors is.
+    absurd (no_case c.one_command.ensures words (run list path course script file) (subst (CommandOf words) c.in-Ok-Run.field-0-is c.in-Ok-Run.ensures.command) refl rounds actors is)

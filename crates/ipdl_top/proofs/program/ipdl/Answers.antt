@@ -1,7 +1,7 @@
 use Rattle.std.proofs.Common.{ap, inl, map}
 use Rattle.std.specs.Prelude.{string_bytes}
 use Rattle.ipdl_top.specs.declared.answer.CommandAnswer.{CommandAnswer}
-use Rattle.ipdl_top.proofs.Answered.{no_command_of, of_no_command, for_any}
+use Rattle.ipdl_top.proofs.Answered.{no_command_of, no_failure, of_no_command, for_any}
 use Rattle.ipdl_top.proofs.program.ipdl.Goals as goal
 
 pub returns-in-Ok-write_answer-clause-usage : goal.returns-in-Ok-write_answer-clause-usage
@@ -11,3 +11,7 @@ returns-in-Ok-write_answer-clause-usage g c = λ usage.
 pub returns-in-Ok-write_answer-clause-no_command : goal.returns-in-Ok-write_answer-clause-no_command
 returns-in-Ok-write_answer-clause-no_command g c = λ none.
     for_any (g.F.Files.told c.args.files.now) _ _ (λ files h. inl (ap (λ (a : CommandAnswer). a.status) (of_no_command (g.D.Driver.Gives c.args.driver.now) files (map string_bytes c.args.words.now) c.in-Ok.answer none h))) c.in-Ok.ensures.answer
+
+pub returns-in-Ok-write_answer-clause-nothing : goal.returns-in-Ok-write_answer-clause-nothing
+returns-in-Ok-write_answer-clause-nothing g c = λ failed.
+    absurd (for_any (g.F.Files.told c.args.files.now) _ _ (λ files h. no_failure (g.D.Driver.Gives c.args.driver.now) files (map string_bytes c.args.words.now) c.in-Ok.answer h failed) c.in-Ok.ensures.answer)

@@ -11,5 +11,5 @@ returns-clause-answer g c =
     let course = course_of c.args.wanted.now in
     let Gives = g.D.Driver.Gives c.args.driver.now in
     let P : FileMap → Type 0 = λ map. IsHeld (map name) c.in_ok-held.held in
-    let Q : FileMap → Type 0 = λ map. IsToldOf (SaysRun Gives course name (map name) c.args.file.now) c.args.checked c.in_ok-checked_answer.field-0 in
+    let Q : FileMap → Type 0 = λ map. IsToldOf (SaysRun Gives c.args.wanted.now.rendering course name (map name) c.args.file.now) c.args.checked c.in_ok-checked_answer.field-0 in
     for_each (g.F.Files.told c.args.files.now) P Q (λ map h. c.in_ok-checked_answer.ensures (map name) h) c.in_ok-held.ensures.held

@@ -9,4 +9,4 @@ use Rattle.ipdl_top.proofs.run.ended_answer.Goals as goal
 pub returns-in-Spent : goal.returns-in-Spent
 returns-in-Spent c =
     IfOk-weaker c.with_ending-in-Spent.result _ _
-    (λ answer is schema lines text. subst (λ (ended : RunAnswer). IsPrinted schema lines ended answer) (sym c.in-Spent.is) (printed schema lines c.args.text.items _ (at_limit c.in-Spent.side) answer c.spent_line.ensures text is)) c.with_ending-in-Spent.ensures
+    (λ answer is shown schema lines text. subst (λ (ended : RunAnswer). IsPrinted shown schema lines ended answer) (sym c.in-Spent.is) (printed shown schema lines c.args.text.items _ (at_limit c.in-Spent.side) answer c.spent_line.ensures text is)) c.with_ending-in-Spent.ensures

@@ -6,5 +6,5 @@ use Rattle.ipdl_top.proofs.run.history_answer.Goals as goal
 pub returns : goal.returns
 returns g c =
     IfOk-weaker c.world_answer.result _ _
-    (λ answer printed. says_history c.choices_are_runs.ensures c.histories_are_lawful.ensures (g.D.Driver.Gives c.args.driver.now) (course_of c.args.wanted.now) c.args.schema.now c.args.script.now c.in_ok-world.world c.driven-world.result.0 c.driven-world.result.1 answer
+    (λ answer printed. says_history c.choices_are_runs.ensures c.histories_are_lawful.ensures (g.D.Driver.Gives c.args.driver.now) c.args.wanted.now.rendering (course_of c.args.wanted.now) c.args.schema.now c.args.script.now c.in_ok-world.world c.driven-world.result.0 c.driven-world.result.1 answer
     c.requires.sound c.in_ok-world.ensures.opened c.driven-world.ensures.made c.driven-world.ensures.same c.driven-world.ensures.stands c.driven-world.ensures.case printed) c.world_answer.ensures

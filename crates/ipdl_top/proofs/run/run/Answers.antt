@@ -37,11 +37,11 @@ returns-in-Ok-clause-answer g c =
     let checked = c.in-Ok.checked in
     let one : words ≡ file ∷ [] = ap (map string_bytes) c.from_ref.ensures.value in
     let P : FileViews → Type 0 = λ seen. IsChecked (given_by seen.files path words) seen.list list checked in
-    let Q : List ℕ → FileMap → Type 0 = λ top map. IfOk c.answer_with.result (IsToldOf (SaysRun Gives course name (map name) top) checked) in
-    let R : FileViews → Type 0 = λ seen. IfOk c.answer_with.result (IsCompilation (SaysRun Gives course name (seen.last name) file) (given_by seen.files path (file ∷ [])) seen.list list) in
+    let Q : List ℕ → FileMap → Type 0 = λ top map. IfOk c.answer_with.result (IsToldOf (SaysRun Gives c.args.wanted.now.rendering course name (map name) top) checked) in
+    let R : FileViews → Type 0 = λ seen. IfOk c.answer_with.result (IsCompilation (SaysRun Gives c.args.wanted.now.rendering course name (seen.last name) file) (given_by seen.files path (file ∷ [])) seen.list list) in
     for_last (g.F.Files.told c.args.files.now) (g.F.Files.told c.checked.new.files) P (Q file) R c.in-Ok.ensures.told
-    (λ seen last h k. IfOk-weaker c.answer_with.result (IsToldOf (SaysRun Gives course name (last name) file) checked)
-    (IsCompilation (SaysRun Gives course name (last name) file) (given_by seen.files path (file ∷ [])) seen.list list)
-    (λ answer told. of_told (SaysRun Gives course name (last name) file) (given_by seen.files path (file ∷ [])) seen.list list checked answer
+    (λ seen last h k. IfOk-weaker c.answer_with.result (IsToldOf (SaysRun Gives c.args.wanted.now.rendering course name (last name) file) checked)
+    (IsCompilation (SaysRun Gives c.args.wanted.now.rendering course name (last name) file) (given_by seen.files path (file ∷ [])) seen.list list)
+    (λ answer told. of_told (SaysRun Gives c.args.wanted.now.rendering course name (last name) file) (given_by seen.files path (file ∷ [])) seen.list list checked answer
     (subst (λ (ws : List (List ℕ)). IsChecked (given_by seen.files path ws) seen.list list checked) one h) told) k)
     c.in-Ok.ensures.found (subst (λ (top : List ℕ). load.ForMap (g.F.Files.told c.checked.new.files) (Q top)) c.as_str.ensures.value c.answer_with.ensures.answer)

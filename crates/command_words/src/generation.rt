@@ -1,0 +1,74 @@
+ghost use Rattle.std.specs.Prelude.{◌≡◌, ◌∷◌, ℕ, None, IfErr, IfOk, IfSome, map, option_map, string_bytes};
+ghost use Rattle.command_words.specs.Command.{CommandOf};
+ghost use Rattle.command_words.specs.Gen.{IsActors, IsCount, IsNoGen, IsRounds, gen_word};
+
+use crate::WordsFault;
+use crate::command::Command;
+use crate::numbers::number_of;
+use crate::options::{Choice, read_options};
+use std::alloc::Global;
+
+/// The options of the command that runs a generated case.
+const GEN_OPTIONS: [Choice; 1] = [Choice {
+    name: "actors",
+    letter: None,
+}];
+
+/// The most rounds.
+const MOST_ROUNDS: u32 = 1_000;
+
+/// The number of actors without `--actors`.
+const USUAL_ACTORS: u32 = 4;
+
+/// The most actors.
+const MOST_ACTORS: u32 = 100;
+
+/// The number from 1 to the greatest that a text writes.
+fn count_of(text: &str, most: u32) -> Option<u32>
+    ensures count { IfSome result (IsCount most text.now) }
+    ensures none { result ≡ None → (n : ℕ) → ¬ IsCount most text.now n }
+{
+    match number_of(text) {
+        Some(n) if n >= 1 && n <= most => Some(n),
+        _ => None,
+    }
+}
+
+/// The number of actors, by the value of `--actors`.
+fn actors_of(text: Option<&str>) -> Result<u32, WordsFault>
+    ensures actors { IfOk result (IsActors (option_map (λ t. t.now) text.entry)) }
+    ensures usage { IfErr result (λ fault. (actors : ℕ) → ¬ IsActors (option_map (λ t. t.now) text.entry) actors) }
+{
+    let Some(text) = text else {
+        return Ok(USUAL_ACTORS);
+    };
+    match count_of(text, MOST_ACTORS) {
+        Some(actors) => Ok(actors),
+        None => Err(WordsFault::Usage),
+    }
+}
+
+/// The number of rounds, where the words are this one.
+fn rounds_of(words: &[&str]) -> Result<u32, WordsFault>
+    ensures rounds { IfOk result (IsRounds (map (λ w. w.now) words.entry.now)) }
+    ensures usage { IfErr result (λ fault. (rounds : ℕ) → ¬ IsRounds (map (λ w. w.now) words.entry.now) rounds) }
+{
+    let [text] = words else {
+        return Err(WordsFault::Usage);
+    };
+    match count_of(text, MOST_ROUNDS) {
+        Some(rounds) => Ok(rounds),
+        None => Err(WordsFault::Usage),
+    }
+}
+
+/// The command that runs a generated case, where the words behind its first one are such.
+pub fn generation(alloc: Global, words: &[String]) -> Result<Command, WordsFault>
+    ensures command { IfOk result (λ command. CommandOf (gen_word ∷ map string_bytes words.now) command) }
+    ensures usage { IfErr result (λ fault. fault ≡ WordsFault.Usage → IsNoGen (gen_word ∷ map string_bytes words.now)) }
+{
+    let found = read_options(alloc, &GEN_OPTIONS, words)?;
+    let actors = actors_of(found.get_str("actors"))?;
+    let rounds = rounds_of(found.get_strs("words").unwrap_or(&[]))?;
+    Ok(Command::Gen { rounds, actors })
+}

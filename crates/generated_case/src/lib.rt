@@ -1,0 +1,11 @@
+//! A case that is made from two numbers: the files and the script of a large run, and the summary of
+//! its history. It knows nothing of how a run goes.
+#![tactic(auto)]
+
+mod case;
+mod counts;
+mod summary;
+
+pub use case::{GeneratedCase, generate};
+pub use counts::Counts;
+pub use summary::summary_text;

@@ -1,0 +1,8 @@
+/// What is printed of a history.
+#[derive(Clone, Copy, Debug, PartialEq, Eq)]
+pub enum Rendering {
+    /// Its transcript.
+    Transcript,
+    /// A summary, by the numbers of rounds and actors of the generated case that was run.
+    Summary(u32, u32),
+}
