@@ -23,3 +23,4 @@ mod OwnRuns
 pub mod Halves
 mod Meetings
 mod Apart
+mod FeedEnds
