@@ -21,6 +21,7 @@ use Rattle.channel_model.specs.Refusals.{DeliveryRefusal, delivery_refusal, pack
 use Rattle.channel_model.specs.Steps.{provided, step}
 use Rattle.feed_runs.specs.FeedTurns.{FeedSetting, FeedState, FeedTurn, Feeds, leads, idles, exceeds, rests, stops, goes_on, own_event, is_within, behind, given, behind_own, behind_delivery, behind_frame, turn_by, within, beginning_of}
 use Rattle.feed_runs.specs.Laws.{FeedsHaveOneResult, FeedsReadFrames}
+use Rattle.feed_runs.specs.Reached.{Reaches, stays, turns}
 use Rattle.feed_runs.specs.ReadFrames.{AreFrames, HasReadFrames}
 use Rattle.feed_runs.specs.ReadFrames as read
 use Rattle.feed_runs.specs.NextFrame.{NextFrame, taken, refused, fault_of, frame_at, next_frame}
@@ -83,6 +84,9 @@ provided-some false change e h = cc
 -- What was read
 
 module _ (setting : FeedSetting) (sound : IsSound setting.schema) (bytes : List ℕ) (are : AreBytes bytes) where
+  begins-read : HasReadFrames setting bytes (beginning_of setting)
+  begins-read = record { within = omega arith; frames = read.none }
+
   own-read : (state : FeedState) (own : Event) → HasReadFrames setting bytes state → HasReadFrames setting bytes (behind_own setting state own)
   own-read state own r = by (step setting.schema state.end [] own)
     where
@@ -132,10 +136,15 @@ module _ (setting : FeedSetting) (sound : IsSound setting.schema) (bytes : List 
       let opened = read-led (is_open state.end.state) (within setting state after) next is in
       subst (HasReadFrames setting bytes) (led (is_within setting state) after next opened.1).1 (frame-read state frame refl opened.0 r)
 
+  -- the states to which a feed comes have read the frames of what was delivered
+  pub reached-read : (state : FeedState) → Reaches setting bytes (beginning_of setting) state → HasReadFrames setting bytes state
+  reached-read _ stays = begins-read
+  reached-read _ (turns state next before is) = turn-read state next (own_event setting state) is (reached-read state before)
+
   feed-read : (from last : FeedState) (spent : Bool) → Feeds setting bytes from last spent → HasReadFrames setting bytes from → HasReadFrames setting bytes last
   feed-read _ _ _ (rests state is) r = r
   feed-read _ _ _ (stops state is) r = r
   feed-read _ _ _ (goes_on state next last spent is more) r = feed-read next last spent more (turn-read state next (own_event setting state) is r)
 
 pub feeds_read_frames : FeedsReadFrames
-feeds_read_frames setting bytes last spent sound are feeds = feed-read setting sound bytes are (beginning_of setting) last spent feeds (record { within = omega arith; frames = read.none })
+feeds_read_frames setting bytes last spent sound are feeds = feed-read setting sound bytes are (beginning_of setting) last spent feeds (begins-read setting sound bytes are)

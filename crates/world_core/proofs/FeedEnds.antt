@@ -51,7 +51,7 @@ use Rattle.feed_runs.specs.FeedTurns.{FeedSetting, FeedState, FeedTurn, Feeds, l
 use Rattle.feed_runs.specs.NextFrame.{NextFrame, taken, refused, next_frame}
 use Rattle.feed_runs.proofs.FeedRuns.{IsTaken, led, provided-some, read-led, taken-frame}
 use Rattle.world_core.specs.FeedLaws.{FeedTurnsArePossible, FeedsComeToAnEnd}
-use Rattle.world_core.specs.FeedReached.{Reaches, stays, turns}
+use Rattle.feed_runs.specs.Reached.{Reaches, stays, turns}
 
 fewer : (n limit : ℕ) → nat_lt n limit ≡ true → n < limit
 fewer n limit h = (Decides-ltb n limit).0 h
@@ -264,3 +264,11 @@ feed_turns_are_possible setting bytes state sound valid limit are reached =
 
 pub feeds_come_to_an_end : FeedsComeToAnEnd
 feeds_come_to_an_end setting bytes sound valid limit are = feed-ends setting sound valid limit bytes are setting.limit (beginning_of setting) (omega arith) (begins-kept setting sound valid limit)
+
+-- a turn that leads on is one event more, which the end might have
+pub turns_are_counted : (setting : FeedSetting) (bytes : List ℕ) (state next : FeedState) → IsSound setting.schema → IsValid setting.schema setting.script → setting.limit < 268435456 → AreBytes bytes → Reaches setting bytes (beginning_of setting) state
+    → feed_turn setting bytes state ≡ leads next → ((progress_of setting.side state.lines).events < setting.limit) × ((progress_of setting.side next.lines).events ≡ (progress_of setting.side state.lines).events + 1)
+turns_are_counted setting bytes state next sound valid limit are reached is =
+    let k = reached-keeps setting sound valid limit bytes are (beginning_of setting) state (begins-kept setting sound valid limit) reached in
+    let t = turn-keeps setting sound valid limit bytes are state next (own_event setting state) refl is k in
+    (t.few, t.more)

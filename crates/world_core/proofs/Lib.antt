@@ -24,3 +24,5 @@ pub mod Halves
 mod Meetings
 mod Apart
 mod FeedEnds
+mod FeedStates
+mod FeedFrames

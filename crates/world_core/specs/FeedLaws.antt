@@ -17,7 +17,7 @@ use Rattle.script_runs.specs.Dispatches.{dispatches}
 use Rattle.script_runs.specs.Handlers.{IsHandlerOf}
 use Rattle.script_steps.specs.Progress.{progress_of}
 use Rattle.feed_runs.specs.FeedTurns.{FeedSetting, FeedState, Feeds, beginning_of, own_event}
-use Rattle.world_core.specs.FeedReached.{Reaches}
+use Rattle.feed_runs.specs.Reached.{Reaches}
 
 -- What the end does next may be tried, and is possible; and so is a delivery while it is open. What it keeps fits the
 -- schema, its handlers stand as they were taken, no two of them have one resolver, it has sent and been delivered no
