@@ -21,7 +21,7 @@ struct Food<'a> {
 }
 
 /// The bytes that pairs of hexadecimal digits spell. Other characters stand for nothing.
-fn bytes_of(alloc: Global, digits: &str) -> Result<Vec<u8>, Fail> {
+pub fn bytes_of(alloc: Global, digits: &str) -> Result<Vec<u8>, Fail> {
     let mut bytes = Vec::new(alloc);
     let mut high = None;
     for c in digits.chars() {

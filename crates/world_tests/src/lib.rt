@@ -6,6 +6,8 @@
 #![tactic(auto)]
 
 #[cfg(test)]
+mod alone;
+#[cfg(test)]
 mod apart_rows;
 #[cfg(test)]
 mod courses;
@@ -25,6 +27,8 @@ mod halves;
 mod laws;
 #[cfg(test)]
 mod limits;
+#[cfg(test)]
+mod made_feeds;
 #[cfg(test)]
 mod order_rows;
 #[cfg(test)]
