@@ -32,9 +32,8 @@ use Rattle.script_steps.specs.NextEvent.{next_event}
 use Rattle.script_steps.specs.Progress.{Progress, no_progress, progress_of}
 use Rattle.feed_runs.proofs.FeedRuns.{IsTaken, reached-read, taken-frame}
 use Rattle.feed_runs.specs.declared.fault.FeedFault.{FeedFault}
-use Rattle.feed_runs.specs.FeedTurns.{FeedSetting, FeedState, FeedTurn, Feeds, leads, idles, exceeds, rests, stops, goes_on, beginning_of, behind, behind_delivery, behind_frame, behind_own, feed_turn, given, is_within, kept_fault, own_event, reading_turn, turn_by}
+use Rattle.feed_runs.specs.FeedTurns.{FeedSetting, FeedState, Feeds, leads, idles, exceeds, rests, stops, goes_on, beginning_of, behind, behind_frame, behind_own, feed_turn, given, is_within, kept_fault, own_event, reading_turn, turn_by}
 use Rattle.feed_runs.specs.NextFrame.{NextFrame, taken, refused, frame_at, next_frame}
-use Rattle.feed_runs.specs.ReadFrames.{HasReadFrames}
 use Rattle.feed_runs.specs.Reached.{Reaches, stays, turns}
 use Rattle.world_core.proofs.FeedEnds.{feed_turns_are_possible, turns_are_counted}
 use Rattle.world_core.proofs.Played.{own-progress}
@@ -42,12 +41,10 @@ use Rattle.world_core.specs.declared.answers.StepAnswer.{StepAnswer}
 use Rattle.world_core.specs.declared.answers.StepAnswer.TheVariants as answer
 use Rattle.world_core.specs.declared.feeding.FeedTrace.{FeedTrace}
 use Rattle.world_core.specs.declared.feeding.FrameAnswer.TheVariants as frame
-use Rattle.world_core.specs.Fed.{IsFeedOf}
 use Rattle.world_core.specs.FeedLaws.{CanGoOn}
 use Rattle.world_core.specs.Feeding.{BreakGives, FrameGives, HasCome, HasEnded, HasLedOn, HasStored, IsTraced, MayBeGiven, MayRead, OwnTurnGives, RestsAt, StoreGives, TurnGives, course_of, lines_in, progress_in, setting_in, state_in}
 use Rattle.world_core.specs.HalfSteps.{IsHalfStep, IsOwnStep, MayGoOn, next_of}
 use Rattle.world_core.specs.HalfView.{HalfView, IsCountedBy, appended, setting_of}
-use Rattle.world_core.specs.Resolvers.{AreApart}
 use Rattle.world_core.specs.Worlds.{most_events}
 
 -- what a feed makes from a state to which it comes, it makes from its beginning
@@ -348,8 +345,3 @@ module _ (schema : Schema) (script : Script) (side : Side) (limit : ℕ) (bytes 
   feed-opens trace sound valid small are counted lines place fault =
       subst (λ (s : FeedSetting). HasCome s bytes half trace) (sym told-setting)
       (feed-begins setting_is bytes half trace sound valid small are (ap setting_of made) (ap (λ (h : HalfView). h.end) made) counted lines place fault)
-
-  pub feed-gives : (spent : Bool) (half' : HalfView) (trace' : FeedTrace) → HasEnded (setting_in half) bytes spent half' trace' → IsFeedOf setting_is bytes (record { history = trace'.history; spent = spent; fault = trace'.fault })
-  feed-gives spent half' trace' h =
-      let ended : HasEnded setting_is bytes spent half' trace' = subst (λ (s : FeedSetting). HasEnded s bytes spent half' trace') told-setting h in
-      record { packets = ended.packets; feed = record { last = state_in half' trace' ended.packets; feeds = ended.feeds; lines_are = refl; packets_are = refl; fault_is = refl } }

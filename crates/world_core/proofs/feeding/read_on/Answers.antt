@@ -1,4 +1,4 @@
-use Rattle.std.proofs.Common.{◌≡◌, ◌≤◌, ◌+◌, drop, length, ap, subst, sym, ◌∙◌, arith, rules}
+use Rattle.std.proofs.Common.{subst, sym, arith, rules}
 use Rattle.script_steps.specs.Progress.{Progress}
 use Rattle.world_core.proofs.FeedStates.{may-be-given, place-within, read-break, read-room, read-taken}
 use Rattle.world_core.specs.Feeding.{MayBeGiven}
