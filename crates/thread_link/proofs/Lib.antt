@@ -5,4 +5,7 @@ pub mod Ends
 pub mod Seats
 pub mod HalfMeetings
 pub mod Together
-pub mod Sent
+mod SentContainers
+mod SentEnds
+mod SharedScripts
+mod Sent
