@@ -4,7 +4,7 @@ use Rattle.thread_link.proofs.Together.{GoesOn, goes-on, runs-at-once, split-aga
 use Rattle.thread_link.proofs.workers.run_at_once.Goals as goal
 
 pub work_apart-link-requires : goal.work_apart-link-requires
-work_apart-link-requires g c = split-own c.args.world.setting c.split-parent.result.0 c.split-parent.result.1 c.split-parent.result.2 c.split-parent.ensures.apart
+work_apart-link-requires g c = (c.type_bounds.sync-R, (c.type_bounds.sync-G, split-own c.args.world.setting c.split-parent.result.0 c.split-parent.result.1 c.split-parent.result.2 c.split-parent.ensures.apart))
 
 pub join-world-requires : goal.join-world-requires
 join-world-requires g c = split-again c.split-parent.result.0 c.work_apart-link.new.parent c.work_apart-link.new.child c.work_apart-link.result.0 c.work_apart-link.ensures.split
