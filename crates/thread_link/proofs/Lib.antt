@@ -1,0 +1,11 @@
+pub mod Views
+pub mod Fronts
+pub mod RuleSteps
+pub mod Ends
+pub mod Seats
+pub mod HalfMeetings
+pub mod Together
+mod SentContainers
+mod SentEnds
+mod SharedScripts
+mod Sent

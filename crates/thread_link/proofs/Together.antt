@@ -1,0 +1,97 @@
+-- Two sides that work at once, and the world that their halves are behind it.
+use Rattle.std.proofs.Common.{◌≡◌, ◌∙◌, List, [], ◌++◌, sym, ap, subst, refl}
+use Rattle.ipdl_base.specs.declared.kinds.Side.{Side}
+use Rattle.ipdl_base.specs.declared.kinds.Side.TheVariants as sides
+use Rattle.ipdl_base.specs.declared.line.Line.{Line}
+use Rattle.script_steps.specs.Choices.{Setting}
+use Rattle.thread_link.proofs.HalfMeetings.{fits-on, grows-all, grows-on}
+use Rattle.thread_link.specs.declared.pass.Exchange.{Exchange}
+use Rattle.thread_link.specs.declared.pass.Pass.{Pass}
+use Rattle.thread_link.specs.Fronts.{HasSeen}
+use Rattle.thread_link.specs.Passes.{Belongs, about, seen}
+use Rattle.thread_link.specs.Runs.{RunsAtOnce}
+use Rattle.thread_link.specs.Work.{HasWorked, IsAtWork, MayWork}
+use Rattle.world_core.specs.declared.answers.RunAnswer.{RunAnswer}
+use Rattle.world_core.specs.declared.answers.RunAnswer.TheVariants as run
+use Rattle.world_core.specs.HalfView.{HalfView, setting_of}
+use Rattle.world_core.specs.Halves.{FitsBehind, HalvesFitBehindMore, IsEmptied, IsHome, IsSplit, joined}
+use Rattle.world_core.specs.LinkView.{LinkView}
+use Rattle.world_core.specs.Turns.{GivesUnless, GrowsTo, WordGives}
+use Rattle.world_core.specs.Worlds.{IsCase}
+use Rattle.world_core.specs.WorldView.{WorldView}
+
+-- Work
+
+pub work-begins : (exchange : Exchange) (pass : Pass) (half : HalfView) → MayWork exchange pass half → IsAtWork exchange pass pass half
+work-begins exchange pass half may = record { side = refl; may = may; grows = grows-all (seen pass) }
+
+pub works-on : (exchange : Exchange) (first before after : Pass) (half half' : HalfView) → IsAtWork exchange first before half → IsAtWork exchange before after half' → IsAtWork exchange first after half'
+works-on exchange first before after half half' a b = record { side = b.side ∙ a.side; may = b.may; grows = grows-on (seen first) (seen before) (seen after) a.grows b.grows }
+
+pub has-worked : (exchange : Exchange) (first before after : Pass) (half half' : HalfView) → IsAtWork exchange first before half → HasWorked exchange before after half' → HasWorked exchange first after half'
+has-worked exchange first before after half half' a b = record { at_work = works-on exchange first before after half half' a b.at_work; emptied = b.emptied }
+
+-- a half that fits behind what a pass knows fits behind what its exchange is about, and the other way round
+pub stands-at : (exchange : Exchange) (pass : Pass) (half : HalfView) → MayWork exchange pass half → FitsBehind pass.seat.me.0.setting pass.side (seen pass) half
+stands-at exchange pass half may = subst (λ (s : Setting). FitsBehind s pass.side (seen pass) half) (sym may.belongs.setting) may.fits
+
+pub may-go-on : (exchange : Exchange) (pass : Pass) (half : HalfView) → Belongs exchange pass → FitsBehind pass.seat.me.0.setting pass.side (seen pass) half → MayWork exchange pass half
+may-go-on exchange pass half belongs fits = record { belongs = belongs; fits = subst (λ (s : Setting). FitsBehind s pass.side (seen pass) half) belongs.setting fits }
+
+pub may-work : (exchange : Exchange) (pass : Pass) (half : HalfView) (setting : Setting) (side : Side) (lines : List Line) → Belongs exchange pass → about exchange ≡ setting → pass.side ≡ side → seen pass ≡ lines → FitsBehind setting side lines half
+    → MayWork exchange pass half
+may-work exchange pass half setting side lines belongs topic is told fits = record {
+  belongs = belongs;
+  fits = subst (λ (s : Setting). FitsBehind s pass.side (seen pass) half) (sym topic) (subst (λ (d : Side). FitsBehind setting d (seen pass) half) (sym is) (subst (λ (ls : List Line). FitsBehind setting side ls half) (sym told) fits));
+}
+
+-- a half that has worked fits behind the link
+worked-fits : HalvesFitBehindMore → (exchange : Exchange) (first pass : Pass) (half : HalfView) (setting : Setting) (side : Side) (link : LinkView) → HasWorked exchange first pass half → about exchange ≡ setting → first.side ≡ side → HasSeen side (seen pass) link.lines
+    → IsHome setting link → FitsBehind setting side link.lines half
+worked-fits law exchange first pass half setting side link worked topic is front home =
+    fits-on law setting side (seen pass) link half
+    (subst (λ (s : Setting). FitsBehind s side (seen pass) half) topic (subst (λ (d : Side). FitsBehind (about exchange) d (seen pass) half) (worked.at_work.side ∙ is) worked.at_work.may.fits)) front home
+
+pub worked-split : HalvesFitBehindMore → (exchange : Exchange) (one one' two two' : Pass) (parent child : HalfView) (setting : Setting) (link : LinkView) → HasWorked exchange one one' parent → HasWorked exchange two two' child → about exchange ≡ setting → one.side ≡ sides.Parent → two.side ≡ sides.Child
+    → HasSeen sides.Parent (seen one') link.lines → HasSeen sides.Child (seen two') link.lines → IsHome (about exchange) link → IsSplit setting parent child link
+worked-split law exchange one one' two two' parent child setting link first second topic is is' front front' home =
+    let there : IsHome setting link = subst (λ (s : Setting). IsHome s link) topic home in
+    record {
+      home = there;
+      parent_fits = worked-fits law exchange one one' parent setting sides.Parent link first topic is front there;
+      parent_emptied = first.emptied;
+      child_fits = worked-fits law exchange two two' child setting sides.Child link second topic is' front' there;
+      child_emptied = second.emptied;
+    }
+
+-- The world behind the work
+
+-- halves apart are so in the setting of the parent
+pub split-own : (setting : Setting) (parent child : HalfView) (link : LinkView) → IsSplit setting parent child link → IsSplit (setting_of parent) parent child link
+split-own setting parent child link h = subst (λ (s : Setting). IsSplit s parent child link) (sym h.parent_fits.come.about) h
+
+-- and where others are in a half's setting, they are so in their own
+pub split-again : (half parent child : HalfView) (link : LinkView) → IsSplit (setting_of half) parent child link → IsSplit (setting_of parent) parent child link
+split-again half parent child link h = split-own (setting_of half) parent child link h
+
+-- A world goes on from another: it is about the same, and its history goes on from the other's.
+pub record GoesOn (before after : WorldView) : Type 0 where
+  pub same : after.setting ≡ before.setting
+  pub grows : GrowsTo before.state.lines after.state.lines
+
+pub goes-on : (before met : WorldView) (parent child parent' child' : HalfView) (link link' : LinkView) → IsSplit before.setting parent child link → joined parent link ≡ before → IsSplit (setting_of parent) parent' child' link' → GrowsTo link.lines link'.lines → met ≡ joined parent' link'
+    → GoesOn before met
+goes-on before met parent child parent' child' link link' h is h' grows met-is =
+    let own = split-own before.setting parent child link h in
+    let own' = split-own (setting_of parent) parent' child' link' h' in
+    let first : link.lines ≡ before.state.lines = own.home.lines ∙ ap (λ (w : WorldView). w.state.lines) is in
+    let last : link'.lines ≡ met.state.lines = own'.home.lines ∙ sym (ap (λ (w : WorldView). w.state.lines) met-is) in
+    record {
+      same = ap (λ (w : WorldView). w.setting) met-is ∙ (h'.parent_fits.come.about ∙ h.parent_fits.come.about);
+      grows = (grows.0, sym last ∙ (grows.1 ∙ ap (λ (ls : List Line). ls ++ grows.0) first));
+    }
+
+pub runs-at-once : (before met after : WorldView) (a : RunAnswer) → GoesOn before met → IsCase met → GivesUnless (λ first last answer. WordGives first [] answer last) met after a → GivesUnless RunsAtOnce before after a
+runs-at-once before met after run.Finished on history gives = record { met = met; same = on.same; grows = on.grows; history = history; rests = gives }
+runs-at-once before met after (run.Spent side) on history gives = record { met = met; same = on.same; grows = on.grows; history = history; rests = gives }
+runs-at-once before met after run.NoMemory on history gives = gives

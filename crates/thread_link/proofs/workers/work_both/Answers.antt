@@ -1,0 +1,7 @@
+use denote.Param.Send.{sendable}
+use Rattle.std.proofs.Crossing.{crosses}
+use Rattle.thread_link.proofs.Sent.{exchange_sync, half_send, pass_send}
+use Rattle.thread_link.proofs.workers.work_both.Goals as goal
+
+pub join_mut-first-requires-send-F : goal.join_mut-first-requires-send-F
+join_mut-first-requires-send-F g c κs within = search (sendable, exchange_sync, pass_send, half_send) depth 20

@@ -1,0 +1,243 @@
+ghost use Rattle.std.specs.Prelude.{◌≡◌, ◌⊎◌, ◌∷◌, [], IfOk, IfErr, Some};
+ghost use Rattle.ipdl_base.specs.declared.kinds.Side.{Side as EndSide};
+ghost use Rattle.ipdl_base.specs.declared.kinds.Side.TheVariants as sides;
+ghost use Rattle.script_steps.specs.Choices.{Setting};
+ghost use Rattle.thread_link.specs.Fronts.{HasSeen};
+ghost use Rattle.thread_link.specs.Meetings.{MeetsShared};
+ghost use Rattle.thread_link.specs.Passes.{Belongs, about, seen};
+ghost use Rattle.thread_link.specs.Work.{HasWorked, MayWork};
+ghost use Rattle.world_core.specs.HalfView.{setting_of};
+ghost use Rattle.world_core.specs.Halves.{IsHome};
+
+use crate::parts::{Parting, Reunion, SharedLink, SideState, Topic};
+use crate::pass::{Exchange, LinkTable, Pass};
+use crate::turns::{free_word, give, take};
+use atomic_table::Refused;
+use ipdl_base::Side;
+use std::alloc::{AllocFailed, Global};
+use std::snapshot::Snapshot;
+use std::sync::Wait;
+use world_core::{Half, Link, MeetAnswer, halves_fit_behind_more};
+
+/// There was no memory for an exchange. The link comes back.
+#[derive(Drop)]
+pub enum OpenFault {
+    NoMemory(Link),
+}
+
+/// What came of a turn of holding the link.
+#[derive(Drop)]
+pub struct LinkTurn {
+    pub answer: MeetAnswer,
+    /// Neither side has anything left to do, or a side has given up.
+    pub ended: bool,
+    /// The half has no own step to do.
+    pub rests: bool,
+    /// How many turns there have been, with this one.
+    pub turns: u64,
+}
+
+// The link, of which neither side has said anything.
+fn untouched(link: Link) -> SharedLink
+    ensures { result.link ≡ link }
+{
+    SharedLink {
+        link,
+        parent: SideState::Busy,
+        child: SideState::Busy,
+        over: false,
+    }
+}
+
+// The link alone.
+fn link_of(shared: SharedLink) -> Link
+    ensures { result ≡ shared.link }
+{
+    let SharedLink {
+        link,
+        parent: _,
+        child: _,
+        over: _,
+    } = shared;
+    link
+}
+
+// One slot, with the link in it.
+fn only_slot(alloc: Global, shared: SharedLink) -> Result<Vec<Option<SharedLink>>, SharedLink>
+    ensures ok { IfOk result (λ slots. slots.items ≡ Some shared ∷ []) }
+    ensures err { IfErr result (λ back. back ≡ shared) }
+{
+    let mut slots = Vec::new(alloc);
+    match slots.push(Some(shared)) {
+        Ok(()) => Ok(slots),
+        Err(failed) => {
+            let AllocFailed { value } = failed;
+            let Some(shared) = value else { unreachable!() };
+            Err(shared)
+        }
+    }
+}
+
+// What the table of a run is about.
+fn topic_of<'s>(half: &Half<'s>, link: &Link) -> Topic<'s>
+    ensures half { result.half.value ≡ half.entry.now }
+    ensures link { result.link.value ≡ link.now }
+{
+    Topic {
+        half: Snapshot::of(half),
+        link: Snapshot::of(link),
+    }
+}
+
+// How a half stands.
+fn state_of(half: &Half<'_>) -> SideState {
+    if !half.rests() {
+        SideState::Busy
+    } else if half.is_open() {
+        SideState::Resting
+    } else {
+        SideState::Shut
+    }
+}
+
+impl SharedLink {
+    // A side says how it stands, and whether it gives up.
+    fn tell(&mut self, side: Side, state: SideState, gives_up: bool)
+        ensures { self.new.link ≡ self.old.link }
+    {
+        match side {
+            Side::Parent => self.parent = state,
+            Side::Child => self.child = state,
+        }
+        self.over = self.over || gives_up;
+    }
+
+    // Whether a side that stands so has nothing left to do.
+    fn is_done(&self, side: Side, state: SideState) -> bool {
+        match state {
+            SideState::Busy => false,
+            SideState::Resting => self.link.left(side) == 0,
+            SideState::Shut => true,
+        }
+    }
+
+    // Whether neither side has anything left to do, or one of them gave up.
+    fn is_ended(&self) -> bool {
+        self.over
+            || (self.is_done(Side::Parent, self.parent) && self.is_done(Side::Child, self.child))
+    }
+}
+
+impl<'s> Exchange<'s> {
+    /// The exchange of the link of a run, with the parent's pass and the child's, which have seen its
+    /// history. The run is that of the half. The only error is want of memory, which gives the link
+    /// back.
+    pub fn open(
+        alloc: Global,
+        half: &Half<'s>,
+        link: Link,
+    ) -> Result<(Exchange<'s>, Pass, Pass), OpenFault>
+        requires home { IsHome (setting_of half.now) link }
+        ensures about { IfOk result (λ opened. about opened.0 ≡ setting_of half.entry.now) }
+        ensures parent { IfOk result (λ opened. Belongs opened.0 opened.1 × (opened.1.side ≡ sides.Parent) × (seen opened.1 ≡ link.lines)) }
+        ensures child { IfOk result (λ opened. Belongs opened.0 opened.2 × (opened.2.side ≡ sides.Child) × (seen opened.2 ≡ link.lines)) }
+        ensures back { IfErr result (λ fault. fault ≡ OpenFault.NoMemory link) }
+    {
+        let word = free_word(link.lines());
+        let topic = topic_of(half, &link);
+        let slots = match only_slot(alloc, untouched(link)) {
+            Ok(slots) => slots,
+            Err(shared) => return Err(OpenFault::NoMemory(link_of(shared))),
+        };
+        match LinkTable::new(alloc, &[word, 0], slots, &topic) {
+            Ok((table, mut parent)) => {
+                let child = table.shared.split_seat::<Parting>(&mut parent);
+                Ok((
+                    Exchange { table },
+                    Pass {
+                        side: Side::Parent,
+                        seat: parent,
+                    },
+                    Pass {
+                        side: Side::Child,
+                        seat: child,
+                    },
+                ))
+            }
+            Err(refused) => {
+                let Refused { mut slots } = refused;
+                let Some(Some(shared)) = slots.pop() else {
+                    unreachable!()
+                };
+                Err(OpenFault::NoMemory(link_of(shared)))
+            }
+        }
+    }
+
+    /// A turn of holding the link, for which it may wait: one meeting of the half with it. A side that
+    /// gives up ends the work of both.
+    pub(crate) fn turn<R: Wait>(
+        &self,
+        rt: &R,
+        pass: &mut Pass,
+        half: &mut Half<'_>,
+        gives_up: bool,
+    ) -> LinkTurn
+        ghost at: { Setting × EndSide }
+        requires at { at ≡ (about self.now, pass.old.side) }
+        requires may { MayWork self.now pass.old half.old }
+        ensures meets { MeetsShared (about self.now) pass.old.side (seen pass.old) half.old result.answer (seen pass.new) half.new }
+        ensures worked { HasWorked self.now pass.old pass.new half.new }
+    {
+        let side = pass.side;
+        let board = &self.table.shared;
+        let mut shared = take(rt, board, &mut pass.seat, side);
+        halves_fit_behind_more();
+        let answer = half.meet(&mut shared.link);
+        let rests = half.rests();
+        let given_up = gives_up || !matches!(answer, MeetAnswer::Moved(_));
+        shared.tell(side, state_of(half), given_up);
+        let ended = shared.is_ended();
+        let turns = give(board, &mut pass.seat, side, shared);
+        LinkTurn {
+            answer,
+            ended,
+            rests,
+            turns,
+        }
+    }
+
+    /// One meeting of the half with the shared link, for which it may wait: the answer, and when each
+    /// comes, are those of `Half::meet`.
+    pub fn meet<R: Wait>(&self, rt: &R, pass: &mut Pass, half: &mut Half<'_>) -> MeetAnswer
+        requires { MayWork self.now pass.old half.old }
+        ensures meets { MeetsShared (about self.now) pass.old.side (seen pass.old) half.old result (seen pass.new) half.new }
+        ensures worked { HasWorked self.now pass.old pass.new half.new }
+    {
+        self.turn(rt, pass, half, false).answer
+    }
+
+    /// The link, whose history is the longer one of what the two passes have seen. It takes no memory.
+    pub fn close(self, parent: Pass, child: Pass) -> Link
+        requires parent { Belongs self parent × (parent.side ≡ sides.Parent) }
+        requires child { Belongs self child × (child.side ≡ sides.Child) }
+        ensures home { IsHome (about self.entry) result }
+        ensures parent_seen { HasSeen sides.Parent (seen parent) result.lines }
+        ensures child_seen { HasSeen sides.Child (seen child) result.lines }
+        ensures longer { (result.lines ≡ seen parent) ⊎ (result.lines ≡ seen child) }
+    {
+        let Exchange { table } = self;
+        let Pass {
+            side: _,
+            seat: mut both,
+        } = parent;
+        let Pass { side: _, seat } = child;
+        table.shared.join_seat::<Reunion>(&mut both, seat);
+        let mut closed = table.close_with(both);
+        let Some(shared) = closed.take(0) else {
+            unreachable!()
+        };
+        closed.free();
+        link_of(shared)
+    }
+}

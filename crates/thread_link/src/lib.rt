@@ -1,0 +1,16 @@
+//! Both ends of a run at once: the link that two threads share, and the driver that gives each end a
+//! thread of its own (docs/threads.md).
+#![tactic(auto)]
+
+mod exchange;
+mod gate;
+mod parts;
+mod pass;
+mod threads;
+mod turns;
+mod workers;
+
+pub use exchange::OpenFault;
+pub use gate::{Gate, Open};
+pub use pass::{Exchange, Pass};
+pub use threads::TwoThreads;

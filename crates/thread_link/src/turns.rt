@@ -1,0 +1,86 @@
+//! The lock of the table: who holds it has the link.
+ghost use Rattle.std.specs.Prelude.{◌≡◌, ◌≤◌, ◌+◌, ◌%◌, ◌*◌, ◌<◌, ◌^◌, IfSome, IfNone, length};
+ghost use Rattle.thread_link.specs.LinkRule.{number_of, seen_by};
+ghost use Rattle.thread_link.specs.Seats.{Adds, HasGiven, HasTaken, IsHolder, IsSeatOf, IsShaped};
+ghost use Rattle.world_core.specs.Halves.{IsHome};
+
+use crate::parts::{Count, Lock, Release, SharedLink};
+use crate::pass::{Board, Place};
+use ipdl_base::Side;
+use std::sync::Wait;
+
+// The number of a side that holds the link.
+fn number(side: Side) -> u64
+    ensures { result ≡ number_of side }
+{
+    match side {
+        Side::Parent => 1,
+        Side::Child => 2,
+    }
+}
+
+/// The first word of the table where no side holds the link, and the history has so many lines.
+pub fn free_word(lines: usize) -> u64
+    requires { 4 * lines < 2 ^ 64 }
+    ensures { result ≡ 4 * lines }
+{
+    4 * (lines as u64)
+}
+
+/// The low half of a word, on which threads sleep.
+pub fn low_half(word: u64) -> u32 {
+    (word & 0xFFFF_FFFF) as u32
+}
+
+// Takes the link where the word is still the one that was found.
+fn try_take(board: &Board<'_>, seat: &mut Place, side: Side, found: u64) -> Option<SharedLink>
+    requires board { IsShaped board.now.table_id × (seat.old.table_id ≡ board.now.table_id) }
+    requires seat { IsSeatOf side seat.old }
+    requires free { found % 4 ≡ 0 }
+    ensures taken { IfSome result (λ shared. HasTaken side seat.old seat.new shared) }
+    ensures same { IfNone result ((seat.new.table_id ≡ seat.old.table_id) × (seat.new.me ≡ seat.old.me)) }
+{
+    if board.compare_exchange::<Lock>(seat, 0, found, found + number(side)) != found {
+        return None;
+    }
+    let Some(shared) = board.exchange(seat, 0, None) else {
+        unreachable!()
+    };
+    Some(shared)
+}
+
+/// Waits until no side holds the link, and takes it.
+pub fn take<R: Wait>(rt: &R, board: &Board<'_>, seat: &mut Place, side: Side) -> SharedLink
+    requires board { IsShaped board.now.table_id × (seat.old.table_id ≡ board.now.table_id) }
+    requires seat { IsSeatOf side seat.old }
+    ensures { HasTaken side seat.old seat.new result }
+{
+    for _ in rt.forever() {
+        let found = board.peek(0);
+        if found % 4 != 0 {
+            board.park(rt, 0, low_half(found));
+        } else if let Some(shared) = try_take(board, seat, side, found) {
+            return shared;
+        }
+    }
+    unreachable!()
+}
+
+/// Counts the turn, gives the link back, to which lines of the side may have been added, and wakes who
+/// waits for it or for a turn; how many turns there have been, with this one.
+pub fn give(board: &Board<'_>, seat: &mut Place, side: Side, shared: SharedLink) -> u64
+    requires board { IsShaped board.now.table_id × (seat.old.table_id ≡ board.now.table_id) }
+    requires seat { IsHolder side seat.old }
+    requires adds { Adds side (seen_by side seat.old.me.0) shared.link.lines }
+    requires home { IsHome seat.old.me.0.setting shared.link }
+    requires short { 4 * length shared.link.lines < 2 ^ 64 }
+    ensures { HasGiven side seat.old seat.new shared }
+{
+    let word = free_word(shared.link.lines());
+    let turns = board.fetch_add::<Count>(seat, 1, 1).wrapping_add(1);
+    drop(board.exchange(seat, 0, Some(shared)));
+    board.store::<Release>(seat, 0, word);
+    board.wake_one(0);
+    board.wake_one(1);
+    turns
+}

@@ -1,0 +1,223 @@
+ghost use Rattle.std.specs.Prelude.{◌≡◌, ◌≤◌, List, IfOk};
+ghost use Rattle.handler_script.specs.Valid.{IsValid};
+ghost use Rattle.ipdl_base.specs.declared.kinds.Side.{Side as EndSide};
+ghost use Rattle.ipdl_base.specs.declared.line.Line.{Line};
+ghost use Rattle.ipdl_base.specs.Sound.{IsSound};
+ghost use Rattle.script_steps.specs.Choices.{Setting};
+ghost use Rattle.thread_link.specs.Work.{HasWorked, MayWork};
+ghost use Rattle.world_core.specs.HalfView.{setting_of};
+ghost use Rattle.world_core.specs.Halves.{FitsBehind, IsSplit};
+
+use super::given::{PROTOCOL, RACE, script_of};
+use super::printouts::{is_run_race, printed};
+use handler_script::Script;
+use history_of_text::schema_of;
+use ipdl_base::{Schema, Side};
+use std::alloc::Global;
+use std::sync::Wait;
+use std::test::Fail;
+use std::thread::{Threads, join_mut};
+use thread_link::{Exchange, OpenFault, Pass};
+use world_core::{Half, Link, MeetAnswer, StepAnswer, World, halves_fit_behind_more};
+
+/// How many rounds each side does behind its first.
+const MORE_ROUNDS: u32 = 7;
+
+/// Own steps of a half, until it has none.
+fn go_on(pass: &Pass, half: &mut Half<'_>)
+    ghost at: { Setting × EndSide × List Line }
+    requires { FitsBehind at.0 at.1 at.2 half.old }
+    ensures { FitsBehind at.0 at.1 at.2 half.new }
+{
+    let _ = pass.side();
+    for _ in 0..64 {
+        if half.own() != StepAnswer::Did {
+            return;
+        }
+    }
+}
+
+/// Own steps of a half, and then a meeting.
+fn round<R: Wait>(
+    rt: &R,
+    exchange: &Exchange<'_>,
+    pass: &mut Pass,
+    half: &mut Half<'_>,
+) -> MeetAnswer
+    requires { MayWork exchange.now pass.old half.old }
+    ensures { HasWorked exchange.now pass.old pass.new half.new }
+{
+    go_on(pass, half);
+    exchange.meet(rt, pass, half)
+}
+
+/// All rounds of a half, and what its last meeting answers.
+fn rounds<'a, 'b, R: Wait>(
+    rt: &R,
+    exchange: &Exchange<'a>,
+    pass: &mut Pass,
+    half: &mut Half<'b>,
+) -> MeetAnswer
+    requires { MayWork exchange.now pass.old half.old }
+    ensures { HasWorked exchange.now pass.old pass.new half.new }
+{
+    let mut last = round(rt, exchange, pass, half);
+    for _ in 0..MORE_ROUNDS {
+        last = round(rt, exchange, pass, half);
+    }
+    last
+}
+
+/// The rounds of both halves in turn, the parent's first.
+fn in_turn<'a, 'b, 'c, R: Wait>(
+    rt: &R,
+    exchange: &Exchange<'a>,
+    one: &mut Pass,
+    two: &mut Pass,
+    parent: &mut Half<'b>,
+    child: &mut Half<'c>,
+) -> (MeetAnswer, MeetAnswer)
+    requires parent { MayWork exchange.now one.old parent.old }
+    requires child { MayWork exchange.now two.old child.old }
+    ensures parent { HasWorked exchange.now one.old one.new parent.new }
+    ensures child { HasWorked exchange.now two.old two.new child.new }
+{
+    let mut first = round(rt, exchange, one, parent);
+    let mut second = round(rt, exchange, two, child);
+    for _ in 0..MORE_ROUNDS {
+        first = round(rt, exchange, one, parent);
+        second = round(rt, exchange, two, child);
+    }
+    (first, second)
+}
+
+/// The rounds of both halves at once.
+fn at_once<'a, 'b, 'c, R: Threads + Wait + Sync>(
+    rt: &R,
+    exchange: &Exchange<'a>,
+    one: &mut Pass,
+    two: &mut Pass,
+    parent: &mut Half<'b>,
+    child: &mut Half<'c>,
+) -> (MeetAnswer, MeetAnswer)
+    requires parent { MayWork exchange.now one.old parent.old }
+    requires child { MayWork exchange.now two.old child.old }
+    ensures parent { HasWorked exchange.now one.old one.new parent.new }
+    ensures child { HasWorked exchange.now two.old two.new child.new }
+{
+    join_mut(
+        rt,
+        &mut || -> MeetAnswer
+            requires { MayWork exchange.now one.now parent.now }
+            ensures { HasWorked exchange.entry.now one.entry.now one.exit.now parent.exit.now }
+        { rounds(rt, exchange, one, parent) },
+        &mut || -> MeetAnswer
+            requires { MayWork exchange.now two.now child.now }
+            ensures { HasWorked exchange.entry.now two.entry.now two.exit.now child.exit.now }
+        { rounds(rt, exchange, two, child) },
+    )
+}
+
+/// The rounds of both halves over an exchange of the link, at once or in turn: the link behind them, and
+/// what the last meetings answer.
+fn over_exchange<R: Threads + Wait + Sync>(
+    rt: &R,
+    alloc: Global,
+    parent: &mut Half<'_>,
+    child: &mut Half<'_>,
+    link: Link,
+    threads: u32,
+) -> Result<(Link, (MeetAnswer, MeetAnswer)), Fail>
+    requires { IsSplit (setting_of parent.old) parent.old child.old link }
+    ensures { IfOk result (λ met. IsSplit (setting_of parent.old) parent.new child.new met.0) }
+{
+    let (exchange, mut one, mut two) = match Exchange::open(alloc, parent, link) {
+        Ok(opened) => opened,
+        Err(fault) => {
+            let OpenFault::NoMemory(_) = fault;
+            return Err("no memory for an exchange".into());
+        }
+    };
+    let answers = if threads == 2 {
+        at_once(rt, &exchange, &mut one, &mut two, parent, child)
+    } else {
+        in_turn(rt, &exchange, &mut one, &mut two, parent, child)
+    };
+    halves_fit_behind_more();
+    Ok((exchange.close(one, two), answers))
+}
+
+/// The run of a world over an exchange, and what the last meetings answer.
+fn run_apart<'s, R: Threads + Wait + Sync>(
+    rt: &R,
+    alloc: Global,
+    world: World<'s>,
+    threads: u32,
+) -> Result<(World<'s>, (MeetAnswer, MeetAnswer)), Fail> {
+    let (mut parent, mut child, link) = world.split();
+    let (link, answers) = over_exchange(rt, alloc, &mut parent, &mut child, link, threads)?;
+    Ok((World::join(parent, child, link), answers))
+}
+
+/// What a meeting answers, in a word.
+fn word_of(answer: MeetAnswer) -> &'static str {
+    match answer {
+        MeetAnswer::Moved(_) => "moved",
+        MeetAnswer::Spent(Side::Parent) => "parent",
+        MeetAnswer::Spent(Side::Child) => "child",
+        MeetAnswer::NoMemory => "no memory",
+    }
+}
+
+/// What the last meetings of the race answer, whether it is one behind the closing turns, and whether
+/// these added no line.
+fn pair<R: Threads + Wait + Sync>(
+    rt: &R,
+    alloc: Global,
+    schema: &Schema,
+    script: &Script,
+    limit: u32,
+    threads: u32,
+) -> Result<String, Fail>
+    requires sound { IsSound schema.now }
+    requires valid { IsValid schema.now script.now }
+    requires small { limit ≤ 20000 }
+{
+    let world = World::open(alloc, schema, script, None, limit)?;
+    let (mut world, answers) = run_apart(rt, alloc, world, threads)?;
+    let before = world.history().lines().len();
+    let ending = world.run_schedule(&[]);
+    let added = world.history().lines().len() != before;
+    let text = printed(alloc, schema, &world, ending);
+    drop(world);
+    let is_race = is_run_race(text?.as_str());
+    let (first, second) = (word_of(answers.0), word_of(answers.1));
+    Ok(format!(in alloc; "{first} {second} {is_race} {added}")?)
+}
+
+#[test]
+fn exchange_pair(rt: HostRuntime) -> Result<(), Fail> {
+    let schema = schema_of(rt.alloc(), PROTOCOL)?;
+    let script = script_of(rt.alloc(), &schema, RACE)?;
+    let shown = pair(&rt, rt.alloc(), &schema, &script, 10_000, 1)?;
+    assert_eq!(rt; shown.as_str(), "moved moved true false");
+    Ok(())
+}
+
+#[test]
+fn exchange_pair_at_once(rt: HostRuntime) -> Result<(), Fail> {
+    let schema = schema_of(rt.alloc(), PROTOCOL)?;
+    let script = script_of(rt.alloc(), &schema, RACE)?;
+    let shown = pair(&rt, rt.alloc(), &schema, &script, 10_000, 2)?;
+    assert!(rt; shown.as_str().starts_with("moved moved true "));
+    Ok(())
+}
+
+#[test]
+fn meetings_at_the_limit(rt: HostRuntime) -> Result<(), Fail> {
+    let schema = schema_of(rt.alloc(), PROTOCOL)?;
+    let script = script_of(rt.alloc(), &schema, RACE)?;
+    let shown = pair(&rt, rt.alloc(), &schema, &script, 1, 1)?;
+    assert_eq!(rt; shown.as_str(), "parent child false false");
+    Ok(())
+}
