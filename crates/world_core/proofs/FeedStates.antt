@@ -186,8 +186,8 @@ module _ (setting : FeedSetting) (bytes : List ℕ) (half : HalfView) (trace : F
       let next : behind_own setting state_is own.event ≡ state_in half' trace' come.packets =
       ap (λ (found : Option Output). option_map_or (behind state_is) found state_is) (is own.event [] between half' trace trace' steps refl stored)
       ∙ sym (same-state half'.end.end steps.output.end (lines_in trace') (lines_in trace ++ steps.output.lines) come.packets trace'.place trace.place trace'.fault trace.fault
-        (end-is own.event [] between half' trace trace' steps refl stored) (lines-are own.event [] between half' trace trace' steps refl stored)
-        (place-is own.event [] between half' trace trace' steps refl stored) (fault-is own.event [] between half' trace trace' steps refl stored)) in
+      (end-is own.event [] between half' trace trace' steps refl stored) (lines-are own.event [] between half' trace trace' steps refl stored)
+      (place-is own.event [] between half' trace trace' steps refl stored) (fault-is own.event [] between half' trace trace' steps refl stored)) in
       leads-on half' trace' come.packets (traced-on own.event [] between half' trace trace' steps refl stored)
       (own-turn own.event has (sym within-is ∙ own.within) ∙ ap leads next)
 
@@ -225,8 +225,8 @@ module _ (setting : FeedSetting) (bytes : List ℕ) (half : HalfView) (trace : F
     pub full-ends : is_open half.end.end.state ≡ true → not (nat_lt half.counts.events half.limit) ≡ true → HasEnded setting bytes true half trace
     full-ends opens full =
         ended true (stops state_is (reads
-          ∙ ap (λ (b : Bool). if b then (if is_within setting state_is then leads (behind_frame setting bytes state_is (next_frame setting.schema half.end.end trace.place bytes)) else exceeds) else idles) opens
-          ∙ ap (λ (b : Bool). if b then leads (behind_frame setting bytes state_is (next_frame setting.schema half.end.end trace.place bytes)) else exceeds) (sym within-is ∙ isnt (nat_lt half.counts.events half.limit) full)))
+        ∙ ap (λ (b : Bool). if b then (if is_within setting state_is then leads (behind_frame setting bytes state_is (next_frame setting.schema half.end.end trace.place bytes)) else exceeds) else idles) opens
+        ∙ ap (λ (b : Bool). if b then leads (behind_frame setting bytes state_is (next_frame setting.schema half.end.end trace.place bytes)) else exceeds) (sym within-is ∙ isnt (nat_lt half.counts.events half.limit) full)))
       where
         isnt : (b : Bool) → not b ≡ true → b ≡ false
         isnt true h = cc
@@ -248,9 +248,9 @@ module _ (setting : FeedSetting) (bytes : List ℕ) (half : HalfView) (trace : F
           let next : behind_frame setting bytes state_is (taken m size) ≡ state_in half' trace' (come.packets ++ message m ∷ []) =
           ap (λ (found : Option Output). record (option_map_or (given state_is (message m)) found state_is) { place = trace.place + size }) (is event.deliver (message m ∷ []) between half' middle trace' steps same stored)
           ∙ sym (same-state half'.end.end steps.output.end (lines_in trace') (lines_in trace ++ steps.output.lines) (come.packets ++ message m ∷ []) trace'.place (trace.place + size) trace'.fault trace.fault
-            (end-is event.deliver (message m ∷ []) between half' middle trace' steps same stored) (lines-are event.deliver (message m ∷ []) between half' middle trace' steps same stored)
-            (place-is event.deliver (message m ∷ []) between half' middle trace' steps same stored ∙ ap (λ (t : FeedTrace). t.place) moved)
-            (fault-is event.deliver (message m ∷ []) between half' middle trace' steps same stored ∙ ap (λ (t : FeedTrace). t.fault) moved)) in
+          (end-is event.deliver (message m ∷ []) between half' middle trace' steps same stored) (lines-are event.deliver (message m ∷ []) between half' middle trace' steps same stored)
+          (place-is event.deliver (message m ∷ []) between half' middle trace' steps same stored ∙ ap (λ (t : FeedTrace). t.place) moved)
+          (fault-is event.deliver (message m ∷ []) between half' middle trace' steps same stored ∙ ap (λ (t : FeedTrace). t.fault) moved)) in
           leads-on half' trace' (come.packets ++ message m ∷ []) (traced-on event.deliver (message m ∷ []) between half' middle trace' steps same stored)
           (frame-turn (taken m size) (frame-is left (taken m size) are stands) may.open_is may.within ∙ ap leads next)
 
@@ -262,9 +262,9 @@ module _ (setting : FeedSetting) (bytes : List ℕ) (half : HalfView) (trace : F
           let next : behind_frame setting bytes state_is (refused fault) ≡ state_in half' trace' (come.packets ++ mark ∷ []) =
           ap (λ (found : Option Output). record (option_map_or (given state_is mark) found state_is) { fault = kept_fault (drop trace.place bytes) fault }) (is event.deliver (mark ∷ []) between half' middle trace' steps same stored)
           ∙ sym (same-state half'.end.end steps.output.end (lines_in trace') (lines_in trace ++ steps.output.lines) (come.packets ++ mark ∷ []) trace'.place trace.place trace'.fault (kept_fault (drop trace.place bytes) fault)
-            (end-is event.deliver (mark ∷ []) between half' middle trace' steps same stored) (lines-are event.deliver (mark ∷ []) between half' middle trace' steps same stored)
-            (place-is event.deliver (mark ∷ []) between half' middle trace' steps same stored ∙ ap (λ (t : FeedTrace). t.place) kept)
-            (fault-is event.deliver (mark ∷ []) between half' middle trace' steps same stored ∙ ap (λ (t : FeedTrace). t.fault) kept ∙ ap (λ (bs : List ℕ). kept_fault bs fault) are)) in
+          (end-is event.deliver (mark ∷ []) between half' middle trace' steps same stored) (lines-are event.deliver (mark ∷ []) between half' middle trace' steps same stored)
+          (place-is event.deliver (mark ∷ []) between half' middle trace' steps same stored ∙ ap (λ (t : FeedTrace). t.place) kept)
+          (fault-is event.deliver (mark ∷ []) between half' middle trace' steps same stored ∙ ap (λ (t : FeedTrace). t.fault) kept ∙ ap (λ (bs : List ℕ). kept_fault bs fault) are)) in
           leads-on half' trace' (come.packets ++ mark ∷ []) (traced-on event.deliver (mark ∷ []) between half' middle trace' steps same stored)
           (frame-turn (refused fault) (frame-is left (refused fault) are stands) may.open_is may.within ∙ ap leads next)
 
