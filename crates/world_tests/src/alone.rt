@@ -1,4 +1,6 @@
 //! A plain test of the law of one end (docs/laws.md, "One end by itself"), by the numbers that lines name.
+ghost use Rattle.ipdl_base.specs.Sound.{IsSound};
+
 use ipdl_base::{Line, Reason, Schema, What, is_effect};
 
 /// Whether lines tell that a reply to the request of a number was delivered.
@@ -73,7 +75,9 @@ fn has_cause(before: &[Line], what: &What) -> bool {
 }
 
 /// Whether a request makes a promise.
-fn wants_reply(schema: &Schema, number: u32) -> bool {
+fn wants_reply(schema: &Schema, number: u32) -> bool
+    requires { IsSound schema.now }
+{
     match schema.message(number) {
         None => false,
         Some(row) => row.returns.is_some(),
@@ -81,7 +85,9 @@ fn wants_reply(schema: &Schema, number: u32) -> bool {
 }
 
 /// Whether all promises are settled, if an event closes the end.
-fn all_settled(schema: &Schema, lines: &[Line]) -> bool {
+fn all_settled(schema: &Schema, lines: &[Line]) -> bool
+    requires { IsSound schema.now }
+{
     let mut closed = false;
     for line in lines {
         closed = closed || is_closing(&line.what);
@@ -97,7 +103,9 @@ fn all_settled(schema: &Schema, lines: &[Line]) -> bool {
 }
 
 /// Whether lines of one end are as the law wants them.
-pub fn is_alone(schema: &Schema, lines: &[Line]) -> bool {
+pub fn is_alone(schema: &Schema, lines: &[Line]) -> bool
+    requires { IsSound schema.now }
+{
     for (place, line) in lines.iter().enumerate() {
         let (before, _) = lines.split_at(place);
         if !has_cause(before, &line.what) {
