@@ -15,7 +15,9 @@ use std::env;
 use std::io::{ErrorKind, Write};
 use std::process::ExitCode;
 use std::rt::{Env, Files};
-use world_core::OneThread;
+use std::sync::Wait;
+use std::thread::Threads;
+use thread_link::{Open, TwoThreads};
 
 /// The words of the command, which stand behind the program's name; an error is want of memory.
 fn command_words<R: Env + AllocGlobal>(rt: &R) -> Result<Vec<String>, AllocError> {
@@ -29,7 +31,7 @@ fn command_words<R: Env + AllocGlobal>(rt: &R) -> Result<Vec<String>, AllocError
 }
 
 /// Runs the program on the words of the process, and gives the exit code that it ends with.
-fn run<R: Files + Env + AllocGlobal, O: Write + Drop, E: Write + Drop>(
+fn run<R: Files + Env + Threads + Wait + Sync + AllocGlobal, O: Write + Drop, E: Write + Drop>(
     rt: &R,
     out: O,
     err: E,
@@ -42,7 +44,7 @@ fn run<R: Files + Env + AllocGlobal, O: Write + Drop, E: Write + Drop>(
     let mut files = RealFiles::new(rt);
     let mut out = RealSink::new(out);
     let mut err = RealSink::new(err);
-    let mut driver = OneThread::new(Vec::new(rt.alloc()));
+    let mut driver = TwoThreads::new(rt, Open);
     exit_code_of(
         rt.alloc(),
         words.as_slice(),

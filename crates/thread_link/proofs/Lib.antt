@@ -8,4 +8,4 @@ pub mod Together
 mod SentContainers
 mod SentEnds
 mod SharedScripts
-mod Sent
+pub mod Sent

@@ -105,7 +105,7 @@ fn at_once<'a, 'b, 'c, R: Threads + Wait + Sync>(
     ensures parent { HasWorked exchange.now one.old one.new parent.new }
     ensures child { HasWorked exchange.now two.old two.new child.new }
 {
-    join_mut(
+    let (first, second) = join_mut(
         rt,
         &mut || -> MeetAnswer
             requires { MayWork exchange.now one.now parent.now }
@@ -115,11 +115,12 @@ fn at_once<'a, 'b, 'c, R: Threads + Wait + Sync>(
             requires { MayWork exchange.now two.now child.now }
             ensures { HasWorked exchange.entry.now two.entry.now two.exit.now child.exit.now }
         { rounds(rt, exchange, two, child) },
-    )
+    );
+    (first, second)
 }
 
 /// The rounds of both halves over an exchange of the link, at once or in turn: the link behind them, and
-/// what the last meetings answer.
+/// what the last meetings answer, where there was memory for an exchange.
 fn over_exchange<R: Threads + Wait + Sync>(
     rt: &R,
     alloc: Global,
@@ -127,24 +128,42 @@ fn over_exchange<R: Threads + Wait + Sync>(
     child: &mut Half<'_>,
     link: Link,
     threads: u32,
-) -> Result<(Link, (MeetAnswer, MeetAnswer)), Fail>
+) -> (Link, Option<(MeetAnswer, MeetAnswer)>)
     requires { IsSplit (setting_of parent.old) parent.old child.old link }
-    ensures { IfOk result (λ met. IsSplit (setting_of parent.old) parent.new child.new met.0) }
+    ensures { IsSplit (setting_of parent.old) parent.new child.new result.0 }
 {
     let (exchange, mut one, mut two) = match Exchange::open(alloc, parent, link) {
         Ok(opened) => opened,
         Err(fault) => {
-            let OpenFault::NoMemory(_) = fault;
-            return Err("no memory for an exchange".into());
+            let OpenFault::NoMemory(link) = fault;
+            return (link, None);
         }
     };
-    let answers = if threads == 2 {
-        at_once(rt, &exchange, &mut one, &mut two, parent, child)
-    } else {
-        in_turn(rt, &exchange, &mut one, &mut two, parent, child)
-    };
+    let answers = by_threads(rt, &exchange, &mut one, &mut two, parent, child, threads);
     halves_fit_behind_more();
-    Ok((exchange.close(one, two), answers))
+    (exchange.close(one, two), Some(answers))
+}
+
+/// The rounds of both halves, at once on two threads or in turn on one.
+fn by_threads<'a, 'b, 'c, R: Threads + Wait + Sync>(
+    rt: &R,
+    exchange: &Exchange<'a>,
+    one: &mut Pass,
+    two: &mut Pass,
+    parent: &mut Half<'b>,
+    child: &mut Half<'c>,
+    threads: u32,
+) -> (MeetAnswer, MeetAnswer)
+    requires parent { MayWork exchange.now one.old parent.old }
+    requires child { MayWork exchange.now two.old child.old }
+    ensures parent { HasWorked exchange.now one.old one.new parent.new }
+    ensures child { HasWorked exchange.now two.old two.new child.new }
+{
+    if threads == 2 {
+        at_once(rt, exchange, one, two, parent, child)
+    } else {
+        in_turn(rt, exchange, one, two, parent, child)
+    }
 }
 
 /// The run of a world over an exchange, and what the last meetings answer.
@@ -153,10 +172,10 @@ fn run_apart<'s, R: Threads + Wait + Sync>(
     alloc: Global,
     world: World<'s>,
     threads: u32,
-) -> Result<(World<'s>, (MeetAnswer, MeetAnswer)), Fail> {
+) -> (World<'s>, Option<(MeetAnswer, MeetAnswer)>) {
     let (mut parent, mut child, link) = world.split();
-    let (link, answers) = over_exchange(rt, alloc, &mut parent, &mut child, link, threads)?;
-    Ok((World::join(parent, child, link), answers))
+    let (link, answers) = over_exchange(rt, alloc, &mut parent, &mut child, link, threads);
+    (World::join(parent, child, link), answers)
 }
 
 /// What a meeting answers, in a word.
@@ -167,6 +186,24 @@ fn word_of(answer: MeetAnswer) -> &'static str {
         MeetAnswer::Spent(Side::Child) => "child",
         MeetAnswer::NoMemory => "no memory",
     }
+}
+
+/// What the last meetings answer, in words.
+fn words_of(answers: Option<(MeetAnswer, MeetAnswer)>) -> (&'static str, &'static str) {
+    match answers {
+        Some((first, second)) => (word_of(first), word_of(second)),
+        None => ("nothing", "nothing"),
+    }
+}
+
+/// What the run of a world prints behind the closing turns, and whether these added a line.
+fn ended(alloc: Global, schema: &Schema, world: &mut World<'_>) -> Result<(String, bool), Fail>
+    requires { IsSound schema.now }
+{
+    let before = world.history().lines().len();
+    let ending = world.run_schedule(&[]);
+    let added = world.history().lines().len() != before;
+    Ok((printed(alloc, schema, world, ending)?, added))
 }
 
 /// What the last meetings of the race answer, whether it is one behind the closing turns, and whether
@@ -184,14 +221,12 @@ fn pair<R: Threads + Wait + Sync>(
     requires small { limit ≤ 20000 }
 {
     let world = World::open(alloc, schema, script, None, limit)?;
-    let (mut world, answers) = run_apart(rt, alloc, world, threads)?;
-    let before = world.history().lines().len();
-    let ending = world.run_schedule(&[]);
-    let added = world.history().lines().len() != before;
-    let text = printed(alloc, schema, &world, ending);
+    let (mut world, answers) = run_apart(rt, alloc, world, threads);
+    let ended = ended(alloc, schema, &mut world);
     drop(world);
-    let is_race = is_run_race(text?.as_str());
-    let (first, second) = (word_of(answers.0), word_of(answers.1));
+    let (text, added) = ended?;
+    let is_race = is_run_race(text.as_str());
+    let (first, second) = words_of(answers);
     Ok(format!(in alloc; "{first} {second} {is_race} {added}")?)
 }
 
