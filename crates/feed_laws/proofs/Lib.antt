@@ -1,1 +1,1 @@
-pub mod FeedEnds
+mod FeedsAlone

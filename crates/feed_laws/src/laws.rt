@@ -1,12 +1,11 @@
-ghost use Rattle.feed_laws.specs.Laws.{FeedTurnsArePossible, FeedsComeToAnEnd};
+ghost use Rattle.feed_laws.specs.Laws.{FeedsObeyAlone, FeedsRunAlone};
 
-/// The law of turns: in a feed by a valid script each next step, and each delivery at an open end, is
-/// possible.
-pub fn feed_turns_are_possible()
-    ensures { FeedTurnsArePossible }
+/// The law of runs: a feed is a run of one end by itself.
+pub fn feeds_run_alone()
+    ensures { FeedsRunAlone }
 {}
 
-/// The law of ends: every list of bytes has a feed.
-pub fn feeds_come_to_an_end()
-    ensures { FeedsComeToAnEnd }
+/// The law of one end, for feeds: what a feed settles and goes on with comes of what was delivered.
+pub fn feeds_obey_alone()
+    ensures { FeedsObeyAlone }
 {}

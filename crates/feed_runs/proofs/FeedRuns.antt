@@ -1,7 +1,6 @@
--- Feeds have one result, and are runs of one end by itself.
-use Rattle.std.proofs.Common.{◌≡◌, ℕ, ◌+◌, ◌≤◌, Bool, true, false, if◌then◌else◌, List, [], ◌∷◌, ◌++◌, drop, length, take, take-add, length-drop, Option, Some, None, is_some, refl, sym, ap, subst, ◌∙◌, arith}
+-- Feeds have one result, and read the frames that were delivered.
+use Rattle.std.proofs.Common.{◌≡◌, ℕ, ◌+◌, ◌≤◌, Bool, true, false, if◌then◌else◌, List, [], ◌∷◌, ◌++◌, drop, length, take, take-add, length-drop, Option, Some, None, is_some, refl, sym, subst, ◌∙◌, arith}
 use Rattle.std.specs.Option.{option_map_or}
-use Rattle.ipdl_base.specs.declared.line.Line.{Line}
 use Rattle.ipdl_base.specs.declared.message.Message.{Message}
 use Rattle.ipdl_base.specs.declared.schema.Schema.{Schema}
 use Rattle.ipdl_base.specs.Sound.{IsSound}
@@ -16,22 +15,16 @@ use Rattle.value_codec.proofs.Taken.{IsBytes-drop}
 use Rattle.channel_model.specs.Ends.{End, Packet, message, mark}
 use Rattle.channel_model.specs.Events.{Event}
 use Rattle.channel_model.specs.Events as event
-use Rattle.channel_model.specs.Fitting.{FitsPacket}
 use Rattle.channel_model.specs.Deliveries.{deliver}
 use Rattle.channel_model.specs.Outputs.{Change, Output, is_open}
 use Rattle.channel_model.specs.Refusals.{DeliveryRefusal, delivery_refusal, packet_refusal}
 use Rattle.channel_model.specs.Steps.{provided, step}
-use Rattle.history_reading.specs.declared.law.Law.TheVariants as law
-use Rattle.history_reading.specs.Holds.{Holds}
-use Rattle.alone_laws.specs.Alone.{Alone as LawOfOneEnd}
-use Rattle.alone_laws.proofs.AloneRuns.{one_end_obeys_alone, one_end_obeys_fallen}
-use Rattle.alone_laws.specs.AloneRuns.{RunsAlone}
-use Rattle.alone_laws.specs.AloneRuns as alone
-use Rattle.feed_runs.specs.FeedTurns.{Feed, FeedSetting, FeedState, FeedTurn, Feeds, leads, idles, exceeds, rests, stops, goes_on, feed_turn, own_event, is_within, behind, given, behind_own, behind_delivery, behind_frame, reading_turn, turn_by, within, kept_fault, beginning_of}
-use Rattle.feed_runs.specs.Laws.{FeedsHaveOneResult, FeedsObeyAlone, FeedsReadFrames, FeedsRunAlone}
+use Rattle.feed_runs.specs.FeedTurns.{FeedSetting, FeedState, FeedTurn, Feeds, leads, idles, exceeds, rests, stops, goes_on, own_event, is_within, behind, given, behind_own, behind_delivery, behind_frame, turn_by, within, beginning_of}
+use Rattle.feed_runs.specs.Laws.{FeedsHaveOneResult, FeedsReadFrames}
+use Rattle.feed_runs.specs.Reached.{Reaches, stays, turns}
 use Rattle.feed_runs.specs.ReadFrames.{AreFrames, HasReadFrames}
 use Rattle.feed_runs.specs.ReadFrames as read
-use Rattle.feed_runs.specs.NextFrame.{NextFrame, taken, refused, fault_of, frame_at, message_at, next_frame}
+use Rattle.feed_runs.specs.NextFrame.{NextFrame, taken, refused, fault_of, frame_at, next_frame}
 
 -- One result
 
@@ -53,7 +46,7 @@ one-result setting bytes _ _ _ _ _ (goes_on state next last spent a more) (goes_
 pub feeds_have_one_result : FeedsHaveOneResult
 feeds_have_one_result = one-result
 
--- A run of one end
+-- A frame that the end takes
 
 -- a frame that the end takes fits, and is not refused
 pub record IsTaken (schema : Schema) (e : End) (rest : List ℕ) (m : Message) (size : ℕ) : Type 0 where
@@ -74,73 +67,26 @@ taken-frame schema e place bytes fits (decoded.Short missing) is m size at = cc
 taken-frame schema e place bytes fits (decoded.Bad offset rule) is m size at = cc
 taken-frame schema e place bytes fits decoded.NoMemory is m size at = cc
 
-module _ (setting : FeedSetting) (sound : IsSound setting.schema) (bytes : List ℕ) (are : AreBytes bytes) where
-  abbrev Alone : FeedState → Type 0
-  Alone state = RunsAlone setting.schema setting.script.top setting.side state.end state.lines state.packets
+-- Where a turn leads
 
-  own-alone : (state : FeedState) (own : Event) → Alone state → Alone (behind_own setting state own)
-  own-alone state own run = by (step setting.schema state.end [] own) refl
-    where
-      by : (found : Option Output) → step setting.schema state.end [] own ≡ found → Alone (option_map_or (behind state) found state)
-      by None is = run
-      by (Some output) is = alone.acts own output run is
+pub led : (b : Bool) (some next : FeedState) → (if b then leads some else exceeds) ≡ leads next → (b ≡ true) × (some ≡ next)
+led true some next e = (refl, cc)
+led false some next e = cc
 
-  delivery-alone : (state : FeedState) (packet : Packet) → FitsPacket setting.schema packet → packet_refusal setting.schema state.end packet ≡ None → Alone state → Alone (behind_delivery setting state packet)
-  delivery-alone state packet fits accepted run = by (step setting.schema state.end (packet ∷ []) event.deliver) refl
-    where
-      by : (found : Option Output) → step setting.schema state.end (packet ∷ []) event.deliver ≡ found → Alone (option_map_or (given state packet) found state)
-      by None is = run
-      by (Some output) is = alone.gets packet output run fits accepted is
+pub read-led : (b : Bool) (turn : FeedTurn) (next : FeedState) → (if b then turn else idles) ≡ leads next → (b ≡ true) × (turn ≡ leads next)
+read-led true turn next e = (refl, e)
+read-led false turn next e = cc
 
-  frame-alone : (state : FeedState) (next : NextFrame) → next_frame setting.schema state.end state.place bytes ≡ next → Alone state → Alone (behind_frame setting bytes state next)
-  frame-alone state (taken m size) is run =
-      let t : IsTaken setting.schema state.end (drop state.place bytes) m size = taken-frame setting.schema state.end state.place bytes (IsBytes-drop state.place bytes are) (begins NEW setting.schema (drop state.place bytes)) refl m size is in
-      delivery-alone state (message m) t.fits t.accepted run
-  frame-alone state (refused fault) is run = delivery-alone state mark tt refl run
-
-  led : (b : Bool) (some next : FeedState) → (if b then leads some else exceeds) ≡ leads next → some ≡ next
-  led true some next e = cc
-  led false some next e = cc
-
-  read-led : (b : Bool) (turn : FeedTurn) (next : FeedState) → (if b then turn else idles) ≡ leads next → turn ≡ leads next
-  read-led true turn next e = e
-  read-led false turn next e = cc
-
-  turn-alone : (state next : FeedState) (own : Option Event) → turn_by setting bytes state own ≡ leads next → Alone state → Alone next
-  turn-alone state next (Some own) is run = subst Alone (led (is_within setting state) (behind_own setting state own) next is) (own-alone state own run)
-  turn-alone state next None is run =
-      let after : FeedState = behind_frame setting bytes state (next_frame setting.schema state.end state.place bytes) in
-      subst Alone (led (is_within setting state) after next (read-led (is_open state.end.state) (within setting state after) next is)) (frame-alone state (next_frame setting.schema state.end state.place bytes) refl run)
-
-  feed-alone : (from last : FeedState) (spent : Bool) → Feeds setting bytes from last spent → Alone from → Alone last
-  feed-alone _ _ _ (rests state is) run = run
-  feed-alone _ _ _ (stops state is) run = run
-  feed-alone _ _ _ (goes_on state next last spent is more) run = feed-alone next last spent more (turn-alone state next (own_event setting state) is run)
-
-pub feeds_run_alone : FeedsRunAlone
-feeds_run_alone setting bytes last spent sound are feeds = feed-alone setting sound bytes are _ last spent feeds alone.begins
-
-pub feeds_obey_alone : FeedsObeyAlone
-feeds_obey_alone setting bytes lines packets fault spent sound are f =
-    let run : RunsAlone setting.schema setting.script.top setting.side f.last.end lines packets =
-    subst (λ (ls : List Line). RunsAlone setting.schema setting.script.top setting.side f.last.end ls packets) f.lines_are
-    (subst (λ (ps : List Packet). RunsAlone setting.schema setting.script.top setting.side f.last.end f.last.lines ps) f.packets_are (feeds_run_alone setting bytes f.last spent sound are f.feeds))
-    in (
-      one_end_obeys_alone setting.schema sound setting.script.top setting.side f.last.end lines packets run,
-      one_end_obeys_fallen setting.schema sound setting.script.top setting.side f.last.end lines packets run,
-    )
-
--- What was read
-
-provided-some : (b : Bool) (change : Change) (e : End) → b ≡ true → is_some (provided b change e) ≡ true
+pub provided-some : (b : Bool) (change : Change) (e : End) → b ≡ true → is_some (provided b change e) ≡ true
 provided-some true change e h = refl
 provided-some false change e h = cc
 
-opened-led : (b : Bool) (turn : FeedTurn) (next : FeedState) → (if b then turn else idles) ≡ leads next → b ≡ true
-opened-led true turn next e = refl
-opened-led false turn next e = cc
+-- What was read
 
 module _ (setting : FeedSetting) (sound : IsSound setting.schema) (bytes : List ℕ) (are : AreBytes bytes) where
+  begins-read : HasReadFrames setting bytes (beginning_of setting)
+  begins-read = record { within = omega arith; frames = read.none }
+
   own-read : (state : FeedState) (own : Event) → HasReadFrames setting bytes state → HasReadFrames setting bytes (behind_own setting state own)
   own-read state own r = by (step setting.schema state.end [] own)
     where
@@ -183,12 +129,17 @@ module _ (setting : FeedSetting) (sound : IsSound setting.schema) (bytes : List 
   }
 
   turn-read : (state next : FeedState) (own : Option Event) → turn_by setting bytes state own ≡ leads next → HasReadFrames setting bytes state → HasReadFrames setting bytes next
-  turn-read state next (Some own) is r = subst (HasReadFrames setting bytes) (led setting sound bytes are (is_within setting state) (behind_own setting state own) next is) (own-read state own r)
+  turn-read state next (Some own) is r = subst (HasReadFrames setting bytes) (led (is_within setting state) (behind_own setting state own) next is).1 (own-read state own r)
   turn-read state next None is r =
       let frame : NextFrame = next_frame setting.schema state.end state.place bytes in
       let after : FeedState = behind_frame setting bytes state frame in
-      subst (HasReadFrames setting bytes) (led setting sound bytes are (is_within setting state) after next (read-led setting sound bytes are (is_open state.end.state) (within setting state after) next is))
-      (frame-read state frame refl (opened-led (is_open state.end.state) (within setting state after) next is) r)
+      let opened = read-led (is_open state.end.state) (within setting state after) next is in
+      subst (HasReadFrames setting bytes) (led (is_within setting state) after next opened.1).1 (frame-read state frame refl opened.0 r)
+
+  -- the states to which a feed comes have read the frames of what was delivered
+  pub reached-read : (state : FeedState) → Reaches setting bytes (beginning_of setting) state → HasReadFrames setting bytes state
+  reached-read _ stays = begins-read
+  reached-read _ (turns state next before is) = turn-read state next (own_event setting state) is (reached-read state before)
 
   feed-read : (from last : FeedState) (spent : Bool) → Feeds setting bytes from last spent → HasReadFrames setting bytes from → HasReadFrames setting bytes last
   feed-read _ _ _ (rests state is) r = r
@@ -196,4 +147,4 @@ module _ (setting : FeedSetting) (sound : IsSound setting.schema) (bytes : List 
   feed-read _ _ _ (goes_on state next last spent is more) r = feed-read next last spent more (turn-read state next (own_event setting state) is r)
 
 pub feeds_read_frames : FeedsReadFrames
-feeds_read_frames setting bytes last spent sound are feeds = feed-read setting sound bytes are (beginning_of setting) last spent feeds (record { within = omega arith; frames = read.none })
+feeds_read_frames setting bytes last spent sound are feeds = feed-read setting sound bytes are (beginning_of setting) last spent feeds (begins-read setting sound bytes are)

@@ -6,4 +6,4 @@ mod fault;
 mod laws;
 
 pub use fault::FeedFault;
-pub use laws::{feeds_have_one_result, feeds_obey_alone, feeds_read_frames, feeds_run_alone};
+pub use laws::{feeds_have_one_result, feeds_read_frames};

@@ -37,6 +37,8 @@ both:
   async Get() returns (int32_t n);
   async __delete__();
 };
+@ PF.ipdl
+protocol PF { parent: async Flag(bool b); };
 @ PHub.ipdl
 include protocol PTab;
 

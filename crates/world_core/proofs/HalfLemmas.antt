@@ -71,7 +71,7 @@ delivery-begins schema e link output is =
     (e.side, prints.first, map (line_at e.side) prints.rest, prints.lines, delivery-makes prints.first prints.delivers)
 
 -- a delivery
-delivered-step : (link : List Packet) (before after : HalfView) (progress : Progress) → IsCountedBy before progress → IsStepBy before.end link event.deliver after.end → after ≡ with_end_of before after → after.counts ≡ with_event before.counts → IsHalfStep before progress link event.deliver after
+pub delivered-step : (link : List Packet) (before after : HalfView) (progress : Progress) → IsCountedBy before progress → IsStepBy before.end link event.deliver after.end → after ≡ with_end_of before after → after.counts ≡ with_event before.counts → IsHalfStep before progress link event.deliver after
 delivered-step link before after progress counted is same counts =
     made-by link before after progress event.deliver one_event (λ p. refl) (λ output made. delivery-begins before.end.schema before.end.end link output made) is same
     (subst (λ (c : CountsView). AreCountsOf before.script before.end.end.side (one_event progress) c) (sym counts) (event-counted before.script before.end.end.side progress before.counts counted.counts))

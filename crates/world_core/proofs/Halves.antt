@@ -87,7 +87,7 @@ goes-on setting side seen half after fits own =
         about =
             ap setting_of own.steps.same ∙ ap (λ (s : Schema). record { schema = s; script = half.script; stop = half.stop; limit = half.limit }) (ap (λ (v : EndView). v.schema) own.steps.is_behind) ∙ fits.come.about;
         end = ap (λ (v : EndView). v.end) own.steps.is_behind ∙ sym (ends-own side to own.event output);
-        counted = subst (λ (p : Progress). IsCountedBy after p) (sym (own-progress side to output.lines (prints.first ∷ prints.rest) are)) own.steps.counted;
+        counted = subst (λ (p : Progress). IsCountedBy after p) (sym (own-progress side to.lines output.lines (prints.first ∷ prints.rest) are)) own.steps.counted;
       };
       stored = record {
         count = fits.stored.count + 1;

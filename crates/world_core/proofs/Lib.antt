@@ -23,3 +23,6 @@ mod OwnRuns
 pub mod Halves
 mod Meetings
 mod Apart
+mod FeedEnds
+mod FeedStates
+mod FeedFrames

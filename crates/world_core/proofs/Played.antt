@@ -97,17 +97,17 @@ own-side : (side : Side) → same_side side side ≡ true
 own-side sides.Parent = refl
 own-side sides.Child = refl
 
-module _ (side : Side) (state : RunState) (lines : List Line) (ws : List What) (are : lines ≡ map (line_at side) ws) where
-  pub own-progress : progress_of side (state.lines ++ lines) ≡ after_lines (progress_of side state.lines) (whats_of lines)
+module _ (side : Side) (before : List Line) (lines : List Line) (ws : List What) (are : lines ≡ map (line_at side) ws) where
+  pub own-progress : progress_of side (before ++ lines) ≡ after_lines (progress_of side before) (whats_of lines)
   own-progress =
-      progress-append side state.lines lines
-      ∙ ap (λ (vs : List What). after_lines (progress_of side state.lines) vs)
+      progress-append side before lines
+      ∙ ap (λ (vs : List What). after_lines (progress_of side before) vs)
       (ap (lines_of side) are ∙ lines_of-own side side ws ∙ ap (λ (b : Bool). cond b ws []) (own-side side) ∙ sym (whats-at side ws) ∙ sym (ap whats_of are))
 
-  rest-progress : progress_of (other side) (state.lines ++ lines) ≡ progress_of (other side) state.lines
+  rest-progress : progress_of (other side) (before ++ lines) ≡ progress_of (other side) before
   rest-progress =
-      progress-append (other side) state.lines lines
-      ∙ ap (λ (vs : List What). after_lines (progress_of (other side) state.lines) vs)
+      progress-append (other side) before lines
+      ∙ ap (λ (vs : List What). after_lines (progress_of (other side) before) vs)
       (ap (lines_of (other side)) are ∙ lines_of-own side (other side) ws ∙ ap (λ (b : Bool). cond b ws []) (other-side side))
 
 -- Links
@@ -270,7 +270,7 @@ module _ (at : WorldView) (side : Side) (half after : HalfView) (link between : 
       let about : setting_of after ≡ at.setting =
       ap setting_of steps.same ∙ ap (λ (schema : Schema). record { schema = schema; script = half.script; stop = half.stop; limit = half.limit }) (ap (λ (v : EndView). v.schema) steps.is_behind) ∙ stands.half_is.about in
       let counted : IsCountedBy after (progress_of side next_is.lines) =
-      subst (λ (p : Progress). IsCountedBy after p) (sym (own-progress side at.state output_is.lines (prints.first ∷ prints.rest) are)) steps.counted in
+      subst (λ (p : Progress). IsCountedBy after p) (sym (own-progress side at.state.lines output_is.lines (prints.first ∷ prints.rest) are)) steps.counted in
       let half_is : IsHalfOf at.setting next_is side (appended after) = record {
         about = about;
         end = ap (λ (v : EndView). v.end) steps.is_behind ∙ sym (ends-own side at.state event output_is);
@@ -297,5 +297,5 @@ module _ (at : WorldView) (side : Side) (half after : HalfView) (link between : 
           half_is = subst (IsHalfOf at.setting next_is side) (sym emptied) half_is;
         };
         other_end = ends-rest side at.state event output_is;
-        other_progress = rest-progress side at.state output_is.lines (prints.first ∷ prints.rest) are;
+        other_progress = rest-progress side at.state.lines output_is.lines (prints.first ∷ prints.rest) are;
       }

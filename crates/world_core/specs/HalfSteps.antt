@@ -7,9 +7,13 @@ use Rattle.channel_model.specs.Events.{Event}
 use Rattle.channel_model.specs.Events as event
 use Rattle.channel_model.specs.Fitting.{IsFitting}
 use Rattle.channel_model.specs.Outputs.{Output}
+use Rattle.channel_model.specs.Refusals.{packet_refusal}
 use Rattle.channel_model.specs.Steps.{step}
 use Rattle.end_parts.specs.declared.packet.Packet.{Packet}
 use Rattle.end_parts.specs.PacketReading.{carried, packet_read}
+use Rattle.channel_core.specs.declared.answers.DeliverAnswer.{DeliverAnswer}
+use Rattle.channel_core.specs.declared.answers.DeliverAnswer.TheVariants as delivery
+use Rattle.channel_core.specs.Delivered.{told_refusal}
 use Rattle.channel_core.specs.EndView.{IsFramed, behind}
 use Rattle.script_runs.specs.Allowed.{IsAllowed}
 use Rattle.script_runs.specs.Dispatches.{dispatches}
@@ -82,3 +86,9 @@ DeliveryGives before progress packet answer.Did after = IsHalfDelivery before pr
 DeliveryGives before progress packet answer.Nothing after = ⊥
 DeliveryGives before progress packet (answer.Spent side) after = ⊥
 DeliveryGives before progress packet answer.NoMemory after = after ≡ before
+
+-- What any packet carries is offered: it is delivered, or refused with no change.
+abbrev pub OfferGives : HalfView → Progress → model.Packet → DeliverAnswer → HalfView → Type 0
+OfferGives before progress packet delivery.Done after = (packet_refusal before.end.schema before.end.end packet ≡ None) × IsHalfStep before progress (packet ∷ []) event.deliver after
+OfferGives before progress packet delivery.NoMemory after = after ≡ before
+OfferGives before progress packet other after = (told_refusal (packet_refusal before.end.schema before.end.end packet) ≡ other) × (after ≡ before)

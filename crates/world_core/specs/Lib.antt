@@ -13,3 +13,6 @@ pub mod Turns
 pub mod SideTurns
 pub mod TakeSteps
 pub mod Halves
+pub mod FeedLaws
+pub mod Feeding
+pub mod Fed

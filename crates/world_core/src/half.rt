@@ -5,6 +5,7 @@ ghost use Rattle.script_steps.specs.Progress.{Progress};
 
 mod acting;
 mod ending;
+mod fed;
 mod meeting;
 mod next;
 mod parts;

@@ -1,3 +1,4 @@
+ghost use Rattle.world_core.specs.FeedLaws.{FeedTurnsArePossible, FeedsComeToAnEnd};
 ghost use Rattle.world_core.specs.Halves.{HalvesFitBehindMore, StoredLinesFollow};
 
 /// The law of halves: what the other side does alone changes nothing of a half.
@@ -8,4 +9,15 @@ pub fn halves_fit_behind_more()
 /// The law of stored lines: behind the lines that a half fits they are a history of the script.
 pub fn stored_lines_follow()
     ensures { StoredLinesFollow }
+{}
+
+/// The law of turns: in a feed by a valid script each next step, and each delivery at an open end, is
+/// possible.
+pub fn feed_turns_are_possible()
+    ensures { FeedTurnsArePossible }
+{}
+
+/// The law of ends: every list of bytes has a feed.
+pub fn feeds_come_to_an_end()
+    ensures { FeedsComeToAnEnd }
 {}

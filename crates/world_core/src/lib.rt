@@ -1,10 +1,12 @@
 //! A run of two ends by a handler script: step by step, by a word of turns, or by a driver
-//! (docs/scripts.md). The history of every run is one of the script.
+//! (docs/scripts.md). The history of every run is one of the script. And one end by itself against
+//! any bytes (docs/feed.md).
 #![tactic(auto)]
 
 mod answers;
 mod counts;
 mod driver;
+mod feeding;
 mod half;
 mod laws;
 mod link;
@@ -13,8 +15,12 @@ mod world;
 
 pub use answers::{MeetAnswer, RunAnswer, StepAnswer};
 pub use driver::{Driver, OneThread};
+pub use feeding::{Fed, feed};
+pub use feed_runs::FeedFault;
 pub use half::{Half, HalfParts};
-pub use laws::{halves_fit_behind_more, stored_lines_follow};
+pub use laws::{
+    feed_turns_are_possible, feeds_come_to_an_end, halves_fit_behind_more, stored_lines_follow,
+};
 pub use link::Link;
 pub use schedules::{Stop, Turn};
 pub use world::World;

@@ -114,8 +114,9 @@ fn holds_bytes(packet: &Packet)
     }
 }
 
-fn are_bytes(frame: &[u8])
-    ensures { AreBytes frame.now }
+/// Each element of a slice is a byte.
+pub(crate) fn are_bytes(bytes: &[u8])
+    ensures { AreBytes bytes.now }
 {
-    let _length = frame.len();
+    let _length = bytes.len();
 }

@@ -50,7 +50,7 @@ pub fn word_of(alloc: Global, letters: &str) -> Result<Vec<Turn>, Fail> {
 }
 
 /// The side of a word.
-fn side_of(word: &str) -> Result<Side, Fail> {
+pub fn side_of(word: &str) -> Result<Side, Fail> {
     match word {
         "parent" => Ok(Side::Parent),
         "child" => Ok(Side::Child),

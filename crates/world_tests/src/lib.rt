@@ -1,9 +1,12 @@
 //! Tests of runs (docs/scripts.md): worked runs and orders of own steps, each with the word, the limit
 //! and the death with which it is run, and with what it prints, by the world alone and by a driver;
-//! halves that go on apart; deaths under nested calls; and limits that cut a run. Of each history every
-//! law is tested.
+//! halves that go on apart; deaths under nested calls; limits that cut a run; and feeds, with a frame
+//! for each fault (docs/feed.md). Of each history every law is tested, and of each feed the law of one
+//! end.
 #![tactic(auto)]
 
+#[cfg(test)]
+mod alone;
 #[cfg(test)]
 mod apart_rows;
 #[cfg(test)]
@@ -13,6 +16,10 @@ mod deaths;
 #[cfg(test)]
 mod deep_rows;
 #[cfg(test)]
+mod feed_rows;
+#[cfg(test)]
+mod feeds;
+#[cfg(test)]
 mod given;
 #[cfg(test)]
 mod halves;
@@ -20,6 +27,8 @@ mod halves;
 mod laws;
 #[cfg(test)]
 mod limits;
+#[cfg(test)]
+mod made_feeds;
 #[cfg(test)]
 mod order_rows;
 #[cfg(test)]

@@ -59,8 +59,9 @@ impl<'s> End<'s> {
         }
     }
 
-    // Has a message that fits delivered, or refuses it.
-    fn deliver_message(&mut self, message: Message) -> DeliverAnswer
+    /// Has a message that fits the schema delivered, whoever sent it, or refuses it, which changes
+    /// nothing (docs/channel.md).
+    pub fn deliver_message(&mut self, message: Message) -> DeliverAnswer
         requires open { self.old.end.state ≡ Open }
         requires few { self.old.end.delivered < 268435456 }
         requires fits { Fits self.old.schema message }

@@ -19,9 +19,9 @@ use Rattle.channel_model.specs.Ends.{End, Packet, message, mark}
 use Rattle.channel_model.specs.Events.{Event}
 use Rattle.channel_model.specs.Events as event
 use Rattle.channel_model.specs.Fitting.{FitsPacket, IsFitting, IsFittingDelivery}
-use Rattle.channel_model.specs.Outputs.{Change, Output, is_dead_end, is_open}
+use Rattle.channel_model.specs.Outputs.{Output, is_dead_end, is_open}
 use Rattle.channel_model.specs.Refusals.{packet_refusal}
-use Rattle.channel_model.specs.Steps.{provided, step}
+use Rattle.channel_model.specs.Steps.{step}
 use Rattle.channel_model.proofs.CountedParts.{counts_grow}
 use Rattle.channel_model.proofs.FittingParts.{first_ends_fit, fitting_ends_stay}
 use Rattle.channel_laws.specs.AnswersOnce.{owes_answer}
@@ -42,31 +42,19 @@ use Rattle.script_runs.proofs.KeptRuns.{stand-all}
 use Rattle.script_runs.proofs.Leaves.{NameNoNulls}
 use Rattle.script_runs.proofs.NextSteps.{IsNext, next-is}
 use Rattle.script_runs.proofs.Possible.{allowed-possible, next-allowed, next-own}
-use Rattle.script_runs.proofs.Shows.{Shows, step-shows}
+use Rattle.script_runs.proofs.Shows.{step-shows}
 use Rattle.alone_laws.specs.AloneRuns.{RunsAlone}
 use Rattle.alone_laws.specs.AloneRuns as alone
 use Rattle.alone_laws.specs.KeptAlone.{KeepsAlone}
 use Rattle.alone_laws.proofs.AloneRuns.{runs-keep}
 use Rattle.feed_runs.specs.FeedTurns.{FeedSetting, FeedState, FeedTurn, Feeds, leads, idles, exceeds, rests, stops, goes_on, beginning_of, feed_turn, own_event, is_within, behind, given, behind_own, behind_delivery, behind_frame, turn_by, within}
 use Rattle.feed_runs.specs.NextFrame.{NextFrame, taken, refused, next_frame}
-use Rattle.feed_runs.proofs.FeedRuns.{IsTaken, taken-frame}
-use Rattle.feed_laws.specs.Laws.{CanGoOn, FeedTurnsArePossible, FeedsComeToAnEnd}
-use Rattle.feed_laws.specs.Reached.{Reaches, stays, turns}
-
-provided-some : (b : Bool) (change : Change) (e : End) → b ≡ true → is_some (provided b change e) ≡ true
-provided-some true change e h = refl
-provided-some false change e h = cc
+use Rattle.feed_runs.proofs.FeedRuns.{IsTaken, led, provided-some, read-led, taken-frame}
+use Rattle.world_core.specs.FeedLaws.{FeedTurnsArePossible, FeedsComeToAnEnd}
+use Rattle.feed_runs.specs.Reached.{Reaches, stays, turns}
 
 fewer : (n limit : ℕ) → nat_lt n limit ≡ true → n < limit
 fewer n limit h = (Decides-ltb n limit).0 h
-
-led : (b : Bool) (some next : FeedState) → (if b then leads some else exceeds) ≡ leads next → (b ≡ true) × (some ≡ next)
-led true some next e = (refl, cc)
-led false some next e = cc
-
-read-led : (b : Bool) (turn : FeedTurn) (next : FeedState) → (if b then turn else idles) ≡ leads next → (b ≡ true) × (turn ≡ leads next)
-read-led true turn next e = (refl, e)
-read-led false turn next e = cc
 
 module _ (setting : FeedSetting) (sound : IsSound setting.schema) (valid : IsValid setting.schema setting.script) (limit : setting.limit < 268435456) where
   -- the setting of a run that is alike
@@ -276,3 +264,11 @@ feed_turns_are_possible setting bytes state sound valid limit are reached =
 
 pub feeds_come_to_an_end : FeedsComeToAnEnd
 feeds_come_to_an_end setting bytes sound valid limit are = feed-ends setting sound valid limit bytes are setting.limit (beginning_of setting) (omega arith) (begins-kept setting sound valid limit)
+
+-- a turn that leads on is one event more, which the end might have
+pub turns_are_counted : (setting : FeedSetting) (bytes : List ℕ) (state next : FeedState) → IsSound setting.schema → IsValid setting.schema setting.script → setting.limit < 268435456 → AreBytes bytes → Reaches setting bytes (beginning_of setting) state
+    → feed_turn setting bytes state ≡ leads next → ((progress_of setting.side state.lines).events < setting.limit) × ((progress_of setting.side next.lines).events ≡ (progress_of setting.side state.lines).events + 1)
+turns_are_counted setting bytes state next sound valid limit are reached is =
+    let k = reached-keeps setting sound valid limit bytes are (beginning_of setting) state (begins-kept setting sound valid limit) reached in
+    let t = turn-keeps setting sound valid limit bytes are state next (own_event setting state) refl is k in
+    (t.few, t.more)

@@ -1,5 +1,0 @@
-use Rattle.feed_laws.proofs.FeedEnds as law
-use Rattle.feed_laws.proofs.laws.feed_turns_are_possible.Goals as goal
-
-pub returns : goal.returns
-returns c = law.feed_turns_are_possible

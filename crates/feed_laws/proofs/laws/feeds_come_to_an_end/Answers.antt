@@ -1,5 +1,0 @@
-use Rattle.feed_laws.proofs.FeedEnds as law
-use Rattle.feed_laws.proofs.laws.feeds_come_to_an_end.Goals as goal
-
-pub returns : goal.returns
-returns c = law.feeds_come_to_an_end
