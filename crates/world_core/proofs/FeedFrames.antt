@@ -1,17 +1,25 @@
--- What a half makes of a message whose frame stands at a place of bytes.
-use Rattle.std.proofs.Common.{◌≡◌, ℕ, ◌+◌, ◌≤◌, ℤ, List, [], ◌∷◌, take, length, Option, Some, None, ap, arith, refl, sym, ◌∙◌}
-use Rattle.std.specs.Option.{option_map_or}
+-- What a half that is fed makes of a frame, and of the mark of a death.
+use Rattle.std.proofs.Common.{◌≡◌, ℕ, ◌≤◌, List, [], ◌∷◌, take, length, refl, ap, subst, arith}
 use Rattle.std.proofs.lemmas.List.{length-take-le}
 use Rattle.ipdl_base.specs.declared.message.Message.{Message}
 use Rattle.ipdl_base.specs.declared.schema.Schema.{Schema}
 use Rattle.value_types.specs.declared.layout.TheConstants.{NEW}
 use Rattle.value_codec.proofs.Cases.{one_spelling}
 use Rattle.value_codec.specs.Decoding.{FrameBegins}
-use Rattle.channel_model.specs.Refusals.{DeliveryRefusal, wrong_direction, wrong_number, wrong_new_id, stray, wrong_actor}
+use Rattle.channel_model.specs.Ends.{Packet, mark}
+use Rattle.channel_model.specs.Events as event
+use Rattle.end_parts.proofs.ReadLemmas.{read-broken}
+use Rattle.end_parts.specs.declared.packet.Packet.TheVariants.{Broken}
 use Rattle.channel_core.specs.declared.answers.DeliverAnswer.TheVariants as delivery
-use Rattle.channel_core.specs.Delivered.{told_refusal}
-use Rattle.feed_runs.specs.declared.fault.FeedFault.TheVariants as fault
-use Rattle.feed_runs.specs.NextFrame.{NextFrame, taken, refused, fault_of}
+use Rattle.channel_core.specs.Delivered.{answer_to, delivery_answer}
+use Rattle.channel_core.specs.EndView.{EndView}
+use Rattle.script_steps.specs.Progress.{Progress}
+use Rattle.world_core.specs.declared.answers.StepAnswer.{StepAnswer}
+use Rattle.world_core.specs.declared.answers.StepAnswer.TheVariants as answer
+use Rattle.world_core.specs.declared.feeding.FeedTrace.{FeedTrace}
+use Rattle.world_core.specs.Feeding.{BreakGives, StoreGives}
+use Rattle.world_core.specs.HalfSteps.{IsHalfDelivery, IsHalfStep}
+use Rattle.world_core.specs.HalfView.{HalfView}
 
 -- a frame that begins bytes has its header, and ends among them
 pub frame-fits : (schema : Schema) (bytes : List ℕ) (m : Message) (n : ℕ) → FrameBegins NEW schema bytes m n → (28 ≤ n) × (n ≤ length bytes)
@@ -21,40 +29,19 @@ frame-fits schema bytes m n begins =
     let long = one_spelling.size NEW schema m (take n bytes) begins.frame in
     (omega (arith, taken, long), within)
 
--- what a message is by a refusal, or by none
-abbrev met : ℕ → Message → ℕ → Option DeliveryRefusal → NextFrame
-met place m size refusal = option_map_or (λ r. refused (fault_of place r)) refusal (taken m size)
+-- no end refuses the mark
+pub mark-accepted : (seen : EndView) → delivery_answer seen Broken ≡ delivery.Done
+unfolding delivery_answer
+mark-accepted seen = ap (answer_to seen) (read-broken seen.schema Broken refl)
 
--- a refusal that is told as a rule is of a field in the header
-pub bad-met : (place : ℕ) (m : Message) (size offset rule : ℕ) (refusal : Option DeliveryRefusal) → told_refusal refusal ≡ delivery.Bad offset rule → (met place m size refusal ≡ refused (fault.Bad (place + offset) rule)) × (offset ≤ 28)
-bad-met place m size offset rule None told = cc
-bad-met place m size offset rule (Some wrong_direction) told =
-    let a : 12 ≡ offset = cc in
-    let b : 11 ≡ rule = cc in
-    (ap (λ (n : ℕ). refused (fault.Bad (place + n) 11)) a ∙ ap (λ (n : ℕ). refused (fault.Bad (place + offset) n)) b, omega (arith, a))
-bad-met place m size offset rule (Some wrong_number) told =
-    let a : 20 ≡ offset = cc in
-    let b : 12 ≡ rule = cc in
-    (ap (λ (n : ℕ). refused (fault.Bad (place + n) 12)) a ∙ ap (λ (n : ℕ). refused (fault.Bad (place + offset) n)) b, omega (arith, a))
-bad-met place m size offset rule (Some wrong_new_id) told =
-    let a : 28 ≡ offset = cc in
-    let b : 13 ≡ rule = cc in
-    (ap (λ (n : ℕ). refused (fault.Bad (place + n) 13)) a ∙ ap (λ (n : ℕ). refused (fault.Bad (place + offset) n)) b, omega (arith, a))
-bad-met place m size offset rule (Some (stray seq)) told = cc
-bad-met place m size offset rule (Some (wrong_actor id number)) told = cc
+mark-steps : (half : HalfView) (progress : Progress) (between : HalfView) → IsHalfDelivery half progress Broken between → IsHalfStep half progress (mark ∷ []) event.deliver between
+mark-steps half progress between d =
+    let same : d.carries ≡ mark = (let told = d.is_read in let known = read-broken half.end.schema Broken refl in cc) in
+    subst (λ (p : Packet). IsHalfStep half progress (p ∷ []) event.deliver between) same d.steps
 
-pub stray-met : (place : ℕ) (m : Message) (size : ℕ) (seq : ℤ) (refusal : Option DeliveryRefusal) → told_refusal refusal ≡ delivery.Stray seq → met place m size refusal ≡ refused (fault.Stray place seq)
-stray-met place m size seq None told = cc
-stray-met place m size seq (Some wrong_direction) told = cc
-stray-met place m size seq (Some wrong_number) told = cc
-stray-met place m size seq (Some wrong_new_id) told = cc
-stray-met place m size seq (Some (stray n)) told = cc
-stray-met place m size seq (Some (wrong_actor id number)) told = cc
-
-pub actor-met : (place : ℕ) (m : Message) (size : ℕ) (id : ℤ) (number : ℕ) (refusal : Option DeliveryRefusal) → told_refusal refusal ≡ delivery.WrongActor id number → met place m size refusal ≡ refused (fault.WrongActor place id)
-actor-met place m size id number None told = cc
-actor-met place m size id number (Some wrong_direction) told = cc
-actor-met place m size id number (Some wrong_number) told = cc
-actor-met place m size id number (Some wrong_new_id) told = cc
-actor-met place m size id number (Some (stray n)) told = cc
-actor-met place m size id number (Some (wrong_actor i n)) told = cc
+-- the mark was delivered, and the lines of that were stored
+pub break-gives : (half : HalfView) (progress : Progress) (between half' : HalfView) (trace trace' : FeedTrace) (a : StepAnswer) → IsHalfDelivery half progress Broken between → StoreGives between trace a half' trace' → BreakGives half progress trace a half' trace'
+break-gives half progress between half' trace trace' answer.Did d h = record { between = between; steps = mark-steps half progress between d; stored = h }
+break-gives half progress between half' trace trace' answer.Nothing d h = h
+break-gives half progress between half' trace trace' (answer.Spent side) d h = h
+break-gives half progress between half' trace trace' answer.NoMemory d h = tt

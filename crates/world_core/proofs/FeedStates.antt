@@ -9,6 +9,7 @@ use Rattle.ipdl_base.specs.declared.line.Line.{Line}
 use Rattle.ipdl_base.specs.declared.message.Message.{Message}
 use Rattle.ipdl_base.specs.declared.schema.Schema.{Schema}
 use Rattle.ipdl_base.specs.Sound.{IsSound}
+use Rattle.history.specs.HistoryView.{HistoryView}
 use Rattle.value_types.specs.declared.layout.TheConstants.{NEW}
 use Rattle.value_codec.specs.Decoding.{begins}
 use Rattle.value_codec.specs.Laws.{AreBytes}
@@ -40,7 +41,7 @@ use Rattle.world_core.specs.declared.answers.StepAnswer.TheVariants as answer
 use Rattle.world_core.specs.declared.feeding.FeedTrace.{FeedTrace}
 use Rattle.world_core.specs.FeedLaws.{CanGoOn}
 use Rattle.world_core.specs.Feeding.{HasCome, HasEnded, HasLedOn, HasStored, IsTraced, MayBeGiven, MayRead, OwnTurnGives, RestsAt, TurnGives, course_of, lines_in, progress_in, state_in}
-use Rattle.world_core.specs.HalfSteps.{IsHalfStep, IsOwnStep, MayGoOn, OwnGives, next_of}
+use Rattle.world_core.specs.HalfSteps.{IsHalfStep, IsOwnStep, MayGoOn, next_of}
 use Rattle.world_core.specs.HalfView.{HalfView, IsCountedBy, appended, setting_of}
 use Rattle.world_core.specs.Resolvers.{AreApart}
 use Rattle.world_core.specs.Worlds.{most_events}
@@ -142,7 +143,7 @@ module _ (setting : FeedSetting) (bytes : List ℕ) (half : HalfView) (trace : F
         ap (map plain_line) stored.moved.last
         ∙ map-append plain_line middle.history.lines stored.moved.moved
         ∙ ap (λ (ls : List Line). map plain_line middle.history.lines ++ ls) (stored.moved.are ∙ made)
-        ∙ ap (λ (h : _). map plain_line h.lines ++ steps.output.lines) same
+        ∙ ap (λ (h : HistoryView). map plain_line h.lines ++ steps.output.lines) same
 
     pub end-is : half'.end.end ≡ steps.output.end
     end-is = ap (λ (h : HalfView). h.end.end) stored.half_is ∙ ap (λ (v : EndView). v.end) steps.is_behind
@@ -189,14 +190,19 @@ module _ (setting : FeedSetting) (bytes : List ℕ) (half : HalfView) (trace : F
       leads-on half' trace' come.packets (traced-on own.event [] between half' trace trace' steps refl stored)
       (own-turn own.event has (sym within-is ∙ own.within) ∙ ap leads next)
 
-  -- where no own step was made
-  pub own-else : (a : StepAnswer) (after : HalfView) → (a ≡ answer.Did → ⊥) → OwnGives half (progress_in setting trace) a after → OwnTurnGives setting bytes half trace a after trace
-  own-else answer.Did after isnt h = absurd (isnt refl)
-  own-else answer.Nothing after isnt h = (sym next-is ∙ h.0, h.1, refl)
-  own-else (answer.Spent s) after isnt h =
-      subst (λ (v : HalfView). HasEnded setting bytes true v trace) (sym h.3)
-      (ended true (stops state_is (own-full (own_event setting state_is) refl (ap is_some (sym next-is) ∙ h.0) (sym within-is ∙ h.1))))
-  own-else answer.NoMemory after isnt h = tt
+  -- an own turn that is made, or none as the limit is reached
+  pub own-gives : (a : StepAnswer) (half' : HalfView) (trace' : FeedTrace) → (a ≡ answer.Nothing → ⊥) → OwnTurnGives half (progress_in setting trace) trace a half' trace' → TurnGives setting bytes trace a half' trace'
+  own-gives answer.Did half' trace' isnt h = own-led h.0 half' trace' h.1 h.2
+  own-gives answer.Nothing half' trace' isnt h = absurd (isnt refl)
+  own-gives (answer.Spent s) half' trace' isnt h =
+      subst (λ (v : HalfView). HasEnded setting bytes true v trace') (sym h.2)
+      (subst (λ (t : FeedTrace). HasEnded setting bytes true half t) (sym h.3)
+      (ended true (stops state_is (own-full (own_event setting state_is) refl (ap is_some (sym next-is) ∙ h.0) (sym within-is ∙ h.1)))))
+  own-gives answer.NoMemory half' trace' isnt h = tt
+
+  -- where it has none, the end rests
+  pub own-rests : next_of half (progress_in setting trace) ≡ None → RestsAt setting half trace
+  own-rests none = sym next-is ∙ none
 
   -- A look at the bytes
 

@@ -1,5 +1,5 @@
 -- How the end of a feed, and what is kept beside it, go through the states of the feed.
-use Rattle.std.specs.Prelude.{◌≡◌, ℕ, ◌+◌, ◌<◌, ◌≤◌, nat_lt, Bool, true, false, List, [], ◌∷◌, map, None}
+use Rattle.std.specs.Prelude.{◌≡◌, ℕ, ◌+◌, ◌<◌, ◌≤◌, nat_lt, Bool, true, false, List, [], ◌∷◌, map, None, is_some}
 use Rattle.handler_script.specs.Valid.{IsValid}
 use Rattle.ipdl_base.specs.declared.line.Line.{Line}
 use Rattle.ipdl_base.specs.declared.message.Message.{Message}
@@ -22,13 +22,17 @@ use Rattle.world_core.specs.declared.answers.StepAnswer.TheVariants as answer
 use Rattle.world_core.specs.declared.feeding.FeedTrace.{FeedTrace}
 use Rattle.world_core.specs.declared.feeding.FrameAnswer.{FrameAnswer}
 use Rattle.world_core.specs.declared.feeding.FrameAnswer.TheVariants as frame
-use Rattle.world_core.specs.HalfSteps.{IsHalfStep}
+use Rattle.world_core.specs.HalfSteps.{IsHalfStep, IsOwnStep, next_of}
 use Rattle.world_core.specs.HalfView.{HalfView, IsCountedBy, appended, setting_of}
 use Rattle.world_core.specs.Worlds.{most_events}
 
 -- what a run with this end is about: a feed has no stop
 abbrev pub course_of : FeedSetting → Setting
 course_of setting = record { schema = setting.schema; script = setting.script; stop = None; limit = setting.limit }
+
+-- the feed of which a half is the end
+abbrev pub setting_in : HalfView → FeedSetting
+setting_in half = record { schema = half.end.schema; script = half.script; side = half.end.end.side; limit = half.limit }
 
 -- the lines of a trace, with every box at one place, and the progress of the side behind them
 abbrev pub lines_in : FeedTrace → List Line
@@ -80,11 +84,6 @@ TurnGives setting bytes trace answer.NoMemory half' trace' = Unit {0}
 abbrev pub RestsAt : FeedSetting → HalfView → FeedTrace → Type 0
 RestsAt setting half trace = next_event setting.script None half.end.end (progress_in setting trace) ≡ None
 
--- the same of an own step; where the end has none, nothing changes
-abbrev pub OwnTurnGives : FeedSetting → List ℕ → HalfView → FeedTrace → StepAnswer → HalfView → FeedTrace → Type 0
-OwnTurnGives setting bytes half trace answer.Nothing half' trace' = RestsAt setting half trace × (half' ≡ half) × (trace' ≡ trace)
-OwnTurnGives setting bytes half trace other half' trace' = TurnGives setting bytes trace other half' trace'
-
 -- A half stores nothing more: its lines stand last in the history of a trace.
 pub record HasStored (half : HalfView) (trace : FeedTrace) (half' : HalfView) (trace' : FeedTrace) : Type 0 where
   pub half_is : half' ≡ appended half
@@ -96,6 +95,14 @@ StoreGives half trace answer.Did half' trace' = HasStored half trace half' trace
 StoreGives half trace answer.Nothing half' trace' = ⊥
 StoreGives half trace (answer.Spent side) half' trace' = ⊥
 StoreGives half trace answer.NoMemory half' trace' = Unit {0}
+
+-- an own step was made and its lines were stored; or there is none; or it would pass the limit; or memory ran out
+abbrev pub OwnTurnGives : HalfView → Progress → FeedTrace → StepAnswer → HalfView → FeedTrace → Type 0
+OwnTurnGives half progress trace answer.Did half' trace' = (between : HalfView) × IsOwnStep half progress between × HasStored between trace half' trace'
+OwnTurnGives half progress trace answer.Nothing half' trace' = (next_of half progress ≡ None) × (half' ≡ half) × (trace' ≡ trace)
+OwnTurnGives half progress trace (answer.Spent side) half' trace' =
+    (is_some (next_of half progress) ≡ true) × (nat_lt half.counts.events half.limit ≡ false) × (half' ≡ half) × (trace' ≡ trace)
+OwnTurnGives half progress trace answer.NoMemory half' trace' = Unit {0}
 
 -- An open half of a sound schema may have one delivery more.
 pub record MayBeGiven (half : HalfView) (progress : Progress) : Type 0 where

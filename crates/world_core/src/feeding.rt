@@ -1,5 +1,5 @@
 //! One end against any bytes (docs/feed.md).
-ghost use Rattle.std.specs.Prelude.{◌≡◌, ◌+◌, ◌≤◌, ℕ, List, map, length, IfOk};
+ghost use Rattle.std.specs.Prelude.{◌≡◌, ◌+◌, ◌≤◌, map, length, IfOk};
 ghost use Rattle.handler_script.specs.Valid.{IsValid};
 ghost use Rattle.history.specs.Text.{transcript_text};
 ghost use Rattle.ipdl_base.specs.Plain.{plain_message};
@@ -13,7 +13,8 @@ ghost use Rattle.script_steps.specs.Progress.{Progress};
 ghost use Rattle.feed_runs.specs.FeedTurns.{FeedSetting, kept_fault};
 ghost use Rattle.feed_runs.specs.NextFrame.{frame_at, message_at};
 ghost use Rattle.world_core.specs.Fed.{IsFeedOf};
-ghost use Rattle.world_core.specs.Feeding.{BreakGives, FrameGives, HasCome, HasEnded, MayBeGiven, MayRead, OwnTurnGives, RestsAt, StoreGives, TurnGives};
+ghost use Rattle.world_core.specs.Feeding.{BreakGives, FrameGives, HasCome, HasEnded, MayBeGiven, MayRead, OwnTurnGives, RestsAt, StoreGives, TurnGives, progress_in};
+ghost use Rattle.world_core.specs.HalfSteps.{MayGoOn};
 ghost use Rattle.world_core.specs.Worlds.{most_events};
 
 use crate::answers::StepAnswer;
@@ -140,11 +141,11 @@ fn do_turn(
     }
 }
 
-// An own step of the end. `Nothing` comes exactly where it has none.
+// An own step of the end, whose lines are stored. `Nothing` comes exactly where it has none.
 fn own_turn(half: &mut Half<'_>, trace: &mut FeedTrace) -> StepAnswer
-    ghost at: { FeedSetting × List ℕ }
-    requires { HasCome at.0 at.1 half.old trace.old }
-    ensures { OwnTurnGives at.0 at.1 half.old trace.old result half.new trace.new }
+    ghost progress: { Progress }
+    requires { MayGoOn half.old progress }
+    ensures { OwnTurnGives half.old progress trace.old result half.new trace.new }
 {
     match half.own_step() {
         StepAnswer::Did => store(half, trace),
@@ -191,10 +192,11 @@ fn read_on(
     trace: &mut FeedTrace,
     bytes: &[u8],
 ) -> StepAnswer
-    ghost setting: { FeedSetting }
-    requires come { HasCome setting bytes.now half.old trace.old }
-    requires may { MayRead setting half.old trace.old }
-    ensures { TurnGives setting bytes.now trace.old result half.new trace.new }
+    ghost at: { FeedSetting × Progress }
+    requires come { HasCome at.0 bytes.now half.old trace.old }
+    requires progress { at.1 ≡ progress_in at.0 trace.old }
+    requires may { MayRead at.0 half.old trace.old }
+    ensures { TurnGives at.0 bytes.now trace.old result half.new trace.new }
 {
     let (_, left) = bytes.split_at(trace.place);
     match deliver_frame(alloc, half, trace.place, left) {
