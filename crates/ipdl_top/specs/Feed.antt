@@ -1,6 +1,6 @@
 -- What the command that runs one end on a file of bytes says of a schema.
 use Rattle.std.specs.Prelude.{◌≡◌, ℕ, ◌≤◌, ◌<◌, ◌⊎◌, Bool, true, false, if◌then◌else◌, List, [], ◌++◌, length, Option, Some, None, codes}
-use Rattle.std.specs.Fmt.{decimal, signed_decimal}
+use Rattle.std.specs.Fmt.{decimal}
 use Rattle.ipdl_base.specs.declared.finding.Rule.{Rule}
 use Rattle.ipdl_base.specs.declared.kinds.Side.{Side}
 use Rattle.ipdl_base.specs.declared.line.Line.{Line}
@@ -14,7 +14,7 @@ use Rattle.feed_runs.specs.FeedTurns.{Feed, FeedSetting}
 use Rattle.frame_list.specs.declared.list.FrameListFault.TheVariants as unread
 use Rattle.frame_list.specs.Lines.{fault_line}
 use Rattle.handler_script.specs.declared.script.Script.{Script}
-use Rattle.history.specs.Text.{transcript_text}
+use Rattle.history.specs.Text.{numbered, transcript_text}
 use Rattle.law_statements.specs.Fallen.{Fallen}
 use Rattle.law_statements.specs.Readable.{Readable}
 use Rattle.script_steps.specs.Turns.{RunEnding, at_limit, at_rest}
@@ -47,8 +47,8 @@ frame_rule number = record { letter = 70; number = number }
 abbrev pub kept_line : List ℕ → FeedFault → List ℕ
 kept_line name (fault.Short at missing) = fault_line name (unread.Short at missing)
 kept_line name (fault.Bad at number) = fault_line name (unread.Broken at (frame_rule number))
-kept_line name (fault.Stray at number) = name ++ codes ":" ++ decimal at ++ codes ": stray " ++ signed_decimal number ++ codes "\n"
-kept_line name (fault.WrongActor at id) = name ++ codes ":" ++ decimal at ++ codes ": wrong actor " ++ signed_decimal id ++ codes "\n"
+kept_line name (fault.Stray at number) = name ++ codes ":" ++ decimal at ++ numbered (codes ": stray ") number ++ codes "\n"
+kept_line name (fault.WrongActor at id) = name ++ codes ":" ++ decimal at ++ numbered (codes ": wrong actor ") id ++ codes "\n"
 
 abbrev pub kept_text : List ℕ → Option FeedFault → List ℕ
 kept_text name None = []

@@ -1,5 +1,7 @@
 ghost use Rattle.std.specs.Prelude.{◌≡◌, ◌≤◌, ◌∷◌, ◌++◌, [], ℕ, IfOk, List, Option, codes, map, option_map, string_bytes};
+ghost use Rattle.std.specs.Fmt.{decimal};
 ghost use Rattle.end_parts.specs.PlainLines.{plain_line};
+ghost use Rattle.history.specs.Text.{numbered};
 ghost use Rattle.handler_script.specs.Valid.{IsValid};
 ghost use Rattle.include_graph.specs.Keys.{AreFileWords};
 ghost use Rattle.ipdl_base.specs.Outside.{Rose};
@@ -26,6 +28,7 @@ use crate::status::Status;
 use feed_laws::feeds_obey_alone;
 use frame_list::{FrameListFault, fault_text};
 use handler_script::Script;
+use history::push_numbered;
 use ipdl_base::{Files, Items, Rule, Schema, Side};
 use law_statements::{decides_fallen, decides_readable, laws_want_readable_lines};
 use std::alloc::{AllocError, Global};
@@ -52,29 +55,22 @@ struct FeedFiles {
     frames: HeldFile,
 }
 
-/// A name, and behind it a text.
-fn named(alloc: Global, name: &str, text: &str) -> Result<Vec<u8>, AllocError>
-    ensures { IfOk result (λ line. line.items ≡ name.now ++ text.now) }
+/// The line of a fault: the name of the file, the place, and a word with a number.
+fn numbered_line(
+    alloc: Global,
+    name: &str,
+    at: usize,
+    word: &[u8],
+    number: i32,
+) -> Result<Vec<u8>, AllocError>
+    ensures { IfOk result (λ line. line.items ≡ name.now ++ codes ":" ++ decimal at ++ numbered word.now number ++ codes "\n") }
 {
+    let place = format!(in alloc; ":{at}")?;
     let mut line = Vec::from_slice(alloc, name.as_bytes())?;
-    line.extend_from_slice(text.as_bytes())?;
+    line.extend_from_slice(place.as_bytes())?;
+    push_numbered(&mut line, word, number)?;
+    line.extend_from_slice(b"\n")?;
     Ok(line)
-}
-
-/// The line that says that the frame at a place is a reply to a request which waits for none.
-fn stray_line(alloc: Global, name: &str, at: usize, number: i32) -> Result<Vec<u8>, AllocError>
-    ensures { IfOk result (λ line. line.items ≡ told.kept_line name.now (FeedFault.Stray at number)) }
-{
-    let text = format!(in alloc; ":{at}: stray {number}\n")?;
-    named(alloc, name, text.as_str())
-}
-
-/// The line that says that the frame at a place speaks of an actor which lives with another protocol.
-fn wrong_actor_line(alloc: Global, name: &str, at: usize, id: i32) -> Result<Vec<u8>, AllocError>
-    ensures { IfOk result (λ line. line.items ≡ told.kept_line name.now (FeedFault.WrongActor at id)) }
-{
-    let text = format!(in alloc; ":{at}: wrong actor {id}\n")?;
-    named(alloc, name, text.as_str())
 }
 
 /// The line that says why the bytes that were left of a file of this name were not read.
@@ -92,8 +88,8 @@ fn kept_line(alloc: Global, name: &str, fault: FeedFault) -> Result<Vec<u8>, All
             };
             fault_text(alloc, name.as_bytes(), &FrameListFault::Broken(at, rule))
         }
-        FeedFault::Stray(at, number) => stray_line(alloc, name, at, number),
-        FeedFault::WrongActor(at, id) => wrong_actor_line(alloc, name, at, id),
+        FeedFault::Stray(at, number) => numbered_line(alloc, name, at, b": stray ", number),
+        FeedFault::WrongActor(at, id) => numbered_line(alloc, name, at, b": wrong actor ", id),
     }
 }
 
