@@ -11,7 +11,6 @@ use Rattle.channel_model.specs.Ends.{Packet, message, mark}
 use Rattle.channel_model.specs.Events.{Event}
 use Rattle.channel_model.specs.Events as event
 use Rattle.channel_model.specs.Fitting.{FitsPacket}
-use Rattle.channel_model.specs.Deliveries.{deliver}
 use Rattle.channel_model.specs.Outputs.{Output, is_open}
 use Rattle.channel_model.specs.Refusals.{packet_refusal}
 use Rattle.channel_model.specs.Steps.{step}
@@ -70,4 +69,3 @@ feeds_obey_alone setting bytes lines packets fault spent sound are f =
       one_end_obeys_alone setting.schema sound setting.script.top setting.side f.last.end lines packets run,
       one_end_obeys_fallen setting.schema sound setting.script.top setting.side f.last.end lines packets run,
     )
-

@@ -1,5 +1,5 @@
 -- Worked feeds: each gives exactly these lines, keeps this fault or none, and ends at rest.
-use Rattle.std.specs.Prelude.{◌≡◌, ℕ, ℤ, pos, negsuc, Bool, true, false, List, [], ◌∷◌, ◌++◌, Option, Some, None, codes, option_map, refl}
+use Rattle.std.specs.Prelude.{◌≡◌, ℕ, pos, negsuc, Bool, true, false, List, [], ◌∷◌, ◌++◌, Option, Some, None, codes, option_map, refl}
 use Rattle.ipdl_base.specs.declared.builtin.Builtin.TheVariants as word
 use Rattle.ipdl_base.specs.declared.kinds.Compress.TheVariants as compress
 use Rattle.ipdl_base.specs.declared.kinds.Destroy.TheVariants as destroy
@@ -19,7 +19,6 @@ use Rattle.ipdl_base.specs.declared.value.Values.{First'}
 use Rattle.ipdl_base.specs.declared.value.Values.TheVariants.{Nothing}
 use Rattle.ipdl_base.specs.Plain.{one_box}
 use Rattle.handler_script.specs.declared.action.Action.TheVariants as action
-use Rattle.handler_script.specs.declared.script.Script.{Script}
 use Rattle.handler_script.specs.declared.term.Terms.TheVariants as terms
 use Rattle.script_reader.specs.declared.written.Who.TheVariants as who
 use Rattle.value_codec.specs.Decoding.{begins}

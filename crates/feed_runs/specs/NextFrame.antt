@@ -1,5 +1,5 @@
 -- What bytes are to an end that reads them: a frame that it takes, or a fault.
-use Rattle.std.specs.Prelude.{ℕ, ◌+◌, List, drop, Option, Some, None}
+use Rattle.std.specs.Prelude.{ℕ, ◌+◌, List, drop}
 use Rattle.std.specs.Option.{option_map_or}
 use Rattle.ipdl_base.specs.declared.message.Message.{Message}
 use Rattle.ipdl_base.specs.declared.schema.Schema.{Schema}

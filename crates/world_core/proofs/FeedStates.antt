@@ -1,8 +1,9 @@
 -- The end of a feed at a state of it, and what turns make of both.
-use Rattle.std.proofs.Common.{◌≡◌, ℕ, ◌+◌, ◌<◌, ◌≤◌, nat_lt, Bool, true, false, not, if◌then◌else◌, List, [], ◌∷◌, ◌++◌, drop, length, map, Option, Some, None, is_some, refl, sym, ap, subst, ◌∙◌, arith}
+use Rattle.std.proofs.Common.{◌≡◌, ℕ, ◌+◌, ◌<◌, ◌≤◌, nat_lt, Bool, true, false, not, if◌then◌else◌, List, [], ◌∷◌, ◌++◌, drop, length, length-drop, map, Option, Some, None, is_some, refl, sym, ap, subst, ◌∙◌, arith}
 use Rattle.std.specs.List.{AllZip}
 use Rattle.std.specs.Option.{option_map_or}
 use Rattle.std.proofs.lemmas.List.{map-append}
+use Rattle.handler_script.specs.declared.script.Script.{Script}
 use Rattle.handler_script.specs.Valid.{IsValid}
 use Rattle.ipdl_base.specs.declared.kinds.Side.{Side}
 use Rattle.ipdl_base.specs.declared.line.Line.{Line}
@@ -13,6 +14,7 @@ use Rattle.history.specs.HistoryView.{HistoryView}
 use Rattle.value_types.specs.declared.layout.TheConstants.{NEW}
 use Rattle.value_codec.specs.Decoding.{begins}
 use Rattle.value_codec.specs.Laws.{AreBytes}
+use Rattle.value_codec.proofs.Taken.{IsBytes-drop}
 use Rattle.channel_model.specs.Ends.{End, Packet, message, mark}
 use Rattle.channel_model.specs.Events.{Event}
 use Rattle.channel_model.specs.Events as event
@@ -28,22 +30,21 @@ use Rattle.script_steps.proofs.StepLines.{Prints, step-prints}
 use Rattle.script_steps.specs.Choices.{Setting}
 use Rattle.script_steps.specs.NextEvent.{next_event}
 use Rattle.script_steps.specs.Progress.{Progress, no_progress, progress_of}
-use Rattle.feed_runs.proofs.FeedRuns.{reached-read}
+use Rattle.feed_runs.proofs.FeedRuns.{IsTaken, reached-read, taken-frame}
 use Rattle.feed_runs.specs.declared.fault.FeedFault.{FeedFault}
-use Rattle.feed_runs.specs.FeedTurns.{FeedSetting, FeedState, FeedTurn, Feeds, leads, idles, exceeds, rests, stops, goes_on, beginning_of, behind, behind_delivery, behind_frame, behind_own, feed_turn, given, is_within, kept_fault, own_event, reading_turn, turn_by}
+use Rattle.feed_runs.specs.FeedTurns.{FeedSetting, FeedState, Feeds, leads, idles, exceeds, rests, stops, goes_on, beginning_of, behind, behind_frame, behind_own, feed_turn, given, is_within, kept_fault, own_event, reading_turn, turn_by}
 use Rattle.feed_runs.specs.NextFrame.{NextFrame, taken, refused, frame_at, next_frame}
-use Rattle.feed_runs.specs.ReadFrames.{HasReadFrames}
 use Rattle.feed_runs.specs.Reached.{Reaches, stays, turns}
 use Rattle.world_core.proofs.FeedEnds.{feed_turns_are_possible, turns_are_counted}
 use Rattle.world_core.proofs.Played.{own-progress}
 use Rattle.world_core.specs.declared.answers.StepAnswer.{StepAnswer}
 use Rattle.world_core.specs.declared.answers.StepAnswer.TheVariants as answer
 use Rattle.world_core.specs.declared.feeding.FeedTrace.{FeedTrace}
+use Rattle.world_core.specs.declared.feeding.FrameAnswer.TheVariants as frame
 use Rattle.world_core.specs.FeedLaws.{CanGoOn}
-use Rattle.world_core.specs.Feeding.{HasCome, HasEnded, HasLedOn, HasStored, IsTraced, MayBeGiven, MayRead, OwnTurnGives, RestsAt, TurnGives, course_of, lines_in, progress_in, state_in}
+use Rattle.world_core.specs.Feeding.{BreakGives, FrameGives, HasCome, HasEnded, HasLedOn, HasStored, IsTraced, MayBeGiven, MayRead, OwnTurnGives, RestsAt, StoreGives, TurnGives, course_of, lines_in, progress_in, setting_in, state_in}
 use Rattle.world_core.specs.HalfSteps.{IsHalfStep, IsOwnStep, MayGoOn, next_of}
 use Rattle.world_core.specs.HalfView.{HalfView, IsCountedBy, appended, setting_of}
-use Rattle.world_core.specs.Resolvers.{AreApart}
 use Rattle.world_core.specs.Worlds.{most_events}
 
 -- what a feed makes from a state to which it comes, it makes from its beginning
@@ -185,8 +186,8 @@ module _ (setting : FeedSetting) (bytes : List ℕ) (half : HalfView) (trace : F
       let next : behind_own setting state_is own.event ≡ state_in half' trace' come.packets =
       ap (λ (found : Option Output). option_map_or (behind state_is) found state_is) (is own.event [] between half' trace trace' steps refl stored)
       ∙ sym (same-state half'.end.end steps.output.end (lines_in trace') (lines_in trace ++ steps.output.lines) come.packets trace'.place trace.place trace'.fault trace.fault
-        (end-is own.event [] between half' trace trace' steps refl stored) (lines-are own.event [] between half' trace trace' steps refl stored)
-        (place-is own.event [] between half' trace trace' steps refl stored) (fault-is own.event [] between half' trace trace' steps refl stored)) in
+      (end-is own.event [] between half' trace trace' steps refl stored) (lines-are own.event [] between half' trace trace' steps refl stored)
+      (place-is own.event [] between half' trace trace' steps refl stored) (fault-is own.event [] between half' trace trace' steps refl stored)) in
       leads-on half' trace' come.packets (traced-on own.event [] between half' trace trace' steps refl stored)
       (own-turn own.event has (sym within-is ∙ own.within) ∙ ap leads next)
 
@@ -200,11 +201,18 @@ module _ (setting : FeedSetting) (bytes : List ℕ) (half : HalfView) (trace : F
       (ended true (stops state_is (own-full (own_event setting state_is) refl (ap is_some (sym next-is) ∙ h.0) (sym within-is ∙ h.1)))))
   own-gives answer.NoMemory half' trace' isnt h = tt
 
-  -- where it has none, the end rests
-  pub own-rests : next_of half (progress_in setting trace) ≡ None → RestsAt setting half trace
-  own-rests none = sym next-is ∙ none
+  -- where it has none, nothing changed, and the end rests
+  pub own-rests : (half' : HalfView) (trace' : FeedTrace) → OwnTurnGives half (progress_in setting trace) trace answer.Nothing half' trace' → HasCome setting bytes half' trace' × RestsAt setting half' trace'
+  own-rests half' trace' h =
+      subst (λ (v : HalfView). HasCome setting bytes v trace' × RestsAt setting v trace') (sym h.1)
+      (subst (λ (t : FeedTrace). HasCome setting bytes half t × RestsAt setting half t) (sym h.2) (come, sym next-is ∙ h.0))
 
   -- A look at the bytes
+
+  -- the frame that stands there is looked at under the schema of the half
+  pub frame-is : (left : List ℕ) (next : NextFrame) → left ≡ drop trace.place bytes → frame_at half.end.schema half.end.end trace.place (begins NEW half.end.schema left) ≡ next → next_frame setting.schema half.end.end trace.place bytes ≡ next
+  frame-is left next are h =
+      sym (ap (λ (schema : Schema). frame_at schema half.end.end trace.place (begins NEW schema left)) schema-is ∙ ap (λ (bs : List ℕ). frame_at setting.schema half.end.end trace.place (begins NEW setting.schema bs)) are) ∙ h
 
   module _ (none : RestsAt setting half trace) where
     reads : feed_turn setting bytes state_is ≡ reading_turn setting bytes state_is
@@ -217,8 +225,8 @@ module _ (setting : FeedSetting) (bytes : List ℕ) (half : HalfView) (trace : F
     pub full-ends : is_open half.end.end.state ≡ true → not (nat_lt half.counts.events half.limit) ≡ true → HasEnded setting bytes true half trace
     full-ends opens full =
         ended true (stops state_is (reads
-          ∙ ap (λ (b : Bool). if b then (if is_within setting state_is then leads (behind_frame setting bytes state_is (next_frame setting.schema half.end.end trace.place bytes)) else exceeds) else idles) opens
-          ∙ ap (λ (b : Bool). if b then leads (behind_frame setting bytes state_is (next_frame setting.schema half.end.end trace.place bytes)) else exceeds) (sym within-is ∙ isnt (nat_lt half.counts.events half.limit) full)))
+        ∙ ap (λ (b : Bool). if b then (if is_within setting state_is then leads (behind_frame setting bytes state_is (next_frame setting.schema half.end.end trace.place bytes)) else exceeds) else idles) opens
+        ∙ ap (λ (b : Bool). if b then leads (behind_frame setting bytes state_is (next_frame setting.schema half.end.end trace.place bytes)) else exceeds) (sym within-is ∙ isnt (nat_lt half.counts.events half.limit) full)))
       where
         isnt : (b : Bool) → not b ≡ true → b ≡ false
         isnt true h = cc
@@ -231,11 +239,6 @@ module _ (setting : FeedSetting) (bytes : List ℕ) (half : HalfView) (trace : F
         ∙ ap (λ (b : Bool). if b then leads (behind_frame setting bytes state_is (next_frame setting.schema half.end.end trace.place bytes)) else exceeds) (sym within-is ∙ within)
         ∙ ap (λ (n : NextFrame). leads (behind_frame setting bytes state_is n)) stands
 
-    -- the frame that stands there is looked at under the schema of the half
-    frame-is : (left : List ℕ) (next : NextFrame) → left ≡ drop trace.place bytes → frame_at half.end.schema half.end.end trace.place (begins NEW half.end.schema left) ≡ next → next_frame setting.schema half.end.end trace.place bytes ≡ next
-    frame-is left next are h =
-        sym (ap (λ (schema : Schema). frame_at schema half.end.end trace.place (begins NEW schema left)) schema-is ∙ ap (λ (bs : List ℕ). frame_at setting.schema half.end.end trace.place (begins NEW setting.schema bs)) are) ∙ h
-
     module _ (left : List ℕ) (are : left ≡ drop trace.place bytes) (may : MayRead setting half trace) where
       -- a frame was delivered
       pub taken-led : (m : Message) (size : ℕ) (between half' : HalfView) (middle trace' : FeedTrace) → frame_at half.end.schema half.end.end trace.place (begins NEW half.end.schema left) ≡ taken m size
@@ -245,9 +248,9 @@ module _ (setting : FeedSetting) (bytes : List ℕ) (half : HalfView) (trace : F
           let next : behind_frame setting bytes state_is (taken m size) ≡ state_in half' trace' (come.packets ++ message m ∷ []) =
           ap (λ (found : Option Output). record (option_map_or (given state_is (message m)) found state_is) { place = trace.place + size }) (is event.deliver (message m ∷ []) between half' middle trace' steps same stored)
           ∙ sym (same-state half'.end.end steps.output.end (lines_in trace') (lines_in trace ++ steps.output.lines) (come.packets ++ message m ∷ []) trace'.place (trace.place + size) trace'.fault trace.fault
-            (end-is event.deliver (message m ∷ []) between half' middle trace' steps same stored) (lines-are event.deliver (message m ∷ []) between half' middle trace' steps same stored)
-            (place-is event.deliver (message m ∷ []) between half' middle trace' steps same stored ∙ ap (λ (t : FeedTrace). t.place) moved)
-            (fault-is event.deliver (message m ∷ []) between half' middle trace' steps same stored ∙ ap (λ (t : FeedTrace). t.fault) moved)) in
+          (end-is event.deliver (message m ∷ []) between half' middle trace' steps same stored) (lines-are event.deliver (message m ∷ []) between half' middle trace' steps same stored)
+          (place-is event.deliver (message m ∷ []) between half' middle trace' steps same stored ∙ ap (λ (t : FeedTrace). t.place) moved)
+          (fault-is event.deliver (message m ∷ []) between half' middle trace' steps same stored ∙ ap (λ (t : FeedTrace). t.fault) moved)) in
           leads-on half' trace' (come.packets ++ message m ∷ []) (traced-on event.deliver (message m ∷ []) between half' middle trace' steps same stored)
           (frame-turn (taken m size) (frame-is left (taken m size) are stands) may.open_is may.within ∙ ap leads next)
 
@@ -259,11 +262,51 @@ module _ (setting : FeedSetting) (bytes : List ℕ) (half : HalfView) (trace : F
           let next : behind_frame setting bytes state_is (refused fault) ≡ state_in half' trace' (come.packets ++ mark ∷ []) =
           ap (λ (found : Option Output). record (option_map_or (given state_is mark) found state_is) { fault = kept_fault (drop trace.place bytes) fault }) (is event.deliver (mark ∷ []) between half' middle trace' steps same stored)
           ∙ sym (same-state half'.end.end steps.output.end (lines_in trace') (lines_in trace ++ steps.output.lines) (come.packets ++ mark ∷ []) trace'.place trace.place trace'.fault (kept_fault (drop trace.place bytes) fault)
-            (end-is event.deliver (mark ∷ []) between half' middle trace' steps same stored) (lines-are event.deliver (mark ∷ []) between half' middle trace' steps same stored)
-            (place-is event.deliver (mark ∷ []) between half' middle trace' steps same stored ∙ ap (λ (t : FeedTrace). t.place) kept)
-            (fault-is event.deliver (mark ∷ []) between half' middle trace' steps same stored ∙ ap (λ (t : FeedTrace). t.fault) kept ∙ ap (λ (bs : List ℕ). kept_fault bs fault) are)) in
+          (end-is event.deliver (mark ∷ []) between half' middle trace' steps same stored) (lines-are event.deliver (mark ∷ []) between half' middle trace' steps same stored)
+          (place-is event.deliver (mark ∷ []) between half' middle trace' steps same stored ∙ ap (λ (t : FeedTrace). t.place) kept)
+          (fault-is event.deliver (mark ∷ []) between half' middle trace' steps same stored ∙ ap (λ (t : FeedTrace). t.fault) kept ∙ ap (λ (bs : List ℕ). kept_fault bs fault) are)) in
           leads-on half' trace' (come.packets ++ mark ∷ []) (traced-on event.deliver (mark ∷ []) between half' middle trace' steps same stored)
           (frame-turn (refused fault) (frame-is left (refused fault) are stands) may.open_is may.within ∙ ap leads next)
+
+-- What an end makes that looks at the bytes
+
+module _ (setting : FeedSetting) (bytes : List ℕ) (half : HalfView) (trace : FeedTrace) (come : HasCome setting bytes half trace) (progress : Progress) (left : List ℕ) (are : left ≡ drop trace.place bytes) where
+  -- a frame that was taken ends among the bytes
+  pub read-room : (size : ℕ) (between : HalfView) → FrameGives half progress (frame_at half.end.schema half.end.end trace.place (begins NEW half.end.schema left)) (frame.Taken size) between → trace.place + size ≤ length bytes
+  read-room size between h =
+      let stands : next_frame setting.schema half.end.end trace.place bytes ≡ taken h.0 size = frame-is setting bytes half trace come left (taken h.0 size) are h.1 in
+      let t : IsTaken setting.schema half.end.end (drop trace.place bytes) h.0 size =
+      taken-frame setting.schema half.end.end trace.place bytes (IsBytes-drop trace.place bytes come.are) (begins NEW setting.schema (drop trace.place bytes)) refl h.0 size stands in
+      let whole : size ≤ length (drop trace.place bytes) = t.begun.within in
+      let before = place-within setting bytes half trace come in
+      let rest = length-drop trace.place bytes in
+      omega (arith, whole, before, rest)
+
+  module _ (told : progress ≡ progress_in setting trace) (may : MayRead setting half trace) where
+    told-steps : (link : List Packet) (between : HalfView) → IsHalfStep half progress link event.deliver between → IsHalfStep half (progress_in setting trace) link event.deliver between
+    told-steps link between steps = subst (λ (p : Progress). IsHalfStep half p link event.deliver between) told steps
+
+    pub read-taken : (size : ℕ) (between half' : HalfView) (trace' : FeedTrace) → FrameGives half progress (frame_at half.end.schema half.end.end trace.place (begins NEW half.end.schema left)) (frame.Taken size) between
+        → (a : StepAnswer) → StoreGives between (record trace { place = trace.place + size }) a half' trace' → TurnGives setting bytes trace a half' trace'
+    read-taken size between half' trace' h answer.Did stored =
+        taken-led setting bytes half trace come may.rests left are may h.0 size between half' (record trace { place = trace.place + size }) trace' h.1 (told-steps (message h.0 ∷ []) between h.2) refl stored
+    read-taken size between half' trace' h answer.Nothing stored = absurd stored
+    read-taken size between half' trace' h (answer.Spent side) stored = absurd stored
+    read-taken size between half' trace' h answer.NoMemory stored = tt
+
+    broken-off : (fault : FeedFault) (half' : HalfView) (trace' : FeedTrace) → frame_at half.end.schema half.end.end trace.place (begins NEW half.end.schema left) ≡ refused fault
+        → (a : StepAnswer) → BreakGives half progress (record trace { fault = kept_fault left fault }) a half' trace' → TurnGives setting bytes trace a half' trace'
+    broken-off fault half' trace' stands answer.Did b =
+        refused-led setting bytes half trace come may.rests left are may fault b.between half' (record trace { fault = kept_fault left fault }) trace' stands (told-steps (mark ∷ []) b.between b.steps) refl b.stored
+    broken-off fault half' trace' stands answer.Nothing b = absurd b
+    broken-off fault half' trace' stands (answer.Spent side) b = absurd b
+    broken-off fault half' trace' stands answer.NoMemory b = tt
+
+    pub read-break : (fault : FeedFault) (between : HalfView) → FrameGives half progress (frame_at half.end.schema half.end.end trace.place (begins NEW half.end.schema left)) (frame.Refused fault) between
+        → (kept : Option FeedFault) → kept ≡ kept_fault left fault → (half' : HalfView) (trace' : FeedTrace) (a : StepAnswer) → BreakGives between progress (record trace { fault = kept }) a half' trace' → TurnGives setting bytes trace a half' trace'
+    read-break fault between h kept is half' trace' a b =
+        broken-off fault half' trace' h.0 a
+        (subst (λ (k : Option FeedFault). BreakGives half progress (record trace { fault = k }) a half' trace') is (subst (λ (v : HalfView). BreakGives v progress (record trace { fault = kept }) a half' trace') h.1 b))
 
 -- A feed as it begins
 
@@ -287,3 +330,18 @@ feed-begins setting bytes half trace sound valid small are about opens counted l
       packets = [];
       reached = subst (λ (s : FeedState). Reaches setting bytes (beginning_of setting) s) begins stays;
     }
+
+-- What is fed
+
+module _ (schema : Schema) (script : Script) (side : Side) (limit : ℕ) (bytes : List ℕ) (half : HalfView)
+    (made : half ≡ record { end = opened side schema script.top; script = script; stop = None; limit = limit; counts = half.counts }) where
+  abbrev setting_is : FeedSetting
+  setting_is = record { schema = schema; script = script; side = side; limit = limit }
+
+  told-setting : setting_in half ≡ setting_is
+  told-setting = ap setting_in made
+
+  pub feed-opens : (trace : FeedTrace) → IsSound schema → IsValid schema script → limit ≤ most_events → AreBytes bytes → IsCountedBy half no_progress → trace.history.lines ≡ [] → trace.place ≡ 0 → trace.fault ≡ None → HasCome (setting_in half) bytes half trace
+  feed-opens trace sound valid small are counted lines place fault =
+      subst (λ (s : FeedSetting). HasCome s bytes half trace) (sym told-setting)
+      (feed-begins setting_is bytes half trace sound valid small are (ap setting_of made) (ap (λ (h : HalfView). h.end) made) counted lines place fault)

@@ -125,12 +125,7 @@ fn do_turns(
 }
 
 // A turn of the feed.
-fn do_turn(
-    alloc: Global,
-    half: &mut Half<'_>,
-    trace: &mut FeedTrace,
-    bytes: &[u8],
-) -> StepAnswer
+fn do_turn(alloc: Global, half: &mut Half<'_>, trace: &mut FeedTrace, bytes: &[u8]) -> StepAnswer
     ghost setting: { FeedSetting }
     requires { HasCome setting bytes.now half.old trace.old }
     ensures { TurnGives setting bytes.now trace.old result half.new trace.new }
@@ -186,12 +181,7 @@ fn reading_turn(
 
 // An open end that may have one more event has what stands at its place delivered, where it takes
 // that, and else the mark of a death.
-fn read_on(
-    alloc: Global,
-    half: &mut Half<'_>,
-    trace: &mut FeedTrace,
-    bytes: &[u8],
-) -> StepAnswer
+fn read_on(alloc: Global, half: &mut Half<'_>, trace: &mut FeedTrace, bytes: &[u8]) -> StepAnswer
     ghost at: { FeedSetting × Progress }
     requires come { HasCome at.0 bytes.now half.old trace.old }
     requires progress { at.1 ≡ progress_in at.0 trace.old }
@@ -228,12 +218,7 @@ fn deliver_frame(alloc: Global, half: &mut Half<'_>, place: usize, left: &[u8]) 
 }
 
 // Has a message delivered, if the end takes it, whose frame has this size and stands at a place.
-fn deliver_message(
-    half: &mut Half<'_>,
-    place: usize,
-    message: Message,
-    size: usize,
-) -> FrameAnswer
+fn deliver_message(half: &mut Half<'_>, place: usize, message: Message, size: usize) -> FrameAnswer
     ghost progress: { Progress }
     requires may { MayBeGiven half.old progress }
     requires fits { Fits half.old.end.schema message }
@@ -242,7 +227,10 @@ fn deliver_message(
 {
     match half.offer(message) {
         DeliverAnswer::Done => FrameAnswer::Taken(size),
-        DeliverAnswer::Bad(offset, rule) => FrameAnswer::Refused(FeedFault::Bad(place + offset, rule)),
+        DeliverAnswer::Bad(offset, rule) => FrameAnswer::Refused(FeedFault::Bad(
+            place + offset,
+            rule,
+        )),
         DeliverAnswer::Stray(seq) => FrameAnswer::Refused(FeedFault::Stray(place, seq)),
         DeliverAnswer::WrongActor(id, _) => FrameAnswer::Refused(FeedFault::WrongActor(place, id)),
         DeliverAnswer::NoMemory => FrameAnswer::NoMemory,

@@ -15,8 +15,8 @@ mod world;
 
 pub use answers::{MeetAnswer, RunAnswer, StepAnswer};
 pub use driver::{Driver, OneThread};
-pub use feeding::{Fed, feed};
 pub use feed_runs::FeedFault;
+pub use feeding::{Fed, feed};
 pub use half::{Half, HalfParts};
 pub use laws::{
     feed_turns_are_possible, feeds_come_to_an_end, halves_fit_behind_more, stored_lines_follow,

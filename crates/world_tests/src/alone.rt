@@ -41,7 +41,10 @@ fn settled(lines: &[Line], number: i32) -> u32 {
 
 /// Whether a line is that of a closing.
 fn is_closing(what: &What) -> bool {
-    matches!(what, What::Close | What::ShutNormal | What::ShutAbnormal | What::Die)
+    matches!(
+        what,
+        What::Close | What::ShutNormal | What::ShutAbnormal | What::Die
+    )
 }
 
 /// Whether the last of these lines that is an event is that of a closing.

@@ -83,7 +83,14 @@ fn fed_by(alloc: Global, schema: &Schema, script: &Script, food: Food<'_>) -> Re
         return Err("a limit that is too large".into());
     }
     let bytes = bytes_of(alloc, food.digits)?;
-    let fed = feed(alloc, schema, script, food.side, food.limit, bytes.as_slice())?;
+    let fed = feed(
+        alloc,
+        schema,
+        script,
+        food.side,
+        food.limit,
+        bytes.as_slice(),
+    )?;
     fed_text(alloc, schema, &fed, food.side)
 }
 
@@ -98,7 +105,9 @@ fn printed(alloc: Global, file: &str, text: &str, food: Food<'_>) -> Result<Stri
 fn check_feed(alloc: Global, row: &str, wrong: &mut String) -> Result<(), Fail> {
     let (head, rest) = row.split_once("\n").ok_or("a row without its script")?;
     let (script, rest) = rest.split_once("----\n").ok_or("a row without its frames")?;
-    let (digits, wanted) = rest.split_once("----\n").ok_or("a row that prints nothing")?;
+    let (digits, wanted) = rest
+        .split_once("----\n")
+        .ok_or("a row that prints nothing")?;
     let (name, head) = head.split_once(" ").ok_or("a row without its file")?;
     let (file, head) = head.split_once(" ").ok_or("a row without its side")?;
     let (side, limit) = head.split_once(" ").ok_or("a row without its limit")?;
@@ -126,7 +135,9 @@ fn check_refused(alloc: Global, row: &str, wrong: &mut String) -> Result<(), Fai
         digits,
     };
     let found = printed(alloc, file, "", food)?;
-    let wanted = format!(in alloc; "{side} deliver broken\n{side} shut AbnormalShutdown\n  fall 2147483647 AbnormalShutdown\nfinished\n{fault}")?;
+    let wanted = format!(in alloc;
+        "{side} deliver broken\n{side} shut AbnormalShutdown\n  fall 2147483647 AbnormalShutdown\nfinished\n{fault}"
+    )?;
     if found.as_str() != wanted.as_str() {
         writeln!(wrong, "{name}: {found}")?;
     }

@@ -21,7 +21,7 @@ send top PQ.Get()
 send top PQ.Get()
 end
 parent on PQ.Get
-return (7)
+resolve (7)
 end
 ----
 4950443204000000ffffff7f0100000008000000010000000000000005000000
@@ -68,7 +68,10 @@ struct Dice {
 impl Dice {
     /// A number below this one.
     fn roll(&mut self, below: u32) -> u32 {
-        self.state = self.state.wrapping_mul(1_664_525).wrapping_add(1_013_904_223);
+        self.state = self
+            .state
+            .wrapping_mul(1_664_525)
+            .wrapping_add(1_013_904_223);
         (self.state >> 9).checked_rem(below).unwrap_or(0)
     }
 }
@@ -113,7 +116,13 @@ fn file_of(alloc: Global, dice: &mut Dice, frames: &str) -> Result<Vec<u8>, Fail
 }
 
 /// How many of so many feeds of made files keep the laws of one end.
-fn lawful_feeds(alloc: Global, schema: &Schema, script: &Script, frames: &str, files: u32) -> Result<u32, Fail>
+fn lawful_feeds(
+    alloc: Global,
+    schema: &Schema,
+    script: &Script,
+    frames: &str,
+    files: u32,
+) -> Result<u32, Fail>
     requires sound { IsSound schema.now }
     requires valid { IsValid schema.now script.now }
 {
@@ -122,7 +131,9 @@ fn lawful_feeds(alloc: Global, schema: &Schema, script: &Script, frames: &str, f
         let mut dice = Dice { state: seed };
         let bytes = file_of(alloc, &mut dice, frames)?;
         let fed = feed(alloc, schema, script, Side::Parent, 100, bytes.as_slice())?;
-        if holds(alloc, Law::Fallen, schema, &fed.history)? && is_alone(schema, fed.history.lines()) {
+        if holds(alloc, Law::Fallen, schema, &fed.history)?
+            && is_alone(schema, fed.history.lines())
+        {
             lawful = lawful.wrapping_add(1);
         }
     }
@@ -132,7 +143,9 @@ fn lawful_feeds(alloc: Global, schema: &Schema, script: &Script, frames: &str, f
 /// The same of a case that a text spells.
 fn lawful_case(alloc: Global, text: &str, files: u32) -> Result<u32, Fail> {
     let (file, rest) = text.split_once("\n").ok_or("a case without its script")?;
-    let (script, frames) = rest.split_once("----\n").ok_or("a case without its frames")?;
+    let (script, frames) = rest
+        .split_once("----\n")
+        .ok_or("a case without its frames")?;
     let schema = schema_of(alloc, file)?;
     let script = script_of(alloc, &schema, file, script)?;
     lawful_feeds(alloc, &schema, &script, frames.trim_end(), files)

@@ -2,4 +2,4 @@ use Rattle.world_core.proofs.feeding.feed.Given as goal
 use Rattle.world_core.specs.Feeding.{setting_in}
 
 abbrev pub ghost-do_turns : goal.ghost-do_turns
-ghost-do_turns g a = setting_in a.half.now
+ghost-do_turns a = setting_in a.half.now
