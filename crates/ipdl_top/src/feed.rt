@@ -73,6 +73,13 @@ fn numbered_line(
     Ok(line)
 }
 
+/// The line that says that the frame at a place speaks of an actor which lives with another protocol.
+fn wrong_actor_line(alloc: Global, name: &str, at: usize, id: i32) -> Result<Vec<u8>, AllocError>
+    ensures { IfOk result (λ line. line.items ≡ told.kept_line name.now (FeedFault.WrongActor at id)) }
+{
+    numbered_line(alloc, name, at, b": wrong actor ", id)
+}
+
 /// The line that says why the bytes that were left of a file of this name were not read.
 fn kept_line(alloc: Global, name: &str, fault: FeedFault) -> Result<Vec<u8>, AllocError>
     ensures { IfOk result (λ line. line.items ≡ told.kept_line name.now fault) }
@@ -89,7 +96,7 @@ fn kept_line(alloc: Global, name: &str, fault: FeedFault) -> Result<Vec<u8>, All
             fault_text(alloc, name.as_bytes(), &FrameListFault::Broken(at, rule))
         }
         FeedFault::Stray(at, number) => numbered_line(alloc, name, at, b": stray ", number),
-        FeedFault::WrongActor(at, id) => numbered_line(alloc, name, at, b": wrong actor ", id),
+        FeedFault::WrongActor(at, id) => wrong_actor_line(alloc, name, at, id),
     }
 }
 

@@ -1,4 +1,3 @@
-use Rattle.std.specs.Prelude.{IfOk}
 use Rattle.ipdl_base.specs.Outside.{FileMap}
 use Rattle.ipdl_top.specs.FeedSteps.{AreHeld}
 use Rattle.ipdl_top.specs.FileViews.{FileViews}
