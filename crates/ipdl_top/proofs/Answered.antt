@@ -15,7 +15,7 @@ use Rattle.ipdl_top.specs.declared.rendering.Rendering.TheVariants.{Summary, Tra
 use Rattle.ipdl_top.specs.declared.status.Status.{Status}
 use Rattle.ipdl_top.specs.declared.status.Status.TheVariants.{Done, Broken, Usage, ReadFault, Spent, NoMemory, BadScript, BadFrames}
 use Rattle.ipdl_top.specs.CommandAnswer.{AnswersTo, IsAnswer, IsCompilation, SaysTables, given_by, usage_answer}
-use Rattle.ipdl_top.specs.Feed.{SaysFed, SaysFedOf, SaysFeed, feed_answer}
+use Rattle.ipdl_top.specs.Feed.{SaysFedOf, SaysFeed, feed_answer}
 use Rattle.ipdl_top.specs.Frames.{SaysFrames, frames_answer, frames_out}
 use Rattle.ipdl_top.specs.FileViews.{FileViews, ForMap, steady}
 use Rattle.ipdl_top.specs.Gen.{SaysGen, case_course, case_files, case_path, holder_name, script_name}

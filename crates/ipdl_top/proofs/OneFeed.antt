@@ -1,12 +1,11 @@
 -- A feed has one answer.
-use Rattle.std.proofs.Common.{◌≡◌, ◌∙◌, ℕ, Bool, List, [], ◌++◌, refl, sym, ap, subst, arith, inl, inr}
+use Rattle.std.proofs.Common.{◌≡◌, ◌∙◌, ℕ, Bool, List, ◌++◌, refl, sym, ap, arith, inl, inr}
 use Rattle.std.specs.Prelude.{Option, None, Some}
-use Rattle.ipdl_base.specs.declared.kinds.Side.{Side}
 use Rattle.ipdl_base.specs.declared.line.Line.{Line}
 use Rattle.ipdl_base.specs.declared.schema.Schema.{Schema}
 use Rattle.command_words.specs.Feed.{FeedCourse}
 use Rattle.feed_runs.specs.declared.fault.FeedFault.{FeedFault}
-use Rattle.feed_runs.specs.FeedTurns.{Feed, FeedState, beginning_of}
+use Rattle.feed_runs.specs.FeedTurns.{FeedState, beginning_of}
 use Rattle.feed_runs.specs.Laws.{FeedsHaveOneResult}
 use Rattle.handler_script.specs.declared.script.Script.{Script}
 use Rattle.handler_script.specs.Plain.{plain_script}

@@ -1,5 +1,5 @@
 -- What a command says by a script, from what was found of the script.
-use Rattle.std.proofs.Common.{◌≡◌, ℕ, List, inl, inr}
+use Rattle.std.proofs.Common.{ℕ, List, inl, inr}
 use Rattle.std.specs.Prelude.{Option, Some, None}
 use Rattle.ipdl_base.specs.declared.schema.Schema.{Schema}
 use Rattle.handler_script.specs.declared.script.Script.{Script}

@@ -3,7 +3,6 @@ use Rattle.std.specs.Prelude.{ℕ, List, Option}
 use Rattle.command_words.specs.Feed.{FeedCourse}
 use Rattle.ipdl_top.specs.declared.feed.FeedFiles.{FeedFiles}
 use Rattle.ipdl_top.specs.declared.feed.FeedRequest.{FeedRequest}
-use Rattle.ipdl_top.specs.FileViews.{FileViews}
 use Rattle.ipdl_top.specs.Steps.{IsHeld, IsSmall}
 
 -- how the feed of a request goes

@@ -1,10 +1,8 @@
 -- What the steps make that look at a script.
 use Rattle.std.specs.Prelude.{◌≡◌, ℕ, ◌≤◌, ◌<◌, ◌⊎◌, List, length, Option, Some, None}
 use Rattle.ipdl_base.specs.declared.schema.Schema.{Schema}
-use Rattle.handler_script.specs.declared.script.Script.{Script}
 use Rattle.handler_script.specs.ScriptOf.{IsScriptOf}
 use Rattle.handler_script.specs.Valid.{IsValid}
-use Rattle.ipdl_top.specs.declared.answer.CommandAnswer.{CommandAnswer}
 use Rattle.ipdl_top.specs.declared.scripts.ScriptCheck.{ScriptCheck}
 use Rattle.ipdl_top.specs.declared.scripts.ScriptCheck.TheVariants.{Broken, Valid}
 use Rattle.ipdl_top.specs.Scripts.{SaysBroken, unreadable_answer}
