@@ -1,4 +1,5 @@
 use super::call_rows::{HELLO, LISTED, LISTS, NAMES, REACHES, REPORTS, WORDS};
+use super::feed_rows::{FEEDS, IDLE};
 use super::frame_rows::{FLAG, FRAMES};
 use super::run_rows::{RACE, RUNS};
 use super::wait_rows::WAITS;
@@ -13,6 +14,7 @@ const USAGE: &str = "usage: ipdl [-s LIST] [--path DIRS] FILES
        ipdl frames [-s LIST] [--path DIRS] [--to 2] FILE FRAMES
        ipdl waits [-s LIST] [--path DIRS] FILE
        ipdl gen [--actors A] N
+       ipdl feed [-s LIST] [--path DIRS] [--limit N] --side SIDE SCRIPT FILE FRAMES
 ";
 
 /// A file by its name.
@@ -190,6 +192,7 @@ fn calls(rt: HostRuntime) -> Result<(), Fail> {
     assert_eq!(rt; wrong_calls(alloc, FRAMES, FLAG)?.as_str(), "");
     assert_eq!(rt; wrong_calls(alloc, WAITS, "")?.as_str(), "");
     assert_eq!(rt; wrong_calls(alloc, RUNS, RACE)?.as_str(), "");
+    assert_eq!(rt; wrong_calls(alloc, FEEDS, IDLE)?.as_str(), "");
     Ok(())
 }
 
@@ -344,6 +347,27 @@ fn fronts(alloc: Global) -> Result<String, Fail> {
     Ok(shown)
 }
 
+/// The statuses of a feed, where each of its reads fails: of the program, of the script and of the frames. The last one
+/// of these counts also where the script is bad.
+fn unread_feeds(alloc: Global) -> Result<String, Fail> {
+    let mut shown = String::new(alloc);
+    for failing in 1..5 {
+        let mut all = Vec::new(alloc);
+        push_files(alloc, IDLE, &mut all)?;
+        let files = MemoryFiles::new(all, vec![in alloc; failing]?);
+        let left = call(
+            alloc,
+            "feed --side parent PF.ipdl PF.ipdl idle.ids",
+            files,
+            1000,
+            0,
+        )?;
+        let wrote = !left.out.written().is_empty() || !left.err.written().is_empty();
+        write!(shown, "{} {wrote} ", left.status.code())?;
+    }
+    Ok(shown)
+}
+
 /// The statuses of the run of two calls at once, where each of its reads fails.
 fn unread_runs(alloc: Global) -> Result<String, Fail> {
     let mut shown = String::new(alloc);
@@ -369,6 +393,10 @@ fn failing_runs(rt: HostRuntime) -> Result<(), Fail> {
     let alloc = rt.alloc();
     assert_eq!(rt; fronts(alloc)?.as_str(), "0 50 100 150 200 250 300 350 ");
     assert_eq!(rt; unread_runs(alloc)?.as_str(), "3 false 3 false 0 true ");
+    assert_eq!(rt;
+        unread_feeds(alloc)?.as_str(),
+        "3 false 3 false 3 false 7 true "
+    );
     Ok(())
 }
 

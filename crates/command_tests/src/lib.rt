@@ -7,6 +7,8 @@ mod call_rows;
 #[cfg(test)]
 mod calls;
 #[cfg(test)]
+mod feed_rows;
+#[cfg(test)]
 mod frame_rows;
 #[cfg(test)]
 mod generated;

@@ -7,8 +7,10 @@ use std::test::Fail;
 /// Lists of words, and behind `=>` what each is: the sync list behind `=`, or `none`; the folders,
 /// with `:` between them; and the files. Behind these stands `<-` and the file of frames where the
 /// command is the one that prints frames, or `<2` where it converts them. Behind `!` stand the script,
-/// the file, the word of turns behind `=`, the limit and the death of a run. Nothing stands where the
-/// words are no command. `%` stands before the rounds and the actors of a generated case. An empty word is written as two single quotes.
+/// the file, the word of turns behind `=`, the limit and the death of a run. Behind `&` stand the script,
+/// the file, the file of frames, the side and the limit of one end on a file of bytes. `%` stands before
+/// the rounds and the actors of a generated case. Nothing stands where the words are no command. An
+/// empty word is written as two single quotes.
 const ROWS: &str = "x.ipdl => none . x.ipdl
 x.ipdlh => none . x.ipdlh
 a.ipdl b.ipdlh c.ipdl => none . a.ipdl b.ipdlh c.ipdl
@@ -132,6 +134,29 @@ x.ipdl --to 2 =>
 -s l frames x.ipdl =>
 gen x.ipdl =>
 feed x.ipdl =>
+feed --side parent s.ids x.ipdl f => none . & s.ids x.ipdl f parent 10000
+feed s.ids x.ipdl f --side=child => none . & s.ids x.ipdl f child 10000
+feed -sl --path d:e --limit 7 --side child s.ids x.ipdl f => =l d:e & s.ids x.ipdl f child 7
+feed s.ids --limit=20000 x.ipdl --side parent -- -f => none . & s.ids x.ipdl -f parent 20000
+feed s.ids x.ipdl f =>
+feed --side s.ids x.ipdl f =>
+feed --side Parent s.ids x.ipdl f =>
+feed --side= s.ids x.ipdl f =>
+feed --side parent: s.ids x.ipdl f =>
+feed --side parent --side parent s.ids x.ipdl f =>
+feed --side parent --side child s.ids x.ipdl f =>
+feed --side parent s.ids x.ipdl =>
+feed --side parent s.ids x.ipdl f g =>
+feed --side parent s.ids f x.ipdl =>
+feed --side parent s.ids x.ipdlh f =>
+feed --side parent --limit 0 s.ids x.ipdl f =>
+feed --side parent --limit 20001 s.ids x.ipdl f =>
+feed --side parent --die child:3 s.ids x.ipdl f =>
+feed --side parent --schedule PC s.ids x.ipdl f =>
+feed --side parent --path a::b s.ids x.ipdl f =>
+feed --side parent -s l -s m s.ids x.ipdl f =>
+feed feed feed.ipdl feed --side child => none . & feed feed.ipdl feed child 10000
+--side parent feed s.ids x.ipdl f =>
 relay x.ipdl =>
 audit x.ipdl =>
 waits x.ipdl => none . ? x.ipdl
@@ -308,6 +333,14 @@ fn push_death(line: &mut String, death: &Option<Stop>) -> Result<(), AllocError>
     }
 }
 
+/// The word of a side.
+fn side_word(side: Side) -> &'static str {
+    match side {
+        Side::Parent => "parent",
+        Side::Child => "child",
+    }
+}
+
 /// Appends what a command is, in the form of the rows.
 fn push_command(line: &mut String, command: &Command) -> Result<(), AllocError> {
     match command {
@@ -346,6 +379,19 @@ fn push_command(line: &mut String, command: &Command) -> Result<(), AllocError> 
             push_death(line, death)
         }
         Command::Gen { rounds, actors } => write!(line, "% {rounds} {actors}"),
+        Command::Feed {
+            list,
+            path,
+            limit,
+            side,
+            script,
+            file,
+            frames,
+        } => {
+            push_shared(line, list, path.as_slice())?;
+            let word = side_word(*side);
+            write!(line, "& {script} {file} {frames} {word} {limit}")
+        }
     }
 }
 
@@ -398,7 +444,7 @@ fn checked(alloc: Global) -> Result<String, Fail> {
 
 #[test]
 fn lists_of_words(rt: HostRuntime) -> Result<(), Fail> {
-    assert_eq!(rt; checked(rt.alloc())?.as_str(), "231");
+    assert_eq!(rt; checked(rt.alloc())?.as_str(), "254");
     Ok(())
 }
 

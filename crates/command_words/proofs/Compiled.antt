@@ -34,6 +34,16 @@ same_value options words said other t reads once reads' once' name ne = sym ((sa
 pub same_words : (options : List Choice) (words : List Text) (said other : List WordUse) → IsTable options → Reads options words said → EachOnce said → Reads options words other → EachOnce other → own_words said ≡ own_words other
 same_words options words said other t reads once reads' once' = some_is (own_words said) (own_words other) (sym (said_found options words said t reads once).1 ∙ (said_found options words other t reads' once').1)
 
+-- and this is what is found in them
+pub found_value : (options : List Choice) (words : List Text) (found : ArgMatches) (said : List WordUse) → IsTable options → IsFound options words found → Reads options words said → EachOnce said → (name : Text) → name ≢ own_id
+    → value_of name said ≡ first_of name (rows_of (found_of found))
+found_value options words found said t is reads once name ne = same_value options words said is.said t reads once is.reads is.once name ne ∙ sym (is.values name ne)
+
+pub found_words : (options : List Choice) (words : List Text) (found : ArgMatches) (said : List WordUse) → IsTable options → IsFound options words found → Reads options words said → EachOnce said
+    → own_words said ≡ unwrap_or (all_of own_id (rows_of (found_of found))) []
+found_words options words found said t is reads once =
+    same_words options words said is.said t reads once is.reads is.once ∙ sym (ap (λ (o : Option (List Text)). unwrap_or o []) is.others ∙ some_list (own_words is.said))
+
 pub no_letter : (l : ℕ) → None ≡ Some l → (l < 128) × (l ≢ 45) × (by_letter [] l ≡ None)
 no_letter l e = absurd (some_none l (sym e))
 
@@ -67,12 +77,12 @@ command_found words found list path files is chosen list_is path_is files_are = 
 -- a path that is none makes the words none, and so do files that are none
 pub no_path_found : (words : List Text) (found : ArgMatches) → IsFound compile_options words found → ((path : List Text) → ¬ IsPath (first_of (codes "path") (rows_of (found_of found))) path) → IsNoCompile words
 no_path_found words found is none list path files command =
-    none path (subst (λ (v : Option Text). IsPath v path) (same_value compile_options words command.said is.said table command.reads command.once is.reads is.once (codes "path") path_ne ∙ sym (is.values (codes "path") path_ne)) command.path_is)
+    none path (subst (λ (v : Option Text). IsPath v path) (found_value compile_options words found command.said table is command.reads command.once (codes "path") path_ne) command.path_is)
 
 pub no_files_found : (words : List Text) (found : ArgMatches) → IsFound compile_options words found → ((files : List Text) → ¬ AreFiles (unwrap_or (all_of own_id (rows_of (found_of found))) []) files) → IsNoCompile words
 no_files_found words found is none list path files command =
     none files (subst (λ (ws : List Text). AreFiles ws files)
-    (same_words compile_options words command.said is.said table command.reads command.once is.reads is.once ∙ sym (ap (λ (o : Option (List Text)). unwrap_or o []) is.others ∙ some_list (own_words is.said))) command.files_are)
+    (found_words compile_options words found command.said table is command.reads command.once) command.files_are)
 
 -- ---- one command
 

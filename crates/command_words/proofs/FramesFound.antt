@@ -11,7 +11,7 @@ use Rattle.command_words.specs.Found.{IsFound}
 use Rattle.command_words.specs.Compile.{IsPath, path_option}
 use Rattle.command_words.specs.Frames.{AreOperands, IsConversion, IsFrames, IsNoFrames, SaysFrames, frames_options, frames_word, to_option}
 use Rattle.command_words.proofs.Lookups.{some_none}
-use Rattle.command_words.proofs.Compiled.{list_ne, no_letter, one_path, path_ne, same_value, same_words, some_list}
+use Rattle.command_words.proofs.Compiled.{found_value, found_words, list_ne, no_letter, one_path, path_ne, same_value, same_words, some_list}
 
 abbrev Text : Type 0
 Text = List ℕ
@@ -47,16 +47,16 @@ frames_found words found list path file frames convert is list_is path_is conver
 -- a path, a value of `--to` or operands that are none make the words none
 pub no_path_found : (words : List Text) (found : ArgMatches) → IsFound frames_options words found → ((path : List Text) → ¬ IsPath (first_of (codes "path") (rows_of (found_of found))) path) → IsNoFrames (frames_word ∷ words)
 no_path_found words found is none list path file frames convert command =
-    none path (subst (λ (v : Option Text). IsPath v path) (same_value frames_options words command.1.said is.said frames_table command.1.reads command.1.once is.reads is.once (codes "path") path_ne ∙ sym (is.values (codes "path") path_ne)) command.1.path_is)
+    none path (subst (λ (v : Option Text). IsPath v path) (found_value frames_options words found command.1.said frames_table is command.1.reads command.1.once (codes "path") path_ne) command.1.path_is)
 
 pub no_conversion_found : (words : List Text) (found : ArgMatches) → IsFound frames_options words found → ((convert : Bool) → ¬ IsConversion (first_of (codes "to") (rows_of (found_of found))) convert) → IsNoFrames (frames_word ∷ words)
 no_conversion_found words found is none list path file frames convert command =
-    none convert (subst (λ (v : Option Text). IsConversion v convert) (same_value frames_options words command.1.said is.said frames_table command.1.reads command.1.once is.reads is.once (codes "to") to_ne ∙ sym (is.values (codes "to") to_ne)) command.1.convert_is)
+    none convert (subst (λ (v : Option Text). IsConversion v convert) (found_value frames_options words found command.1.said frames_table is command.1.reads command.1.once (codes "to") to_ne) command.1.convert_is)
 
 pub no_operands_found : (words : List Text) (found : ArgMatches) → IsFound frames_options words found → ((file frames : Text) → ¬ AreOperands (unwrap_or (all_of own_id (rows_of (found_of found))) []) file frames) → IsNoFrames (frames_word ∷ words)
 no_operands_found words found is none list path file frames convert command =
     none file frames (subst (λ (ws : List Text). AreOperands ws file frames)
-    (same_words frames_options words command.1.said is.said frames_table command.1.reads command.1.once is.reads is.once ∙ sym (ap (λ (o : Option (List Text)). unwrap_or o []) is.others ∙ some_list (own_words is.said))) command.1.operands)
+    (found_words frames_options words found command.1.said frames_table is command.1.reads command.1.once) command.1.operands)
 
 -- ---- one command
 
@@ -83,7 +83,3 @@ one_frames (word ∷ words) list list' path path' file file' frames frames' conv
       same_second file frames file' frames' operands,
       one_conversion (value_of (codes "to") b.said) convert convert' (subst (λ (v : Option Text). IsConversion v convert) (value (codes "to") to_ne) a.convert_is) b.convert_is,
     )
-
--- words that begin with another word are no such command
-pub none_of_others : (word : Text) (words : List Text) → word ≢ frames_word → IsNoFrames (word ∷ words)
-none_of_others word words ne list path file frames convert h = ne h.0

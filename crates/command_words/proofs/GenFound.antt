@@ -9,7 +9,7 @@ use Rattle.command_words.specs.Forms.{own_id}
 use Rattle.command_words.specs.Tables.{IsTable}
 use Rattle.command_words.specs.Found.{IsFound}
 use Rattle.command_words.specs.Gen.{IsActors, IsGen, IsNoGen, IsRounds, SaysGen, gen_options, gen_word}
-use Rattle.command_words.proofs.Compiled.{Text, no_letter, same_value, same_words, some_list}
+use Rattle.command_words.proofs.Compiled.{Text, found_value, found_words, no_letter, same_value, same_words, some_list}
 
 -- the option can be told from the other words
 pub gen_table : IsTable gen_options
@@ -33,12 +33,12 @@ gen_found words found rounds actors is actors_is rounds_is = record {
 pub no_actors_found : (words : List Text) (found : ArgMatches) → IsFound gen_options words found → ((actors : ℕ) → ¬ IsActors (first_of (codes "actors") (rows_of (found_of found))) actors) → IsNoGen (gen_word ∷ words)
 no_actors_found words found is none rounds actors command =
     none actors (subst (λ (v : Option Text). IsActors v actors)
-    (same_value gen_options words command.1.said is.said gen_table command.1.reads command.1.once is.reads is.once (codes "actors") actors_ne ∙ sym (is.values (codes "actors") actors_ne)) command.1.actors_is)
+    (found_value gen_options words found command.1.said gen_table is command.1.reads command.1.once (codes "actors") actors_ne) command.1.actors_is)
 
 pub no_rounds_found : (words : List Text) (found : ArgMatches) → IsFound gen_options words found → ((rounds : ℕ) → ¬ IsRounds (unwrap_or (all_of own_id (rows_of (found_of found))) []) rounds) → IsNoGen (gen_word ∷ words)
 no_rounds_found words found is none rounds actors command =
     none rounds (subst (λ (ws : List Text). IsRounds ws rounds)
-    (same_words gen_options words command.1.said is.said gen_table command.1.reads command.1.once is.reads is.once ∙ sym (ap (λ (o : Option (List Text)). unwrap_or o []) is.others ∙ some_list (own_words is.said))) command.1.rounds_is)
+    (found_words gen_options words found command.1.said gen_table is command.1.reads command.1.once) command.1.rounds_is)
 
 -- ---- one command
 
@@ -59,7 +59,3 @@ one_gen (word ∷ words) rounds rounds' actors actors' (e, a) (f, b) = (
   one_actors (value_of (codes "actors") b.said) actors actors'
       (subst (λ (v : Option Text). IsActors v actors) (same_value gen_options words a.said b.said gen_table a.reads a.once b.reads b.once (codes "actors") actors_ne) a.actors_is) b.actors_is,
 )
-
--- words that begin with another word are no such command
-pub none_of_others : (word : Text) (words : List Text) → word ≢ gen_word → IsNoGen (word ∷ words)
-none_of_others word words ne rounds actors h = ne h.0

@@ -17,4 +17,5 @@ pub mod WaitsFound
 pub mod OneCourse
 pub mod RunFound
 pub mod GenFound
+pub mod FeedFound
 pub mod OneCommand

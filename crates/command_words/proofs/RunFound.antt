@@ -15,7 +15,7 @@ use Rattle.command_words.specs.Run.{AreRunOperands, Course, IsNoRun, IsRun, Says
 use Rattle.command_words.specs.RunOptions.{IsDeath, IsLimit, IsSchedule}
 use Rattle.command_words.proofs.OneCourse.{one_death, one_limit, one_schedule}
 use Rattle.command_words.proofs.Lookups.{some_none}
-use Rattle.command_words.proofs.Compiled.{list_ne, no_letter, one_path, path_ne, same_value, same_words, some_list}
+use Rattle.command_words.proofs.Compiled.{found_value, found_words, list_ne, no_letter, one_path, path_ne, same_value, same_words, some_list}
 
 abbrev Text : Type 0
 Text = List ℕ
@@ -46,7 +46,7 @@ run_table = (
 schedule_ne : codes "schedule" ≢ own_id
 schedule_ne e = let first : 115 ≡ 119 = ap (λ (t : Text). slice_index t 0) e in absurd (omega (arith, first))
 
-limit_ne : codes "limit" ≢ own_id
+pub limit_ne : codes "limit" ≢ own_id
 limit_ne e = let first : 108 ≡ 119 = ap (λ (t : Text). slice_index t 0) e in absurd (omega (arith, first))
 
 die_ne : codes "die" ≢ own_id
@@ -69,32 +69,27 @@ run_found words found list path course script file is list_is path_is schedule_i
   operands = subst (λ (ws : List Text). AreRunOperands ws script file) (ap (λ (o : Option (List Text)). unwrap_or o []) is.others ∙ some_list (own_words is.said)) operands;
 }
 
--- what a command says by an option is what is found there
-found_value : (words : List Text) (found : ArgMatches) (list : Option Text) (path : List Text) (course : Course) (script file : Text) → IsFound run_options words found → (command : SaysRun words list path course script file) → (name : Text) → name ≢ own_id
-    → value_of name command.said ≡ first_of name (rows_of (found_of found))
-found_value words found list path course script file is command name ne = same_value run_options words command.said is.said run_table command.reads command.once is.reads is.once name ne ∙ sym (is.values name ne)
-
 -- a value of an option or operands that are none make the words none
 pub no_path_found : (words : List Text) (found : ArgMatches) → IsFound run_options words found → ((path : List Text) → ¬ IsPath (first_of (codes "path") (rows_of (found_of found))) path) → IsNoRun (run_word ∷ words)
 no_path_found words found is none list path course script file command =
-    none path (subst (λ (v : Option Text). IsPath v path) (found_value words found list path course script file is command.1 (codes "path") path_ne) command.1.path_is)
+    none path (subst (λ (v : Option Text). IsPath v path) (found_value run_options words found command.1.said run_table is command.1.reads command.1.once (codes "path") path_ne) command.1.path_is)
 
 pub no_schedule_found : (words : List Text) (found : ArgMatches) → IsFound run_options words found → ((schedule : Option (List Turn)) → ¬ IsSchedule (first_of (codes "schedule") (rows_of (found_of found))) schedule) → IsNoRun (run_word ∷ words)
 no_schedule_found words found is none list path course script file command =
-    none course.schedule (subst (λ (v : Option Text). IsSchedule v course.schedule) (found_value words found list path course script file is command.1 (codes "schedule") schedule_ne) command.1.schedule_is)
+    none course.schedule (subst (λ (v : Option Text). IsSchedule v course.schedule) (found_value run_options words found command.1.said run_table is command.1.reads command.1.once (codes "schedule") schedule_ne) command.1.schedule_is)
 
 pub no_limit_found : (words : List Text) (found : ArgMatches) → IsFound run_options words found → ((limit : ℕ) → ¬ IsLimit (first_of (codes "limit") (rows_of (found_of found))) limit) → IsNoRun (run_word ∷ words)
 no_limit_found words found is none list path course script file command =
-    none course.limit (subst (λ (v : Option Text). IsLimit v course.limit) (found_value words found list path course script file is command.1 (codes "limit") limit_ne) command.1.limit_is)
+    none course.limit (subst (λ (v : Option Text). IsLimit v course.limit) (found_value run_options words found command.1.said run_table is command.1.reads command.1.once (codes "limit") limit_ne) command.1.limit_is)
 
 pub no_death_found : (words : List Text) (found : ArgMatches) → IsFound run_options words found → ((death : Option Stop) → ¬ IsDeath (first_of (codes "die") (rows_of (found_of found))) death) → IsNoRun (run_word ∷ words)
 no_death_found words found is none list path course script file command =
-    none course.death (subst (λ (v : Option Text). IsDeath v course.death) (found_value words found list path course script file is command.1 (codes "die") die_ne) command.1.death_is)
+    none course.death (subst (λ (v : Option Text). IsDeath v course.death) (found_value run_options words found command.1.said run_table is command.1.reads command.1.once (codes "die") die_ne) command.1.death_is)
 
 pub no_operands_found : (words : List Text) (found : ArgMatches) → IsFound run_options words found → ((script file : Text) → ¬ AreRunOperands (unwrap_or (all_of own_id (rows_of (found_of found))) []) script file) → IsNoRun (run_word ∷ words)
 no_operands_found words found is none list path course script file command =
     none script file (subst (λ (ws : List Text). AreRunOperands ws script file)
-    (same_words run_options words command.1.said is.said run_table command.1.reads command.1.once is.reads is.once ∙ sym (ap (λ (o : Option (List Text)). unwrap_or o []) is.others ∙ some_list (own_words is.said))) command.1.operands)
+    (found_words run_options words found command.1.said run_table is command.1.reads command.1.once) command.1.operands)
 
 -- ---- one command
 
@@ -122,7 +117,3 @@ one_run (word ∷ words) list list' path path' course course' script script' fil
       same_first script file script' file' operands,
       same_second script file script' file' operands,
     )
-
--- words that begin with another word are no such command
-pub none_of_others : (word : Text) (words : List Text) → word ≢ run_word → IsNoRun (word ∷ words)
-none_of_others word words ne list path course script file h = ne h.0

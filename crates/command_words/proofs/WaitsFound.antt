@@ -1,5 +1,5 @@
 -- The command that lists what may interrupt a wait, by what is found in its words.
-use Rattle.std.proofs.Common.{◌≡◌, ◌≢◌, ◌∙◌, List, [], ◌∷◌, Option, sym, ap, subst, codes}
+use Rattle.std.proofs.Common.{◌≡◌, ◌∙◌, List, [], ◌∷◌, Option, sym, ap, subst, codes}
 use Rattle.std.specs.Prelude.{unwrap_or}
 use Rattle.clap.specs.Words.{all_of, first_of, found_of, rows_of}
 use Rattle.clap.specs.declared.parser.matches.ArgMatches.{ArgMatches}
@@ -8,7 +8,7 @@ use Rattle.command_words.specs.Forms.{own_id}
 use Rattle.command_words.specs.Found.{IsFound}
 use Rattle.command_words.specs.Compile.{IsPath, compile_options}
 use Rattle.command_words.specs.Waits.{IsNoWaits, IsOperand, IsWaits, SaysWaits, waits_word}
-use Rattle.command_words.proofs.Compiled.{Text, list_ne, one_path, path_ne, same_value, same_words, some_list, table}
+use Rattle.command_words.proofs.Compiled.{Text, found_value, found_words, list_ne, one_path, path_ne, same_value, same_words, some_list, table}
 
 -- what is found makes the command
 pub waits_found : (words : List Text) (found : ArgMatches) (list : Option Text) (path : List Text) (file : Text) → IsFound compile_options words found
@@ -26,12 +26,12 @@ waits_found words found list path file is list_is path_is operand = record {
 -- a path or an operand that is none makes the words none
 pub no_path_found : (words : List Text) (found : ArgMatches) → IsFound compile_options words found → ((path : List Text) → ¬ IsPath (first_of (codes "path") (rows_of (found_of found))) path) → IsNoWaits (waits_word ∷ words)
 no_path_found words found is none list path file command =
-    none path (subst (λ (v : Option Text). IsPath v path) (same_value compile_options words command.1.said is.said table command.1.reads command.1.once is.reads is.once (codes "path") path_ne ∙ sym (is.values (codes "path") path_ne)) command.1.path_is)
+    none path (subst (λ (v : Option Text). IsPath v path) (found_value compile_options words found command.1.said table is command.1.reads command.1.once (codes "path") path_ne) command.1.path_is)
 
 pub no_operand_found : (words : List Text) (found : ArgMatches) → IsFound compile_options words found → ((file : Text) → ¬ IsOperand (unwrap_or (all_of own_id (rows_of (found_of found))) []) file) → IsNoWaits (waits_word ∷ words)
 no_operand_found words found is none list path file command =
     none file (subst (λ (ws : List Text). IsOperand ws file)
-    (same_words compile_options words command.1.said is.said table command.1.reads command.1.once is.reads is.once ∙ sym (ap (λ (o : Option (List Text)). unwrap_or o []) is.others ∙ some_list (own_words is.said))) command.1.operand)
+    (found_words compile_options words found command.1.said table is command.1.reads command.1.once) command.1.operand)
 
 -- ---- one command
 
@@ -47,7 +47,3 @@ one_waits (word ∷ words) list list' path path' file file' (e, a) (f, b) =
       one_path (value_of (codes "path") b.said) path path' (subst (λ (v : Option Text). IsPath v path) (value (codes "path") path_ne) a.path_is) b.path_is,
       same_one file file' operand,
     )
-
--- words that begin with another word are no such command
-pub none_of_others : (word : Text) (words : List Text) → word ≢ waits_word → IsNoWaits (word ∷ words)
-none_of_others word words ne list path file h = ne h.0

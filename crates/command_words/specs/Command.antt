@@ -3,6 +3,7 @@ use Rattle.std.specs.Prelude.{◌≡◌, ℕ, Bool, List, ◌∷◌, Option, map
 use Rattle.command_words.specs.declared.command.Command.{Command}
 use Rattle.command_words.specs.declared.command.Command.TheVariants as commands
 use Rattle.command_words.specs.Compile.{HasWord, IsCompile, unbuilt_commands}
+use Rattle.command_words.specs.Feed.{FeedCourse, IsFeed}
 use Rattle.command_words.specs.Frames.{IsFrames}
 use Rattle.command_words.specs.Gen.{IsGen}
 use Rattle.command_words.specs.Run.{Course, IsRun}
@@ -15,6 +16,7 @@ pub data CommandView : Type 0 where
   waits : Option (List ℕ) → List (List ℕ) → List ℕ → CommandView
   run : Option (List ℕ) → List (List ℕ) → Course → List ℕ → List ℕ → CommandView
   gen : ℕ → ℕ → CommandView
+  feed : Option (List ℕ) → List (List ℕ) → FeedCourse → List ℕ → List ℕ → List ℕ → CommandView
 
 abbrev pub view_of : Command → CommandView
 view_of (commands.Compile list path files) = compile (option_map string_bytes list) (map string_bytes path.items) (map string_bytes files.items)
@@ -23,6 +25,8 @@ view_of (commands.Waits list path file) = waits (option_map string_bytes list) (
 view_of (commands.Run list path schedule limit death script file) =
     run (option_map string_bytes list) (map string_bytes path.items) (record { schedule = option_map (λ turns. turns.items) schedule; limit = limit; death = death }) (string_bytes script) (string_bytes file)
 view_of (commands.Gen rounds actors) = gen rounds actors
+view_of (commands.Feed list path limit side script file given) =
+    feed (option_map string_bytes list) (map string_bytes path.items) (record { side = side; limit = limit }) (string_bytes script) (string_bytes file) (string_bytes given)
 
 -- the words say this
 abbrev pub Say : List (List ℕ) → CommandView → Type 0
@@ -31,6 +35,7 @@ Say words (frames list path file given convert) = IsFrames words list path file 
 Say words (waits list path file) = IsWaits words list path file
 Say words (run list path course script file) = IsRun words list path course script file
 Say words (gen rounds actors) = IsGen words rounds actors
+Say words (feed list path course script file given) = IsFeed words list path course script file given
 
 -- the words are this command
 abbrev pub CommandOf : List (List ℕ) → Command → Type 0

@@ -8,5 +8,7 @@ pub mod Waits
 pub mod RunOptions
 pub mod Run
 pub mod Gen
+pub mod Operands
+pub mod Feed
 pub mod Command
 pub mod Listed

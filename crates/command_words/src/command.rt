@@ -6,10 +6,12 @@ ghost use Rattle.command_words.specs.Compile.{HasWord, unbuilt_commands};
 
 use crate::WordsFault;
 use crate::compile::compile;
+use crate::feed::feed;
 use crate::frames::frames;
 use crate::generation::generation;
 use crate::run::run;
 use crate::waits::waits;
+use ipdl_base::Side;
 use schedules::{Stop, Turn};
 use std::alloc::Global;
 
@@ -71,10 +73,27 @@ pub enum Command {
         /// The number of actors, from 1 to 100.
         actors: u32,
     },
+    /// Run one end on a file of bytes, and print its history.
+    Feed {
+        /// The name of the sync list, where one is given.
+        list: Option<String>,
+        /// The folders in which files are looked for, in order.
+        path: Vec<String>,
+        /// The most events of the end, from 1 to 20,000.
+        limit: u32,
+        /// The side of the end.
+        side: Side,
+        /// The name of the script.
+        script: String,
+        /// The name of the file of the top protocol.
+        file: String,
+        /// The name of the file of frames.
+        frames: String,
+    },
 }
 
 /// The first words that will choose a command of their own which is not built yet.
-const UNBUILT_COMMANDS: [&str; 3] = ["feed", "relay", "audit"];
+const UNBUILT_COMMANDS: [&str; 2] = ["relay", "audit"];
 
 /// Whether the word is one of these.
 fn has_word(words: &[&str], word: &str) -> bool
@@ -108,6 +127,9 @@ pub fn read_words(alloc: Global, words: &[String]) -> Result<Command, WordsFault
         }
         if first.as_str() == "gen" {
             return generation(alloc, rest);
+        }
+        if first.as_str() == "feed" {
+            return feed(alloc, rest);
         }
         if is_unbuilt_command(first.as_str()) {
             return Err(WordsFault::Usage);

@@ -2,8 +2,11 @@
 use Rattle.std.proofs.Common.{◌≡◌, ◌⊎◌, ℕ, Bool, true, false, List, [], ◌∷◌, refl, ap, ◌∙◌, sym, inl, inr, true≢false}
 use Rattle.std.specs.Prelude.{Option, Some, None}
 use Rattle.ipdl_base.specs.Outside.{FileMap}
-use Rattle.command_words.specs.Command.{CommandView, IsNoCommand, compile, frames, gen, run, waits}
+use Rattle.command_words.specs.Command.{CommandView, IsNoCommand, compile, feed, frames, gen, run, waits}
+use Rattle.command_words.specs.Feed.{FeedCourse}
 use Rattle.command_words.specs.Run.{Course}
+use Rattle.feed_runs.specs.declared.fault.FeedFault.{FeedFault}
+use Rattle.ipdl_base.specs.declared.kinds.Side.{Side}
 use Rattle.frame_list.specs.declared.list.FrameListFault.{FrameListFault}
 use Rattle.ipdl_base.specs.declared.schema.Schema.{Schema}
 use Rattle.ipdl_top.specs.declared.answer.CommandAnswer.{CommandAnswer}
@@ -12,10 +15,12 @@ use Rattle.ipdl_top.specs.declared.rendering.Rendering.TheVariants.{Summary, Tra
 use Rattle.ipdl_top.specs.declared.status.Status.{Status}
 use Rattle.ipdl_top.specs.declared.status.Status.TheVariants.{Done, Broken, Usage, ReadFault, Spent, NoMemory, BadScript, BadFrames}
 use Rattle.ipdl_top.specs.CommandAnswer.{AnswersTo, IsAnswer, IsCompilation, SaysTables, given_by, usage_answer}
+use Rattle.ipdl_top.specs.Feed.{SaysFedOf, SaysFeed, feed_answer}
 use Rattle.ipdl_top.specs.Frames.{SaysFrames, frames_answer, frames_out}
 use Rattle.ipdl_top.specs.FileViews.{FileViews, ForMap, steady}
 use Rattle.ipdl_top.specs.Gen.{SaysGen, case_course, case_files, case_path, holder_name, script_name}
-use Rattle.ipdl_top.specs.Run.{Driving, SaysHistory, SaysRun, SaysScript, run_answer}
+use Rattle.ipdl_top.specs.Run.{Driving, SaysHistory, SaysRun, run_answer}
+use Rattle.ipdl_top.specs.Scripts.{SaysOfHeld}
 use Rattle.ipdl_top.specs.Waits.{SaysWaits}
 use Rattle.ipdl_base.specs.declared.line.Line.{Line}
 use Rattle.handler_script.specs.declared.script.Script.{Script}
@@ -63,14 +68,29 @@ of_lines shown schema lines (at_limit side) = refl
 of_history : (Gives : Driving) (shown : Rendering) (course : Course) (schema : Schema) (script : Script) (answer : CommandAnswer) → SaysHistory Gives shown course schema script answer → IsSaidSo answer
 of_history Gives shown course schema script answer told = said_so _ _ told.says (of_lines shown schema told.after.state.lines told.ending)
 
-of_script : (Gives : Driving) (shown : Rendering) (course : Course) (name : List ℕ) (held : Option (List ℕ)) (schema : Schema) (top : ℕ) (answer : CommandAnswer) → SaysScript Gives shown course name held schema top answer → IsSaidSo answer
-of_script Gives shown course name None schema top answer says = said_so _ _ says refl
-of_script Gives shown course name (Some text) schema top answer (inl larger) = said_so _ _ larger.1 refl
-of_script Gives shown course name (Some text) schema top answer (inr (small, inl broken)) = said_so _ _ broken.says refl
-of_script Gives shown course name (Some text) schema top answer (inr (small, inr told)) = of_history Gives shown course schema told.script answer told.history
+of_held : (Says : Script → CommandAnswer → Type 0) → ((script : Script) (answer : CommandAnswer) → Says script answer → IsSaidSo answer)
+    → (name : List ℕ) (held : Option (List ℕ)) (schema : Schema) (top : ℕ) (answer : CommandAnswer) → SaysOfHeld Says name held schema top answer → IsSaidSo answer
+of_held Says so name None schema top answer says = said_so _ _ says refl
+of_held Says so name (Some text) schema top answer (inl larger) = said_so _ _ larger.1 refl
+of_held Says so name (Some text) schema top answer (inr (small, inl broken)) = said_so _ _ broken.says refl
+of_held Says so name (Some text) schema top answer (inr (small, inr told)) = so told.script answer told.says
 
 of_run : (Gives : Driving) (shown : Rendering) (course : Course) (name : List ℕ) (held : Option (List ℕ)) (file : List ℕ) (schema : Schema) (answer : CommandAnswer) → SaysRun Gives shown course name held file schema answer → IsSaidSo answer
-of_run Gives shown course name held file schema answer told = of_script Gives shown course name held schema told.top answer told.says
+of_run Gives shown course name held file schema answer told = of_held (SaysHistory Gives shown course schema) (of_history Gives shown course schema) name held schema told.top answer told.says
+
+ended : (schema : Schema) (name : List ℕ) (side : Side) (lines : List Line) (kept : Option FeedFault) (spent : Bool) → IsSaidSo (feed_answer schema name side lines kept spent)
+ended schema name side lines kept true = refl
+ended schema name side lines None false = refl
+ended schema name side lines (Some fault) false = refl
+
+of_fed : (course : FeedCourse) (name : List ℕ) (bytes : Option (List ℕ)) (schema : Schema) (script : Script) (answer : CommandAnswer) → SaysFedOf course name bytes schema script answer → IsSaidSo answer
+of_fed course name None schema script answer says = said_so _ _ says refl
+of_fed course name (Some bytes) schema script answer (inl larger) = said_so _ _ larger.1 refl
+of_fed course name (Some bytes) schema script answer (inr told) = said_so _ _ told.1.says (ended schema name course.side told.1.lines told.1.kept told.1.spent)
+
+of_feed : (course : FeedCourse) (script : List ℕ) (held : Option (List ℕ)) (name : List ℕ) (bytes : Option (List ℕ)) (file : List ℕ) (schema : Schema) (answer : CommandAnswer)
+    → SaysFeed course script held name bytes file schema answer → IsSaidSo answer
+of_feed course script held name bytes file schema answer told = of_held (SaysFedOf course name bytes schema) (of_fed course name bytes schema) script held schema told.top answer told.says
 
 -- and so is that of a compilation
 compiled : (Says : Schema → CommandAnswer → Type 0) → ((schema : Schema) (answer : CommandAnswer) → Says schema answer → IsSaidSo answer)
@@ -81,12 +101,14 @@ compiled Says none given lists list answer (inr (inr h)) = none h.schema answer 
 
 of_command : (Gives : Driving) (seen : FileViews) (command : CommandView) (answer : CommandAnswer) → AnswersTo Gives seen command answer → IsSaidSo answer
 of_command Gives seen (compile list path names) answer h = compiled SaysTables of_tables (given_by seen.files path names) seen.list list answer h
-of_command Gives seen (frames list path file name convert) answer h = compiled (SaysFrames name convert (seen.last name)) (of_frames name convert (seen.last name)) (given_by seen.files path (file ∷ [])) seen.list list answer h
+of_command Gives seen (frames list path file name convert) answer h = compiled (SaysFrames name convert (seen.input name)) (of_frames name convert (seen.input name)) (given_by seen.files path (file ∷ [])) seen.list list answer h
 of_command Gives seen (waits list path file) answer h = compiled (SaysWaits file) (of_waits file) (given_by seen.files path (file ∷ [])) seen.list list answer h
 of_command Gives seen (run list path course script file) answer h =
-    compiled (SaysRun Gives Transcript course script (seen.last script) file) (of_run Gives Transcript course script (seen.last script) file) (given_by seen.files path (file ∷ [])) seen.list list answer h
+    compiled (SaysRun Gives Transcript course script (seen.script script) file) (of_run Gives Transcript course script (seen.script script) file) (given_by seen.files path (file ∷ [])) seen.list list answer h
 of_command Gives seen (gen rounds actors) answer h =
     compiled (SaysGen Gives rounds actors) (of_run Gives (Summary rounds actors) case_course script_name (case_files rounds actors script_name) holder_name) (given_by (case_files rounds actors) case_path (holder_name ∷ [])) (case_files rounds actors) None answer h
+of_command Gives seen (feed list path course script file name) answer h =
+    compiled (SaysFeed course script (seen.script script) name (seen.input name) file) (of_feed course script (seen.script script) name (seen.input name) file) (given_by seen.files path (file ∷ [])) seen.list list answer h
 
 -- words that are no command have the usage answer
 pub of_no_command : (Gives : Driving) (seen : FileViews) (words : List (List ℕ)) (answer : CommandAnswer) → IsNoCommand words → IsAnswer Gives seen words answer → answer ≡ usage_answer

@@ -35,6 +35,7 @@ use Rattle.sync_list.specs.Lists.{IsListOf}
 use Rattle.sync_list.specs.Laws.{OneList}
 use Rattle.ipdl_top.specs.declared.answer.CommandAnswer.{CommandAnswer}
 use Rattle.ipdl_top.specs.CommandAnswer.{IsBrokenFile, BreaksRules, IsFileReport, IsReading, IsRuleReport, IsSaidOf, IsCompilation, AnswersTo, SaysTables, given_by, report_answer, table_answer}
+use Rattle.ipdl_top.specs.Feed.{SaysFeed}
 use Rattle.ipdl_top.specs.Frames.{SaysBytes, SaysFrames, frames_answer, frames_out}
 use Rattle.ipdl_top.specs.Laws.{LeavesNothing, OneAnswer}
 use Rattle.ipdl_top.specs.declared.rendering.Rendering.TheVariants.{Summary, Transcript}
@@ -46,6 +47,7 @@ use Rattle.ipdl_top.specs.FileViews.{FileViews}
 use Rattle.ipdl_top.proofs.Alike.{alike, same_keys}
 use Rattle.ipdl_top.proofs.Compilations.{names_called, no_fault}
 use Rattle.ipdl_top.proofs.TableTexts.{one_text}
+use Rattle.ipdl_top.proofs.OneFeed.{FeedLaws, feed_one}
 use Rattle.ipdl_top.proofs.OneRun.{RunLaws, run_one}
 use Rattle.ipdl_top.proofs.OneTop.{one_top}
 
@@ -64,6 +66,7 @@ pub record TheLaws : Type 0 where
   pub waits_alike : WaitsAlike
   pub wait_report : OneWaitReport
   pub runs : RunLaws
+  pub feeds : FeedLaws
 
 -- Lists
 
@@ -218,18 +221,21 @@ leaves_none words (command.frames list path file name convert) said leaves = tt
 leaves_none words (command.waits list path file) said leaves = tt
 leaves_none words (command.run list path course script file) said leaves = leaves list path course script file said
 leaves_none words (command.gen rounds actors) said leaves = tt
+leaves_none words (command.feed list path course script file name) said leaves = tt
 
 -- so has each command
 commands : TheLaws → (Gives : Driving) (seen : FileViews) (command : CommandView) → LeavesNone command → (one other : CommandAnswer) → AnswersTo Gives seen command one → AnswersTo Gives seen command other → one ≡ other
 commands laws Gives seen (command.compile list path names) leaves one other x y = compilations laws SaysTables tables_one (given_by seen.files path names) seen.list list one other x y
 commands laws Gives seen (command.frames list path file name convert) leaves one other x y =
-    compilations laws (SaysFrames name convert (seen.last name)) (frames_one laws name convert (seen.last name)) (given_by seen.files path (file ∷ [])) seen.list list one other x y
+    compilations laws (SaysFrames name convert (seen.input name)) (frames_one laws name convert (seen.input name)) (given_by seen.files path (file ∷ [])) seen.list list one other x y
 commands laws Gives seen (command.waits list path file) leaves one other x y = compilations laws (SaysWaits file) (waits_one laws file) (given_by seen.files path (file ∷ [])) seen.list list one other x y
 commands laws Gives seen (command.run list path course script file) leaves one other x y =
-    compilations laws (SaysRun Gives Transcript course script (seen.last script) file) (run_one laws.runs Gives Transcript course leaves script (seen.last script) file) (given_by seen.files path (file ∷ [])) seen.list list one other x y
+    compilations laws (SaysRun Gives Transcript course script (seen.script script) file) (run_one laws.runs Gives Transcript course leaves script (seen.script script) file) (given_by seen.files path (file ∷ [])) seen.list list one other x y
 commands laws Gives seen (command.gen rounds actors) leaves one other x y =
     compilations laws (SaysGen Gives rounds actors) (run_one laws.runs Gives (Summary rounds actors) case_course (λ e. cc) script_name (case_files rounds actors script_name) holder_name) (given_by (case_files rounds actors) case_path (holder_name ∷ []))
     (case_files rounds actors) None one other x y
+commands laws Gives seen (command.feed list path course script file name) leaves one other x y =
+    compilations laws (SaysFeed course script (seen.script script) name (seen.input name) file) (feed_one laws.feeds course script (seen.script script) name (seen.input name) file) (given_by seen.files path (file ∷ [])) seen.list list one other x y
 
 -- words are one command or none
 pub answer_is_determined : TheLaws → (Gives : Driving) → OneAnswer Gives

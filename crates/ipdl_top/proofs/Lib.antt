@@ -11,5 +11,9 @@ pub mod Found
 pub mod Tops
 pub mod Runs
 pub mod OneTop
+pub mod OneScript
 pub mod OneRun
+pub mod OneFeed
+pub mod Scripted
+pub mod Feeds
 pub mod Summed

@@ -1,5 +1,5 @@
 -- A script has one answer where its run goes by a word of turns.
-use Rattle.std.proofs.Common.{◌≡◌, ◌≢◌, ◌∙◌, ◌++◌, ℕ, List, [], refl, sym, ap, subst, arith, inl, inr}
+use Rattle.std.proofs.Common.{◌≡◌, ◌≢◌, ◌∙◌, ◌++◌, ℕ, List, [], refl, sym, ap}
 use Rattle.std.specs.Prelude.{Option, None, Some}
 use Rattle.ipdl_base.specs.declared.line.Line.{Line}
 use Rattle.ipdl_base.specs.declared.schema.Schema.{Schema}
@@ -17,8 +17,8 @@ use Rattle.world_core.specs.WorldView.{WorldView, opening_of}
 use Rattle.ipdl_top.specs.declared.answer.CommandAnswer.{CommandAnswer}
 use Rattle.ipdl_top.specs.declared.rendering.Rendering.{Rendering}
 use Rattle.ipdl_top.specs.declared.rendering.Rendering.TheVariants.{Summary, Transcript}
-use Rattle.ipdl_top.specs.Run.{Driving, IsMade, SaysHistory, SaysRun, SaysScript, SaysText, answer_of, bad_script_answer, ending_line, rendered, run_answer, run_status, setting_by}
-use Rattle.ipdl_top.proofs.OneTop.{one_top}
+use Rattle.ipdl_top.specs.Run.{Driving, IsMade, SaysHistory, SaysRun, answer_of, ending_line, rendered, run_answer, run_status, setting_by}
+use Rattle.ipdl_top.proofs.OneScript.{script_one}
 
 -- the laws that a run rests on
 pub record RunLaws : Type 0 where
@@ -60,25 +60,6 @@ run_of_one laws Gives shown course some a b alike s t same one other x y =
     let ends = history_one laws Gives course.schedule some (setting_by a s course) (setting_by b t course) settings x.after y.after x.ending y.ending x.made y.made in
     x.says ∙ same_text laws.texts shown a b alike x.after.state y.after.state x.ending y.ending ends.0 ends.1 ∙ sym y.says
 
-text_one : RunLaws → (Gives : Driving) (shown : Rendering) (course : Course) → course.schedule ≢ None → (name text : List ℕ) (a b : Schema) → AreSchemasAlike a b → (top : ℕ) (one other : CommandAnswer)
-    → SaysText Gives shown course name text a top one → SaysText Gives shown course name text b top other → one ≡ other
-text_one laws Gives shown course some name text a b alike top one other (inl x) (inl y) =
-    x.says ∙ ap (bad_script_answer name) (laws.scripts.report a b alike text top x.findings y.findings x.report y.report) ∙ sym y.says
-text_one laws Gives shown course some name text a b alike top one other (inl x) (inr y) = absurd (laws.scripts.either b a (sym alike) text top y.script x.findings y.script_of (x.report, x.some))
-text_one laws Gives shown course some name text a b alike top one other (inr x) (inl y) = absurd (laws.scripts.either a b alike text top x.script y.findings x.script_of (y.report, y.some))
-text_one laws Gives shown course some name text a b alike top one other (inr x) (inr y) =
-    run_of_one laws Gives shown course some a b alike x.script y.script (laws.scripts.script a b alike text top x.script y.script x.script_of y.script_of) one other x.history y.history
-
-script_one : RunLaws → (Gives : Driving) (shown : Rendering) (course : Course) → course.schedule ≢ None → (name : List ℕ) (held : Option (List ℕ)) (a b : Schema) → AreSchemasAlike a b → (top : ℕ) (one other : CommandAnswer)
-    → SaysScript Gives shown course name held a top one → SaysScript Gives shown course name held b top other → one ≡ other
-script_one laws Gives shown course some name None a b alike top one other x y = x ∙ sym y
-script_one laws Gives shown course some name (Some text) a b alike top one other (inl x) (inl y) = x.1 ∙ sym y.1
-script_one laws Gives shown course some name (Some text) a b alike top one other (inl x) (inr y) = absurd (omega (arith, x.0, y.0))
-script_one laws Gives shown course some name (Some text) a b alike top one other (inr x) (inl y) = absurd (omega (arith, x.0, y.0))
-script_one laws Gives shown course some name (Some text) a b alike top one other (inr x) (inr y) = text_one laws Gives shown course some name text a b alike top one other x.1 y.1
-
 pub run_one : RunLaws → (Gives : Driving) (shown : Rendering) (course : Course) → course.schedule ≢ None → (name : List ℕ) (held : Option (List ℕ)) (file : List ℕ) (a b : Schema) → AreSchemasAlike a b → (one other : CommandAnswer)
     → SaysRun Gives shown course name held file a one → SaysRun Gives shown course name held file b other → one ≡ other
-run_one laws Gives shown course some name held file a b alike one other x y =
-    let top : x.top ≡ y.top = one_top file a b alike x.top y.top x.is_top y.is_top in
-    script_one laws Gives shown course some name held a b alike y.top one other (subst (λ (top : ℕ). SaysScript Gives shown course name held a top one) top x.says) y.says
+run_one laws Gives shown course some name held file = script_one laws.scripts (SaysHistory Gives shown course) (run_of_one laws Gives shown course some) name held file

@@ -3,6 +3,7 @@ use Rattle.std.proofs.Common.{◌≡◌, ◌≤◌, ◌∙◌, ℕ, Bool, true, 
 use Rattle.std.specs.Prelude.{Option, None, Some}
 use Rattle.command_words.specs.Compile.{IsCompile}
 use Rattle.command_words.specs.Command.{CommandView, OneCommand, Say, gen}
+use Rattle.command_words.specs.Feed.{FeedCourse, IsFeed}
 use Rattle.command_words.specs.Gen.{IsActors, IsGen}
 use Rattle.command_words.specs.Options.{value_of}
 use Rattle.command_words.specs.Run.{Course, IsRun}
@@ -15,6 +16,10 @@ command_files said list path names h = record { few = h.files_are.listed.most; f
 pub given_limit : (value : Option (List ℕ)) (limit : ℕ) → IsLimit value limit → limit ≤ 20000
 given_limit None limit is = omega (arith, is)
 given_limit (Some text) limit is = is.most
+
+pub feed_limit : (words : List (List ℕ)) (list : Option (List ℕ)) (path : List (List ℕ)) (course : FeedCourse) (script file frames : List ℕ) → IsFeed words list path course script file frames → course.limit ≤ 20000
+feed_limit [] list path course script file frames h = absurd h
+feed_limit (word ∷ words) list path course script file frames (e, h) = given_limit (value_of (codes "limit") h.said) course.limit h.limit_is
 
 pub run_limit : (words : List (List ℕ)) (list : Option (List ℕ)) (path : List (List ℕ)) (course : Course) (script file : List ℕ) → IsRun words list path course script file → course.limit ≤ 20000
 run_limit [] list path course script file h = absurd h

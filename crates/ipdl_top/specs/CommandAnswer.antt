@@ -5,7 +5,7 @@ use Rattle.ipdl_base.specs.declared.finding.Finding.{Finding}
 use Rattle.ipdl_base.specs.declared.schema.Schema.{Schema}
 use Rattle.ipdl_syntax.specs.declared.program.Entry.{Entry}
 use Rattle.ipdl_syntax.specs.Programs.{IsProgram}
-use Rattle.command_words.specs.Command.{CommandView, IsNoCommand, Say, compile, frames, gen, run, waits}
+use Rattle.command_words.specs.Command.{CommandView, IsNoCommand, Say, compile, feed, frames, gen, run, waits}
 use Rattle.findings.specs.Report.{IsReport}
 use Rattle.include_graph.specs.Load.{IsProgramOf}
 use Rattle.include_graph.specs.Reach.{IsReach}
@@ -21,6 +21,7 @@ use Rattle.ipdl_top.specs.declared.answer.CommandAnswer.{CommandAnswer}
 use Rattle.ipdl_top.specs.declared.rendering.Rendering.TheVariants.{Transcript}
 use Rattle.ipdl_top.specs.declared.status.Status.TheVariants.{Done, Broken, Usage}
 use Rattle.ipdl_top.specs.Command.{usage_text}
+use Rattle.ipdl_top.specs.Feed.{SaysFeed}
 use Rattle.ipdl_top.specs.Frames.{SaysFrames}
 use Rattle.ipdl_top.specs.Gen.{SaysGen, case_files, case_path, holder_name}
 use Rattle.ipdl_top.specs.Lists.{IsFaultOfList, AreSections, list_names}
@@ -110,10 +111,12 @@ given_by files path names = record { files = files; words = names; path = path }
 -- generated case has files of its own, and no others are looked at.
 abbrev pub AnswersTo : Driving → FileViews → CommandView → CommandAnswer → Type 0
 AnswersTo Gives seen (compile list path names) answer = IsCompilation SaysTables (given_by seen.files path names) seen.list list answer
-AnswersTo Gives seen (frames list path file name convert) answer = IsCompilation (SaysFrames name convert (seen.last name)) (given_by seen.files path (file ∷ [])) seen.list list answer
+AnswersTo Gives seen (frames list path file name convert) answer = IsCompilation (SaysFrames name convert (seen.input name)) (given_by seen.files path (file ∷ [])) seen.list list answer
 AnswersTo Gives seen (waits list path file) answer = IsCompilation (SaysWaits file) (given_by seen.files path (file ∷ [])) seen.list list answer
-AnswersTo Gives seen (run list path course script file) answer = IsCompilation (SaysRun Gives Transcript course script (seen.last script) file) (given_by seen.files path (file ∷ [])) seen.list list answer
+AnswersTo Gives seen (run list path course script file) answer = IsCompilation (SaysRun Gives Transcript course script (seen.script script) file) (given_by seen.files path (file ∷ [])) seen.list list answer
 AnswersTo Gives seen (gen rounds actors) answer = IsCompilation (SaysGen Gives rounds actors) (given_by (case_files rounds actors) case_path (holder_name ∷ [])) (case_files rounds actors) None answer
+AnswersTo Gives seen (feed list path course script file name) answer =
+    IsCompilation (SaysFeed course script (seen.script script) name (seen.input name) file) (given_by seen.files path (file ∷ [])) seen.list list answer
 
 -- the words are a command, and the answer is the one to it
 pub record IsCommandAnswer (Gives : Driving) (seen : FileViews) (words : List (List ℕ)) (answer : CommandAnswer) : Type 0 where

@@ -2,9 +2,13 @@ pub mod CommandAnswer
 pub mod Codes
 pub mod Frames
 pub mod Waits
+pub mod Scripts
+pub mod ScriptSteps
 pub mod Run
 pub mod RunSteps
 pub mod Gen
+pub mod Feed
+pub mod FeedSteps
 pub mod Command
 pub mod Laws
 pub mod Lists

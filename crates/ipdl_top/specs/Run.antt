@@ -1,19 +1,14 @@
 -- What the command that runs a script says of a schema.
-use Rattle.std.specs.Prelude.{◌≡◌, ◌≢◌, ℕ, ◌≤◌, ◌<◌, ◌⊎◌, List, [], ◌∷◌, ◌++◌, length, Option, Some, None, codes}
-use Rattle.ipdl_base.specs.declared.finding.Finding.{Finding}
-use Rattle.ipdl_base.specs.declared.finding.TheConstants.Rule as rule
+use Rattle.std.specs.Prelude.{◌≡◌, ℕ, List, [], ◌++◌, Option, Some, None, codes}
 use Rattle.ipdl_base.specs.declared.line.Line.{Line}
 use Rattle.ipdl_base.specs.declared.schema.Schema.{Schema}
 use Rattle.command_words.specs.Run.{Course}
 use Rattle.channel_model.specs.Runs.{IsLegalHistory}
 use Rattle.handler_script.specs.declared.script.Script.{Script}
-use Rattle.handler_script.specs.Broken.{IsReport}
-use Rattle.handler_script.specs.ScriptOf.{IsScriptOf}
 use Rattle.generated_case.specs.Counts.{counts_of}
 use Rattle.generated_case.specs.Summary.{summary_text}
 use Rattle.history.specs.Text.{transcript_text}
 use Rattle.history.specs.Words.{side_word}
-use Rattle.include_graph.specs.Rules.{whole_file}
 use Rattle.script_steps.specs.Choices.{IsCaseHistory, Setting}
 use Rattle.script_steps.specs.Turns.{RunEnding, at_limit, at_rest}
 use Rattle.schedules.specs.declared.turn.Turn.{Turn}
@@ -32,9 +27,7 @@ use Rattle.ipdl_top.specs.declared.rendering.Rendering.{Rendering}
 use Rattle.ipdl_top.specs.declared.rendering.Rendering.TheVariants as rendering
 use Rattle.ipdl_top.specs.declared.status.Status.{Status}
 use Rattle.ipdl_top.specs.declared.status.Status.TheVariants as status
-use Rattle.ipdl_top.specs.Lists.{finding_at}
-use Rattle.ipdl_top.specs.Report.{report_text}
-use Rattle.ipdl_top.specs.Waits.{IsTop}
+use Rattle.ipdl_top.specs.Scripts.{SaysByScript}
 
 -- what a driver gives: the world before, the world behind, and how the run ended
 abbrev pub Driving : Type 1
@@ -93,36 +86,6 @@ pub record SaysHistory (Gives : Driving) (shown : Rendering) (course : Course) (
   pub stands : StandsAs after (answer_of ending)
   pub says : answer ≡ run_answer shown schema after.state.lines ending
 
--- the answer that a script of this name breaks rules
-abbrev pub bad_script_answer : List ℕ → List Finding → CommandAnswer
-bad_script_answer name findings = record { status = status.BadScript; out = []; err = report_text (name ∷ []) findings }
-
--- The answer lists the rules that the text of a script breaks; or it breaks none, and is run.
-pub record SaysBroken (name text : List ℕ) (schema : Schema) (top : ℕ) (answer : CommandAnswer) : Type 0 where
-  pub findings : List Finding
-  pub report : IsReport text schema top findings
-  pub some : findings ≢ []
-  pub says : answer ≡ bad_script_answer name findings
-
-pub record SaysRunOf (Gives : Driving) (shown : Rendering) (course : Course) (text : List ℕ) (schema : Schema) (top : ℕ) (answer : CommandAnswer) : Type 0 where
-  pub script : Script
-  pub script_of : IsScriptOf text schema top script
-  pub history : SaysHistory Gives shown course schema script answer
-
-abbrev pub SaysText : Driving → Rendering → Course → List ℕ → List ℕ → Schema → ℕ → CommandAnswer → Type 0
-SaysText Gives shown course name text schema top answer = SaysBroken name text schema top answer ⊎ SaysRunOf Gives shown course text schema top answer
-
--- the answer for a script that is not there, or has too many bytes
-abbrev pub unreadable_answer : List ℕ → CommandAnswer
-unreadable_answer name = bad_script_answer name (finding_at rule.UNREADABLE_SCRIPT (whole_file 0) ∷ [])
-
-abbrev pub SaysScript : Driving → Rendering → Course → List ℕ → Option (List ℕ) → Schema → ℕ → CommandAnswer → Type 0
-SaysScript Gives shown course name None schema top answer = answer ≡ unreadable_answer name
-SaysScript Gives shown course name (Some text) schema top answer =
-    ((1048576 < length text) × (answer ≡ unreadable_answer name)) ⊎ ((length text ≤ 1048576) × SaysText Gives shown course name text schema top answer)
-
 -- The answer is that for a script of this name, of which this is held, where the protocol of the file is the top.
-pub record SaysRun (Gives : Driving) (shown : Rendering) (course : Course) (name : List ℕ) (held : Option (List ℕ)) (file : List ℕ) (schema : Schema) (answer : CommandAnswer) : Type 0 where
-  pub top : ℕ
-  pub is_top : IsTop file schema top
-  pub says : SaysScript Gives shown course name held schema top answer
+abbrev pub SaysRun : Driving → Rendering → Course → List ℕ → Option (List ℕ) → List ℕ → Schema → CommandAnswer → Type 0
+SaysRun Gives shown course name held file schema answer = SaysByScript (SaysHistory Gives shown course schema) name held file schema answer

@@ -80,7 +80,7 @@ fn bytes_answer(
 }
 
 /// The answer that there is no file of frames to read, with this word for it.
-fn unread_answer(alloc: Global, name: &str, word: &str) -> Result<CommandAnswer, AllocError>
+pub fn unread_answer(alloc: Global, name: &str, word: &str) -> Result<CommandAnswer, AllocError>
     ensures { IfOk result (λ answer. answer ≡ bad_frames_answer [] (name.now ++ word.now)) }
 {
     let mut line = Vec::from_slice(alloc, name.as_bytes())?;
@@ -148,7 +148,7 @@ pub fn frames<F: Files>(
 ) -> Result<CommandAnswer, Failure>
     requires { AreFileWords (string_bytes file.now ∷ []) }
     ensures answer { ForMap (F.told files.old) (λ seen. IfOk result
-        (IsCompilation (SaysFrames wanted.now.name.now wanted.now.convert (seen.last wanted.now.name.now)) (given_by seen.files (map string_bytes path.now) (string_bytes file.now ∷ [])) seen.list (option_map string_bytes list.now))) }
+        (IsCompilation (SaysFrames wanted.now.name.now wanted.now.convert (seen.input wanted.now.name.now)) (given_by seen.files (map string_bytes path.now) (string_bytes file.now ∷ [])) seen.list (option_map string_bytes list.now))) }
     ensures read_fault { result ≡ Err Failure.ReadFault → Rose (F.faults files.old) (F.faults files.new) }
 {
     match checked(alloc, files, list, path, from_ref(file)) {

@@ -1,4 +1,4 @@
-ghost use Rattle.std.specs.Prelude.{◌≡◌, IfOk, Some};
+ghost use Rattle.std.specs.Prelude.{◌≡◌, ◌≤◌, IfOk, Some};
 ghost use Rattle.ipdl_base.specs.Outside.{Rose};
 ghost use Rattle.include_graph.specs.Load as load;
 ghost use Rattle.ipdl_top.specs.Steps.{IsHeld, IsSmall};
@@ -37,6 +37,8 @@ fn held_of_bytes(bytes: Vec<u8>) -> HeldFile
 pub fn read_held<F: Files>(alloc: Global, files: &mut F, name: &str) -> Result<HeldFile, Failure>
     ensures held { load.ForMap (F.told files.old) (λ map'. IfOk result (IsHeld (map' name.now))) }
     ensures small { IfOk result IsSmall }
+    ensures told { F.told files.new ≡ F.told files.old }
+    ensures count { F.faults files.old ≤ F.faults files.new }
     ensures read_fault { result ≡ Err Failure.ReadFault → Rose (F.faults files.old) (F.faults files.new) }
 {
     match files.read(alloc, name, MOST_BYTES) {

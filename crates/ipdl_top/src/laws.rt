@@ -2,12 +2,13 @@ ghost use Rattle.ipdl_top.specs.Laws.{OneAnswer};
 
 use answer_laws::{break_alike, listed_alike, schemas_alike};
 use command_words::one_command;
+use feed_runs::feeds_have_one_result;
 use grammar_laws::one_tree;
 use ipdl_lex::one_answer;
 use program_schema::one_schema;
 use schema_laws::{
-    frames_alike, one_list_of_frames, one_wait_report, picks_alike, scripts_alike, texts_alike,
-    waits_alike,
+    feeds_alike, frames_alike, one_list_of_frames, one_wait_report, picks_alike, scripts_alike,
+    texts_alike, waits_alike,
 };
 use script_steps::words_have_one_result;
 use sync_list::one_list;
@@ -38,4 +39,6 @@ pub fn answer_is_determined<D: Driver>(driver: &D)
     texts_alike();
     scripts_alike();
     words_have_one_result();
+    feeds_alike();
+    feeds_have_one_result();
 }

@@ -4,6 +4,7 @@
 mod answer;
 mod checked;
 mod compile;
+mod feed;
 mod frames;
 mod generation;
 mod held;
@@ -14,6 +15,7 @@ mod rendering;
 mod report;
 mod rules;
 mod run;
+mod scripts;
 mod status;
 mod waits;
 mod write;

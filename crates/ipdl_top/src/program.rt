@@ -9,6 +9,7 @@ ghost use Rattle.ipdl_top.specs.Written.{WritesAll};
 
 use crate::answer::{CommandAnswer, Failure};
 use crate::compile::compile;
+use crate::feed::{FeedRequest, feed};
 use crate::frames::{FramesRequest, frames};
 use crate::generation::generation;
 use crate::rendering::Rendering;
@@ -82,6 +83,25 @@ fn answer_to<F: Files, D: Driver>(
             run(alloc, files, &list, path.as_slice(), &file, &wanted, driver)
         }
         Ok(Command::Gen { rounds, actors }) => generation(alloc, rounds, actors, driver),
+        Ok(
+            Command::Feed {
+                list,
+                path,
+                limit,
+                side,
+                script,
+                file,
+                frames: name,
+            },
+        ) => {
+            let wanted = FeedRequest {
+                script: script.as_str(),
+                frames: name.as_str(),
+                side,
+                limit,
+            };
+            feed(alloc, files, &list, path.as_slice(), &file, &wanted)
+        }
         Err(WordsFault::Usage) => CommandAnswer::of_no_command(alloc),
         Err(WordsFault::NoMemory) => Err(Failure::NoMemory),
     }

@@ -1,4 +1,4 @@
-ghost use Rattle.std.specs.Prelude.{◌≡◌, ◌≤◌, ◌<◌, ◌∷◌, ◌++◌, [], ℕ, IfOk, IsOkUnless, List, Option, codes, length, map, option_map, string_bytes};
+ghost use Rattle.std.specs.Prelude.{◌≡◌, ◌≤◌, ◌∷◌, ◌++◌, [], ℕ, IfOk, List, Option, codes, map, option_map, string_bytes};
 ghost use Rattle.handler_script.specs.Valid.{IsValid};
 ghost use Rattle.include_graph.specs.Keys.{AreFileWords};
 ghost use Rattle.include_graph.specs.Load as load;
@@ -12,7 +12,7 @@ ghost use Rattle.world_core.specs.WorldView.{WorldView};
 ghost use Rattle.world_core.specs.Worlds.{IsCase, IsLawful, most_events};
 ghost use Rattle.ipdl_top.specs.CommandAnswer.{IsCompilation, given_by};
 ghost use Rattle.ipdl_top.specs.FileViews.{ForMap};
-ghost use Rattle.ipdl_top.specs.Run.{SaysHistory, SaysRun, SaysScript, SaysText, bad_script_answer, ending_line, rendered};
+ghost use Rattle.ipdl_top.specs.Run.{SaysHistory, SaysRun, ending_line, rendered};
 ghost use Rattle.ipdl_top.specs.RunSteps.{IsMadeUnless, IsPrinted, course_of};
 ghost use Rattle.ipdl_top.specs.Steps.{HasTop, IsHeld, IsSmall, IsSoundChecked, IsToldOf};
 ghost use Rattle.ipdl_top.specs.Waits.{IsTop};
@@ -22,25 +22,17 @@ use crate::checked::CheckResult;
 use crate::compile::{checked, leave};
 use crate::held::{HeldFile, read_held};
 use crate::rendering::Rendering;
-use crate::report::text_of_report;
+use crate::scripts::{ScriptCheck, script_checked};
 use crate::status::Status;
-use crate::waits::top_of;
 use generated_case::{Counts, summary_text};
-use handler_script::{Script, ScriptFault, read_script};
-use ipdl_base::{Files, Finding, Items, Place, Rule, Schema, Side};
+use handler_script::Script;
+use ipdl_base::{Files, Items, Schema, Side};
 use schedules::{Stop, Turn};
 use script_steps::choices_are_runs;
 use std::alloc::{AllocError, Global};
 use std::slice::from_ref;
 use world_core::{Driver, RunAnswer, World};
 use world_laws::histories_are_lawful;
-
-/// The script as a whole.
-const WHOLE_SCRIPT: Place = Place {
-    file: 0,
-    line: 0,
-    column: 0,
-};
 
 /// A script to run, and how.
 #[derive(Drop)]
@@ -99,7 +91,7 @@ fn with_ending(
 }
 
 /// The line that says that a side is spent.
-fn spent_line(side: Side) -> &'static [u8]
+pub fn spent_line(side: Side) -> &'static [u8]
     ensures { result.now ≡ ending_line (at_limit side) }
 {
     match side {
@@ -170,77 +162,6 @@ fn history_answer<D: Driver>(
     world_answer(alloc, world, wanted.rendering, ending)
 }
 
-/// The answer that a script breaks these rules.
-fn broken_answer(
-    alloc: Global,
-    name: &str,
-    findings: &[Finding],
-) -> Result<CommandAnswer, AllocError>
-    ensures { IfOk result (λ answer. answer ≡ bad_script_answer name.now findings.now) }
-{
-    let err = text_of_report(alloc, &[name.as_bytes()], findings)?;
-    Ok(CommandAnswer {
-        status: Status::BadScript,
-        out: Items::from_vec(Vec::new(alloc)),
-        err: Items::from_vec(err),
-    })
-}
-
-/// The answer by the text of a script.
-fn text_answer<D: Driver>(
-    alloc: Global,
-    schema: &Schema,
-    top: u32,
-    wanted: &RunRequest<'_>,
-    text: &[u8],
-    driver: &mut D,
-) -> Result<CommandAnswer, AllocError>
-    requires sound { IsSound schema.now }
-    requires top { top < length schema.now.protocols }
-    requires small { length text.now ≤ 1048576 }
-    requires limit { wanted.now.limit ≤ most_events }
-    requires ready { D.ready driver.old }
-    ensures { IfOk result (SaysText (D.Gives driver.old) wanted.now.rendering (course_of wanted.now) wanted.now.script.now text.now schema.now top) }
-{
-    match read_script(alloc, text, schema, top) {
-        Ok(script) => history_answer(alloc, schema, &script, wanted, driver),
-        Err(ScriptFault::Broken(findings)) => {
-            broken_answer(alloc, wanted.script, findings.as_slice())
-        }
-        Err(ScriptFault::NoMemory) => Err(AllocError),
-    }
-}
-
-/// The answer by what was found of a script.
-fn script_answer<D: Driver>(
-    alloc: Global,
-    schema: &Schema,
-    top: u32,
-    wanted: &RunRequest<'_>,
-    held: &HeldFile,
-    driver: &mut D,
-) -> Result<CommandAnswer, AllocError>
-    requires small { IsSmall held.now }
-    requires sound { IsSound schema.now }
-    requires top { top < length schema.now.protocols }
-    requires limit { wanted.now.limit ≤ most_events }
-    requires ready { D.ready driver.old }
-    ensures { IfOk result (λ answer. (file : Option (List ℕ)) → IsHeld file held.now → SaysScript (D.Gives driver.old) wanted.now.rendering (course_of wanted.now) wanted.now.script.now file schema.now top answer) }
-{
-    match held {
-        HeldFile::Absent | HeldFile::Larger => {
-            let finding = Finding {
-                place: WHOLE_SCRIPT,
-                rule: Rule::UNREADABLE_SCRIPT,
-            };
-            broken_answer(alloc, wanted.script, &[finding])
-        }
-        HeldFile::Bytes(bytes) => {
-            text_answer(alloc, schema, top, wanted, bytes.as_slice(), driver)
-        }
-    }
-}
-
 /// The answer by what was found of a script, under the schema of a file's program.
 fn held_answer<D: Driver>(
     alloc: Global,
@@ -257,10 +178,10 @@ fn held_answer<D: Driver>(
     requires ready { D.ready driver.old }
     ensures { IfOk result (λ answer. (text : Option (List ℕ)) → IsHeld text held.now → SaysRun (D.Gives driver.old) wanted.now.rendering (course_of wanted.now) wanted.now.script.now text file.now schema.now answer) }
 {
-    let Some(top) = top_of(schema, file) else {
-        unreachable!();
-    };
-    script_answer(alloc, schema, top, wanted, held, driver)
+    match script_checked(alloc, schema, file, wanted.script, held)? {
+        ScriptCheck::Broken(answer) => Ok(answer),
+        ScriptCheck::Valid(script) => history_answer(alloc, schema, &script, wanted, driver),
+    }
 }
 
 /// The answer by what was found of the files of a command and of the script.
@@ -326,7 +247,7 @@ pub fn run<F: Files, D: Driver>(
     requires limit { wanted.now.limit ≤ most_events }
     requires ready { D.ready driver.old }
     ensures answer { ForMap (F.told files.old) (λ seen. IfOk result
-        (IsCompilation (SaysRun (D.Gives driver.old) wanted.now.rendering (course_of wanted.now) wanted.now.script.now (seen.last wanted.now.script.now) (string_bytes file.now)) (given_by seen.files (map string_bytes path.now) (string_bytes file.now ∷ [])) seen.list (option_map string_bytes list.now))) }
+        (IsCompilation (SaysRun (D.Gives driver.old) wanted.now.rendering (course_of wanted.now) wanted.now.script.now (seen.script wanted.now.script.now) (string_bytes file.now)) (given_by seen.files (map string_bytes path.now) (string_bytes file.now ∷ [])) seen.list (option_map string_bytes list.now))) }
     ensures read_fault { result ≡ Err Failure.ReadFault → Rose (F.faults files.old) (F.faults files.new) }
 {
     match checked(alloc, files, list, path, from_ref(file)) {

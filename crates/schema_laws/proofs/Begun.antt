@@ -1,13 +1,14 @@
 -- What bytes begin does not depend on where the boxes of a schema lie.
-use Rattle.std.proofs.Common.{◌≡◌, ◌∙◌, ◌⊎◌, inl, inr, ℕ, ◌+◌, ◌==◌, ◌<◌, ◌≤◌, cond, List, length, Option, Some, None, refl, sym, ap, subst}
+use Rattle.std.proofs.Common.{◌≡◌, ◌∙◌, ◌⊎◌, inl, inr, ℕ, ◌+◌, ◌-◌, ◌==◌, ◌<◌, ◌≤◌, cond, List, length, Option, Some, None, refl, sym, ap, subst}
 use Rattle.std.specs.Prelude.{option_map, if◌then◌else◌, nat_lt}
 use Rattle.ipdl_base.specs.declared.message.Message.{Message}
 use Rattle.ipdl_base.specs.declared.schema.MessageRow.{MessageRow}
 use Rattle.ipdl_base.specs.declared.schema.Schema.{Schema}
 use Rattle.ipdl_base.specs.Sound.{message_of}
 use Rattle.value_types.specs.declared.layout.Layout.{Layout}
+use Rattle.value_codec.specs.declared.decoding.Decoded.TheVariants.{Short}
 use Rattle.value_codec.specs.declared.rules.TheConstants.{BAD_MARK, PAYLOAD_TOO_LARGE}
-use Rattle.value_codec.specs.Decoding.{whole_size, payload_in, contents_of_type, contents, FrameBegins, IsShort, FrameFault}
+use Rattle.value_codec.specs.Decoding.{begins, behind_header, with_contents, whole_size, payload_in, contents_of_type, contents, FrameBegins, IsShort, FrameFault}
 use Rattle.value_codec.specs.Frames.{FrameType, goodbye, request, reply, header_size, header_of, header_fault, has_mark, behind_mark, fields_fault, fault_of_type, goodbye_number, request_or_reply, carried_type, type_of, contents_at}
 use Rattle.value_codec.specs.Reading.{value_at}
 use Rattle.value_codec.specs.Spelling.{reply_flags}
@@ -76,6 +77,20 @@ contents_alike : (layout : Layout) (s : Schema) (bytes : List ℕ) → contents 
 contents_alike layout s bytes =
     (λ i. contents_of_type layout (plain_schema s) (header_of layout bytes) (frame_type_alike s (header_of layout bytes).number i) (payload_in layout (header_of layout bytes) bytes))
     ∙ contents_of layout s (header_of layout bytes) (type_of s (header_of layout bytes).number) (payload_in layout (header_of layout bytes) bytes)
+
+-- What stands there
+
+behind_alike : (layout : Layout) (s : Schema) (bytes : List ℕ) (fault : Option (ℕ × ℕ)) → behind_header layout (plain_schema s) bytes fault ≡ behind_header layout s bytes fault
+behind_alike layout s bytes None = λ i.
+    if nat_lt (length bytes) (whole_size layout (header_of layout bytes)) then Short (whole_size layout (header_of layout bytes) - length bytes) else
+    with_contents layout (header_of layout bytes) (contents_alike layout s bytes i)
+behind_alike layout s bytes (Some fault) = refl
+
+pub decoded_alike : (layout : Layout) (s : Schema) (bytes : List ℕ) → begins layout (plain_schema s) bytes ≡ begins layout s bytes
+unfolding begins
+decoded_alike layout s bytes =
+    (λ i. if nat_lt (length bytes) (header_size layout) then Short (header_size layout - length bytes) else behind_header layout (plain_schema s) bytes (header_alike layout s bytes i))
+    ∙ (λ i. if nat_lt (length bytes) (header_size layout) then Short (header_size layout - length bytes) else behind_alike layout s bytes (header_fault layout s bytes) i)
 
 -- Frames
 

@@ -109,7 +109,7 @@ module _ (s : Script) (e : End) where
   top_alike progress (top.Unanswered head) = refl
   top_alike progress (top.Answered head) = refl
 
-  next_alike : (stop : Option Stop) (progress : Progress) → next_event (plain_script s) stop e progress ≡ next_event s stop e progress
+  pub next_alike : (stop : Option Stop) (progress : Progress) → next_event (plain_script s) stop e progress ≡ next_event s stop e progress
   next_alike stop progress = λ i.
       if is_dead_end e.state then None else
       (if is_stopped stop e.side progress then Some event.die else

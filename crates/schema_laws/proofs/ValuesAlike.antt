@@ -119,7 +119,7 @@ module _ (s : Schema) where
     actors_of_all shape values.Nothing = refl
     actors_of_all shape (First' _ v _ vs) = λ i. actors_alike shape v i ++ actors_of_all shape vs i
 
-    actors_of_parts : (fields : List ParamRow) (vs : Values) → actors_in_parts (plain_schema s) (map plain_param_row fields) vs ≡ actors_in_parts s fields vs
+    pub actors_of_parts : (fields : List ParamRow) (vs : Values) → actors_in_parts (plain_schema s) (map plain_param_row fields) vs ≡ actors_in_parts s fields vs
     actors_of_parts [] vs = refl
     actors_of_parts (field ∷ fields) values.Nothing = refl
     actors_of_parts (field ∷ fields) (First' _ v _ vs) = λ i. actors_alike field.shape v i ++ actors_of_parts fields vs i

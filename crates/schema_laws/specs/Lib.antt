@@ -1,3 +1,4 @@
 pub mod Frames
 pub mod Waits
 pub mod Runs
+pub mod Feeds

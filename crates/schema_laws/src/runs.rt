@@ -1,3 +1,4 @@
+ghost use Rattle.schema_laws.specs.Feeds.{FeedsAlike};
 ghost use Rattle.schema_laws.specs.Runs.{EventsAlike, PicksAlike, ScriptsAlike, StepsAlike, TextsAlike};
 
 use script_laws::one_answer;
@@ -17,6 +18,12 @@ pub fn events_alike()
 /// The law of alike words: by such settings a word makes the same run, with the same ending.
 pub fn picks_alike()
     ensures { PicksAlike }
+{}
+
+/// The law of alike feeds: one end makes the same of bytes by settings that are the same up to where the
+/// boxes of types and terms lie.
+pub fn feeds_alike()
+    ensures { FeedsAlike }
 {}
 
 /// The law of alike transcripts: under such schemas lines have the same text.

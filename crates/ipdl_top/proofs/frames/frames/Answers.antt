@@ -22,7 +22,7 @@ returns-in-Ok-clause-answer g c =
     let one : words ≡ file ∷ [] = ap (map string_bytes) c.from_ref.ensures.value in
     let P : FileViews → Type 0 = λ seen. IsChecked (given_by seen.files path words) seen.list list checked in
     let Q : FileMap → Type 0 = λ frames. IfOk c.answer_with.result (IsToldOf (SaysFrames name convert (frames name)) checked) in
-    let R : FileViews → Type 0 = λ seen. IfOk c.answer_with.result (IsCompilation (SaysFrames name convert (seen.last name)) (given_by seen.files path (file ∷ [])) seen.list list) in
+    let R : FileViews → Type 0 = λ seen. IfOk c.answer_with.result (IsCompilation (SaysFrames name convert (seen.input name)) (given_by seen.files path (file ∷ [])) seen.list list) in
     for_last (g.F.Files.told c.args.files.now) (g.F.Files.told c.checked.new.files) P Q R c.in-Ok.ensures.told
     (λ seen frames h k. IfOk-weaker c.answer_with.result (IsToldOf (SaysFrames name convert (frames name)) checked)
     (IsCompilation (SaysFrames name convert (frames name)) (given_by seen.files path (file ∷ [])) seen.list list)

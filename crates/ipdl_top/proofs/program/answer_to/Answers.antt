@@ -2,17 +2,19 @@ use Rattle.std.proofs.Common.{List, ℕ, [], ◌∷◌, inl, inr, map, refl, sub
 use Rattle.std.specs.Prelude.{Err, None, string_bytes, IfOk, option_map}
 use Rattle.std.proofs.lemmas.Result.{IfOk-weaker}
 use Rattle.ipdl_top.specs.declared.answer.Failure.TheVariants.{NoMemory}
-use Rattle.command_words.specs.Command.{CommandOf, Say, compile, frames, gen, run, waits}
+use Rattle.command_words.specs.Command.{CommandOf, Say, compile, feed, frames, gen, run, waits}
+use Rattle.command_words.specs.Feed.{FeedCourse}
 use Rattle.command_words.specs.Run.{Course}
 use Rattle.ipdl_top.specs.CommandAnswer.{IsAnswer, IsCompilation, SaysTables, given_by}
 use Rattle.ipdl_top.specs.declared.rendering.Rendering.TheVariants.{Transcript}
+use Rattle.ipdl_top.specs.Feed.{SaysFeed}
 use Rattle.ipdl_top.specs.Frames.{SaysFrames}
 use Rattle.ipdl_top.specs.Gen.{SaysGen, case_files, case_path, holder_name}
 use Rattle.ipdl_top.specs.FileViews.{FileViews, ForMap}
 use Rattle.ipdl_top.specs.Run.{SaysRun}
 use Rattle.ipdl_top.specs.Waits.{SaysWaits}
 use Rattle.ipdl_top.proofs.Maps.{for_all_seen, for_each_seen}
-use Rattle.ipdl_top.proofs.Words.{case_numbers, command_files, no_case, run_limit}
+use Rattle.ipdl_top.proofs.Words.{case_numbers, command_files, feed_limit, no_case, run_limit}
 use Rattle.ipdl_top.proofs.program.answer_to.Goals as goal
 
 pub compile-requires : goal.compile-requires
@@ -59,10 +61,10 @@ returns-in-Ok-Frames-clause-answer g c =
     let name = string_bytes c.in-Ok-Frames.name in
     let convert = c.in-Ok-Frames.convert in
     let said : Say words (frames list path file name convert) = subst (CommandOf words) c.in-Ok-Frames.field-0-is c.in-Ok-Frames.ensures.command in
-    let K : List ℕ → List (List ℕ) → FileViews → Type 0 = λ n p seen. IfOk c.frames.result (IsCompilation (SaysFrames n convert (seen.last n)) (given_by seen.files p (file ∷ [])) seen.list list) in
+    let K : List ℕ → List (List ℕ) → FileViews → Type 0 = λ n p seen. IfOk c.frames.result (IsCompilation (SaysFrames n convert (seen.input n)) (given_by seen.files p (file ∷ [])) seen.list list) in
     let R : FileViews → Type 0 = λ seen. IfOk c.frames.result (IsAnswer Gives seen words) in
     for_each_seen told (K name path) R
-    (λ seen h. IfOk-weaker c.frames.result (IsCompilation (SaysFrames name convert (seen.last name)) (given_by seen.files path (file ∷ [])) seen.list list) (IsAnswer Gives seen words)
+    (λ seen h. IfOk-weaker c.frames.result (IsCompilation (SaysFrames name convert (seen.input name)) (given_by seen.files path (file ∷ [])) seen.list list) (IsAnswer Gives seen words)
     (λ answer k. inl (record { command = frames list path file name convert; said = said; answers = k })) h)
     (subst (λ (n : List ℕ). ForMap told (K n path)) c.as_str.ensures.value
     (subst (λ p. ForMap told (K c.as_str.result.now (map string_bytes p))) c.as_slice-in-Ok-Frames.ensures.value c.frames.ensures.answer))
@@ -104,10 +106,10 @@ returns-in-Ok-Run-clause-answer g c =
     let script = string_bytes c.in-Ok-Run.script in
     let course : Course = record { schedule = option_map (λ turns. turns.items) c.in-Ok-Run.schedule; limit = c.in-Ok-Run.limit; death = c.in-Ok-Run.death } in
     let said : Say words (run list path course script file) = subst (CommandOf words) c.in-Ok-Run.field-0-is c.in-Ok-Run.ensures.command in
-    let K : List ℕ → List (List ℕ) → FileViews → Type 0 = λ n p seen. IfOk c.run.result (IsCompilation (SaysRun Gives Transcript course n (seen.last n) file) (given_by seen.files p (file ∷ [])) seen.list list) in
+    let K : List ℕ → List (List ℕ) → FileViews → Type 0 = λ n p seen. IfOk c.run.result (IsCompilation (SaysRun Gives Transcript course n (seen.script n) file) (given_by seen.files p (file ∷ [])) seen.list list) in
     let R : FileViews → Type 0 = λ seen. IfOk c.run.result (IsAnswer Gives seen words) in
     for_each_seen told (K script path) R
-    (λ seen h. IfOk-weaker c.run.result (IsCompilation (SaysRun Gives Transcript course script (seen.last script) file) (given_by seen.files path (file ∷ [])) seen.list list) (IsAnswer Gives seen words)
+    (λ seen h. IfOk-weaker c.run.result (IsCompilation (SaysRun Gives Transcript course script (seen.script script) file) (given_by seen.files path (file ∷ [])) seen.list list) (IsAnswer Gives seen words)
     (λ answer k. inl (record { command = run list path course script file; said = said; answers = k })) h)
     (subst (λ (n : List ℕ). ForMap told (K n path)) c.as_str-in-Ok-Run.ensures.value
     (subst (λ p. ForMap told (K c.as_str-in-Ok-Run.result.now (map string_bytes p))) c.as_slice-in-Ok-Run.ensures.value c.run.ensures.answer))
@@ -175,3 +177,41 @@ returns-in-Ok-Run-clause-unread g c =
     let course : Course = record { schedule = option_map (λ turns. turns.items) c.in-Ok-Run.schedule; limit = c.in-Ok-Run.limit; death = c.in-Ok-Run.death } in
     λ rounds actors is.
     absurd (no_case c.one_command.ensures words (run list path course script file) (subst (CommandOf words) c.in-Ok-Run.field-0-is c.in-Ok-Run.ensures.command) refl rounds actors is)
+
+pub feed-requires-clause-limit : goal.feed-requires-clause-limit
+feed-requires-clause-limit g c =
+    let words = map string_bytes c.args.words.now in
+    let list = option_map string_bytes c.in-Ok-Feed.list in
+    let path = map string_bytes c.in-Ok-Feed.path.items in
+    let course : FeedCourse = record { side = c.in-Ok-Feed.side; limit = c.in-Ok-Feed.limit } in
+    feed_limit words list path course (string_bytes c.in-Ok-Feed.script) (string_bytes c.in-Ok-Feed.file) (string_bytes c.in-Ok-Feed.name) (subst (CommandOf words) c.in-Ok-Feed.field-0-is c.in-Ok-Feed.ensures.command)
+
+pub returns-in-Ok-Feed-clause-answer : goal.returns-in-Ok-Feed-clause-answer
+returns-in-Ok-Feed-clause-answer g c =
+    let words = map string_bytes c.args.words.now in
+    let Gives = g.D.Driver.Gives c.args.driver.now in
+    let told = g.F.Files.told c.args.files.now in
+    let list = option_map string_bytes c.in-Ok-Feed.list in
+    let path = map string_bytes c.in-Ok-Feed.path.items in
+    let file = string_bytes c.in-Ok-Feed.file in
+    let script = string_bytes c.in-Ok-Feed.script in
+    let name = string_bytes c.in-Ok-Feed.name in
+    let course : FeedCourse = record { side = c.in-Ok-Feed.side; limit = c.in-Ok-Feed.limit } in
+    let said : Say words (feed list path course script file name) = subst (CommandOf words) c.in-Ok-Feed.field-0-is c.in-Ok-Feed.ensures.command in
+    let K : List ℕ → List ℕ → List (List ℕ) → FileViews → Type 0 = λ s n p seen. IfOk c.feed.result (IsCompilation (SaysFeed course s (seen.script s) n (seen.input n) file) (given_by seen.files p (file ∷ [])) seen.list list) in
+    let R : FileViews → Type 0 = λ seen. IfOk c.feed.result (IsAnswer Gives seen words) in
+    for_each_seen told (K script name path) R
+    (λ seen h. IfOk-weaker c.feed.result (IsCompilation (SaysFeed course script (seen.script script) name (seen.input name) file) (given_by seen.files path (file ∷ [])) seen.list list) (IsAnswer Gives seen words)
+    (λ answer k. inl (record { command = feed list path course script file name; said = said; answers = k })) h)
+    (subst (λ (s : List ℕ). ForMap told (K s name path)) c.as_str-in-Ok-Feed.ensures.value
+    (subst (λ (n : List ℕ). ForMap told (K c.as_str-in-Ok-Feed.result.now n path)) c.as_str-in-Ok-Feed-2.ensures.value
+    (subst (λ p. ForMap told (K c.as_str-in-Ok-Feed.result.now c.as_str-in-Ok-Feed-2.result.now (map string_bytes p))) c.as_slice-in-Ok-Feed.ensures.value c.feed.ensures.answer)))
+
+pub returns-in-Ok-Feed-clause-unread : goal.returns-in-Ok-Feed-clause-unread
+returns-in-Ok-Feed-clause-unread g c =
+    let words = map string_bytes c.args.words.now in
+    let list = option_map string_bytes c.in-Ok-Feed.list in
+    let path = map string_bytes c.in-Ok-Feed.path.items in
+    let course : FeedCourse = record { side = c.in-Ok-Feed.side; limit = c.in-Ok-Feed.limit } in
+    λ rounds actors is.
+    absurd (no_case c.one_command.ensures words (feed list path course (string_bytes c.in-Ok-Feed.script) (string_bytes c.in-Ok-Feed.file) (string_bytes c.in-Ok-Feed.name)) (subst (CommandOf words) c.in-Ok-Feed.field-0-is c.in-Ok-Feed.ensures.command) refl rounds actors is)

@@ -38,7 +38,7 @@ returns-in-Ok-clause-answer g c =
     let one : words ≡ file ∷ [] = ap (map string_bytes) c.from_ref.ensures.value in
     let P : FileViews → Type 0 = λ seen. IsChecked (given_by seen.files path words) seen.list list checked in
     let Q : List ℕ → FileMap → Type 0 = λ top map. IfOk c.answer_with.result (IsToldOf (SaysRun Gives c.args.wanted.now.rendering course name (map name) top) checked) in
-    let R : FileViews → Type 0 = λ seen. IfOk c.answer_with.result (IsCompilation (SaysRun Gives c.args.wanted.now.rendering course name (seen.last name) file) (given_by seen.files path (file ∷ [])) seen.list list) in
+    let R : FileViews → Type 0 = λ seen. IfOk c.answer_with.result (IsCompilation (SaysRun Gives c.args.wanted.now.rendering course name (seen.script name) file) (given_by seen.files path (file ∷ [])) seen.list list) in
     for_last (g.F.Files.told c.args.files.now) (g.F.Files.told c.checked.new.files) P (Q file) R c.in-Ok.ensures.told
     (λ seen last h k. IfOk-weaker c.answer_with.result (IsToldOf (SaysRun Gives c.args.wanted.now.rendering course name (last name) file) checked)
     (IsCompilation (SaysRun Gives c.args.wanted.now.rendering course name (last name) file) (given_by seen.files path (file ∷ [])) seen.list list)

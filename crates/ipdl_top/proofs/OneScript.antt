@@ -1,0 +1,38 @@
+-- A script has one answer where the command says one thing of it.
+use Rattle.std.proofs.Common.{◌≡◌, ◌∙◌, ℕ, List, sym, ap, subst, arith, inl, inr}
+use Rattle.std.specs.Prelude.{Option, None, Some}
+use Rattle.ipdl_base.specs.declared.schema.Schema.{Schema}
+use Rattle.handler_script.specs.declared.script.Script.{Script}
+use Rattle.handler_script.specs.Plain.{plain_script}
+use Rattle.schema_laws.specs.Frames.{AreSchemasAlike}
+use Rattle.schema_laws.specs.Runs.{ScriptsAlike}
+use Rattle.ipdl_top.specs.declared.answer.CommandAnswer.{CommandAnswer}
+use Rattle.ipdl_top.specs.Scripts.{SaysByScript, SaysOfHeld, SaysOfText, bad_script_answer}
+use Rattle.ipdl_top.proofs.OneTop.{one_top}
+
+-- one thing is said of scripts that are the same up to boxes, under schemas that are so
+abbrev pub SaysOneOfScripts : (Schema → Script → CommandAnswer → Type 0) → Type 0
+SaysOneOfScripts Says =
+    (a b : Schema) → AreSchemasAlike a b → (s t : Script) → plain_script s ≡ plain_script t → (one other : CommandAnswer) → Says a s one → Says b t other → one ≡ other
+
+text_one : ScriptsAlike → (Says : Schema → Script → CommandAnswer → Type 0) → SaysOneOfScripts Says → (name text : List ℕ) (a b : Schema) → AreSchemasAlike a b → (top : ℕ) (one other : CommandAnswer)
+    → SaysOfText (Says a) name text a top one → SaysOfText (Says b) name text b top other → one ≡ other
+text_one scripts Says unique name text a b alike top one other (inl x) (inl y) = x.says ∙ ap (bad_script_answer name) (scripts.report a b alike text top x.findings y.findings x.report y.report) ∙ sym y.says
+text_one scripts Says unique name text a b alike top one other (inl x) (inr y) = absurd (scripts.either b a (sym alike) text top y.script x.findings y.script_of (x.report, x.some))
+text_one scripts Says unique name text a b alike top one other (inr x) (inl y) = absurd (scripts.either a b alike text top x.script y.findings x.script_of (y.report, y.some))
+text_one scripts Says unique name text a b alike top one other (inr x) (inr y) =
+    unique a b alike x.script y.script (scripts.script a b alike text top x.script y.script x.script_of y.script_of) one other x.says y.says
+
+held_one : ScriptsAlike → (Says : Schema → Script → CommandAnswer → Type 0) → SaysOneOfScripts Says → (name : List ℕ) (held : Option (List ℕ)) (a b : Schema) → AreSchemasAlike a b → (top : ℕ) (one other : CommandAnswer)
+    → SaysOfHeld (Says a) name held a top one → SaysOfHeld (Says b) name held b top other → one ≡ other
+held_one scripts Says unique name None a b alike top one other x y = x ∙ sym y
+held_one scripts Says unique name (Some text) a b alike top one other (inl x) (inl y) = x.1 ∙ sym y.1
+held_one scripts Says unique name (Some text) a b alike top one other (inl x) (inr y) = absurd (omega (arith, x.0, y.0))
+held_one scripts Says unique name (Some text) a b alike top one other (inr x) (inl y) = absurd (omega (arith, x.0, y.0))
+held_one scripts Says unique name (Some text) a b alike top one other (inr x) (inr y) = text_one scripts Says unique name text a b alike top one other x.1 y.1
+
+pub script_one : ScriptsAlike → (Says : Schema → Script → CommandAnswer → Type 0) → SaysOneOfScripts Says → (name : List ℕ) (held : Option (List ℕ)) (file : List ℕ) (a b : Schema) → AreSchemasAlike a b → (one other : CommandAnswer)
+    → SaysByScript (Says a) name held file a one → SaysByScript (Says b) name held file b other → one ≡ other
+script_one scripts Says unique name held file a b alike one other x y =
+    let top : x.top ≡ y.top = one_top file a b alike x.top y.top x.is_top y.is_top in
+    held_one scripts Says unique name held a b alike y.top one other (subst (λ (top : ℕ). SaysOfHeld (Says a) name held a top one) top x.says) y.says

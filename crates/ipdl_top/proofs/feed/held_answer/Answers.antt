@@ -1,0 +1,19 @@
+use Rattle.std.proofs.Common.{subst}
+use Rattle.std.proofs.lemmas.Result.{IfOk-weaker}
+use Rattle.ipdl_top.specs.Feed.{SaysFedOf}
+use Rattle.ipdl_top.specs.FeedSteps.{feed_course}
+use Rattle.ipdl_top.specs.ScriptSteps.{IsScriptChecked}
+use Rattle.ipdl_top.proofs.Scripted.{of_broken, of_valid}
+use Rattle.ipdl_top.proofs.feed.held_answer.Goals as goal
+
+pub returns-in-Broken : goal.returns-in-Broken
+returns-in-Broken c = λ script bytes held.
+    of_broken (SaysFedOf (feed_course c.args.wanted.now) c.args.wanted.now.frames.now bytes c.args.schema.now) c.args.wanted.now.script.now script c.args.file.now c.args.schema.now c.in-Broken.answer
+    (subst (IsScriptChecked c.args.wanted.now.script.now script c.args.file.now c.args.schema.now) c.in-Broken.is (c.in_ok-answer.ensures.found script held.script_is))
+
+pub returns-in-Valid : goal.returns-in-Valid
+returns-in-Valid c =
+    IfOk-weaker c.frames_answer.result _ _
+    (λ answer says script bytes held.
+    of_valid (SaysFedOf (feed_course c.args.wanted.now) c.args.wanted.now.frames.now bytes c.args.schema.now) c.args.wanted.now.script.now script c.args.file.now c.args.schema.now c.in-Valid.script answer
+    (subst (IsScriptChecked c.args.wanted.now.script.now script c.args.file.now c.args.schema.now) c.in-Valid.is (c.in_ok-answer.ensures.found script held.script_is)) (says bytes held.frames_is)) c.frames_answer.ensures

@@ -1,0 +1,50 @@
+-- What a command that goes by a script says of the script, before it does what is its own.
+use Rattle.std.specs.Prelude.{◌≡◌, ◌≢◌, ℕ, ◌≤◌, ◌<◌, ◌⊎◌, List, [], ◌∷◌, length, Option, Some, None}
+use Rattle.ipdl_base.specs.declared.finding.Finding.{Finding}
+use Rattle.ipdl_base.specs.declared.finding.TheConstants.Rule as rule
+use Rattle.ipdl_base.specs.declared.schema.Schema.{Schema}
+use Rattle.handler_script.specs.declared.script.Script.{Script}
+use Rattle.handler_script.specs.Broken.{IsReport}
+use Rattle.handler_script.specs.ScriptOf.{IsScriptOf}
+use Rattle.include_graph.specs.Rules.{whole_file}
+use Rattle.ipdl_top.specs.declared.answer.CommandAnswer.{CommandAnswer}
+use Rattle.ipdl_top.specs.declared.status.Status.TheVariants.{BadScript}
+use Rattle.ipdl_top.specs.Lists.{finding_at}
+use Rattle.ipdl_top.specs.Report.{report_text}
+use Rattle.ipdl_top.specs.Waits.{IsTop}
+
+-- the answer that a script of this name breaks rules
+abbrev pub bad_script_answer : List ℕ → List Finding → CommandAnswer
+bad_script_answer name findings = record { status = BadScript; out = []; err = report_text (name ∷ []) findings }
+
+-- the answer for a script that is not there, or has too many bytes
+abbrev pub unreadable_answer : List ℕ → CommandAnswer
+unreadable_answer name = bad_script_answer name (finding_at rule.UNREADABLE_SCRIPT (whole_file 0) ∷ [])
+
+-- The answer lists the rules that the text of a script breaks.
+pub record SaysBroken (name text : List ℕ) (schema : Schema) (top : ℕ) (answer : CommandAnswer) : Type 0 where
+  pub findings : List Finding
+  pub report : IsReport text schema top findings
+  pub some : findings ≢ []
+  pub says : answer ≡ bad_script_answer name findings
+
+-- The text of a script breaks none, and the answer is what the command says of the script.
+pub record SaysOfScript (Says : Script → CommandAnswer → Type 0) (text : List ℕ) (schema : Schema) (top : ℕ) (answer : CommandAnswer) : Type 0 where
+  pub script : Script
+  pub script_of : IsScriptOf text schema top script
+  pub says : Says script answer
+
+abbrev pub SaysOfText : (Script → CommandAnswer → Type 0) → List ℕ → List ℕ → Schema → ℕ → CommandAnswer → Type 0
+SaysOfText Says name text schema top answer = SaysBroken name text schema top answer ⊎ SaysOfScript Says text schema top answer
+
+-- the same for a script of this name, of which this is held
+abbrev pub SaysOfHeld : (Script → CommandAnswer → Type 0) → List ℕ → Option (List ℕ) → Schema → ℕ → CommandAnswer → Type 0
+SaysOfHeld Says name None schema top answer = answer ≡ unreadable_answer name
+SaysOfHeld Says name (Some text) schema top answer =
+    ((1048576 < length text) × (answer ≡ unreadable_answer name)) ⊎ ((length text ≤ 1048576) × SaysOfText Says name text schema top answer)
+
+-- The answer is that for a script of this name, of which this is held, where the protocol of the file is the top.
+pub record SaysByScript (Says : Script → CommandAnswer → Type 0) (name : List ℕ) (held : Option (List ℕ)) (file : List ℕ) (schema : Schema) (answer : CommandAnswer) : Type 0 where
+  pub top : ℕ
+  pub is_top : IsTop file schema top
+  pub says : SaysOfHeld Says name held schema top answer

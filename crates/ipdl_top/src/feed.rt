@@ -1,0 +1,309 @@
+ghost use Rattle.std.specs.Prelude.{◌≡◌, ◌≤◌, ◌∷◌, ◌++◌, [], ℕ, IfOk, List, Option, codes, map, option_map, string_bytes};
+ghost use Rattle.std.specs.Fmt.{decimal};
+ghost use Rattle.end_parts.specs.PlainLines.{plain_line};
+ghost use Rattle.history.specs.Text.{numbered};
+ghost use Rattle.handler_script.specs.Valid.{IsValid};
+ghost use Rattle.include_graph.specs.Keys.{AreFileWords};
+ghost use Rattle.ipdl_base.specs.Outside.{Rose};
+ghost use Rattle.ipdl_base.specs.Sound.{IsSound};
+ghost use Rattle.value_codec.specs.Laws.{AreBytes};
+ghost use Rattle.world_core.specs.Worlds.{most_events};
+ghost use Rattle.ipdl_top.specs.CommandAnswer.{IsCompilation, given_by};
+ghost use Rattle.ipdl_top.specs.Feed as told;
+ghost use Rattle.ipdl_top.specs.Feed.{SaysFed, SaysFedOf, SaysFeed, feed_answer, feed_ending, feed_status, kept_text};
+ghost use Rattle.ipdl_top.specs.FeedSteps.{AreHeld, AreSmall, feed_course};
+ghost use Rattle.ipdl_top.specs.FileViews.{ForMap};
+ghost use Rattle.ipdl_top.specs.Run as run;
+ghost use Rattle.ipdl_top.specs.Steps.{HasTop, IsHeld, IsSmall, IsSoundChecked, IsToldOf};
+ghost use Rattle.ipdl_top.specs.Waits.{IsTop};
+
+use crate::answer::{CommandAnswer, Failure};
+use crate::checked::CheckResult;
+use crate::compile::{checked, leave};
+use crate::frames::unread_answer;
+use crate::held::{HeldFile, read_held};
+use crate::run::spent_line;
+use crate::scripts::{ScriptCheck, script_checked};
+use crate::status::Status;
+use feed_laws::feeds_obey_alone;
+use frame_list::{FrameListFault, fault_text};
+use handler_script::Script;
+use history::push_numbered;
+use ipdl_base::{Files, Items, Rule, Schema, Side};
+use law_statements::{decides_fallen, decides_readable, laws_want_readable_lines};
+use std::alloc::{AllocError, Global};
+use std::slice::from_ref;
+use world_core::{Fed, FeedFault, feed as feed_end};
+
+/// One end to run on a file of bytes.
+#[derive(Drop)]
+pub struct FeedRequest<'w> {
+    /// The name of the script.
+    pub script: &'w str,
+    /// The name of the file of frames.
+    pub frames: &'w str,
+    /// The side of the end.
+    pub side: Side,
+    /// The most events of the end.
+    pub limit: u32,
+}
+
+/// The files that a feed goes by, beside those of its program.
+#[derive(Drop)]
+struct FeedFiles {
+    script: HeldFile,
+    frames: HeldFile,
+}
+
+/// The line of a fault: the name of the file, the place, and a word with a number.
+fn numbered_line(
+    alloc: Global,
+    name: &str,
+    at: usize,
+    word: &[u8],
+    number: i32,
+) -> Result<Vec<u8>, AllocError>
+    ensures { IfOk result (λ line. line.items ≡ name.now ++ codes ":" ++ decimal at ++ numbered word.now number ++ codes "\n") }
+{
+    let place = format!(in alloc; ":{at}")?;
+    let mut line = Vec::from_slice(alloc, name.as_bytes())?;
+    line.extend_from_slice(place.as_bytes())?;
+    push_numbered(&mut line, word, number)?;
+    line.extend_from_slice(b"\n")?;
+    Ok(line)
+}
+
+/// The line that says that the frame at a place speaks of an actor which lives with another protocol.
+fn wrong_actor_line(alloc: Global, name: &str, at: usize, id: i32) -> Result<Vec<u8>, AllocError>
+    ensures { IfOk result (λ line. line.items ≡ told.kept_line name.now (FeedFault.WrongActor at id)) }
+{
+    numbered_line(alloc, name, at, b": wrong actor ", id)
+}
+
+/// The line that says why the bytes that were left of a file of this name were not read.
+fn kept_line(alloc: Global, name: &str, fault: FeedFault) -> Result<Vec<u8>, AllocError>
+    ensures { IfOk result (λ line. line.items ≡ told.kept_line name.now fault) }
+{
+    match fault {
+        FeedFault::Short(at, missing) => {
+            fault_text(alloc, name.as_bytes(), &FrameListFault::Short(at, missing))
+        }
+        FeedFault::Bad(at, number) => {
+            let rule = Rule {
+                letter: b'F',
+                number,
+            };
+            fault_text(alloc, name.as_bytes(), &FrameListFault::Broken(at, rule))
+        }
+        FeedFault::Stray(at, number) => numbered_line(alloc, name, at, b": stray ", number),
+        FeedFault::WrongActor(at, id) => wrong_actor_line(alloc, name, at, id),
+    }
+}
+
+/// The line of the fault that is kept of a file of this name, where one is.
+fn kept_lines(alloc: Global, name: &str, fault: Option<FeedFault>) -> Result<Vec<u8>, AllocError>
+    ensures { IfOk result (λ text. text.items ≡ kept_text name.now fault) }
+{
+    match fault {
+        Some(fault) => kept_line(alloc, name, fault),
+        None => Ok(Vec::new(alloc)),
+    }
+}
+
+/// How the command ends.
+fn status_of(spent: bool, fault: Option<FeedFault>) -> Status
+    ensures { result ≡ feed_status spent fault }
+{
+    if spent {
+        return Status::Spent;
+    }
+    match fault {
+        Some(_) => Status::BadFrames,
+        None => Status::Done,
+    }
+}
+
+/// The last line, which says how the feed ended.
+fn last_line(side: Side, spent: bool) -> &'static [u8]
+    ensures { result.now ≡ run.ending_line (feed_ending side spent) }
+{
+    if spent {
+        spent_line(side)
+    } else {
+        b"finished\n"
+    }
+}
+
+/// The answer by what the end made of the bytes of a file of this name.
+fn fed_answer(
+    alloc: Global,
+    schema: &Schema,
+    name: &str,
+    side: Side,
+    fed: &Fed,
+) -> Result<CommandAnswer, AllocError>
+    requires { IsSound schema.now }
+    ensures { IfOk result (λ answer. answer ≡ feed_answer schema.now name.now side (map plain_line fed.now.history.lines) fed.now.fault fed.now.spent) }
+{
+    let mut out = fed.transcript(alloc, schema)?;
+    out.extend_from_slice(last_line(side, fed.spent))?;
+    let err = kept_lines(alloc, name, fed.fault)?;
+    Ok(CommandAnswer {
+        status: status_of(fed.spent, fed.fault),
+        out: Items::from_vec(out),
+        err: Items::from_vec(err),
+    })
+}
+
+/// Each byte is below 256.
+fn are_bytes(bytes: &[u8])
+    ensures { AreBytes bytes.now }
+{
+    let _length = bytes.len();
+}
+
+/// The answer by the bytes of the file of frames.
+fn bytes_answer(
+    alloc: Global,
+    schema: &Schema,
+    script: &Script,
+    wanted: &FeedRequest<'_>,
+    bytes: &[u8],
+) -> Result<CommandAnswer, AllocError>
+    requires sound { IsSound schema.now }
+    requires valid { IsValid schema.now script.now }
+    requires limit { wanted.now.limit ≤ most_events }
+    ensures { IfOk result (SaysFed (feed_course wanted.now) wanted.now.frames.now bytes.now schema.now script.now) }
+{
+    feeds_obey_alone();
+    decides_readable();
+    decides_fallen();
+    laws_want_readable_lines();
+    are_bytes(bytes);
+    let fed = feed_end(alloc, schema, script, wanted.side, wanted.limit, bytes)?;
+    fed_answer(alloc, schema, wanted.frames, wanted.side, &fed)
+}
+
+/// The answer by what was found of the file of frames.
+fn frames_answer(
+    alloc: Global,
+    schema: &Schema,
+    script: &Script,
+    wanted: &FeedRequest<'_>,
+    frames: &HeldFile,
+) -> Result<CommandAnswer, AllocError>
+    requires sound { IsSound schema.now }
+    requires valid { IsValid schema.now script.now }
+    requires limit { wanted.now.limit ≤ most_events }
+    ensures { IfOk result (λ answer. (bytes : Option (List ℕ)) → IsHeld bytes frames.now → SaysFedOf (feed_course wanted.now) wanted.now.frames.now bytes schema.now script.now answer) }
+{
+    match frames {
+        HeldFile::Absent => unread_answer(alloc, wanted.frames, ":0: absent\n"),
+        HeldFile::Larger => unread_answer(alloc, wanted.frames, ":0: larger\n"),
+        HeldFile::Bytes(bytes) => bytes_answer(alloc, schema, script, wanted, bytes.as_slice()),
+    }
+}
+
+/// The answer by what was found of the script and of the file of frames, under the schema of a file's program.
+fn held_answer(
+    alloc: Global,
+    schema: &Schema,
+    file: &str,
+    wanted: &FeedRequest<'_>,
+    held: &FeedFiles,
+) -> Result<CommandAnswer, AllocError>
+    requires small { AreSmall held.now }
+    requires sound { IsSound schema.now }
+    requires top { (top : ℕ) × IsTop file.now schema.now top }
+    requires limit { wanted.now.limit ≤ most_events }
+    ensures { IfOk result (λ answer. (script bytes : Option (List ℕ)) → AreHeld script bytes held.now → SaysFeed (feed_course wanted.now) wanted.now.script.now script wanted.now.frames.now bytes file.now schema.now answer) }
+{
+    match script_checked(alloc, schema, file, wanted.script, &held.script)? {
+        ScriptCheck::Broken(answer) => Ok(answer),
+        ScriptCheck::Valid(script) => {
+            frames_answer(alloc, schema, &script, wanted, &held.frames)
+        }
+    }
+}
+
+/// The answer by what was found of the files of a command, of the script and of the file of frames.
+fn checked_answer(
+    alloc: Global,
+    checked: CheckResult,
+    file: &str,
+    wanted: &FeedRequest<'_>,
+    held: &FeedFiles,
+) -> Result<CommandAnswer, AllocError>
+    requires small { AreSmall held.now }
+    requires sound { IsSoundChecked checked }
+    requires top { HasTop file.now checked }
+    requires limit { wanted.now.limit ≤ most_events }
+    ensures { IfOk result (λ answer. (script bytes : Option (List ℕ)) → AreHeld script bytes held.now → IsToldOf (SaysFeed (feed_course wanted.now) wanted.now.script.now script wanted.now.frames.now bytes file.now) checked answer) }
+{
+    match checked {
+        CheckResult::Report(report) => Ok(report),
+        CheckResult::Clean(schema) => {
+            let answer = held_answer(alloc, &schema, file, wanted, held);
+            leave(schema);
+            answer
+        }
+    }
+}
+
+/// Reads the script, and then the file of frames.
+fn read_files<F: Files>(
+    alloc: Global,
+    files: &mut F,
+    wanted: &FeedRequest<'_>,
+) -> Result<FeedFiles, Failure>
+    ensures held { ForMap (F.told files.old) (λ seen. IfOk result (AreHeld (seen.script wanted.now.script.now) (seen.input wanted.now.frames.now))) }
+    ensures small { IfOk result AreSmall }
+    ensures read_fault { result ≡ Err Failure.ReadFault → Rose (F.faults files.old) (F.faults files.new) }
+{
+    let script = read_held(alloc, files, wanted.script)?;
+    let frames = read_held(alloc, files, wanted.frames)?;
+    Ok(FeedFiles { script, frames })
+}
+
+/// Reads the script and the file of frames, and answers by what was found of the files of a command.
+fn answer_with<F: Files>(
+    alloc: Global,
+    files: &mut F,
+    checked: CheckResult,
+    file: &str,
+    wanted: &FeedRequest<'_>,
+) -> Result<CommandAnswer, Failure>
+    requires sound { IsSoundChecked checked }
+    requires top { HasTop file.now checked }
+    requires limit { wanted.now.limit ≤ most_events }
+    ensures answer { ForMap (F.told files.old) (λ seen. IfOk result
+        (IsToldOf (SaysFeed (feed_course wanted.now) wanted.now.script.now (seen.script wanted.now.script.now) wanted.now.frames.now (seen.input wanted.now.frames.now) file.now) checked)) }
+    ensures read_fault { result ≡ Err Failure.ReadFault → Rose (F.faults files.old) (F.faults files.new) }
+{
+    let held = read_files(alloc, files, wanted)?;
+    Ok(checked_answer(alloc, checked, file, wanted, &held)?)
+}
+
+/// The command that runs one end on a file of bytes: the report on the file and on what it includes by
+/// the path, with this sync list; or the rules that the script breaks; or that there is no file of
+/// frames to read; or the lines of the end, how they ended, and the fault that is kept.
+pub fn feed<F: Files>(
+    alloc: Global,
+    files: &mut F,
+    list: &Option<String>,
+    path: &[String],
+    file: &String,
+    wanted: &FeedRequest<'_>,
+) -> Result<CommandAnswer, Failure>
+    requires words { AreFileWords (string_bytes file.now ∷ []) }
+    requires ending { (front : List ℕ) × (string_bytes file.now ≡ front ++ codes ".ipdl") }
+    requires limit { wanted.now.limit ≤ most_events }
+    ensures answer { ForMap (F.told files.old) (λ seen. IfOk result
+        (IsCompilation (SaysFeed (feed_course wanted.now) wanted.now.script.now (seen.script wanted.now.script.now) wanted.now.frames.now (seen.input wanted.now.frames.now) (string_bytes file.now)) (given_by seen.files (map string_bytes path.now) (string_bytes file.now ∷ [])) seen.list (option_map string_bytes list.now))) }
+    ensures read_fault { result ≡ Err Failure.ReadFault → Rose (F.faults files.old) (F.faults files.new) }
+{
+    match checked(alloc, files, list, path, from_ref(file)) {
+        Ok(checked) => answer_with(alloc, files, checked, file.as_str(), wanted),
+        Err(failure) => Err(failure),
+    }
+}
