@@ -48,10 +48,6 @@ seen-grows side seen all h = (h.rest, sym h.front)
 pub met-grows : (side : Side) (seen found left now_seen : List Line) → HasSeen side seen found → Adds side found left → now_seen ≡ left → GrowsTo seen now_seen
 met-grows side seen found left now_seen front adds told = grows-on seen found now_seen (seen-grows side seen found front) (adds.more, told ∙ adds.behind)
 
--- a history that goes on from another goes on from its front
-pub grows-front : (side : Side) (first seen seen' all : List Line) → seen ≡ first → GrowsTo seen seen' → HasSeen side seen' all → GrowsTo first all
-grows-front side first seen seen' all e grows front = subst (λ (ls : List Line). GrowsTo ls all) e (grows-on seen seen' all grows (seen-grows side seen' all front))
-
 -- Few lines
 
 both-sides : (lines : List Line) → length lines ≡ length (lines_of sides.Parent lines) + length (lines_of sides.Child lines)

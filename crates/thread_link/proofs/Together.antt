@@ -22,9 +22,6 @@ use Rattle.world_core.specs.WorldView.{WorldView}
 
 -- Work
 
-pub work-begins : (exchange : Exchange) (pass : Pass) (half : HalfView) → MayWork exchange pass half → IsAtWork exchange pass pass half
-work-begins exchange pass half may = record { side = refl; may = may; grows = grows-all (seen pass) }
-
 pub works-on : (exchange : Exchange) (first before after : Pass) (half half' : HalfView) → IsAtWork exchange first before half → IsAtWork exchange before after half' → IsAtWork exchange first after half'
 works-on exchange first before after half half' a b = record { side = b.side ∙ a.side; may = b.may; grows = grows-on (seen first) (seen before) (seen after) a.grows b.grows }
 
@@ -37,32 +34,6 @@ stands-at exchange pass half may = subst (λ (s : Setting). FitsBehind s pass.si
 
 pub may-go-on : (exchange : Exchange) (pass : Pass) (half : HalfView) → Belongs exchange pass → FitsBehind pass.seat.me.0.setting pass.side (seen pass) half → MayWork exchange pass half
 may-go-on exchange pass half belongs fits = record { belongs = belongs; fits = subst (λ (s : Setting). FitsBehind s pass.side (seen pass) half) belongs.setting fits }
-
-pub may-work : (exchange : Exchange) (pass : Pass) (half : HalfView) (setting : Setting) (side : Side) (lines : List Line) → Belongs exchange pass → about exchange ≡ setting → pass.side ≡ side → seen pass ≡ lines → FitsBehind setting side lines half
-    → MayWork exchange pass half
-may-work exchange pass half setting side lines belongs topic is told fits = record {
-  belongs = belongs;
-  fits = subst (λ (s : Setting). FitsBehind s pass.side (seen pass) half) (sym topic) (subst (λ (d : Side). FitsBehind setting d (seen pass) half) (sym is) (subst (λ (ls : List Line). FitsBehind setting side ls half) (sym told) fits));
-}
-
--- a half that has worked fits behind the link
-worked-fits : HalvesFitBehindMore → (exchange : Exchange) (first pass : Pass) (half : HalfView) (setting : Setting) (side : Side) (link : LinkView) → HasWorked exchange first pass half → about exchange ≡ setting → first.side ≡ side → HasSeen side (seen pass) link.lines
-    → IsHome setting link → FitsBehind setting side link.lines half
-worked-fits law exchange first pass half setting side link worked topic is front home =
-    fits-on law setting side (seen pass) link half
-    (subst (λ (s : Setting). FitsBehind s side (seen pass) half) topic (subst (λ (d : Side). FitsBehind (about exchange) d (seen pass) half) (worked.at_work.side ∙ is) worked.at_work.may.fits)) front home
-
-pub worked-split : HalvesFitBehindMore → (exchange : Exchange) (one one' two two' : Pass) (parent child : HalfView) (setting : Setting) (link : LinkView) → HasWorked exchange one one' parent → HasWorked exchange two two' child → about exchange ≡ setting → one.side ≡ sides.Parent → two.side ≡ sides.Child
-    → HasSeen sides.Parent (seen one') link.lines → HasSeen sides.Child (seen two') link.lines → IsHome (about exchange) link → IsSplit setting parent child link
-worked-split law exchange one one' two two' parent child setting link first second topic is is' front front' home =
-    let there : IsHome setting link = subst (λ (s : Setting). IsHome s link) topic home in
-    record {
-      home = there;
-      parent_fits = worked-fits law exchange one one' parent setting sides.Parent link first topic is front there;
-      parent_emptied = first.emptied;
-      child_fits = worked-fits law exchange two two' child setting sides.Child link second topic is' front' there;
-      child_emptied = second.emptied;
-    }
 
 -- The world behind the work
 

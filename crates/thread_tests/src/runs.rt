@@ -101,8 +101,8 @@ fn five_hundred_calls_a_side(rt: HostRuntime) -> Result<(), Fail> {
     let schema = schema_of(rt.alloc(), PROTOCOL)?;
     let text = calls(rt.alloc(), 500)?;
     let script = script_of(rt.alloc(), &schema, text.as_str())?;
-    let good = long_runs(&rt, &schema, &script, 5, 500)?;
-    assert_eq!(rt; good, 5);
+    let good = long_runs(&rt, &schema, &script, 200, 500)?;
+    assert_eq!(rt; good, 200);
     Ok(())
 }
 
