@@ -3,8 +3,8 @@ use Rattle.std.specs.Prelude.{◌≡◌, ℕ, ◌⊎◌, List, [], ◌∷◌, �
 use Rattle.channel_model.specs.Runs.{RunState}
 use Rattle.script_steps.specs.Choices.{Setting, Choice, beginning_of, chosen, played}
 use Rattle.script_steps.specs.Turns.{RunEnding}
-use Rattle.script_transcripts.specs.Legal.{EndsAs, ending_line}
-use Rattle.script_transcripts.specs.Told.{choice_told}
+use Rattle.script_runs.specs.Endings.{EndsAs, ending_line}
+use Rattle.script_runs.specs.Told.{choice_told}
 use Rattle.transcript_laws.specs.Printed.{line_texts}
 use Rattle.transcript_laws.specs.Told.{is_effect_text}
 

@@ -11,8 +11,8 @@ use Rattle.channel_model.specs.Outputs.{line_at}
 use Rattle.history.specs.Messages.{message_of_number}
 use Rattle.history.specs.Text.{line_saying, returns_named}
 use Rattle.script_steps.specs.Choices.{choice_of}
-use Rattle.script_transcripts.specs.Laws.{LineTextsTellChoices}
-use Rattle.script_transcripts.specs.Told.{choice_told}
+use Rattle.script_runs.specs.Laws.{LineTextsTellChoices}
+use Rattle.script_runs.specs.Told.{choice_told}
 
 parent-tells : (schema : Schema) (types : ℤ → List ParamRow) (w : What) → choice_told (line_saying schema types (line_at sides.Parent w)) ≡ choice_of (line_at sides.Parent w)
 parent-tells schema types (what.Send n route number vs) = refl
