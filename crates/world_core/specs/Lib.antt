@@ -13,3 +13,5 @@ pub mod Turns
 pub mod SideTurns
 pub mod TakeSteps
 pub mod Halves
+pub mod Replayed
+pub mod Followed

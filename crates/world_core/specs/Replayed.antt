@@ -1,22 +1,13 @@
 -- How far lines are those that a run prints which follows them.
-use Rattle.std.specs.Prelude.{◌≡◌, ℕ, ◌<◌, ◌≤◌, List, [], ◌∷◌, ◌++◌, count_by, length, not, take}
-use Rattle.ipdl_base.specs.declared.line.Line.{Line}
-use Rattle.ipdl_base.specs.Lines.{is_effect}
+use Rattle.std.specs.Prelude.{◌≡◌, ℕ, ◌<◌, ◌≤◌, List, [], ◌∷◌, ◌++◌, length, take}
 use Rattle.channel_model.specs.Runs.{RunState}
 use Rattle.script_runs.specs.Endings.{EndsAs, ending_line}
 use Rattle.script_runs.specs.Replays.{ArePrinted, Follows, printed_lines}
 use Rattle.script_steps.specs.Choices.{Setting}
 use Rattle.script_steps.specs.Turns.{RunEnding}
+use Rattle.transcript_reader.specs.Compared.{events_in}
 use Rattle.world_core.specs.declared.world.replay.Replay.{Replay}
 use Rattle.world_core.specs.declared.world.replay.Replay.TheVariants as replay
-
--- the most bytes of a text that is followed
-abbrev pub most_text_bytes : ℕ
-most_text_bytes = 16777216
-
--- how many lines are those of events
-abbrev pub events_in : List Line → ℕ
-events_in lines = count_by (λ line. not (is_effect line.what)) lines
 
 -- So many first lines are printed by a run, or are all that it prints with the line of how it ends; and no more are.
 pub record ArePrintedSoFar (setting : Setting) (lines : List (List ℕ)) (last : RunState) (count : ℕ) : Type 0 where

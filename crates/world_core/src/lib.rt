@@ -17,4 +17,4 @@ pub use half::{Half, HalfParts};
 pub use laws::{halves_fit_behind_more, stored_lines_follow};
 pub use link::Link;
 pub use schedules::{Stop, Turn};
-pub use world::World;
+pub use world::{Replay, World};
