@@ -23,3 +23,8 @@ mod OwnRuns
 pub mod Halves
 mod Meetings
 mod Apart
+mod Trying
+mod Following
+mod Replaying
+mod TurnReplays
+mod PlainComparing

@@ -12,6 +12,7 @@ use std::alloc::{AllocError, Global};
 use transcript_reader::{
     Alike, Comparison, Ending, LineReading, read_ending, read_line, split_line,
 };
+use value_types::boxes_say_nothing;
 
 /// How far the lines of a text are those that a run prints which follows them (docs/audit.md).
 #[derive(Clone, Copy, Debug, PartialEq, Eq)]
@@ -113,8 +114,10 @@ impl<'s> World<'s> {
         ensures { IfOk result (λ found. (before more : List OfLine) → self.now.state.lines ≡ before ++ more → HasPassed before comparison.old → HasCompared self.now.setting.schema before more comparison.old found comparison.new) }
     {
         self.is_lawful();
+        boxes_say_nothing();
         let lines = self.history().lines();
-        comparison.compare(self.schema, &lines[comparison.lines() as usize..])
+        let (_, newest) = lines.split_at(comparison.lines() as usize);
+        comparison.compare(self.schema, newest)
     }
 
     // How a replay ends at a line that tells of neither an event nor an effect.

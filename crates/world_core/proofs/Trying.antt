@@ -1,6 +1,7 @@
--- A turn that a line tells of, as a world tries it.
-use Rattle.std.proofs.Common.{◌≡◌, ◌≢◌, ℕ, ◌+◌, ◌<◌, ◌≤◌, Bool, true, false, not, ◌&&◌, if◌then◌else◌, List, [], ◌∷◌, ◌++◌, Option, Some, None, is_some, option_and_then, inl, inr, ◌⊎◌, refl, sym, ap, subst, ◌∙◌, append_assoc, arith}
-use Rattle.std.specs.Prelude.{option_map}
+-- What turns tell of the choices that they stand for, and of sides that are quiet or spent.
+use Rattle.std.proofs.Common.{◌≡◌, ◌≢◌, ℕ, ◌+◌, ◌<◌, ◌≤◌, Bool, true, false, not, ◌&&◌, if◌then◌else◌, List, [], ◌∷◌, ◌++◌, Option, Some, None, Result, Ok, Err, get_or, is_some, option_and_then, inl, inr, ◌⊎◌, refl, sym, ap, subst, ◌∙◌, append_assoc, arith}
+use Rattle.std.specs.Prelude.{IfOk}
+use Rattle.std.specs.Bool.{Decides}
 use Rattle.std.proofs.lemmas.List.{append-nil}
 use Rattle.handler_script.specs.Valid.{IsValid}
 use Rattle.ipdl_base.specs.declared.kinds.Side.{Side}
@@ -14,12 +15,14 @@ use Rattle.script_runs.specs.Laws.{EventsArePossible, HasLimit}
 use Rattle.script_runs.proofs.Possible.{script_events_are_possible}
 use Rattle.script_steps.specs.Choices.{Setting, Choice, behind_event, beginning_of, chosen, event_by, is_doable, is_within, may_deliver, own_event, played}
 use Rattle.script_steps.specs.Turns.{RunEnding, at_limit, at_rest, delivery_choice, exceeds, idles, is_quiet, is_quiet_at, leads, led_to, outcome, outcome_by, turn_choice, whole_turn}
-use Rattle.script_transcripts.specs.Legal.{EndsAs}
-use Rattle.script_transcripts.specs.Replays.{Follows, IsStuck, choices_told, told_then}
-use Rattle.script_transcripts.specs.Told.{choice_told}
-use Rattle.script_transcripts.proofs.Ends.{plays-behind}
-use Rattle.transcript_laws.specs.Told.{is_effect_text, side_told, tells_delivery}
-use Rattle.transcript_audit.specs.Following.{FollowsTo, IsFollowed, IsNotFollowed, IsTried, choice_by}
+use Rattle.script_runs.specs.Endings.{EndsAs, ending_line}
+use Rattle.transcript_reader.specs.declared.line.Ending.TheVariants as words
+use Rattle.transcript_reader.specs.Lines.{EndingIs}
+use Rattle.world_core.specs.declared.answers.StepAnswer.{StepAnswer}
+use Rattle.world_core.specs.declared.answers.StepAnswer.TheVariants as step
+use Rattle.world_core.specs.Followed.{SaysEnding, choice_by}
+use Rattle.world_core.specs.Turns.{TurnGives}
+use Rattle.world_core.specs.WorldView.{WorldView}
 use Rattle.world_core.specs.Worlds.{most_events}
 
 -- What an outcome tells
@@ -84,6 +87,9 @@ none-of : {A : Type 0} (o : Option A) → is_some o ≡ false → o ≡ None
 none-of None h = refl
 none-of (Some x) h = cc
 
+some-none : {A : Type 0} (x : A) → Some x ≡ None → ⊥
+some-none x h = cc
+
 -- what a turn chooses where it is for deliveries alone or not, and where the side has a step of its own or not
 abbrev choice-so : Turn → RunState → Bool → Bool → Option Choice
 choice-so turn state only own = if not only && own then Some (record { side = turn.side; delivers = false }) else delivery_choice turn.side state
@@ -107,19 +113,20 @@ chooses-own setting turn state choice false false may only_is own_is may_is h =
 chooses-none : (setting : Setting) (turn : Turn) (state : RunState) (only own may : Bool) → turn.only_deliver ≡ only → is_some (own_event setting turn.side state) ≡ own → may_deliver turn.side state.world ≡ may
     → choice-so turn state only own ≡ None → event_by setting (choice_by turn) state ≡ None
 chooses-none setting turn state true own true only_is own_is may_is h =
-    let k : Some (record { side = turn.side; delivers = true }) ≡ None = ap (λ (b : Bool). if b then Some (record { side = turn.side; delivers = true }) else None) (sym may_is) ∙ h in
-    cc
+    let choice : Choice = record { side = turn.side; delivers = true } in
+    absurd (some-none choice (ap (λ (b : Bool). if b then Some choice else None) (sym may_is) ∙ h))
 chooses-none setting turn state true own false only_is own_is may_is h =
     ap (λ (b : Bool). if b then (if may_deliver turn.side state.world then Some event.deliver else None) else own_event setting turn.side state) only_is ∙ ap (λ (b : Bool). if b then Some event.deliver else None) may_is
-chooses-none setting turn state false true may only_is own_is may_is h = cc
+chooses-none setting turn state false true may only_is own_is may_is h = absurd (some-none (record { side = turn.side; delivers = false }) h)
 chooses-none setting turn state false false may only_is own_is may_is h =
     ap (λ (b : Bool). if b then (if may_deliver turn.side state.world then Some event.deliver else None) else own_event setting turn.side state) only_is ∙ none-of (own_event setting turn.side state) own_is
 
-choice-is : (setting : Setting) (turn : Turn) (state : RunState) → choice-so turn state turn.only_deliver (is_some (own_event setting turn.side state)) ≡ turn_choice setting turn state
-choice-is setting turn state = refl
-
 pub small-limit : (setting : Setting) → setting.limit ≤ most_events → HasLimit setting
 small-limit setting h = omega (arith, h)
+
+-- A choice was made; or it is not possible, and another one was made.
+abbrev pub IsTried : Setting → Choice → RunState → RunState → Type 0
+IsTried setting choice state next = (chosen setting choice state ≡ Some next) ⊎ ((chosen setting choice state ≡ None) × ((other : Choice) × (chosen setting other state ≡ Some next)))
 
 -- a turn that led on has tried what it stands for
 pub tried : (setting : Setting) (turn : Turn) (state next : RunState) (choices : List Choice) → IsSound setting.schema → IsValid setting.schema setting.script → setting.limit ≤ most_events → played setting choices (beginning_of setting) ≡ Some state
@@ -132,7 +139,7 @@ tried setting turn state next choices sound valid small plays h =
   where
     by : (choice : Choice) → chosen setting choice state ≡ Some next → (choice ≡ choice_by turn) ⊎ (event_by setting (choice_by turn) state ≡ None) → IsTried setting (choice_by turn) state next
     by choice goes (inl same) = inl (ap (λ c. chosen setting c state) (sym same) ∙ goes)
-    by choice goes (inr none) = inr (none-event setting (choice_by turn) state none, (choice ∷ [], ap (option_and_then (played setting [])) goes))
+    by choice goes (inr none) = inr (none-event setting (choice_by turn) state none, (choice, goes))
 
 -- a turn that does nothing stands for nothing that is possible
 pub idle-none : (setting : Setting) (turn : Turn) (state : RunState) → outcome setting turn state ≡ idles → chosen setting (choice_by turn) state ≡ None
@@ -144,16 +151,20 @@ full-none setting turn state h = none-within setting (choice_by turn) state (ful
 
 -- What outcomes of whole turns tell of a side
 
+-- what a whole turn chooses where the side has a step of its own or not, and a delivery or not
+abbrev choice-at : Side → Bool → Bool → Option Choice
+choice-at side own may = if own then Some (record { side = side; delivers = false }) else (if may then Some (record { side = side; delivers = true }) else None)
+
 quiet-by : (setting : Setting) (state : RunState) (side : Side) (own may : Bool) → is_some (own_event setting side state) ≡ own → may_deliver side state.world ≡ may
-    → (if own then Some (record { side = side; delivers = false }) else (if may then Some (record { side = side; delivers = true }) else None)) ≡ None → (not own && not may) ≡ true
-quiet-by setting state side true may a b h = cc
-quiet-by setting state side false true a b h = cc
+    → choice-at side own may ≡ None → (not own && not may) ≡ true
+quiet-by setting state side true may a b h = absurd (some-none (record { side = side; delivers = false }) h)
+quiet-by setting state side false true a b h = absurd (some-none (record { side = side; delivers = true }) h)
 quiet-by setting state side false false a b h = refl
 
-busy-by : (side : Side) (choice : Choice) (own may : Bool) → (if own then Some (record { side = side; delivers = false }) else (if may then Some (record { side = side; delivers = true }) else None)) ≡ Some choice → (not own && not may) ≡ false
+busy-by : (side : Side) (choice : Choice) (own may : Bool) → choice-at side own may ≡ Some choice → (not own && not may) ≡ false
 busy-by side choice true may h = refl
 busy-by side choice false true h = refl
-busy-by side choice false false h = cc
+busy-by side choice false false h = absurd (some-none choice (sym h))
 
 pub idle-quiet : (setting : Setting) (state : RunState) (side : Side) → outcome setting (whole_turn side) state ≡ idles → is_quiet_at setting state side ≡ true
 idle-quiet setting state side h = quiet-by setting state side (is_some (own_event setting side state)) (may_deliver side state.world) refl refl (idle setting (whole_turn side) state h)
@@ -175,90 +186,56 @@ led-not_spent setting state next side h k = let l = led setting (whole_turn side
 pub idle-not_spent : (setting : Setting) (state : RunState) (side : Side) → outcome setting (whole_turn side) state ≡ idles → EndsAs setting state (at_limit side) → ⊥
 idle-not_spent setting state side h k = let e : true ≡ false = sym (idle-quiet setting state side h) ∙ k.1 in cc
 
--- Lines that are followed
+-- What a world's turns tell
 
-pub turn-told : (line : List ℕ) (turn : Turn) → side_told line ≡ Some turn.side → tells_delivery turn.side line ≡ turn.only_deliver → choice_told line ≡ Some (choice_by turn)
-turn-told line turn side delivers =
-    ap (option_map (λ s. record { side = s; delivers = tells_delivery s line })) side ∙ ap (λ (b : Bool). Some (record { side = turn.side; delivers = b })) delivers
+pub did-or-spent : (before after : WorldView) (turn : Turn) (side : Side) (answer : StepAnswer) → turn ≡ whole_turn side → TurnGives before turn answer after → (answer ≡ step.Did) ⊎ ((s : Side) × (answer ≡ step.Spent s)) → is_quiet_at before.setting before.state side ≡ false
+did-or-spent before after turn side answer whole h (inl e) =
+    let g = subst (λ (a : StepAnswer). TurnGives before turn a after) e h in
+    led-busy before.setting before.state after.state side (subst (λ (t : Turn). outcome before.setting t before.state ≡ leads after.state) whole g.0)
+did-or-spent before after turn side answer whole h (inr e) =
+    let g = subst (λ (a : StepAnswer). TurnGives before turn a after) e.1 h in
+    (full-busy before.setting before.state side (subst (λ (t : Turn). outcome before.setting t before.state ≡ exceeds) whole g.0)).1
 
-pub none-told : (line : List ℕ) → side_told line ≡ None → choice_told line ≡ None
-none-told line h = ap (option_map (λ s. record { side = s; delivers = tells_delivery s line })) h
+pub did-or-idle : (before after : WorldView) (turn : Turn) (side : Side) (answer : StepAnswer) → turn ≡ whole_turn side → TurnGives before turn answer after → (answer ≡ step.Did) ⊎ (answer ≡ step.Nothing) → EndsAs before.setting before.state (at_limit side) → ⊥
+did-or-idle before after turn side answer whole h (inl e) =
+    let g = subst (λ (a : StepAnswer). TurnGives before turn a after) e h in
+    led-not_spent before.setting before.state after.state side (subst (λ (t : Turn). outcome before.setting t before.state ≡ leads after.state) whole g.0)
+did-or-idle before after turn side answer whole h (inr e) =
+    let g = subst (λ (a : StepAnswer). TurnGives before turn a after) e h in
+    idle-not_spent before.setting before.state side (subst (λ (t : Turn). outcome before.setting t before.state ≡ idles) whole g.0)
 
-told-first : (line : List ℕ) (lines : List (List ℕ)) (choice : Choice) → choice_told line ≡ Some choice → choices_told (line ∷ lines) ≡ choice ∷ choices_told lines
-told-first line lines choice h = ap (λ (o : Option Choice). told_then o (is_effect_text line) (choices_told lines)) h
+-- a turn that does nothing, or has its side at the limit, stands for no choice that is possible
+pub none-done : (before after : WorldView) (turn : Turn) (answer : StepAnswer) → TurnGives before turn answer after → (answer ≡ step.Nothing) ⊎ ((s : Side) × (answer ≡ step.Spent s)) → chosen before.setting (choice_by turn) before.state ≡ None
+none-done before after turn answer h (inl e) = let g = subst (λ (a : StepAnswer). TurnGives before turn a after) e h in idle-none before.setting turn before.state g.0
+none-done before after turn answer h (inr e) = let g = subst (λ (a : StepAnswer). TurnGives before turn a after) e.1 h in full-none before.setting turn before.state g.0
 
-told-effect : (line : List ℕ) (lines : List (List ℕ)) (b : Bool) → choice_told line ≡ None → is_effect_text line ≡ b → choices_told (line ∷ lines) ≡ (if b then choices_told lines else [])
-told-effect line lines true h k = ap (λ (o : Option Choice). told_then o (is_effect_text line) (choices_told lines)) h ∙ ap (λ (b : Bool). told_then None b (choices_told lines)) k
-told-effect line lines false h k = ap (λ (o : Option Choice). told_then o (is_effect_text line) (choices_told lines)) h ∙ ap (λ (b : Bool). told_then None b (choices_told lines)) k
+-- Lines that say how a run ends
 
-module _ (setting : Setting) (lines : List (List ℕ)) where
-  pub follows-first : FollowsTo setting lines lines (beginning_of setting)
-  follows-first = record { done = []; plays = refl; so_far = inl refl }
+f-apart : 102 ≡ 115 → ⊥
+f-apart h = cc
 
-  pub follows-all : (state : RunState) → FollowsTo setting lines [] state → Follows setting lines state
-  follows-all state f = record { done = f.done; plays = f.plays; so_far = by f.so_far }
-    where
-      by : (choices_told lines ≡ f.done ++ []) ⊎ IsStuck setting (choices_told lines) f.done → (choices_told lines ≡ f.done) ⊎ IsStuck setting (choices_told lines) f.done
-      by (inl h) = inl (h ∙ append-nil f.done)
-      by (inr s) = inr s
+p-apart : 112 ≡ 99 → ⊥
+p-apart h = cc
 
-  -- choices behind a choice that is not possible
-  stuck-more : (done others : List Choice) → IsStuck setting (choices_told lines) done → IsStuck setting (choices_told lines) (done ++ others)
-  stuck-more done others s = record {
-    first = s.first;
-    choice = s.choice;
-    rest = s.rest;
-    told_are = s.told_are;
-    state = s.state;
-    plays = s.plays;
-    impossible = s.impossible;
-    others = s.others ++ others;
-    done_are = ap (λ cs. cs ++ others) s.done_are ∙ append_assoc s.first s.others others;
-  }
+ending-one : (e f : RunEnding) → ending_line e ≡ ending_line f → e ≡ f
+ending-one at_rest at_rest h = refl
+ending-one at_rest (at_limit sides.Parent) h = absurd (f-apart (ap (λ (l : List ℕ). get_or l 0 0) h))
+ending-one at_rest (at_limit sides.Child) h = absurd (f-apart (ap (λ (l : List ℕ). get_or l 0 0) h))
+ending-one (at_limit sides.Parent) at_rest h = absurd (f-apart (ap (λ (l : List ℕ). get_or l 0 0) (sym h)))
+ending-one (at_limit sides.Parent) (at_limit sides.Parent) h = refl
+ending-one (at_limit sides.Parent) (at_limit sides.Child) h = absurd (p-apart (ap (λ (l : List ℕ). get_or l 6 0) h))
+ending-one (at_limit sides.Child) at_rest h = absurd (f-apart (ap (λ (l : List ℕ). get_or l 0 0) (sym h)))
+ending-one (at_limit sides.Child) (at_limit sides.Parent) h = absurd (p-apart (ap (λ (l : List ℕ). get_or l 6 0) (sym h)))
+ending-one (at_limit sides.Child) (at_limit sides.Child) h = refl
 
-  stuck-here : (state : RunState) (done rest others : List Choice) (choice : Choice) → choices_told lines ≡ done ++ choice ∷ rest → played setting done (beginning_of setting) ≡ Some state → chosen setting choice state ≡ None → IsStuck setting (choices_told lines) (done ++ others)
-  stuck-here state done rest others choice is plays none = record { first = done; choice = choice; rest = rest; told_are = is; state = state; plays = plays; impossible = none; others = others; done_are = refl }
+-- the line of an ending says that the run ends so
+pub says-it : {E : Type 0} (setting : Setting) (state : RunState) (line : List ℕ) (ending : RunEnding) (found : Result Bool E) → line ≡ ending_line ending → IfOk found (λ b. Decides b (EndsAs setting state ending)) → IfOk found (λ b. Decides b (SaysEnding setting state line))
+says-it setting state line ending (Err x) is d = tt
+says-it setting state line ending (Ok b) is d = (λ h. (ending, is, d.0 h), λ s. d.1 (subst (λ (e : RunEnding). EndsAs setting state e) (ending-one s.0 ending (sym s.1 ∙ is)) s.2))
 
-  pub follows-line : (line : List ℕ) (left : List (List ℕ)) (state next : RunState) → FollowsTo setting lines (line ∷ left) state → IsFollowed setting line state next → FollowsTo setting lines left next
-  follows-line line left state next f (inl h) = record {
-    done = f.done;
-    plays = f.plays ∙ ap Some (sym h.2);
-    so_far = by f.so_far;
-  }
-    where
-      by : (choices_told lines ≡ f.done ++ choices_told (line ∷ left)) ⊎ IsStuck setting (choices_told lines) f.done → (choices_told lines ≡ f.done ++ choices_told left) ⊎ IsStuck setting (choices_told lines) f.done
-      by (inl k) = inl (k ∙ ap (λ cs. f.done ++ cs) (told-effect line left true h.0 h.1))
-      by (inr s) = inr s
-  follows-line line left state next f (inr h) = tries h.2
-    where
-      told : (so : choices_told lines ≡ f.done ++ choices_told (line ∷ left)) → choices_told lines ≡ f.done ++ h.0 ∷ choices_told left
-      told so = so ∙ ap (λ cs. f.done ++ cs) (told-first line left h.0 h.1)
-
-      made : (choices_told lines ≡ f.done ++ choices_told (line ∷ left)) ⊎ IsStuck setting (choices_told lines) f.done → (choices_told lines ≡ (f.done ++ h.0 ∷ []) ++ choices_told left) ⊎ IsStuck setting (choices_told lines) (f.done ++ h.0 ∷ [])
-      made (inl k) = inl (told k ∙ sym (append_assoc f.done (h.0 ∷ []) (choices_told left)))
-      made (inr s) = inr (stuck-more f.done (h.0 ∷ []) s)
-
-      stuck : (others : List Choice) → chosen setting h.0 state ≡ None → (choices_told lines ≡ f.done ++ choices_told (line ∷ left)) ⊎ IsStuck setting (choices_told lines) f.done → IsStuck setting (choices_told lines) (f.done ++ others)
-      stuck others none (inl k) = stuck-here state f.done (choices_told left) others h.0 (told k) f.plays none
-      stuck others none (inr s) = stuck-more f.done others s
-
-      tries : IsTried setting h.0 state next → FollowsTo setting lines left next
-      tries (inl goes) = record {
-        done = f.done ++ h.0 ∷ [];
-        plays = plays-behind setting f.done (h.0 ∷ []) (beginning_of setting) state next f.plays (ap (option_and_then (played setting [])) goes);
-        so_far = made f.so_far;
-      }
-      tries (inr k) = record {
-        done = f.done ++ k.1.0;
-        plays = plays-behind setting f.done k.1.0 (beginning_of setting) state next f.plays k.1.1;
-        so_far = inr (stuck k.1.0 k.0 f.so_far);
-      }
-
-  pub follows-stopped : (line : List ℕ) (left : List (List ℕ)) (state : RunState) → FollowsTo setting lines (line ∷ left) state → IsNotFollowed setting line state → Follows setting lines state
-  follows-stopped line left state f stops = record { done = f.done; plays = f.plays; so_far = by stops f.so_far }
-    where
-      by : IsNotFollowed setting line state → (choices_told lines ≡ f.done ++ choices_told (line ∷ left)) ⊎ IsStuck setting (choices_told lines) f.done → (choices_told lines ≡ f.done) ⊎ IsStuck setting (choices_told lines) f.done
-      by stops (inr s) = inr s
-      by (inl h) (inl k) = inl (k ∙ ap (λ cs. f.done ++ cs) (told-effect line left false h.0 h.1) ∙ append-nil f.done)
-      by (inr h) (inl k) =
-          inr (subst (IsStuck setting (choices_told lines)) (append-nil f.done) (stuck-here state f.done (choices_told left) [] h.0 (k ∙ ap (λ cs. f.done ++ cs) (told-first line left h.0 h.1)) f.plays h.2))
+pub says-none : (setting : Setting) (state : RunState) (line : List ℕ) → EndingIs line None → SaysEnding setting state line → ⊥
+says-none setting state line none s = by s.0 s.1
+  where
+    by : (e : RunEnding) → line ≡ ending_line e → ⊥
+    by at_rest h = none words.Finished h
+    by (at_limit side) h = none (words.Spent side) h
