@@ -2,25 +2,14 @@ ghost use Rattle.handler_script.specs.Valid.{IsValid};
 ghost use Rattle.ipdl_base.specs.Sound.{IsSound};
 ghost use Rattle.std.specs.Prelude.{◌≤◌, length};
 
+use super::given::script_of;
 use super::rows::{AUDITS, SCRIPT};
-use handler_script::{Script, read_script};
+use handler_script::Script;
 use history_of_text::schema_of;
-use ipdl_base::{Schema, short_name};
+use ipdl_base::Schema;
+use ipdl_top::{Audit, audit};
 use std::alloc::Global;
 use std::test::Fail;
-use transcript_audit::{Audit, audit};
-
-/// The number of the protocol of the runs.
-fn top_of(schema: &Schema) -> Result<u32, Fail> {
-    let mut number = 0u32;
-    for protocol in schema.protocols.as_slice() {
-        if short_name(protocol.name.as_slice()) == b"PW".as_slice() {
-            return Ok(number);
-        }
-        number = number.wrapping_add(1);
-    }
-    Err("no such protocol".into())
-}
 
 /// What an audit says, as text.
 fn shown(alloc: Global, found: Audit) -> Result<String, Fail> {
@@ -32,12 +21,12 @@ fn shown(alloc: Global, found: Audit) -> Result<String, Fail> {
 }
 
 /// What the audit of a text says.
-fn said(
+pub fn said(
     alloc: Global,
     schema: &Schema,
     script: &Script,
     limit: u32,
-    text: &str,
+    text: &[u8],
 ) -> Result<String, Fail>
     requires sound { IsSound schema.now }
     requires valid { IsValid schema.now script.now }
@@ -45,7 +34,7 @@ fn said(
     if limit > 20_000 || text.len() > 16_777_216 {
         return Err("a limit or a text that is too large".into());
     }
-    shown(alloc, audit(alloc, schema, script, limit, text.as_bytes())?)
+    shown(alloc, audit(alloc, schema, script, limit, text)?)
 }
 
 /// Notes a row of which the audit says something else.
@@ -62,7 +51,7 @@ fn check(
     let (head, text) = row.split_once("\n").ok_or("a row of no line")?;
     let (name, head) = head.split_once(" ").ok_or("a row without its limit")?;
     let (limit, wanted) = head.split_once(" ").ok_or("a row that wants nothing")?;
-    let found = said(alloc, schema, script, limit.parse::<u32>()?, text)?;
+    let found = said(alloc, schema, script, limit.parse::<u32>()?, text.as_bytes())?;
     if found.as_str() != wanted {
         writeln!(wrong, "{name}: {found}")?;
     }
@@ -88,13 +77,7 @@ fn checked(alloc: Global, schema: &Schema, script: &Script) -> Result<String, Fa
 fn all_rows(alloc: Global, schema: &Schema) -> Result<String, Fail>
     requires { IsSound schema.now }
 {
-    let top = top_of(schema)?;
-    if top as usize >= schema.protocols.len() || SCRIPT.len() > 1_048_576 {
-        return Err("no top, or a text that is too large".into());
-    }
-    let script = read_script(alloc, SCRIPT.as_bytes(), schema, top)
-        .ok()
-        .ok_or("a script that breaks a rule")?;
+    let script = script_of(alloc, schema, "PW.ipdl", SCRIPT)?;
     checked(alloc, schema, &script)
 }
 

@@ -13,3 +13,4 @@ pub mod Runs
 pub mod OneTop
 pub mod OneRun
 pub mod Summed
+mod Audits

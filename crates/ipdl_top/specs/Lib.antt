@@ -13,3 +13,4 @@ pub mod Report
 pub mod FileViews
 pub mod Steps
 pub mod Written
+pub mod Audited

@@ -2,6 +2,7 @@
 #![tactic(auto)]
 
 mod answer;
+mod auditing;
 mod checked;
 mod compile;
 mod frames;
@@ -18,6 +19,7 @@ mod status;
 mod waits;
 mod write;
 
+pub use auditing::{Audit, audit};
 pub use laws::answer_is_determined;
 pub use program::ipdl;
 pub use status::Status;

@@ -1,12 +1,11 @@
 -- A run that follows lines, and how far it prints them.
-use Rattle.std.proofs.Common.{◌≡◌, ◌≢◌, ℕ, zero, suc, ◌+◌, ◌<◌, ◌≤◌, Bool, true, false, if◌then◌else◌, List, [], ◌∷◌, ◌++◌, length, take, Option, Some, None, option_and_then, ◌⊎◌, inl, inr, refl, sym, ap, subst, ◌∙◌, append_assoc, length-append, arith}
+use Rattle.std.proofs.Common.{◌≡◌, ◌≢◌, ℕ, zero, suc, ◌+◌, ◌≤◌, Bool, true, false, if◌then◌else◌, List, [], ◌∷◌, ◌++◌, length, take, Option, Some, None, option_and_then, ◌⊎◌, inl, inr, refl, sym, ap, subst, ◌∙◌, append_assoc, length-append, arith}
 use Rattle.std.proofs.Math.Seq.{take-append_seam}
 use Rattle.std.proofs.lemmas.List.{append-nil, length-take-le}
 use Rattle.ipdl_base.specs.declared.line.Line.{Line}
 use Rattle.ipdl_base.specs.declared.schema.Schema.{Schema}
 use Rattle.ipdl_base.specs.Lines.{is_effect}
 use Rattle.channel_model.specs.Runs.{RunState}
-use Rattle.history.specs.Text.{line_text}
 use Rattle.script_runs.specs.Endings.{EndsAs, ending_line}
 use Rattle.script_runs.specs.Replays.{ArePrinted, Follows, IsStuck, choices_told, printed_lines, told_then}
 use Rattle.script_runs.specs.Told.{choice_told}
@@ -14,13 +13,13 @@ use Rattle.script_runs.proofs.Growth.{BeginsEvent, adds-event, plays-behind}
 use Rattle.script_runs.proofs.Tells.{line_texts_tell_choices}
 use Rattle.script_runs.proofs.TextChoices.{texts-told}
 use Rattle.script_steps.proofs.Choosing.{choices_are_read}
-use Rattle.script_steps.specs.Choices.{Choice, Setting, beginning_of, choice_of, chosen, is_delivery_line, played}
+use Rattle.script_steps.specs.Choices.{Choice, Setting, beginning_of, chosen, is_delivery_line, played}
 use Rattle.script_steps.specs.Turns.{RunEnding}
 use Rattle.transcript_laws.specs.Printed.{line_texts}
 use Rattle.transcript_laws.specs.Told.{is_effect_text}
 use Rattle.transcript_laws.proofs.Parts.{texts-append}
 use Rattle.world_core.specs.declared.world.replay.Replay.TheVariants as replay
-use Rattle.world_core.specs.Replayed.{ArePrintedSoFar, AreWhole, SaysOf}
+use Rattle.world_core.specs.Replayed.{ArePrintedSoFar, SaysOf}
 use Rattle.world_core.proofs.Trying.{IsTried}
 
 -- Lists that begin alike

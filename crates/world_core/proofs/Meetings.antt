@@ -1,7 +1,7 @@
 -- A half that meets the link: what it has stored is appended, and then deliveries are made to its side.
 use Rattle.std.proofs.Common.{◌≡◌, ℕ, suc, ◌+◌, ◌≤◌, nat_lt, Bool, true, false, ◌&&◌, is_some, List, [], ◌∷◌, ◌++◌, length, Some, refl, sym, ap, subst, ◌∙◌, append_assoc, arith, length-append}
 use Rattle.std.specs.List.{AllByRecursion}
-use Rattle.std.proofs.lemmas.List.{append-nil, append_cancel_left, length-map, map-append, replicate_more}
+use Rattle.std.proofs.lemmas.List.{append-nil, length-map, map-append, replicate_more}
 use Rattle.handler_script.specs.ScriptOf.{first_of}
 use Rattle.ipdl_base.specs.declared.kinds.Side.{Side}
 use Rattle.ipdl_base.specs.declared.kinds.Side.TheVariants as sides
@@ -24,7 +24,7 @@ use Rattle.world_core.proofs.Chosen.{chosen-less, left_of, run-sides}
 use Rattle.world_core.proofs.Halves.{reached, stored-own}
 use Rattle.world_core.proofs.OwnRuns.{IsPlayedAgain, play-again}
 use Rattle.world_core.proofs.Played.{all-append, few-lines, few-packets, link-of, played-last}
-use Rattle.world_core.proofs.SideChoices.{RanAlone, all-alone, all-same, one-alone}
+use Rattle.world_core.proofs.SideChoices.{RanAlone, one-alone}
 use Rattle.world_core.proofs.Standing.{side-at, within-at}
 use Rattle.world_core.proofs.Turning.{stands-come}
 use Rattle.world_core.proofs.WorldTurns.{told-state}

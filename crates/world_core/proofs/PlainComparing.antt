@@ -1,10 +1,9 @@
 -- A comparison of lines is one of the same lines with every box at one place.
-use Rattle.std.proofs.Common.{◌≡◌, ℕ, ◌+◌, Bool, cond, not, List, [], ◌∷◌, ◌++◌, drop, length, map, take, Result, Ok, Err, refl, sym, ap, subst, ◌∙◌, append_assoc, length-append, arith}
+use Rattle.std.proofs.Common.{◌≡◌, ℕ, ◌+◌, Bool, cond, not, List, [], ◌∷◌, ◌++◌, drop, length, map, take, Result, Ok, Err, refl, sym, ap, subst, ◌∙◌, arith}
 use Rattle.std.specs.Prelude.{IfOk}
 use Rattle.std.proofs.Math.Seq.{drop-append_seam, take-append_seam}
 use Rattle.std.proofs.lemmas.List.{drop-map, map-append, take-map}
 use Rattle.std.proofs.lemmas.List.Sums.{sum_by-append}
-use Rattle.ipdl_base.specs.declared.kinds.Side.{Side}
 use Rattle.ipdl_base.specs.declared.line.Line.{Line}
 use Rattle.ipdl_base.specs.declared.schema.Schema.{Schema}
 use Rattle.ipdl_base.specs.Lines.{is_effect}
@@ -87,8 +86,9 @@ module _ (says : BoxesSayNothing) where
       (subst (λ ls. HasCompared schema (map plain_line (take n all)) ls old found new) rest
       (compared-plain schema (take n all) (drop n all) old new found (compares (take n all) (passed-boxed (take n all) old (subst (λ ls. HasPassed ls old) (sym first) passed)))))
 
-  pub newest-found : {E : Type 0} (schema : Schema) (all seen : List Line) (n : ℕ) (old new : Comparison) (found : Result Alike E) → map plain_line all ≡ seen → n ≡ old.lines
-      → IfOk found (λ f. (boxed : List Line) → HasPassed boxed old → HasCompared schema boxed (drop n all) old f new)
+  pub newest-found : {E : Type 0} (schema : Schema) (all newest seen : List Line) (n : ℕ) (old new : Comparison) (found : Result Alike E) → map plain_line all ≡ seen → n ≡ old.lines → newest ≡ drop n all
+      → IfOk found (λ f. (boxed : List Line) → HasPassed boxed old → HasCompared schema boxed newest old f new)
       → IfOk found (λ f. (before more : List Line) → seen ≡ before ++ more → HasPassed before old → HasCompared schema before more old f new)
-  newest-found schema all seen n old new (Err e) is count h = tt
-  newest-found schema all seen n old new (Ok f) is count h = λ before more so passed. newest-compared schema all before more n old new f (is ∙ so) count h passed
+  newest-found schema all newest seen n old new (Err e) is count last h = tt
+  newest-found schema all newest seen n old new (Ok f) is count last h = λ before more so passed.
+      newest-compared schema all before more n old new f (is ∙ so) count (λ boxed p. subst (λ ls. HasCompared schema boxed ls old f new) last (h boxed p)) passed

@@ -1,5 +1,5 @@
 -- What the steps of a replay say of a text.
-use Rattle.std.proofs.Common.{◌≡◌, ◌≢◌, ℕ, suc, ◌+◌, ◌<◌, ◌≤◌, ◌==◌, Bool, true, false, if◌then◌else◌, List, [], ◌∷◌, ◌++◌, length, map, Option, Some, None, option_map, refl, sym, ap, subst, ◌∙◌, append_assoc, length-append, arith}
+use Rattle.std.proofs.Common.{◌≡◌, ◌≢◌, ℕ, suc, ◌+◌, ◌==◌, Bool, true, false, if◌then◌else◌, List, [], ◌∷◌, ◌++◌, length, map, Some, None, option_map, refl, sym, ap, subst, ◌∙◌, append_assoc, length-append, arith}
 use Rattle.std.proofs.lemmas.List.{append-nil}
 use Rattle.ipdl_base.specs.declared.kinds.Side.{Side}
 use Rattle.ipdl_base.specs.declared.kinds.Side.TheVariants as sides
@@ -8,9 +8,8 @@ use Rattle.ipdl_base.specs.declared.schema.Schema.{Schema}
 use Rattle.channel_model.specs.Ends.{end_of, link_to}
 use Rattle.channel_model.specs.Outputs.{line_at}
 use Rattle.channel_model.specs.Runs.{RunState}
-use Rattle.history.specs.Text.{line_text}
 use Rattle.schedules.specs.declared.turn.Turn.{Turn}
-use Rattle.script_runs.specs.Endings.{EndsAs, ending_line}
+use Rattle.script_runs.specs.Endings.{ending_line}
 use Rattle.script_runs.specs.Replays.{Follows, printed_lines}
 use Rattle.script_runs.specs.Told.{choice_told}
 use Rattle.script_steps.proofs.Choosing.{Happens, choice-happens}
@@ -25,7 +24,7 @@ use Rattle.transcript_laws.proofs.Parts.{texts-append}
 use Rattle.transcript_reader.specs.declared.comparison.Alike.{Alike}
 use Rattle.transcript_reader.specs.declared.comparison.Alike.TheVariants as alike
 use Rattle.transcript_reader.specs.declared.comparison.Comparison.{Comparison}
-use Rattle.transcript_reader.specs.Compared.{DifferAtOnce, HasCompared, HasPassed, events_in}
+use Rattle.transcript_reader.specs.Compared.{DifferAtOnce, HasCompared, HasPassed}
 use Rattle.world_core.specs.declared.world.replay.Replay.{Replay}
 use Rattle.world_core.specs.declared.world.replay.Replay.TheVariants as replay
 use Rattle.world_core.specs.Followed.{GoesOn, SaysEnding, choice_by, lines_seen}

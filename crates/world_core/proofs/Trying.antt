@@ -1,8 +1,7 @@
 -- What turns tell of the choices that they stand for, and of sides that are quiet or spent.
-use Rattle.std.proofs.Common.{◌≡◌, ◌≢◌, ℕ, ◌+◌, ◌<◌, ◌≤◌, Bool, true, false, not, ◌&&◌, if◌then◌else◌, List, [], ◌∷◌, ◌++◌, Option, Some, None, Result, Ok, Err, get_or, is_some, option_and_then, inl, inr, ◌⊎◌, refl, sym, ap, subst, ◌∙◌, append_assoc, arith}
+use Rattle.std.proofs.Common.{◌≡◌, ℕ, ◌≤◌, Bool, true, false, not, ◌&&◌, if◌then◌else◌, List, Option, Some, None, Result, Ok, Err, get_or, is_some, option_and_then, inl, inr, ◌⊎◌, refl, sym, ap, subst, ◌∙◌, arith}
 use Rattle.std.specs.Prelude.{IfOk}
 use Rattle.std.specs.Bool.{Decides}
-use Rattle.std.proofs.lemmas.List.{append-nil}
 use Rattle.handler_script.specs.Valid.{IsValid}
 use Rattle.ipdl_base.specs.declared.kinds.Side.{Side}
 use Rattle.ipdl_base.specs.declared.kinds.Side.TheVariants as sides
@@ -14,7 +13,7 @@ use Rattle.schedules.specs.declared.turn.Turn.{Turn}
 use Rattle.script_runs.specs.Laws.{EventsArePossible, HasLimit}
 use Rattle.script_runs.proofs.Possible.{script_events_are_possible}
 use Rattle.script_steps.specs.Choices.{Setting, Choice, behind_event, beginning_of, chosen, event_by, is_doable, is_within, may_deliver, own_event, played}
-use Rattle.script_steps.specs.Turns.{RunEnding, at_limit, at_rest, delivery_choice, exceeds, idles, is_quiet, is_quiet_at, leads, led_to, outcome, outcome_by, turn_choice, whole_turn}
+use Rattle.script_steps.specs.Turns.{RunEnding, at_limit, at_rest, delivery_choice, exceeds, idles, is_quiet_at, leads, led_to, outcome, outcome_by, turn_choice, whole_turn}
 use Rattle.script_runs.specs.Endings.{EndsAs, ending_line}
 use Rattle.transcript_reader.specs.declared.line.Ending.TheVariants as words
 use Rattle.transcript_reader.specs.Lines.{EndingIs}
@@ -211,11 +210,11 @@ none-done before after turn answer h (inr e) = let g = subst (λ (a : StepAnswer
 
 -- Lines that say how a run ends
 
-f-apart : 102 ≡ 115 → ⊥
-f-apart h = cc
+f-apart : ◌≡◌ {A = ℕ} 102 115 → ⊥
+f-apart h = omega (arith, h)
 
-p-apart : 112 ≡ 99 → ⊥
-p-apart h = cc
+p-apart : ◌≡◌ {A = ℕ} 112 99 → ⊥
+p-apart h = omega (arith, h)
 
 ending-one : (e f : RunEnding) → ending_line e ≡ ending_line f → e ≡ f
 ending-one at_rest at_rest h = refl

@@ -1,5 +1,5 @@
 -- What a turn that did something says of a text, when its lines have been compared.
-use Rattle.std.proofs.Common.{◌≡◌, ℕ, ◌+◌, ◌≤◌, List, ◌∷◌, ◌++◌, length, refl, sym, ap, subst, ◌∙◌, length-append, arith}
+use Rattle.std.proofs.Common.{◌≡◌, ◌+◌, ◌≤◌, List, ◌∷◌, ◌++◌, length, refl, ap, subst, ◌∙◌, length-append, arith}
 use Rattle.handler_script.specs.Valid.{IsValid}
 use Rattle.ipdl_base.specs.declared.line.Line.{Line}
 use Rattle.ipdl_base.specs.Sound.{IsSound}

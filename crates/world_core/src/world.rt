@@ -10,7 +10,6 @@ mod halves;
 mod replay;
 
 pub use self::replay::Replay;
-
 use crate::answers::{RunAnswer, StepAnswer};
 use crate::half::{Half, other};
 use crate::link::Link;

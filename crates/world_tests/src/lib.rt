@@ -1,7 +1,7 @@
 //! Tests of runs (docs/scripts.md): worked runs and orders of own steps, each with the word, the limit
 //! and the death with which it is run, and with what it prints, by the world alone and by a driver;
 //! halves that go on apart; deaths under nested calls; and limits that cut a run. Of each history every
-//! law is tested.
+//! law is tested. The worked runs are lent to other tests.
 #![tactic(auto)]
 
 #[cfg(test)]
@@ -22,9 +22,10 @@ mod laws;
 mod limits;
 #[cfg(test)]
 mod order_rows;
-#[cfg(test)]
 mod run_rows;
-#[cfg(test)]
 mod texts;
 #[cfg(test)]
 mod transcripts;
+
+pub use run_rows::RUNS;
+pub use texts::{Row, row_of};

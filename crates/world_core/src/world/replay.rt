@@ -65,10 +65,7 @@ impl<'s> World<'s> {
     }
 
     // Follows the next line of a text, and what is printed with it.
-    fn follow_line(
-        &mut self,
-        comparison: &mut Comparison<'_>,
-    ) -> Result<Option<Replay>, AllocError>
+    fn follow_line(&mut self, comparison: &mut Comparison<'_>) -> Result<Option<Replay>, AllocError>
         requires passed { HasPassed self.old.state.lines comparison.old }
         requires some { comparison.old.left.now ≢ [] }
         ensures { IfOk result (λ found. Goes self.old comparison.old found self.new comparison.new) }

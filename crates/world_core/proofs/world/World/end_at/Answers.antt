@@ -13,8 +13,8 @@ returns-then-not-branch c =
     subst (λ (n : ℕ). IsReplayed w.setting (lines_seen w at) (replay.Apart n)) (sym c.lines.ensures)
     (other-replayed w at c.is_lawful.ensures.case c.requires.passed c.args.line.now c.args.behind.now c.requires.first (side-none c.args.line.now c.requires.other.0) c.requires.other.1
     (λ says.
-        let l : true ≡ false = sym (c.in_ok-says_ending.ensures.1 says) ∙ c.if-not-branch.true in
-        cc))
+    let l : true ≡ false = sym (c.in_ok-says_ending.ensures.1 says) ∙ c.if-not-branch.true in
+    cc))
 
 pub returns-then-is_empty : goal.returns-then-is_empty
 returns-then-is_empty c =

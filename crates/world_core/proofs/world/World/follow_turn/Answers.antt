@@ -1,6 +1,4 @@
-use Rattle.std.proofs.Common.{◌≡◌, ◌+◌, ◌≤◌, ℕ, List, ◌∷◌, ◌++◌, length, ap, subst, sym, refl, length-append, arith}
-use Rattle.ipdl_base.specs.declared.line.Line.{Line}
-use Rattle.transcript_laws.specs.TextLines.{text_lines}
+use Rattle.std.proofs.Common.{ℕ, subst, sym}
 use Rattle.world_core.specs.declared.world.replay.Replay.TheVariants as replay
 use Rattle.world_core.specs.Followed.{choice_by, lines_seen}
 use Rattle.world_core.specs.Replayed.{IsReplayed}

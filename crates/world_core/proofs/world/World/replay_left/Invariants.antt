@@ -2,7 +2,6 @@ use Rattle.std.proofs.Common.{◌≡◌, length}
 use Rattle.transcript_laws.specs.TextLines.{text_lines}
 use Rattle.transcript_reader.specs.Compared.{HasPassed}
 use Rattle.world_core.specs.Followed.{lines_seen}
-use Rattle.world_core.specs.Worlds.{IsCase}
 use Rattle.world_core.proofs.world.World.replay_left.Given as goal
 
 -- the same text is seen, and what is printed has been compared

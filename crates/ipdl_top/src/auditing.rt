@@ -42,6 +42,10 @@ pub fn audit(
     requires few { length text.now ≤ most_text_bytes }
     ensures { IfOk result (IsAudited (audited_setting schema.now script.now limit) text.now) }
 {
+    case_names_are_words();
+    legal_texts_decide();
+    replays_decide();
+    transcripts_are_lines();
     let mut world = World::open(alloc, schema, script, None, limit)?;
     let replay = world.replay(alloc, text)?;
     Ok(audit_by(replay))
