@@ -12,15 +12,14 @@ use Rattle.script_runs.specs.Replays.{ArePrinted, Follows, printed_lines}
 use Rattle.script_steps.specs.Choices.{Setting}
 use Rattle.script_steps.specs.Turns.{RunEnding}
 use Rattle.script_transcripts.specs.Legal.{AreFirstLines, AreLegalSoFar, IsLegalText}
-use Rattle.script_transcripts.specs.Laws.{CaseNamesAreWords, LegalTextsDecide, ReplaysDecide}
-use Rattle.script_transcripts.proofs.Fronts.{ending-alone}
-use Rattle.transcript_laws.specs.Laws.{TranscriptsAreLines}
+use Rattle.script_transcripts.proofs.Fronts.{ending-alone, legal_texts_decide, replays_decide}
+use Rattle.script_transcripts.proofs.Names.{case_names_are_words}
+use Rattle.transcript_laws.proofs.Lines.{transcripts_are_lines}
 use Rattle.transcript_laws.specs.TextLines.{text_lines, with_first}
 use Rattle.transcript_reader.specs.Compared.{most_text_bytes}
 use Rattle.world_core.specs.declared.world.replay.Replay.{Replay}
 use Rattle.world_core.specs.declared.world.replay.Replay.TheVariants as replay
 use Rattle.world_core.specs.Replayed.{ArePrintedSoFar, AreWhole, IsReplayed, SaysOf}
-use Rattle.world_core.specs.Worlds.{most_events}
 use Rattle.ipdl_top.specs.Audited.{IsAudited, IsFew, audit_by}
 
 -- A text is what its lines are
@@ -61,31 +60,21 @@ replay-few setting text answer few is = by answer is.says
     by (replay.Short count) s = let n = few-lines text in let k = s.1 in omega (arith, n, k, few)
     by (replay.Apart count) s = let n = few-lines text in let k = s.1 in omega (arith, n, k, few)
 
--- The laws that an audit rests on.
-pub record AuditLaws : Type 0 where
-  pub lines : TranscriptsAreLines
-  pub names : CaseNamesAreWords
-  pub replays : ReplaysDecide
-  pub texts : LegalTextsDecide
-
-pub small-limit : (setting : Setting) → setting.limit ≤ most_events → HasLimit setting
-small-limit setting h = omega (arith, h)
-
-module _ (laws : AuditLaws) (setting : Setting) (sound : IsSound setting.schema) (valid : IsValid setting.schema setting.script) (limit : HasLimit setting) (text : List ℕ) where
+module _ (setting : Setting) (sound : IsSound setting.schema) (valid : IsValid setting.schema setting.script) (limit : HasLimit setting) (text : List ℕ) where
   module _ (last : RunState) (follows : Follows setting (text_lines text) last) where
     -- the lines of what a run prints that ends so
     printed-whole : (e : RunEnding) → text_lines (transcript_text setting.schema last.lines ++ ending_line e) ≡ printed_lines setting last ++ ending_line e ∷ []
     printed-whole e =
-        laws.lines setting.schema last.lines (ending_line e) sound (laws.names setting follows.done last valid follows.plays) ∙ ap (λ ls. printed_lines setting last ++ ls) (ending-alone setting sound valid e)
+        transcripts_are_lines setting.schema last.lines (ending_line e) sound (case_names_are_words setting follows.done last valid follows.plays) ∙ ap (λ ls. printed_lines setting last ++ ls) (ending-alone setting sound valid e)
 
     first-so : (count : ℕ) → AreFirstLines setting (take count (text_lines text)) → ArePrinted setting last (take count (text_lines text))
     first-so count =
-        (laws.replays setting (take count (text_lines text)) (drop count (text_lines text)) last sound valid limit
+        (replays_decide setting (take count (text_lines text)) (drop count (text_lines text)) last sound valid limit
         (subst (λ ls. Follows setting ls last) (sym (take-append-drop count (text_lines text))) follows)).0
 
     printed-so : (count : ℕ) → ArePrinted setting last (take count (text_lines text)) → AreFirstLines setting (take count (text_lines text))
     printed-so count =
-        (laws.replays setting (take count (text_lines text)) (drop count (text_lines text)) last sound valid limit
+        (replays_decide setting (take count (text_lines text)) (drop count (text_lines text)) last sound valid limit
         (subst (λ ls. Follows setting ls last) (sym (take-append-drop count (text_lines text))) follows)).1
 
     legal-so-far : (count : ℕ) → ArePrintedSoFar setting (text_lines text) last count → AreLegalSoFar setting text count
@@ -96,7 +85,7 @@ module _ (laws : AuditLaws) (setting : Setting) (sound : IsSound setting.schema)
 
     not-legal : (AreWhole setting last (text_lines text) → ⊥) → IsLegalText setting text → ⊥
     not-legal none legal =
-        let h = (laws.texts setting text last sound valid follows).0 legal in
+        let h = (legal_texts_decide setting text last sound valid follows).0 legal in
         none (h.0, h.1, ap text_lines h.2 ∙ printed-whole h.0)
 
   pub audited : (answer : Replay) → IsReplayed setting (text_lines text) answer → IsAudited setting text (audit_by answer)

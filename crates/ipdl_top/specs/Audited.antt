@@ -8,8 +8,8 @@ use Rattle.transcript_laws.specs.TextLines.{text_lines}
 use Rattle.transcript_reader.specs.Compared.{events_in, most_text_bytes}
 use Rattle.world_core.specs.declared.world.replay.Replay.{Replay}
 use Rattle.world_core.specs.declared.world.replay.Replay.TheVariants as replay
-use Rattle.ipdl_top.specs.declared.auditing.Audit.{Audit}
-use Rattle.ipdl_top.specs.declared.auditing.Audit.TheVariants as audit
+use Rattle.ipdl_top.specs.declared.audited.Audit.{Audit}
+use Rattle.ipdl_top.specs.declared.audited.Audit.TheVariants as audit
 
 -- what an audited run is about: it has no stop
 abbrev pub audited_setting : Schema → Script → ℕ → Setting

@@ -7,24 +7,11 @@ ghost use Rattle.world_core.specs.Replayed.{IsReplayed};
 ghost use Rattle.world_core.specs.Worlds.{most_events};
 ghost use Rattle.ipdl_top.specs.Audited.{IsAudited, IsFew, audit_by, audited_setting};
 
+use crate::audited::Audit;
 use handler_script::Script;
 use ipdl_base::Schema;
-use script_transcripts::{case_names_are_words, legal_texts_decide, replays_decide};
 use std::alloc::{AllocError, Global};
-use transcript_laws::transcripts_are_lines;
 use world_core::{Replay, World};
-
-/// What an audit finds (docs/audit.md). Lines are numbered from 1.
-#[derive(Clone, Copy, Debug, PartialEq, Eq)]
-pub enum Audit {
-    /// A run may print the text, and has so many events.
-    Legal(u32),
-    /// All lines of the text are first lines of what a run may print, but the text is none: the line
-    /// of this number is missing.
-    Early(u32),
-    /// The line of this number is the first that no run prints there behind those before it.
-    NoStep(u32),
-}
 
 /// Whether a text is what a run of a script may print that has no stop, or at which of its lines it
 /// stops being so (docs/audit.md). What is kept is the run and one line of the text. The only error
@@ -42,10 +29,6 @@ pub fn audit(
     requires few { length text.now ≤ most_text_bytes }
     ensures { IfOk result (IsAudited (audited_setting schema.now script.now limit) text.now) }
 {
-    case_names_are_words();
-    legal_texts_decide();
-    replays_decide();
-    transcripts_are_lines();
     let mut world = World::open(alloc, schema, script, None, limit)?;
     let replay = world.replay(alloc, text)?;
     Ok(audit_by(replay))

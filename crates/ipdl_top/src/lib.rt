@@ -2,6 +2,7 @@
 #![tactic(auto)]
 
 mod answer;
+mod audited;
 mod auditing;
 mod checked;
 mod compile;
@@ -19,7 +20,8 @@ mod status;
 mod waits;
 mod write;
 
-pub use auditing::{Audit, audit};
+pub use audited::Audit;
+pub use auditing::audit;
 pub use laws::answer_is_determined;
 pub use program::ipdl;
 pub use status::Status;

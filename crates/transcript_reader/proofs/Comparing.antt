@@ -27,18 +27,6 @@ not-empty xs b is h none = let k : true ≡ false = ap (λ (l : List ℕ). lengt
 
 -- Comparisons one behind the other
 
--- nothing is compared yet
-pub compared-none : (schema : Schema) (before : List Line) (c : Comparison) → HasPassed before c → HasCompared schema before [] c alike.All c
-compared-none schema before c passed = record {
-  first = [];
-  others = [];
-  split = refl;
-  is = refl;
-  count = omega arith;
-  within = passed.within;
-  ends = (refl, subst (λ ls. HasPassed ls c) (sym (append-nil before)) passed);
-}
-
 -- all lines of a comparison are alike
 pub all-passed : (schema : Schema) (before lines : List Line) (old new : Comparison) → HasCompared schema before lines old alike.All new → HasPassed (before ++ lines) new
 all-passed schema before lines old new c = subst (λ ls. HasPassed (before ++ ls) new) (sym (c.split ∙ ap (λ ls. c.first ++ ls) c.ends.0 ∙ append-nil c.first)) c.ends.1
@@ -89,31 +77,6 @@ compared-behind schema before lines more old new found stops c = record {
     by alike.Other h k = differ (text_lines new.left.now) c.others (before ++ c.first) k
 
 -- One line
-
-pub compared-over : (schema : Schema) (before : List Line) (line : Line) (c : Comparison) → HasPassed before c → c.left.now ≡ [] → HasCompared schema before (line ∷ []) c alike.Over c
-compared-over schema before line c passed none = record {
-  first = [];
-  others = line ∷ [];
-  split = refl;
-  is = refl;
-  count = omega arith;
-  within = passed.within;
-  ends = (λ h. cc, none);
-}
-
-pub compared-other : (schema : Schema) (before : List Line) (line : Line) (old new : Comparison) (next behind newest : List ℕ) → new.left.now ≡ old.left.now → new.lines ≡ old.lines → IsWithin new
-    → text_lines old.left.now ≡ next ∷ text_lines behind → newest ≡ line_text schema before line → next ≢ newest → HasCompared schema before (line ∷ []) old alike.Other new
-compared-other schema before line old new next behind newest left lines within is text apart = record {
-  first = [];
-  others = line ∷ [];
-  split = refl;
-  is = ap text_lines (sym left);
-  count = omega (arith, lines);
-  within = within;
-  ends =
-      subst (λ (ls : List Line). DifferAtOnce (text_lines new.left.now) (line_texts schema ls (line ∷ []))) (sym (append-nil before))
-      (subst (λ (ls : List (List ℕ)). DifferAtOnce ls (line_texts schema before (line ∷ []))) (sym (ap text_lines left ∙ is)) (λ h. apart (h ∙ sym text)));
-}
 
 pub compared-alike : (schema : Schema) (before : List Line) (line : Line) (old new : Comparison) (next behind newest : List ℕ) → new.left.now ≡ behind → new.lines ≡ old.lines + 1
     → HasPassed (before ++ line ∷ []) new → text_lines old.left.now ≡ next ∷ text_lines behind → newest ≡ line_text schema before line → next ≡ newest → HasCompared schema before (line ∷ []) old alike.All new

@@ -24,7 +24,7 @@ use Rattle.world_core.proofs.Trying.{IsTried}
 
 -- Lists that begin alike
 
-heads : {A : Type 0} (x y : A) (xs ys : List A) → x ∷ xs ≡ y ∷ ys → (x ≡ y) × (xs ≡ ys)
+pub heads : {A : Type 0} (x y : A) (xs ys : List A) → x ∷ xs ≡ y ∷ ys → (x ≡ y) × (xs ≡ ys)
 heads x y xs ys h = (cc, cc)
 
 -- two lists do not begin alike, or one of them is empty

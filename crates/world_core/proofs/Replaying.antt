@@ -32,7 +32,7 @@ use Rattle.world_core.specs.Replayed.{IsReplayed}
 use Rattle.world_core.specs.Turns.{IsChosen}
 use Rattle.world_core.specs.WorldView.{WorldView}
 use Rattle.world_core.specs.Worlds.{IsCase}
-use Rattle.world_core.proofs.Following.{BeginApart, HaveCommon, LeadsOn, all-follows, effect-apart, effect-leads, printed-behind, says-apart, says-longer, says-short, stuck-follows, told-none, tried-leads}
+use Rattle.world_core.proofs.Following.{BeginApart, HaveCommon, LeadsOn, all-follows, effect-apart, effect-leads, heads, printed-behind, says-apart, says-longer, says-short, stuck-follows, told-none, tried-leads}
 use Rattle.world_core.proofs.Trying.{IsTried}
 
 -- What lines tell
@@ -55,9 +55,6 @@ ending-is_event (at_limit sides.Parent) = refl
 ending-is_event (at_limit sides.Child) = refl
 
 -- Lines and their texts
-
-heads : {A : Type 0} (x y : A) (xs ys : List A) → x ∷ xs ≡ y ∷ ys → (x ≡ y) × (xs ≡ ys)
-heads x y xs ys h = (cc, cc)
 
 texts-long : (schema : Schema) (before lines : List Line) → length (line_texts schema before lines) ≡ length lines
 texts-long schema before [] = refl
