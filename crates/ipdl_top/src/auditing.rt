@@ -1,4 +1,4 @@
-ghost use Rattle.std.specs.Prelude.{◌≤◌, IfOk, length};
+ghost use Rattle.std.specs.Prelude.{◌≡◌, ◌≤◌, IfOk, length};
 ghost use Rattle.handler_script.specs.Valid.{IsValid};
 ghost use Rattle.ipdl_base.specs.Sound.{IsSound};
 ghost use Rattle.transcript_laws.specs.TextLines.{text_lines};
@@ -36,7 +36,7 @@ pub fn audit(
 
 // What an audit finds by how far the lines of the text are printed.
 fn audit_by(replay: Replay) -> Audit
-    requires few { IsFew replay }
+    requires { IsFew replay }
     ensures { result ≡ audit_by replay }
 {
     match replay {
