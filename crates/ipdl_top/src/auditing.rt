@@ -1,6 +1,7 @@
 ghost use Rattle.std.specs.Prelude.{◌≡◌, ◌≤◌, IfOk, length};
 ghost use Rattle.handler_script.specs.Valid.{IsValid};
 ghost use Rattle.ipdl_base.specs.Sound.{IsSound};
+ghost use Rattle.script_steps.specs.Choices.{beginning_of};
 ghost use Rattle.transcript_laws.specs.TextLines.{text_lines};
 ghost use Rattle.transcript_reader.specs.Compared.{most_text_bytes};
 ghost use Rattle.world_core.specs.Replayed.{IsReplayed};
@@ -30,6 +31,20 @@ pub fn audit(
     ensures { IfOk result (IsAudited (audited_setting schema.now script.now limit) text.now) }
 {
     let mut world = World::open(alloc, schema, script, None, limit)?;
+    let found = audit_from(alloc, &mut world, text);
+    drop(world);
+    found
+}
+
+// What an audit finds, where a world is as it begins.
+fn audit_from(alloc: Global, world: &mut World<'_>, text: &[u8]) -> Result<Audit, AllocError>
+    requires sound { IsSound world.old.setting.schema }
+    requires valid { IsValid world.old.setting.schema world.old.setting.script }
+    requires small { world.old.setting.limit ≤ most_events }
+    requires begins { world.old.state ≡ beginning_of world.old.setting }
+    requires few { length text.now ≤ most_text_bytes }
+    ensures { IfOk result (IsAudited world.old.setting text.now) }
+{
     let replay = world.replay(alloc, text)?;
     Ok(audit_by(replay))
 }
