@@ -132,26 +132,6 @@ pub has_top : (given : LoadInput) (lists : FileMap) (list : Option (List ℕ)) (
 has_top given lists list file front words ends (Report answer) h = tt
 has_top given lists list file front words ends (Clean schema) h = top-of given schema file front h.0.program words ends h.0.reading.is_program h.0.reading.whole h.0.schema_of
 
--- The top, by the place that was found
-
-at-place : (place long : ℕ) (i : ℕ) → cond (nat_lt place long) (Some place) None ≡ Some i → (place < long) × (place ≡ i)
-at-place place long i e = elim (cases_Bool (nat_lt place long)) [
-  | inl t ↦ (ltb-true place long t, (let same : Some place ≡ Some i = sym (ap (λ (b : Bool). cond b (Some place) None) t) ∙ e in let is : place ≡ i = cc in is))
-  | inr f ↦ absurd (let none : None ≡ Some i = sym (ap (λ (b : Bool). cond b (Some place) None) f) ∙ e in let no : ⊥ = cc in no)
-]
-
-pub top_at : (file : List ℕ) (schema : Schema) (i : ℕ) → position (bears_name file) schema.protocols ≡ Some i → IsTop file schema i
-top_at file schema i e =
-    let found = at-place (position_or_len (bears_name file) schema.protocols) (length schema.protocols) i e in
-    record { there = subst (λ n. n < length schema.protocols) found.1 found.0; first = found.1 }
-
-pub no_top : (file : List ℕ) (schema : Schema) (top : ℕ) → position (bears_name file) schema.protocols ≡ None → ¬ IsTop file schema top
-no_top file schema top e is =
-    let place = position_or_len (bears_name file) schema.protocols in
-    let there : nat_lt place (length schema.protocols) ≡ true = lt-ltb place (length schema.protocols) (subst (λ n. n < length schema.protocols) (sym is.first) is.there) in
-    let some : Some place ≡ None = sym (ap (λ (b : Bool). cond b (Some place) None) there) ∙ e in
-    let no : ⊥ = cc in no
-
 -- Names
 
 unlike : (a b : List ℕ) → a ≢ b → bytes_eq a b ≡ false

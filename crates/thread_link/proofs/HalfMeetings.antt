@@ -11,6 +11,7 @@ use Rattle.script_steps.specs.Choices.{IsCaseHistory, Setting}
 use Rattle.script_steps.specs.Progress.{lines_of}
 use Rattle.thread_link.specs.Fronts.{HasSeen}
 use Rattle.thread_link.specs.Seats.{Adds}
+use Rattle.world_core.proofs.Played.{both-sides}
 use Rattle.world_core.specs.HalfView.{HalfView}
 use Rattle.world_core.specs.Halves.{FitsBehind, HalvesFitBehindMore, HasMet, IsHome}
 use Rattle.world_core.specs.LinkView.{LinkView}
@@ -49,14 +50,6 @@ pub met-grows : (side : Side) (seen found left now_seen : List Line) → HasSeen
 met-grows side seen found left now_seen front adds told = grows-on seen found now_seen (seen-grows side seen found front) (adds.more, told ∙ adds.behind)
 
 -- Few lines
-
-both-sides : (lines : List Line) → length lines ≡ length (lines_of sides.Parent lines) + length (lines_of sides.Child lines)
-both-sides [] = refl
-both-sides (l ∷ ls) = by l.side (both-sides ls)
-  where
-    by : (s : Side) → length ls ≡ length (lines_of sides.Parent ls) + length (lines_of sides.Child ls) → suc (length ls) ≡ length (lines_of sides.Parent (record { side = s; what = l.what } ∷ ls)) + length (lines_of sides.Child (record { side = s; what = l.what } ∷ ls))
-    by sides.Parent h = omega (arith, h)
-    by sides.Child h = omega (arith, h)
 
 -- four times the number of lines of a link that is home fits a word
 pub few : (setting : Setting) (link : LinkView) → IsHome setting link → 4 * length link.lines < 2 ^ 64

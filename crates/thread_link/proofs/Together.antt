@@ -11,6 +11,7 @@ use Rattle.thread_link.specs.Fronts.{HasSeen}
 use Rattle.thread_link.specs.Passes.{Belongs, about, seen}
 use Rattle.thread_link.specs.Runs.{RunsAtOnce}
 use Rattle.thread_link.specs.Work.{HasWorked, IsAtWork, MayWork}
+use Rattle.world_core.proofs.Halves.{split-own}
 use Rattle.world_core.specs.declared.answers.RunAnswer.{RunAnswer}
 use Rattle.world_core.specs.declared.answers.RunAnswer.TheVariants as run
 use Rattle.world_core.specs.HalfView.{HalfView, setting_of}
@@ -36,14 +37,6 @@ pub may-go-on : (exchange : Exchange) (pass : Pass) (half : HalfView) → Belong
 may-go-on exchange pass half belongs fits = record { belongs = belongs; fits = subst (λ (s : Setting). FitsBehind s pass.side (seen pass) half) belongs.setting fits }
 
 -- The world behind the work
-
--- halves apart are so in the setting of the parent
-pub split-own : (setting : Setting) (parent child : HalfView) (link : LinkView) → IsSplit setting parent child link → IsSplit (setting_of parent) parent child link
-split-own setting parent child link h = subst (λ (s : Setting). IsSplit s parent child link) (sym h.parent_fits.come.about) h
-
--- and where others are in a half's setting, they are so in their own
-pub split-again : (half parent child : HalfView) (link : LinkView) → IsSplit (setting_of half) parent child link → IsSplit (setting_of parent) parent child link
-split-again half parent child link h = split-own (setting_of half) parent child link h
 
 -- A world goes on from another: it is about the same, and its history goes on from the other's.
 pub record GoesOn (before after : WorldView) : Type 0 where

@@ -190,10 +190,3 @@ module _ (at : WorldView) (side : Side) (half : HalfView) (link : LinkView) (sta
       has-played at side half after link between e.deliver true (link_to side at.state.world) stands may.within has steps is lies last ends emptied
           (subst (λ (s : Side). IsAppended between after.end.lines (other s) after.end.packets ends) side-is appends),
     )
-
-  -- where no step was made, nothing was played
-  pub delivery-else : (a : StepAnswer) (after : HalfView) → (a ≡ answer.Did → ⊥) → FirstGives at side half a after → DeliveryPlays at side half link a after link
-  delivery-else answer.Did after isnt h = absurd (isnt refl)
-  delivery-else answer.Nothing after isnt h = absurd h
-  delivery-else (answer.Spent s) after isnt h = absurd h
-  delivery-else answer.NoMemory after isnt h = (h, refl)

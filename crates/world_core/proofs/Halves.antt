@@ -34,7 +34,8 @@ use Rattle.world_core.specs.declared.half.next.NextStep.TheVariants as next
 use Rattle.world_core.specs.HalfSteps.{IsOwnStep, MayGoOn, OwnGives, next_of}
 use Rattle.world_core.specs.HalfView.{HalfView, IsCountedBy, setting_of}
 use Rattle.world_core.specs.NextSteps.{IsNext}
-use Rattle.world_core.specs.Halves.{FitsBehind, HalvesFitBehindMore, StoredLinesFollow, own_choices}
+use Rattle.world_core.specs.Halves.{FitsBehind, HalvesFitBehindMore, IsSplit, StoredLinesFollow, own_choices}
+use Rattle.world_core.specs.LinkView.{LinkView}
 
 -- what a half has stored stands behind the lines that it fits
 pub reached : (setting : Setting) (side : Side) (seen : List Line) (half : HalfView) (fits : FitsBehind setting side seen half) → fits.to.lines ≡ seen ++ half.end.lines
@@ -194,3 +195,7 @@ halves_fit_behind_more setting side seen others half fits none history =
         framed = fits.stored.framed;
       };
     }
+
+-- halves apart are so in the setting of the parent
+pub split-own : (setting : Setting) (parent child : HalfView) (link : LinkView) → IsSplit setting parent child link → IsSplit (setting_of parent) parent child link
+split-own setting parent child link h = subst (λ (s : Setting). IsSplit s parent child link) (sym h.parent_fits.come.about) h

@@ -12,7 +12,7 @@ mod Taking
 mod OwnSteps
 mod OnTop
 mod NextKinds
-mod Played
+pub mod Played
 mod Turning
 mod Delivering
 mod Beginning

@@ -52,7 +52,7 @@ played-last setting (first ∷ front) choice from state next h k =
 
 -- Lines of both sides
 
-both-sides : (lines : List Line) → length lines ≡ length (lines_of sides.Parent lines) + length (lines_of sides.Child lines)
+pub both-sides : (lines : List Line) → length lines ≡ length (lines_of sides.Parent lines) + length (lines_of sides.Child lines)
 both-sides [] = refl
 both-sides (l ∷ ls) = by l.side (both-sides ls)
   where

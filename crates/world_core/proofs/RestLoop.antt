@@ -29,9 +29,6 @@ pub record RestsSo (begun now : WorldView) (side : Side) (left : ℕ) : Type 0 w
   pub whole : (last : RunState) (ending : RunEnding) → Rests begun.setting side left now.state last ending → Rests begun.setting sides.Parent 2 begun.state last ending
   pub in_part : (last : RunState) → RestsInPart begun.setting side left now.state last → RestsInPart begun.setting sides.Parent 2 begun.state last
 
-pub rests-first : (begun : WorldView) → IsCase begun → IsLawful begun → RestsSo begun begun sides.Parent 2
-rests-first begun case_is laws = record { same = refl; grows = grows-none begun.state.lines; case_is = case_is; laws = laws; whole = λ last ending h. h; in_part = λ last h. h }
-
 did : (begun now next : WorldView) (side : Side) (k : ℕ) → RestsSo begun now side (suc k) → outcome now.setting (whole_turn side) now.state ≡ leads next.state → next.setting ≡ now.setting → IsChosen now.setting now.state next.state → IsCase next → IsLawful next
     → RestsSo begun next (other side) 2
 did begun now next side k r is same c case_is laws =
@@ -130,6 +127,3 @@ pub less-did : (now next : WorldView) (left : ℕ) → IsCase now → next.setti
 less-did now next left is same c =
     let fewer : suc (left_of now.setting next.state) ≤ left_of now.setting now.state = chosen-less now.setting now.state next.state (run-sides now.setting is.leading now.state is.plays) c in
     subst (λ (s : Setting). 3 * left_of s next.state + 2 < turns_left now left) (sym same) (omega (arith, fewer))
-
-pub less-idle : (now next : WorldView) (left : ℕ) → 0 < left → next ≡ now → turns_left next (left - 1) < turns_left now left
-less-idle now next left some same = subst (λ (w : WorldView). turns_left w (left - 1) < turns_left now left) (sym same) (omega arith)

@@ -228,15 +228,6 @@ take-gives before after p counted fits answer.NoMemory h = h
 
 -- Counts as the code keeps them
 
--- a take that handles no request is counted as an event
-pub event-counts : (before : CountsView) (k : TakeKind) (a : TakeAnswer) → IsKindOf k a → ((h : Handling) → a ≡ take.Handle h → ⊥) → (a ≡ take.Nothing → ⊥) → IsCountedTake k before (with_event before)
-event-counts before (handle m row vs) (take.Handle h) is other some = absurd (other h refl)
-event-counts before drop take.Dropped is other some = refl
-event-counts before settle take.Settled is other some = refl
-event-counts before shut take.Shut is other some = refl
-event-counts before nothing take.Nothing is other some = absurd (some refl)
-event-counts before _ _ is other some = absurd is
-
 -- the request that is handled stands last, in the block that the table gives
 pub handle-counts : (before after : CountsView) (k : TakeKind) (h : Handling) (block : Option ℕ) (table : BlockTable) (xs : List RunningRequest) (r : RunningRequest) → IsKindOf k (take.Handle h) → before.running ≡ map view_of (reverse xs)
     → view_of r ≡ record { block = block; acts = 0; given = plain_values h.values; made = h.made; resolver = h.resolver }

@@ -29,9 +29,6 @@ pub record PicksSo (begun now : WorldView) (word rest : List Turn) : Type 0 wher
   pub whole : (last : RunState) (ending : RunEnding) → Picks begun.setting rest now.state last ending → Picks begun.setting word begun.state last ending
   pub in_part : (last : RunState) → PicksInPart begun.setting rest now.state last → PicksInPart begun.setting word begun.state last
 
-pub picks-first : (begun : WorldView) (word : List Turn) → IsCase begun → IsLawful begun → PicksSo begun begun word word
-picks-first begun word case_is laws = record { same = refl; grows = grows-none begun.state.lines; case_is = case_is; laws = laws; whole = λ last ending h. h; in_part = λ last h. h }
-
 pub picks-did : (begun now next : WorldView) (word rest : List Turn) (turn : Turn) → PicksSo begun now word (turn ∷ rest) → outcome now.setting turn now.state ≡ leads next.state → next.setting ≡ now.setting → IsChosen now.setting now.state next.state → IsCase next → IsLawful next
     → PicksSo begun next word rest
 picks-did begun now next word rest turn r is same c case_is laws =
@@ -69,17 +66,7 @@ picks-stop begun now word rest r = r.in_part now.state (part.word_stops rest now
 pub rest-at : (word : List Turn) (i : ℕ) (d : Turn) → i < length word → drop i word ≡ get_or word i d ∷ drop (i + 1) word
 rest-at word i d h = drop-cons word i d h ∙ ap (λ (n : ℕ). get_or word i d ∷ drop n word) (sym (add-one i))
 
--- and past its end
-pub rest-none : (word : List Turn) (i : ℕ) → length word ≤ i → drop i word ≡ []
-rest-none word i h = drop_all i word h
-
 -- Behind a word
-
--- what is done behind a word ends what the word does
-pub picks-end : (begun now next : WorldView) (word : List Turn) (answer : RunAnswer) → PicksSo begun now word [] → WordGives now [] answer next → WordGives begun word answer next
-picks-end begun now next word run.Finished r h = r.whole next.state at_rest (subst (λ (s : Setting). Picks s [] now.state next.state at_rest) r.same h)
-picks-end begun now next word (run.Spent side) r h = r.whole next.state (at_limit side) (subst (λ (s : Setting). Picks s [] now.state next.state (at_limit side)) r.same h)
-picks-end begun now next word run.NoMemory r h = r.in_part next.state (subst (λ (s : Setting). PicksInPart s [] now.state next.state) r.same h)
 
 pub stands-so : (now next : WorldView) (answer : RunAnswer) → WordGives now [] answer next → next.setting ≡ now.setting → IsSpentAt next answer → IsCase next → IsSound next.setting.schema → StandsAs next answer
 stands-so now next run.Finished h same spent case_is sound =

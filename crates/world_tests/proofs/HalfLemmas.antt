@@ -32,7 +32,3 @@ fits-behind-met law setting side half half' link link' met rest fits =
     let none : lines_of (other side) others ≡ [] =
     lines_of-append (other side) half.end.lines met.delivers.lines ∙ ap (λ (ws : List What). ws ++ lines_of (other side) met.delivers.lines) met.own ∙ met.delivers.own in
     other-fits law setting side link.lines others link' rest fits none (met.lines ∙ append_assoc link.lines half.end.lines met.delivers.lines) met.home
-
--- halves apart are so in the setting of the parent
-pub split-own : (setting : Setting) (parent child : HalfView) (link : LinkView) → IsSplit setting parent child link → IsSplit (setting_of parent) parent child link
-split-own setting parent child link h = subst (λ (s : Setting). IsSplit s parent child link) (sym h.parent_fits.come.about) h

@@ -1,13 +1,15 @@
 use Rattle.std.proofs.Common.{◌≡◌, ◌∙◌}
 use Rattle.thread_link.proofs.HalfMeetings.{grows-on}
-use Rattle.thread_link.proofs.Together.{GoesOn, goes-on, runs-at-once, split-again, split-own}
+use Rattle.thread_link.proofs.Together.{GoesOn, goes-on, runs-at-once}
 use Rattle.thread_link.proofs.workers.run_at_once.Goals as goal
+use Rattle.world_core.proofs.Halves.{split-own}
+use Rattle.world_core.specs.HalfView.{setting_of}
 
 pub work_apart-link-requires : goal.work_apart-link-requires
 work_apart-link-requires g c = (c.type_bounds.sync-R, (c.type_bounds.sync-G, split-own c.args.world.setting c.split-parent.result.0 c.split-parent.result.1 c.split-parent.result.2 c.split-parent.ensures.apart))
 
 pub join-world-requires : goal.join-world-requires
-join-world-requires g c = split-again c.split-parent.result.0 c.work_apart-link.new.parent c.work_apart-link.new.child c.work_apart-link.result.0 c.work_apart-link.ensures.split
+join-world-requires g c = split-own (setting_of c.split-parent.result.0) c.work_apart-link.new.parent c.work_apart-link.new.child c.work_apart-link.result.0 c.work_apart-link.ensures.split
 
 pub returns-clause-gives : goal.returns-clause-gives
 returns-clause-gives g c =
