@@ -1,9 +1,9 @@
 -- In a program that breaks no rule there is a protocol that bears the name of the command's file.
-use Rattle.std.proofs.Common.{◌≡◌, ◌≢◌, ◌∙◌, ◌<◌, ◌+◌, ◌-◌, ◌==◌, ◌&&◌, ℕ, zero, suc, Bool, true, false, cond, List, [], ◌∷◌, ◌++◌, take, drop, length, Option, Some, None, slice_get, refl, sym, ap, subst, arith, inl, inr, codes, true≢false}
-use Rattle.std.specs.Prelude.{IsSome, IsSomeAnd, nat_eq, nat_lt}
-use Rattle.std.specs.List.{Contains, position, position_or_len}
+use Rattle.std.proofs.Common.{◌≡◌, ◌≢◌, ◌∙◌, ◌<◌, ◌+◌, ◌-◌, ◌==◌, ◌&&◌, ℕ, zero, suc, Bool, true, false, cond, List, [], ◌∷◌, ◌++◌, take, drop, length, Option, Some, slice_get, refl, sym, ap, subst, arith, inl, inr, codes, true≢false}
+use Rattle.std.specs.Prelude.{IsSome, IsSomeAnd, nat_eq}
+use Rattle.std.specs.List.{Contains, position_or_len}
 use Rattle.std.specs.Str.{bytes_eq}
-use Rattle.std.proofs.lemmas.Bool.{cases_Bool, lt-ltb, ltb-true}
+use Rattle.std.proofs.lemmas.Bool.{cases_Bool}
 use Rattle.std.proofs.Math.Seq.{drop-append_seam}
 use Rattle.std.proofs.lemmas.List.{length-append, take-append-drop}
 use Rattle.std.proofs.lemmas.Slice.Eq.{bytes_eq-Decides}

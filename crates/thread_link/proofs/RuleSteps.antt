@@ -1,12 +1,12 @@
 -- Each step on the table keeps its rule.
-use Rattle.std.proofs.Common.{◌≡◌, ◌≢◌, ◌∙◌, ℕ, ◌+◌, ◌*◌, ◌%◌, ◌^◌, List, [], ◌∷◌, ◌++◌, ◌⊎◌, Bool, get_or, eqb, inl, inr, sym, refl, ap, subst, arith, true, false, true≢false, Option, Some, length, length-set, get_or-set_same, get_or-set_other}
+use Rattle.std.proofs.Common.{◌≡◌, ◌≢◌, ◌∙◌, ℕ, ◌+◌, ◌*◌, ◌%◌, ◌^◌, List, [], ◌∷◌, ◌++◌, ◌⊎◌, Bool, get_or, eqb, inl, inr, sym, refl, ap, subst, arith, true, false, Option, Some, length, length-set, get_or-set_same, get_or-set_other}
 use Rattle.std.proofs.lemmas.Bool.Decides.{eqb_tells}
 use Rattle.std.proofs.lemmas.List.{set-get_or}
 use mathlib.Core.Option.{some, some-injective}
 use prog.Atomic.{either}
 use lib.ListN.{get_elem?, set}
-use Rattle.atomic_table.proofs.Lists.{at_set, at_longer, set_again, set_else, set_here}
-use Rattle.atomic_table.specs.Table.{Allows, Final, Joins, Me, Seen, Splits, State, Step, gives, keeps, opening, takes}
+use Rattle.atomic_table.proofs.Lists.{at_set, set_again, set_here}
+use Rattle.atomic_table.specs.Table.{Allows, Me, State, Step, gives, keeps, opening, takes}
 use Rattle.channel_model.specs.Numbers.{other}
 use Rattle.ipdl_base.specs.declared.kinds.Side.{Side}
 use Rattle.ipdl_base.specs.declared.kinds.Side.TheVariants as sides
@@ -14,14 +14,13 @@ use Rattle.ipdl_base.specs.declared.line.Line.{Line}
 use Rattle.script_steps.specs.Choices.{Setting}
 use Rattle.script_steps.specs.Progress.{lines_of}
 use Rattle.thread_link.proofs.Fronts.{seen-all, seen-more}
-use Rattle.thread_link.proofs.Views.{at-end, clash, each-push, each-set, only, written}
+use Rattle.thread_link.proofs.Views.{clash, each-set, only, written}
 use Rattle.thread_link.specs.declared.parts.SeatView.{SeatView}
 use Rattle.thread_link.specs.declared.parts.SharedLink.{SharedLink}
 use Rattle.thread_link.specs.Fronts.{HasSeen}
-use Rattle.thread_link.specs.LinkRule.{AreApart, HasLink, IsLawful, has, number_of, seen_by}
+use Rattle.thread_link.specs.LinkRule.{HasLink, IsLawful, has, number_of, seen_by}
 use Rattle.thread_link.specs.Seats.{Adds, IsOf}
 use Rattle.thread_link.specs.Steps.{HasTakenLink, Locked, Released, Unchanged, carried_lines, child_part, first_view, parent_part, side_of, spent_view, whole_view, with_seen}
-use Rattle.world_core.specs.declared.link.Link.{Link}
 use Rattle.world_core.specs.Halves.{IsHome}
 
 abbrev state_with : List ℕ → List (mathlib.Core.Option.Option (Option SharedLink)) → List SeatView → State (Option SharedLink) SeatView

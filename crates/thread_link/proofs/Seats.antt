@@ -1,17 +1,16 @@
 -- Seats that take the link and give it back.
-use Rattle.std.proofs.Common.{◌≡◌, ◌∙◌, ℕ, List, [], ◌∷◌, Bool, sym, refl, ap, subst, true, false, Option, Some, None}
+use Rattle.std.proofs.Common.{◌≡◌, ◌∙◌, ℕ, List, [], ◌∷◌, Bool, sym, ap, subst, true, false, Option, Some, None}
 use Rattle.atomic_table.specs.declared.shared.Seat.{Seat}
 use Rattle.atomic_table.specs.Table.{Me, Step, rest}
 use Rattle.ipdl_base.specs.declared.kinds.Side.{Side}
 use Rattle.ipdl_base.specs.declared.line.Line.{Line}
-use Rattle.script_steps.specs.Choices.{Setting}
 use Rattle.thread_link.proofs.Ends.{some-same}
 use Rattle.thread_link.proofs.RuleSteps.{holds-with, is-with, seen-with, setting-with, side-is}
 use Rattle.thread_link.specs.declared.parts.SeatView.{SeatView}
 use Rattle.thread_link.specs.declared.parts.SharedLink.{SharedLink}
 use Rattle.thread_link.specs.Fronts.{HasSeen}
 use Rattle.thread_link.specs.LinkRule.{seen_by}
-use Rattle.thread_link.specs.Seats.{HasGiven, HasTaken, IsHolder, IsOf, IsSeatOf}
+use Rattle.thread_link.specs.Seats.{HasGiven, HasTaken, IsOf}
 use Rattle.thread_link.specs.Steps.{HasTakenLink, Released, carried_lines, side_of, with_seen}
 use Rattle.world_core.specs.Halves.{IsHome}
 

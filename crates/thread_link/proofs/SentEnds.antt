@@ -1,8 +1,7 @@
 -- An end may go to another thread. Each lemma is on a type as a field; a search that goes down through all of them runs out of steps.
 use denote.Enum.Declared.{Declared, shape}
-use denote.Enum.Enum.{Enum}
 use denote.Ref.{NamedLft}
-use denote.Param.Send.{EachSend, IsSend, enum_send, recorded_send, sendable}
+use denote.Param.Send.{EachSend, IsSend, enum_send, sendable}
 use Rattle.std.proofs.Crossing.{crosses}
 use Rattle.actor_tree.proofs.links.Resume.TheSendSync as resume
 use Rattle.actor_tree.proofs.node.Node.TheSendSync as tree_node

@@ -1,21 +1,18 @@
 -- Two sides that work at once, and the world that their halves are behind it.
-use Rattle.std.proofs.Common.{◌≡◌, ◌∙◌, List, [], ◌++◌, sym, ap, subst, refl}
-use Rattle.ipdl_base.specs.declared.kinds.Side.{Side}
-use Rattle.ipdl_base.specs.declared.kinds.Side.TheVariants as sides
+use Rattle.std.proofs.Common.{◌≡◌, ◌∙◌, List, [], ◌++◌, sym, ap, subst}
 use Rattle.ipdl_base.specs.declared.line.Line.{Line}
 use Rattle.script_steps.specs.Choices.{Setting}
-use Rattle.thread_link.proofs.HalfMeetings.{fits-on, grows-all, grows-on}
+use Rattle.thread_link.proofs.HalfMeetings.{grows-on}
 use Rattle.thread_link.specs.declared.pass.Exchange.{Exchange}
 use Rattle.thread_link.specs.declared.pass.Pass.{Pass}
-use Rattle.thread_link.specs.Fronts.{HasSeen}
-use Rattle.thread_link.specs.Passes.{Belongs, about, seen}
+use Rattle.thread_link.specs.Passes.{Belongs, seen}
 use Rattle.thread_link.specs.Runs.{RunsAtOnce}
 use Rattle.thread_link.specs.Work.{HasWorked, IsAtWork, MayWork}
 use Rattle.world_core.proofs.Halves.{split-own}
 use Rattle.world_core.specs.declared.answers.RunAnswer.{RunAnswer}
 use Rattle.world_core.specs.declared.answers.RunAnswer.TheVariants as run
 use Rattle.world_core.specs.HalfView.{HalfView, setting_of}
-use Rattle.world_core.specs.Halves.{FitsBehind, HalvesFitBehindMore, IsEmptied, IsHome, IsSplit, joined}
+use Rattle.world_core.specs.Halves.{FitsBehind, IsSplit, joined}
 use Rattle.world_core.specs.LinkView.{LinkView}
 use Rattle.world_core.specs.Turns.{GivesUnless, GrowsTo, WordGives}
 use Rattle.world_core.specs.Worlds.{IsCase}

@@ -28,7 +28,6 @@ use Rattle.channel_model.specs.ValueActors.{nulled}
 use Rattle.channel_model.proofs.FittingEnds.{taken-fits}
 use Rattle.channel_model.proofs.FittingRequests.{request-of}
 use Rattle.channel_core.specs.declared.answers.Handling.{Handling}
-use Rattle.channel_core.specs.declared.answers.TakeAnswer.{TakeAnswer}
 use Rattle.channel_core.specs.declared.answers.TakeAnswer.TheVariants as take
 use Rattle.channel_core.specs.EndView.{EndView}
 use Rattle.channel_core.specs.Taken.{TakeKind, handle, drop, settle, shut, nothing, IsKindOf, kind_of, item_kind, body_kind, request_kind, resolver_for}

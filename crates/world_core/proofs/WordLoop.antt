@@ -1,11 +1,10 @@
 -- The turns of a word, as a loop does them.
-use Rattle.std.proofs.Common.{◌≡◌, ℕ, ◌+◌, ◌<◌, ◌≤◌, List, [], ◌∷◌, drop, length, get_or, drop-cons, add-one, true, ◌⊎◌, inl, inr, refl, sym, ap, subst, ◌∙◌}
-use Rattle.std.proofs.lemmas.List.{drop_all}
+use Rattle.std.proofs.Common.{◌≡◌, ℕ, ◌+◌, ◌<◌, List, [], ◌∷◌, drop, length, get_or, drop-cons, add-one, true, ◌⊎◌, inl, inr, sym, ap, subst, ◌∙◌}
 use Rattle.ipdl_base.specs.declared.kinds.Side.{Side}
 use Rattle.channel_model.specs.Runs.{RunState}
 use Rattle.schedules.specs.declared.turn.Turn.{Turn}
 use Rattle.script_steps.specs.Choices.{Setting}
-use Rattle.script_steps.specs.Turns.{Picks, RunEnding, at_limit, at_rest, exceeds, idles, is_quiet, leads, outcome, turn_exceeds, turn_idles, turn_leads}
+use Rattle.script_steps.specs.Turns.{Picks, RunEnding, at_limit, exceeds, idles, is_quiet, leads, outcome, turn_exceeds, turn_idles, turn_leads}
 use Rattle.ipdl_base.specs.Sound.{IsSound}
 use Rattle.script_runs.proofs.Rest.{rest_of_cases_is_still}
 use Rattle.script_steps.proofs.Rest.{rest_is_quiet}
@@ -14,7 +13,7 @@ use Rattle.world_core.specs.declared.answers.RunAnswer.{RunAnswer}
 use Rattle.world_core.specs.declared.answers.RunAnswer.TheVariants as run
 use Rattle.world_core.specs.declared.answers.StepAnswer.{StepAnswer}
 use Rattle.world_core.specs.declared.answers.StepAnswer.TheVariants as step
-use Rattle.world_core.proofs.RestLoop.{exceeds-spent, grows-none, grows-then}
+use Rattle.world_core.proofs.RestLoop.{exceeds-spent, grows-then}
 use Rattle.world_core.specs.Turns.{GrowsTo, IsChosen, IsSpent, IsSpentAt, PicksInPart, StandsAs, TurnGives, WordGives}
 use Rattle.world_core.specs.Turns as part
 use Rattle.world_core.specs.WorldView.{WorldView}

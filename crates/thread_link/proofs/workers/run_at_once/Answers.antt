@@ -1,4 +1,4 @@
-use Rattle.std.proofs.Common.{◌≡◌, ◌∙◌}
+use Rattle.std.proofs.Common.{◌∙◌}
 use Rattle.thread_link.proofs.HalfMeetings.{grows-on}
 use Rattle.thread_link.proofs.Together.{GoesOn, goes-on, runs-at-once}
 use Rattle.thread_link.proofs.workers.run_at_once.Goals as goal

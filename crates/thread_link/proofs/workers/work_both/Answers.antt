@@ -1,5 +1,4 @@
 use denote.Param.Send.{sendable}
-use Rattle.std.proofs.Crossing.{crosses}
 use Rattle.thread_link.proofs.Sent.{exchange_sync, half_send, pass_send}
 use Rattle.thread_link.proofs.workers.work_both.Goals as goal
 

@@ -1,6 +1,5 @@
-use Rattle.std.proofs.Common.{◌≡◌, ◌∙◌, ◌*◌, ◌<◌, ◌^◌, ℕ, List, [], ◌∷◌, Option, Some, ap, sym, refl, subst, arith, length}
+use Rattle.std.proofs.Common.{◌≡◌, ◌∙◌, ◌*◌, ◌<◌, ◌^◌, ℕ, List, [], ◌∷◌, Option, Some, ap, sym, subst, arith, length}
 use Rattle.atomic_table.specs.Table.{Me, opening}
-use Rattle.script_steps.specs.Choices.{Setting}
 use Rattle.thread_link.proofs.Ends.{parts}
 use Rattle.thread_link.proofs.HalfMeetings.{few}
 use Rattle.thread_link.proofs.RuleSteps.{opens}

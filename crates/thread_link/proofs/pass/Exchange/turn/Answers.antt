@@ -1,4 +1,4 @@
-use Rattle.std.proofs.Common.{◌≡◌, ◌∙◌, ◌*◌, ◌<◌, ◌^◌, List, sym, ap, subst, refl, true, false, length}
+use Rattle.std.proofs.Common.{◌∙◌, List, sym, ap, subst, refl, true, false}
 use Rattle.ipdl_base.specs.declared.kinds.Side.{Side}
 use Rattle.ipdl_base.specs.declared.line.Line.{Line}
 use Rattle.script_steps.specs.Choices.{Setting}
