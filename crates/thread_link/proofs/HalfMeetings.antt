@@ -1,5 +1,5 @@
 -- A half meets a link that goes on behind what its side has seen.
-use Rattle.std.proofs.Common.{◌≡◌, ◌∙◌, ◌*◌, ◌<◌, ◌^◌, List, [], ◌++◌, sym, ap, subst, arith, length, append_assoc, append-nil}
+use Rattle.std.proofs.Common.{◌≡◌, ◌∙◌, ◌*◌, ◌<◌, ◌^◌, List, ◌++◌, sym, ap, subst, arith, length, append_assoc}
 use Rattle.channel_model.specs.Numbers.{other}
 use Rattle.ipdl_base.specs.declared.kinds.Side.{Side}
 use Rattle.ipdl_base.specs.declared.kinds.Side.TheVariants as sides
@@ -35,9 +35,6 @@ met-adds setting side half after found left met = record {
   behind = met.lines ∙ append_assoc found.lines half.end.lines met.delivers.lines;
   own = lines_of-append (other side) half.end.lines met.delivers.lines ∙ (ap (λ (ws : List What). ws ++ lines_of (other side) met.delivers.lines) met.own ∙ met.delivers.own);
 }
-
-pub grows-all : (lines : List Line) → GrowsTo lines lines
-grows-all lines = ([], sym (append-nil lines))
 
 pub grows-on : (xs ys zs : List Line) → GrowsTo xs ys → GrowsTo ys zs → GrowsTo xs zs
 grows-on xs ys zs a b = (a.0 ++ b.0, b.1 ∙ (ap (λ (ls : List Line). ls ++ b.0) a.1 ∙ append_assoc xs a.0 b.0))

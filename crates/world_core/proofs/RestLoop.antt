@@ -1,5 +1,5 @@
 -- Both sides in turn, as a loop does it.
-use Rattle.std.proofs.Common.{◌≡◌, ℕ, suc, ◌+◌, ◌-◌, ◌*◌, ◌<◌, ◌≤◌, Bool, true, false, not, ◌&&◌, if◌then◌else◌, List, [], ◌++◌, Option, Some, None, is_some, refl, sym, ap, subst, ◌∙◌, append_assoc, append-nil, arith}
+use Rattle.std.proofs.Common.{◌≡◌, ℕ, suc, ◌+◌, ◌-◌, ◌*◌, ◌<◌, ◌≤◌, Bool, true, false, not, ◌&&◌, if◌then◌else◌, List, [], ◌++◌, Option, Some, None, is_some, refl, sym, ap, subst, ◌∙◌, append_assoc, arith}
 use Rattle.ipdl_base.specs.declared.kinds.Side.{Side}
 use Rattle.ipdl_base.specs.declared.kinds.Side.TheVariants as sides
 use Rattle.ipdl_base.specs.declared.line.Line.{Line}
@@ -13,9 +13,6 @@ use Rattle.world_core.specs.Turns.{GrowsTo, IsChosen, IsSpent, RestsInPart}
 use Rattle.world_core.specs.Turns as part
 use Rattle.world_core.specs.WorldView.{WorldView}
 use Rattle.world_core.specs.Worlds.{IsCase, IsLawful}
-
-pub grows-none : (lines : List Line) → GrowsTo lines lines
-grows-none lines = ([], sym (append-nil lines))
 
 pub grows-then : (a b c : List Line) → GrowsTo a b → GrowsTo b c → GrowsTo a c
 grows-then a b c h k = (h.0 ++ k.0, k.1 ∙ ap (λ (ls : List Line). ls ++ k.0) h.1 ∙ append_assoc a h.0 k.0)
