@@ -8,7 +8,8 @@ use std::test::Fail;
 /// with `:` between them; and the files. Behind these stands `<-` and the file of frames where the
 /// command is the one that prints frames, or `<2` where it converts them. Behind `!` stand the script,
 /// the file, the word of turns behind `=`, the limit and the death of a run. Behind `&` stand the script,
-/// the file, the file of frames, the side and the limit of one end on a file of bytes. `%` stands before
+/// the file, the file of frames, the side and the limit of one end on a file of bytes. Behind `^` stand the
+/// script, the file, the transcript and the limit of an audit. `%` stands before
 /// the rounds and the actors of a generated case. Nothing stands where the words are no command. An
 /// empty word is written as two single quotes.
 const ROWS: &str = "x.ipdl => none . x.ipdl
@@ -159,6 +160,21 @@ feed feed feed.ipdl feed --side child => none . & feed feed.ipdl feed child 1000
 --side parent feed s.ids x.ipdl f =>
 relay x.ipdl =>
 audit x.ipdl =>
+audit s.ids x.ipdl t => none . ^ s.ids x.ipdl t 10000
+audit -sl --path d:e --limit 7 s.ids x.ipdl t => =l d:e ^ s.ids x.ipdl t 7
+audit s.ids --limit=20000 x.ipdl -- -t => none . ^ s.ids x.ipdl -t 20000
+audit s.ids x.ipdl =>
+audit s.ids x.ipdl t u =>
+audit s.ids t x.ipdl =>
+audit s.ids x.ipdlh t =>
+audit --limit 0 s.ids x.ipdl t =>
+audit --limit 20001 s.ids x.ipdl t =>
+audit --limit 1 --limit 1 s.ids x.ipdl t =>
+audit --die child:3 s.ids x.ipdl t =>
+audit --schedule PC s.ids x.ipdl t =>
+audit --side parent s.ids x.ipdl t =>
+audit audit audit.ipdl audit => none . ^ audit audit.ipdl audit 10000
+--limit 1 audit s.ids x.ipdl t =>
 waits x.ipdl => none . ? x.ipdl
 waits =>
 waits -s l x.ipdl => =l . ? x.ipdl
@@ -392,6 +408,17 @@ fn push_command(line: &mut String, command: &Command) -> Result<(), AllocError> 
             let word = side_word(*side);
             write!(line, "& {script} {file} {frames} {word} {limit}")
         }
+        Command::Audit {
+            list,
+            path,
+            limit,
+            script,
+            file,
+            transcript,
+        } => {
+            push_shared(line, list, path.as_slice())?;
+            write!(line, "^ {script} {file} {transcript} {limit}")
+        }
     }
 }
 
@@ -444,7 +471,7 @@ fn checked(alloc: Global) -> Result<String, Fail> {
 
 #[test]
 fn lists_of_words(rt: HostRuntime) -> Result<(), Fail> {
-    assert_eq!(rt; checked(rt.alloc())?.as_str(), "254");
+    assert_eq!(rt; checked(rt.alloc())?.as_str(), "269");
     Ok(())
 }
 

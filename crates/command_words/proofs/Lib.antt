@@ -18,4 +18,5 @@ pub mod OneCourse
 pub mod RunFound
 pub mod GenFound
 pub mod FeedFound
+pub mod AuditFound
 pub mod OneCommand

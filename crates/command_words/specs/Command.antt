@@ -2,6 +2,7 @@
 use Rattle.std.specs.Prelude.{◌≡◌, ℕ, Bool, List, ◌∷◌, Option, map, option_map, string_bytes}
 use Rattle.command_words.specs.declared.command.Command.{Command}
 use Rattle.command_words.specs.declared.command.Command.TheVariants as commands
+use Rattle.command_words.specs.Audit.{IsAudit}
 use Rattle.command_words.specs.Compile.{HasWord, IsCompile, unbuilt_commands}
 use Rattle.command_words.specs.Feed.{FeedCourse, IsFeed}
 use Rattle.command_words.specs.Frames.{IsFrames}
@@ -17,6 +18,7 @@ pub data CommandView : Type 0 where
   run : Option (List ℕ) → List (List ℕ) → Course → List ℕ → List ℕ → CommandView
   gen : ℕ → ℕ → CommandView
   feed : Option (List ℕ) → List (List ℕ) → FeedCourse → List ℕ → List ℕ → List ℕ → CommandView
+  audit : Option (List ℕ) → List (List ℕ) → ℕ → List ℕ → List ℕ → List ℕ → CommandView
 
 abbrev pub view_of : Command → CommandView
 view_of (commands.Compile list path files) = compile (option_map string_bytes list) (map string_bytes path.items) (map string_bytes files.items)
@@ -27,6 +29,7 @@ view_of (commands.Run list path schedule limit death script file) =
 view_of (commands.Gen rounds actors) = gen rounds actors
 view_of (commands.Feed list path limit side script file given) =
     feed (option_map string_bytes list) (map string_bytes path.items) (record { side = side; limit = limit }) (string_bytes script) (string_bytes file) (string_bytes given)
+view_of (commands.Audit list path limit script file given) = audit (option_map string_bytes list) (map string_bytes path.items) limit (string_bytes script) (string_bytes file) (string_bytes given)
 
 -- the words say this
 abbrev pub Say : List (List ℕ) → CommandView → Type 0
@@ -36,6 +39,7 @@ Say words (waits list path file) = IsWaits words list path file
 Say words (run list path course script file) = IsRun words list path course script file
 Say words (gen rounds actors) = IsGen words rounds actors
 Say words (feed list path course script file given) = IsFeed words list path course script file given
+Say words (audit list path limit script file given) = IsAudit words list path limit script file given
 
 -- the words are this command
 abbrev pub CommandOf : List (List ℕ) → Command → Type 0

@@ -10,5 +10,6 @@ pub mod Run
 pub mod Gen
 pub mod Operands
 pub mod Feed
+pub mod Audit
 pub mod Command
 pub mod Listed

@@ -5,6 +5,7 @@ ghost use Rattle.command_words.specs.Command.{CommandOf, IsNoCommand};
 ghost use Rattle.command_words.specs.Compile.{HasWord, unbuilt_commands};
 
 use crate::WordsFault;
+use crate::audit::audit;
 use crate::compile::compile;
 use crate::feed::feed;
 use crate::frames::frames;
@@ -90,10 +91,25 @@ pub enum Command {
         /// The name of the file of frames.
         frames: String,
     },
+    /// Say whether a text is the transcript of a run of a script.
+    Audit {
+        /// The name of the sync list, where one is given.
+        list: Option<String>,
+        /// The folders in which files are looked for, in order.
+        path: Vec<String>,
+        /// The most events of a side, from 1 to 20,000.
+        limit: u32,
+        /// The name of the script.
+        script: String,
+        /// The name of the file of the top protocol.
+        file: String,
+        /// The name of the file of the text.
+        transcript: String,
+    },
 }
 
 /// The first words that will choose a command of their own which is not built yet.
-const UNBUILT_COMMANDS: [&str; 2] = ["relay", "audit"];
+const UNBUILT_COMMANDS: [&str; 1] = ["relay"];
 
 /// Whether the word is one of these.
 fn has_word(words: &[&str], word: &str) -> bool
@@ -130,6 +146,9 @@ pub fn read_words(alloc: Global, words: &[String]) -> Result<Command, WordsFault
         }
         if first.as_str() == "feed" {
             return feed(alloc, rest);
+        }
+        if first.as_str() == "audit" {
+            return audit(alloc, rest);
         }
         if is_unbuilt_command(first.as_str()) {
             return Err(WordsFault::Usage);

@@ -2,6 +2,7 @@
 //! are read, and nothing of what a command does.
 #![tactic(auto)]
 
+mod audit;
 mod command;
 mod compile;
 mod courses;

@@ -3,3 +3,4 @@ pub mod Messages
 pub mod Noted
 pub mod Text
 pub mod Words
+pub mod Written

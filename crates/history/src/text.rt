@@ -359,7 +359,7 @@ fn push_begin(out: &mut Vec<u8>, line: &Line) -> Result<(), AllocError>
 }
 
 /// Appends a line.
-fn push_line(
+pub(crate) fn push_line(
     out: &mut Vec<u8>,
     schema: &Schema,
     messages: &Messages,

@@ -17,3 +17,4 @@ pub mod OneFeed
 pub mod Scripted
 pub mod Feeds
 pub mod Summed
+mod Audits

@@ -14,7 +14,7 @@ use Rattle.schema_laws.specs.Frames.{AreSchemasAlike}
 use Rattle.schema_laws.specs.Runs.{ScriptsAlike, TextsAlike}
 use Rattle.ipdl_top.specs.declared.answer.CommandAnswer.{CommandAnswer}
 use Rattle.ipdl_top.specs.Feed.{SaysFed, SaysFedOf, SaysFeed, feed_answer, feed_ending, feed_setting, feed_status, kept_text}
-use Rattle.ipdl_top.specs.Run.{ending_line}
+use Rattle.script_runs.specs.Endings.{ending_line}
 use Rattle.ipdl_top.proofs.OneScript.{script_one}
 
 -- the laws that a feed rests on

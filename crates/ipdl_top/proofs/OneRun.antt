@@ -10,6 +10,7 @@ use Rattle.handler_script.specs.declared.script.Script.{Script}
 use Rattle.handler_script.specs.Plain.{plain_script}
 use Rattle.schema_laws.specs.Runs.{AreSettingsAlike, PicksAlike, ScriptsAlike, TextsAlike}
 use Rattle.schedules.specs.declared.turn.Turn.{Turn}
+use Rattle.script_runs.specs.Endings.{ending_line}
 use Rattle.script_steps.specs.Choices.{Setting, beginning_of}
 use Rattle.script_steps.specs.Laws.{WordsHaveOneResult}
 use Rattle.script_steps.specs.Turns.{Picks, RunEnding, at_limit, at_rest}
@@ -17,7 +18,7 @@ use Rattle.world_core.specs.WorldView.{WorldView, opening_of}
 use Rattle.ipdl_top.specs.declared.answer.CommandAnswer.{CommandAnswer}
 use Rattle.ipdl_top.specs.declared.rendering.Rendering.{Rendering}
 use Rattle.ipdl_top.specs.declared.rendering.Rendering.TheVariants.{Summary, Transcript}
-use Rattle.ipdl_top.specs.Run.{Driving, IsMade, SaysHistory, SaysRun, answer_of, ending_line, rendered, run_answer, run_status, setting_by}
+use Rattle.ipdl_top.specs.Run.{Driving, IsMade, SaysHistory, SaysRun, answer_of, rendered, run_answer, run_status, setting_by}
 use Rattle.ipdl_top.proofs.OneScript.{script_one}
 
 -- the laws that a run rests on

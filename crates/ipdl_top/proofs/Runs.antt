@@ -8,6 +8,7 @@ use Rattle.channel_model.specs.Runs.{IsLegalHistory, RunState}
 use Rattle.command_words.specs.Run.{Course}
 use Rattle.handler_script.specs.declared.script.Script.{Script}
 use Rattle.schedules.specs.declared.turn.Turn.{Turn}
+use Rattle.script_runs.specs.Endings.{ending_line}
 use Rattle.script_steps.specs.Choices.{IsCaseHistory, Setting}
 use Rattle.script_steps.specs.Laws.{ChoicesAreRuns}
 use Rattle.script_steps.specs.Turns.{RunEnding, at_limit, at_rest}
@@ -18,7 +19,7 @@ use Rattle.world_core.specs.Worlds.{IsCase}
 use Rattle.world_laws.specs.Statements.{HistoriesAreLawful, IsLawfulHistory}
 use Rattle.ipdl_top.specs.declared.answer.CommandAnswer.{CommandAnswer}
 use Rattle.ipdl_top.specs.declared.rendering.Rendering.{Rendering}
-use Rattle.ipdl_top.specs.Run.{Driving, IsMade, SaysHistory, answer_of, ending_line, rendered, run_answer, run_status, setting_by}
+use Rattle.ipdl_top.specs.Run.{Driving, IsMade, SaysHistory, answer_of, rendered, run_answer, run_status, setting_by}
 use Rattle.ipdl_top.specs.RunSteps.{IsMadeUnless, IsPrinted}
 
 -- a run that did not run out of memory was made

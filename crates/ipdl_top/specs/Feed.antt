@@ -22,7 +22,7 @@ use Rattle.ipdl_top.specs.declared.answer.CommandAnswer.{CommandAnswer}
 use Rattle.ipdl_top.specs.declared.status.Status.{Status}
 use Rattle.ipdl_top.specs.declared.status.Status.TheVariants as status
 use Rattle.ipdl_top.specs.Frames.{absent_answer, larger_answer}
-use Rattle.ipdl_top.specs.Run.{ending_line}
+use Rattle.script_runs.specs.Endings.{ending_line}
 use Rattle.ipdl_top.specs.Scripts.{SaysByScript}
 
 -- what a feed is about

@@ -17,3 +17,4 @@ pub mod Report
 pub mod FileViews
 pub mod Steps
 pub mod Written
+pub mod Audited

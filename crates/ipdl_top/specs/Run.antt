@@ -1,5 +1,5 @@
 -- What the command that runs a script says of a schema.
-use Rattle.std.specs.Prelude.{◌≡◌, ℕ, List, [], ◌++◌, Option, Some, None, codes}
+use Rattle.std.specs.Prelude.{◌≡◌, ℕ, List, [], ◌++◌, Option, Some, None}
 use Rattle.ipdl_base.specs.declared.line.Line.{Line}
 use Rattle.ipdl_base.specs.declared.schema.Schema.{Schema}
 use Rattle.command_words.specs.Run.{Course}
@@ -8,7 +8,7 @@ use Rattle.handler_script.specs.declared.script.Script.{Script}
 use Rattle.generated_case.specs.Counts.{counts_of}
 use Rattle.generated_case.specs.Summary.{summary_text}
 use Rattle.history.specs.Text.{transcript_text}
-use Rattle.history.specs.Words.{side_word}
+use Rattle.script_runs.specs.Endings.{ending_line}
 use Rattle.script_steps.specs.Choices.{IsCaseHistory, Setting}
 use Rattle.script_steps.specs.Turns.{RunEnding, at_limit, at_rest}
 use Rattle.schedules.specs.declared.turn.Turn.{Turn}
@@ -42,14 +42,10 @@ IsMade Gives (Some word) before after ending = WordGives before word ending afte
 abbrev pub setting_by : Schema → Script → Course → Setting
 setting_by schema script course = record { schema = schema; script = script; stop = course.death; limit = course.limit }
 
--- how the command ends by how the run did, and the last line that says so
+-- how the command ends by how the run did
 abbrev pub run_status : RunEnding → Status
 run_status at_rest = status.Done
 run_status (at_limit side) = status.Spent
-
-abbrev pub ending_line : RunEnding → List ℕ
-ending_line at_rest = codes "finished\n"
-ending_line (at_limit side) = codes "spent " ++ side_word side ++ codes "\n"
 
 -- the answer of a run that ended so
 abbrev pub answer_of : RunEnding → RunAnswer

@@ -4,6 +4,7 @@ ghost use Rattle.end_parts.specs.PlainLines.{plain_line};
 ghost use Rattle.history.specs.Text.{numbered};
 ghost use Rattle.handler_script.specs.Valid.{IsValid};
 ghost use Rattle.include_graph.specs.Keys.{AreFileWords};
+ghost use Rattle.script_runs.specs.Endings.{ending_line};
 ghost use Rattle.ipdl_base.specs.Outside.{Rose};
 ghost use Rattle.ipdl_base.specs.Sound.{IsSound};
 ghost use Rattle.value_codec.specs.Laws.{AreBytes};
@@ -13,7 +14,6 @@ ghost use Rattle.ipdl_top.specs.Feed as told;
 ghost use Rattle.ipdl_top.specs.Feed.{SaysFed, SaysFedOf, SaysFeed, feed_answer, feed_ending, feed_status, kept_text};
 ghost use Rattle.ipdl_top.specs.FeedSteps.{AreHeld, AreSmall, feed_course};
 ghost use Rattle.ipdl_top.specs.FileViews.{ForMap};
-ghost use Rattle.ipdl_top.specs.Run as run;
 ghost use Rattle.ipdl_top.specs.Steps.{HasTop, IsHeld, IsSmall, IsSoundChecked, IsToldOf};
 ghost use Rattle.ipdl_top.specs.Waits.{IsTop};
 
@@ -125,7 +125,7 @@ fn status_of(spent: bool, fault: Option<FeedFault>) -> Status
 
 /// The last line, which says how the feed ended.
 fn last_line(side: Side, spent: bool) -> &'static [u8]
-    ensures { result.now ≡ run.ending_line (feed_ending side spent) }
+    ensures { result.now ≡ ending_line (feed_ending side spent) }
 {
     if spent {
         spent_line(side)

@@ -2,6 +2,8 @@
 #![tactic(auto)]
 
 mod answer;
+mod audited;
+mod auditing;
 mod checked;
 mod compile;
 mod feed;
@@ -20,6 +22,8 @@ mod status;
 mod waits;
 mod write;
 
+pub use audited::Audit;
+pub use auditing::audit;
 pub use laws::answer_is_determined;
 pub use program::ipdl;
 pub use status::Status;

@@ -60,7 +60,7 @@ effect-plain _ = refl
 at-plain : (end : Side) (n : ℤ) (line : Line) → message_at end n (plain_line line) ≡ message_at end n line
 at-plain end n line = ap (λ g. if same_side line.side end then option_and_then (λ (g : ℤ × ℕ). if int_eq g.0 n then Some g.1 else None) g else None) (given-plain line.what)
 
-message-plain : (end : Side) (lines : List Line) (n : ℤ) → message_of_number end (map plain_line lines) n ≡ message_of_number end lines n
+pub message-plain : (end : Side) (lines : List Line) (n : ℤ) → message_of_number end (map plain_line lines) n ≡ message_of_number end lines n
 message-plain end [] n = refl
 message-plain end (line ∷ rest) n =
     ap (λ found. if is_some found then found else message_at end n (plain_line line)) (message-plain end rest n)
@@ -71,7 +71,7 @@ saying-plain says schema types line =
     ap (λ (b : Bool). (if b then codes "  " else side_word line.side ++ codes " ") ++ what_text schema types (plain_what line.what) ++ codes "\n") (effect-plain line.what)
     ∙ ap (λ text. line_begin line ++ text ++ codes "\n") (text-plain says schema types line.what)
 
-line-plain : BoxesSayNothing → (schema : Schema) (before : List Line) (line : Line) → line_text schema (map plain_line before) (plain_line line) ≡ line_text schema before line
+pub line-plain : BoxesSayNothing → (schema : Schema) (before : List Line) (line : Line) → line_text schema (map plain_line before) (plain_line line) ≡ line_text schema before line
 line-plain says schema before line =
     saying-plain says schema (λ n. returns_named schema (message_of_number line.side (map plain_line before) n)) line
     ∙ ap (λ (types : ℤ → List ParamRow). line_saying schema types line) (fun_ext (λ n. ap (returns_named schema) (message-plain line.side before n)))

@@ -12,4 +12,7 @@ pub mod KeptRuns
 pub mod Contexts
 pub mod Possible
 pub mod Changes
+pub mod Tells
+pub mod TextChoices
+pub mod Growth
 mod Worked

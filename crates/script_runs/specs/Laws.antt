@@ -13,6 +13,7 @@ use Rattle.ipdl_base.specs.declared.schema.ParamRow.{ParamRow}
 use Rattle.ipdl_base.specs.declared.schema.Schema.{Schema}
 use Rattle.ipdl_base.specs.Sound.{IsSound}
 use Rattle.value_types.specs.HasType.{HaveTypes}
+use Rattle.history.specs.Text.{line_text}
 use Rattle.history_reading.specs.declared.law.Law.{Law}
 use Rattle.history_reading.specs.Holds.{Holds, IsReadable}
 use Rattle.nesting_core.specs.Frames.{head_of}
@@ -31,7 +32,7 @@ use Rattle.channel_model.specs.States.{IsAnswered}
 use Rattle.channel_model.specs.Steps.{step}
 use Rattle.channel_laws.specs.BoundedRuns.{delivered_at, waiting_of}
 use Rattle.schedules.specs.declared.turn.Turn.{Turn}
-use Rattle.script_steps.specs.Choices.{Setting, Choice, beginning_of, own_event, may_deliver, is_within, is_doable, chosen, played, IsCaseHistory}
+use Rattle.script_steps.specs.Choices.{Setting, Choice, beginning_of, choice_of, own_event, may_deliver, is_within, is_doable, chosen, played, IsCaseHistory}
 use Rattle.script_steps.specs.NextEvent.{handler_action}
 use Rattle.script_steps.specs.Progress.{HandledRequest, progress_of, lines_of}
 use Rattle.script_steps.specs.Turns.{turn_choice, led_to, is_quiet}
@@ -39,6 +40,7 @@ use Rattle.script_runs.specs.Allowed.{IsAllowed}
 use Rattle.script_runs.specs.Contexts.{FitsContext}
 use Rattle.script_runs.specs.Dispatches.{dispatches, dispatches_after}
 use Rattle.script_runs.specs.Handlers.{IsDispatchOf, has_answered, IsHandlerOf}
+use Rattle.script_runs.specs.Told.{choice_told}
 
 -- Terms that fit a block stand for values of the types, where what they are seen with fits the block.
 abbrev pub TermsStandForValues : Type 0
@@ -134,3 +136,7 @@ pub record HasRoom (setting : Setting) (state : RunState) (side : Side) : Type 0
 
 abbrev pub CasesHaveRoom : Type 0
 CasesHaveRoom = (setting : Setting) (choices : List Choice) (state : RunState) → IsSound setting.schema → played setting choices (beginning_of setting) ≡ Some state → (side : Side) → HasRoom setting state side
+
+-- The text of a line tells the choice that the line tells of: which side went on, and whether by a delivery.
+abbrev pub LineTextsTellChoices : Type 0
+LineTextsTellChoices = (schema : Schema) (before : List Line) (line : Line) → choice_told (line_text schema before line) ≡ choice_of line

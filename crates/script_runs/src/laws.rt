@@ -1,4 +1,4 @@
-ghost use Rattle.script_runs.specs.Laws.{AnswersComeOnce, CaseHistoriesObeyAllLaws, CaseWorldsFit, CasesHaveRoom, HandledAreDispatched, HandlersStand, ResolversAreApart, RestOfCasesIsStill, ScriptEventsArePossible, StepsChangeDispatches, TermsStandForValues};
+ghost use Rattle.script_runs.specs.Laws.{AnswersComeOnce, CaseHistoriesObeyAllLaws, CaseWorldsFit, CasesHaveRoom, HandledAreDispatched, HandlersStand, LineTextsTellChoices, ResolversAreApart, RestOfCasesIsStill, ScriptEventsArePossible, StepsChangeDispatches, TermsStandForValues};
 
 /// The law of terms: those that fit stand for values of the types.
 pub fn terms_stand_for_values()
@@ -53,4 +53,9 @@ pub fn case_histories_obey_all_laws()
 /// The law of room: how much a side has said and sent for its events.
 pub fn cases_have_room()
     ensures { CasesHaveRoom }
+{}
+
+/// The law of line texts: each tells which side went on, and whether by a delivery.
+pub fn line_texts_tell_choices()
+    ensures { LineTextsTellChoices }
 {}

@@ -16,7 +16,7 @@ use Rattle.script_runs.proofs.CaseRuns.{IsCase}
 use Rattle.script_runs.proofs.Possible.{script_events_are_possible}
 use Rattle.script_runs.proofs.Room.{cases_have_room}
 use Rattle.script_steps.proofs.Choosing.{choices_are_read}
-use Rattle.script_steps.proofs.Playing.{PlaysOn, plays_on}
+use Rattle.script_runs.proofs.Growth.{plays-behind}
 use Rattle.script_steps.specs.Choices.{Setting, Choice, beginning_of, choice_of, choices_of, chosen, is_delivery_line, is_within, may_deliver, own_event, played}
 use Rattle.script_steps.specs.Progress.{lines_of}
 use Rattle.script_steps.specs.Turns.{RunEnding, at_limit, at_rest, delivery_choice, is_quiet, is_quiet_at, led_to, turn_choice, whole_turn}
@@ -72,15 +72,6 @@ busy-side setting state h = by (is_quiet_at setting state sides.Parent) refl h
 -- how many choices are more than a run has
 abbrev too_many : Setting → ℕ
 too_many setting = 10 * setting.limit + 3
-
--- choices behind others
-pub plays-behind : (setting : Setting) (first more : List Choice) (from between last : RunState) → played setting first from ≡ Some between → played setting more between ≡ Some last → played setting (first ++ more) from ≡ Some last
-plays-behind setting [] more from between last h k =
-    let same : from ≡ between = cc in
-    ap (played setting more) same ∙ k
-plays-behind setting (choice ∷ first) more from between last h k =
-    let p : PlaysOn setting choice first from between = plays_on setting choice first from between h in
-    ap (option_and_then (played setting (first ++ more))) p.first ∙ plays-behind setting first more p.next between last p.rest k
 
 module _ (setting : Setting) (sound : IsSound setting.schema) (valid : IsValid setting.schema setting.script) (limit : HasLimit setting) where
   few-choices : (choices : List Choice) (state : RunState) → played setting choices (beginning_of setting) ≡ Some state → length choices < too_many setting

@@ -11,24 +11,25 @@ use Rattle.ipdl_base.specs.declared.kinds.Side.TheVariants as sides
 use Rattle.ipdl_base.specs.declared.schema.Schema.{Schema}
 use Rattle.ipdl_base.specs.Lines.{is_effect}
 use Rattle.ipdl_base.specs.Sound.{IsSound}
-use Rattle.channel_model.specs.Ends.{end_of, link_to}
-use Rattle.channel_model.specs.Outputs.{line_at}
 use Rattle.channel_model.specs.Runs.{RunState}
 use Rattle.history.specs.Text.{line_text, transcript_text}
 use Rattle.script_runs.specs.Laws.{HasLimit}
-use Rattle.script_steps.proofs.Choosing.{Happens, choice-happens, choices_are_read}
-use Rattle.script_steps.proofs.Playing.{Chooses, chooses, PlaysOn, plays_on, choices_grow}
-use Rattle.script_steps.proofs.StepLines.{Prints, step-prints}
+use Rattle.script_runs.specs.Endings.{EndsAs, ending_line}
+use Rattle.script_runs.specs.Replays.{ArePrinted, Follows, IsStuck, choices_told, printed_lines}
+use Rattle.script_runs.proofs.Growth.{BeginsEvent, adds-event, plays-behind}
+use Rattle.script_runs.proofs.TextChoices.{texts-told}
+use Rattle.script_steps.proofs.Choosing.{choices_are_read}
+use Rattle.script_steps.proofs.Playing.{PlaysOn, plays_on, choices_grow}
 use Rattle.script_steps.specs.Choices.{Setting, Choice, beginning_of, choice_of, choices_of, chosen, is_delivery_line, played}
 use Rattle.script_steps.specs.Laws.{GoesOn}
 use Rattle.script_steps.specs.Turns.{RunEnding, at_limit, at_rest}
 use Rattle.script_transcripts.specs.Laws.{Ends, LegalTextsDecide, ReplaysDecide}
-use Rattle.script_transcripts.specs.Legal.{AreFirstLines, EndsAs, IsLegalText, ending_line}
-use Rattle.script_transcripts.specs.Replays.{ArePrinted, Follows, IsStuck, choices_told, printed_lines}
-use Rattle.script_transcripts.proofs.Ends.{cases_end, plays-behind}
-use Rattle.script_transcripts.proofs.Texts.{texts-told, transcript-lines}
+use Rattle.script_transcripts.specs.Legal.{AreFirstLines, IsLegalText}
+use Rattle.script_transcripts.proofs.Ends.{cases_end}
+use Rattle.script_transcripts.proofs.Texts.{transcript-lines}
 use Rattle.transcript_laws.specs.Printed.{line_texts}
 use Rattle.transcript_laws.specs.TextLines.{text_lines}
+use Rattle.transcript_laws.proofs.Parts.{texts-append}
 
 -- Lists with two seams
 
@@ -48,13 +49,7 @@ seams (x ∷ xs) ys (z ∷ zs) ws h = by (cons-head x z (xs ++ ys) (zs ++ ws) h)
     by e (inl s) = inl (s.0, ap (λ l. z ∷ l) s.1 ∙ ap (λ y. y ∷ xs ++ s.0) (sym e.0), s.2)
     by e (inr s) = inr (s.0, s.1, ap (λ l. x ∷ l) s.2 ∙ ap (λ y. y ∷ zs ++ s.0 ∷ s.1) e.0, s.3)
 
--- Texts of lines, in two parts
-
-texts-append : (schema : Schema) (before xs ys : List Line) → line_texts schema before (xs ++ ys) ≡ line_texts schema before xs ++ line_texts schema (before ++ xs) ys
-texts-append schema before [] ys = ap (λ ls. line_texts schema ls ys) (sym (append-nil before))
-texts-append schema before (x ∷ xs) ys =
-    ap (λ ts. line_text schema before x ∷ ts)
-    (texts-append schema (before ++ x ∷ []) xs ys ∙ ap (λ ls. line_texts schema (before ++ x ∷ []) xs ++ line_texts schema ls ys) (append_assoc before (x ∷ []) xs))
+-- Texts of lines that are the first ones
 
 -- Lines of which these are the first texts.
 record SplitsLines (schema : Schema) (before lines : List Line) (front : List (List ℕ)) : Type 0 where
@@ -76,28 +71,7 @@ splits-lines schema before (line ∷ lines) (text ∷ front) others h =
       texts_are = ap (λ t. t ∷ front) (sym e.0) ∙ ap (λ ts. line_text schema before line ∷ ts) s.texts_are;
     }
 
--- What choices add begins with an event
-
-abbrev BeginsEvent : List Line → Type 0
-BeginsEvent [] = Unit {0}
-BeginsEvent (line ∷ lines) = is_effect line.what ≡ false
-
-adds-event : (setting : Setting) (choices : List Choice) (from last : RunState) → played setting choices from ≡ Some last → (lines : List Line) × (last.lines ≡ from.lines ++ lines) × BeginsEvent lines
-adds-event setting [] from last h =
-    let same : from ≡ last = cc in
-    ([], ap (λ (s : RunState). s.lines) (sym same) ∙ sym (append-nil from.lines), tt)
-adds-event setting (choice ∷ more) from last h =
-    let p : PlaysOn setting choice more from last = plays_on setting choice more from last h in
-    let c : Chooses setting choice from p.next = chooses setting choice from p.next p.first in
-    let made : Happens setting choice.side from c.event p.next = choice-happens setting choice from p.next c in
-    let prints : Prints (end_of choice.side from.world) c.event made.output = step-prints setting.schema (end_of choice.side from.world) (link_to choice.side from.world) c.event made.output made.is in
-    let others = adds-event setting more p.next last p.rest in
-    let effects : List Line = map (line_at (end_of choice.side from.world).side) prints.rest in
-    let event : Line = line_at (end_of choice.side from.world).side prints.first in (
-      event ∷ effects ++ others.0,
-      others.1 ∙ ap (λ ls. ls ++ others.0) (made.lines ∙ ap (λ ls. from.lines ++ ls) prints.lines) ∙ append_assoc from.lines (event ∷ effects) others.0,
-      prints.is_event,
-    )
+-- Lines that begin with an event
 
 told-none : (b : Bool) (choice : Choice) (choices : List Choice) → b ≡ false → cons_option (if b then None else Some choice) choices ≡ [] → ⊥
 told-none true choice choices h k = cc

@@ -1,4 +1,3 @@
-pub mod Tells
 pub mod Names
 pub mod Texts
 pub mod Ends

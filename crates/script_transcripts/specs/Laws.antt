@@ -1,23 +1,17 @@
 -- What the texts of histories tell of them.
 use Rattle.std.specs.Prelude.{◌≡◌, ◌↔◌, ℕ, List, ◌++◌, Some}
 use Rattle.handler_script.specs.Valid.{IsValid}
-use Rattle.ipdl_base.specs.declared.line.Line.{Line}
-use Rattle.ipdl_base.specs.declared.schema.Schema.{Schema}
 use Rattle.ipdl_base.specs.Sound.{IsSound}
 use Rattle.channel_model.specs.Runs.{RunState}
-use Rattle.history.specs.Text.{line_text, transcript_text}
+use Rattle.history.specs.Text.{transcript_text}
 use Rattle.script_runs.specs.Laws.{HasLimit}
-use Rattle.script_steps.specs.Choices.{Setting, Choice, beginning_of, choice_of, played}
+use Rattle.script_steps.specs.Choices.{Setting, Choice, beginning_of, played}
 use Rattle.script_steps.specs.Turns.{RunEnding}
-use Rattle.script_transcripts.specs.Legal.{AreFirstLines, EndsAs, IsLegalText, ending_line}
-use Rattle.script_transcripts.specs.Replays.{ArePrinted, Follows}
+use Rattle.script_runs.specs.Endings.{EndsAs, ending_line}
+use Rattle.script_runs.specs.Replays.{ArePrinted, Follows}
+use Rattle.script_transcripts.specs.Legal.{AreFirstLines, IsLegalText}
 use Rattle.transcript_laws.specs.Printed.{SayWords}
-use Rattle.script_transcripts.specs.Told.{choice_told}
 use Rattle.transcript_laws.specs.TextLines.{text_lines}
-
--- The text of a line tells the choice that the line tells of: which side went on, and whether by a delivery.
-abbrev pub LineTextsTellChoices : Type 0
-LineTextsTellChoices = (schema : Schema) (before : List Line) (line : Line) → choice_told (line_text schema before line) ≡ choice_of line
 
 -- The names in the histories of a valid script are words.
 abbrev pub CaseNamesAreWords : Type 0

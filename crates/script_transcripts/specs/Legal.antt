@@ -1,21 +1,11 @@
 -- The texts that runs of a script may print, and how far a text is like one of them.
-use Rattle.std.specs.Prelude.{◌≡◌, ℕ, ◌≤◌, true, false, List, [], ◌∷◌, ◌++◌, length, take, Some}
+use Rattle.std.specs.Prelude.{◌≡◌, ℕ, ◌≤◌, List, ◌++◌, length, take, Some}
 use Rattle.history.specs.Text.{transcript_text}
 use Rattle.channel_model.specs.Runs.{RunState}
-use Rattle.script_steps.specs.Choices.{Setting, Choice, beginning_of, is_within, played}
-use Rattle.script_steps.specs.Turns.{RunEnding, at_rest, at_limit, is_quiet, is_quiet_at}
+use Rattle.script_runs.specs.Endings.{EndsAs, ending_line}
+use Rattle.script_steps.specs.Choices.{Setting, Choice, beginning_of, played}
+use Rattle.script_steps.specs.Turns.{RunEnding}
 use Rattle.transcript_laws.specs.TextLines.{text_lines}
-use Rattle.transcript_laws.specs.Told.{finished_line, spent_line}
-
--- the last line of what a run prints, which says how it ended
-abbrev pub ending_line : RunEnding → List ℕ
-ending_line at_rest = finished_line
-ending_line (at_limit side) = spent_line side
-
--- A run may end so: nothing is left to do, or this side has something left to do but as many events as it may have.
-abbrev pub EndsAs : Setting → RunState → RunEnding → Type 0
-EndsAs setting state at_rest = is_quiet setting state ≡ true
-EndsAs setting state (at_limit side) = (is_within setting side state ≡ false) × (is_quiet_at setting state side ≡ false)
 
 -- The text is what a run prints that some choices make: its transcript, and how it ended.
 pub record IsLegalText (setting : Setting) (text : List ℕ) : Type 0 where

@@ -1,4 +1,2 @@
-pub mod Told
 pub mod Legal
-pub mod Replays
 pub mod Laws

@@ -1,4 +1,4 @@
-ghost use Rattle.script_transcripts.specs.Laws.{CaseNamesAreWords, CaseTextsTellHistories, CasesEnd, LegalTextsDecide, LineTextsTellChoices, ReplaysDecide};
+ghost use Rattle.script_transcripts.specs.Laws.{CaseNamesAreWords, CaseTextsTellHistories, CasesEnd, LegalTextsDecide, ReplaysDecide};
 
 /// The law of names: those in the histories of a valid script are words.
 pub fn case_names_are_words()
@@ -19,11 +19,6 @@ pub fn cases_end()
 /// The law of legal texts: one is what the run prints that follows its lines.
 pub fn legal_texts_decide()
     ensures { LegalTextsDecide }
-{}
-
-/// The law of line texts: each tells which side went on, and whether by a delivery.
-pub fn line_texts_tell_choices()
-    ensures { LineTextsTellChoices }
 {}
 
 /// The law of replays: what a run prints that follows the lines of a text decides how many of these

@@ -4,6 +4,5 @@
 mod laws;
 
 pub use laws::{
-    case_names_are_words, case_texts_tell_histories, cases_end, legal_texts_decide,
-    line_texts_tell_choices, replays_decide,
+    case_names_are_words, case_texts_tell_histories, cases_end, legal_texts_decide, replays_decide,
 };

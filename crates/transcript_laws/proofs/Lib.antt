@@ -1,2 +1,3 @@
 pub mod Feedless
 pub mod Lines
+pub mod Parts

@@ -1,2 +1,2 @@
-pub mod FirstLines
-pub mod Alike
+pub mod Comparing
+mod FirstLines

@@ -1,6 +1,5 @@
 -- What is read of a line.
 use Rattle.std.specs.Prelude.{◌≡◌, ℕ, ◌==◌, ◌<◌, ◌≤◌, Bool, true, false, not, List, ◌∷◌, drop, length, take, Option, Some, None}
-use Rattle.schedules.specs.declared.turn.Turn.{Turn}
 use Rattle.transcript_laws.specs.TextLines.{text_lines}
 use Rattle.transcript_laws.specs.Told.{finished_line, is_effect_text, side_told, spent_line, tells_delivery}
 use Rattle.transcript_reader.specs.declared.line.Ending.{Ending}

@@ -1,9 +1,9 @@
 //! The text of a transcript, line by line (docs/audit.md): where a line ends, what its first words
-//! tell, and how many first lines two texts have in common.
+//! tell, and how far a text is that of lines.
 #![tactic(auto)]
 
-mod common;
+mod comparison;
 mod line;
 
-pub use common::{CommonLines, common_lines, split_line};
-pub use line::{Ending, LineReading, first_line_len, read_ending, read_line};
+pub use comparison::{Alike, Comparison};
+pub use line::{Ending, LineReading, read_ending, read_line, split_line};

@@ -1,5 +1,6 @@
-ghost use Rattle.std.specs.Prelude.{◌≡◌, ◌≢◌, ◌≤◌, [], length};
+ghost use Rattle.std.specs.Prelude.{◌≡◌, ◌≢◌, ◌<◌, ◌≤◌, [], ◌∷◌, length};
 ghost use Rattle.std.specs.List.{prefix_len};
+ghost use Rattle.transcript_laws.specs.TextLines.{text_lines};
 ghost use Rattle.transcript_laws.specs.Told.{begins_with};
 ghost use Rattle.transcript_reader.specs.Lines.{EndingIs, IsFirstLine, IsReadAs, is_no_feed};
 
@@ -32,8 +33,17 @@ fn before_feed(text: &[u8]) -> usize
     text.iter().take_while(|b| **b != b'\n').count()
 }
 
-/// The length of the first line, with its line feed if it has one.
-pub fn first_line_len(text: &[u8]) -> usize
+/// The first line of a text, and what stands behind it. It takes no memory.
+pub fn split_line(text: &[u8]) -> (&[u8], &[u8])
+    requires { text.now ≢ [] }
+    ensures lines { text_lines text.now ≡ result.0.now ∷ text_lines result.1.now }
+    ensures shorter { length result.1.now < length text.now }
+{
+    text.split_at(first_line_len(text))
+}
+
+// The length of the first line, with its line feed if it has one.
+fn first_line_len(text: &[u8]) -> usize
     requires { text.now ≢ [] }
     ensures { IsFirstLine text.now result }
 {

@@ -15,6 +15,7 @@ use Rattle.channel_model.specs.Outputs.{Output, line_at}
 use Rattle.channel_model.specs.Runs.{RunState}
 use Rattle.channel_core.specs.EndView.{EndView, IsFramed, packet_of, packets_of}
 use Rattle.end_parts.specs.declared.packet.Packet.{Packet}
+use Rattle.script_runs.proofs.Growth.{plays-behind}
 use Rattle.script_steps.proofs.Choosing.{choices_are_read, side-of}
 use Rattle.script_steps.proofs.Counting.{progress-append}
 use Rattle.script_steps.proofs.Playing.{choices_grow}
@@ -25,7 +26,7 @@ use Rattle.script_steps.specs.Progress.{Progress, after_lines, lines_of, progres
 use Rattle.world_core.proofs.Chosen.{run-sides}
 use Rattle.world_core.proofs.OwnRuns.{IsPlayedAgain, play-again}
 use Rattle.world_core.proofs.Played.{all-append, chosen-is, ends-own, own-progress, played-last, puts, run_behind}
-use Rattle.world_core.proofs.SideChoices.{RanAlone, all-alone, all-same, others-choose, played-append}
+use Rattle.world_core.proofs.SideChoices.{RanAlone, all-alone, all-same, others-choose}
 use Rattle.world_core.proofs.Standing.{has-at, may-go-on-at, own-within, schema-at, step-at}
 use Rattle.world_core.specs.declared.answers.StepAnswer.{StepAnswer}
 use Rattle.world_core.specs.declared.answers.StepAnswer.TheVariants as answer
@@ -180,7 +181,7 @@ halves_fit_behind_more setting side seen others half fits none history =
         valid = fits.come.valid;
         small = fits.come.small;
         choices = known.choices ++ own_choices side fits.stored.count;
-        plays = played-append setting known.choices (own_choices side fits.stored.count) (beginning_of setting) known.state again.to known.plays again.plays;
+        plays = plays-behind setting known.choices (own_choices side fits.stored.count) (beginning_of setting) known.state again.to known.plays again.plays;
         about = fits.come.about;
         end = fits.come.end ∙ sym again.alike.end;
         counted = subst (λ (p : Progress). IsCountedBy half p) (sym again.alike.progress) fits.come.counted;

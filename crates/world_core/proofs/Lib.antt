@@ -26,3 +26,8 @@ mod Apart
 mod FeedEnds
 mod FeedStates
 mod FeedFrames
+mod Trying
+mod Following
+mod Replaying
+mod TurnReplays
+mod PlainComparing

@@ -19,15 +19,6 @@ use Rattle.script_steps.specs.Choices.{Choice, Setting, chosen, choices_of, is_d
 use Rattle.script_steps.specs.Progress.{lines_of}
 use Rattle.world_core.proofs.Played.{ends-rest, other-side}
 
--- choices behind others
-pub played-append : (setting : Setting) (first more : List Choice) (from between last : RunState) → played setting first from ≡ Some between → played setting more between ≡ Some last → played setting (first ++ more) from ≡ Some last
-played-append setting [] more from between last h k =
-    let same : from ≡ between = cc in
-    subst (λ (s : RunState). played setting more s ≡ Some last) (sym same) k
-played-append setting (choice ∷ first) more from between last h k =
-    let p : PlaysOn setting choice first from between = plays_on setting choice first from between h in
-    ap (option_and_then (played setting (first ++ more))) p.first ∙ played-append setting first more p.next between last p.rest k
-
 -- Choices of a side were made: they added lines of it, and the other end stayed as it was.
 pub record RanAlone (side : Side) (from last : RunState) : Type 0 where
   pub lines : List Line

@@ -16,3 +16,5 @@ pub mod Halves
 pub mod FeedLaws
 pub mod Feeding
 pub mod Fed
+pub mod Replayed
+pub mod Followed

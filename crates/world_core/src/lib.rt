@@ -23,4 +23,4 @@ pub use laws::{
 };
 pub use link::Link;
 pub use schedules::{Stop, Turn};
-pub use world::World;
+pub use world::{Replay, World};

@@ -7,7 +7,9 @@ ghost use Rattle.ipdl_base.specs.Sound.{IsSound};
 ghost use Rattle.world_core.specs.Worlds.{IsOpening, IsOpeningLink};
 
 mod halves;
+mod replay;
 
+pub use self::replay::Replay;
 use crate::answers::{RunAnswer, StepAnswer};
 use crate::half::{Half, other};
 use crate::link::Link;

@@ -2,7 +2,7 @@
 //! and the death with which it is run, and with what it prints, by the world alone and by a driver;
 //! halves that go on apart; deaths under nested calls; limits that cut a run; and feeds, with a frame
 //! for each fault (docs/feed.md). Of each history every law is tested, and of each feed the law of one
-//! end.
+//! end. The worked runs are lent to other tests.
 #![tactic(auto)]
 
 #[cfg(test)]
@@ -31,9 +31,10 @@ mod limits;
 mod made_feeds;
 #[cfg(test)]
 mod order_rows;
-#[cfg(test)]
 mod run_rows;
-#[cfg(test)]
 mod texts;
 #[cfg(test)]
 mod transcripts;
+
+pub use run_rows::RUNS;
+pub use texts::{Row, row_of};

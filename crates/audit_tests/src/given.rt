@@ -1,0 +1,37 @@
+ghost use Rattle.std.specs.Prelude.{IfOk};
+ghost use Rattle.ipdl_base.specs.Sound.{IsSound};
+ghost use Rattle.handler_script.specs.Valid.{IsValid};
+
+use handler_script::{Script, read_script};
+use ipdl_base::{Schema, short_name};
+use std::alloc::Global;
+use std::test::Fail;
+
+/// The number of the protocol with this short name.
+fn number_of(schema: &Schema, name: &str) -> Result<u32, Fail> {
+    let mut number = 0u32;
+    for protocol in schema.protocols.as_slice() {
+        if short_name(protocol.name.as_slice()) == name.as_bytes() {
+            return Ok(number);
+        }
+        number = number.wrapping_add(1);
+    }
+    Err("no such protocol".into())
+}
+
+/// The script of a text, whose top is the protocol of a file.
+pub fn script_of(alloc: Global, schema: &Schema, file: &str, text: &str) -> Result<Script, Fail>
+    requires sound { IsSound schema.now }
+    ensures { IfOk result (IsValid schema.now) }
+{
+    let (name, _) = file.split_once(".").ok_or("a file without its ending")?;
+    let top = number_of(schema, name)?;
+    if top as usize >= schema.protocols.len() || text.len() > 1_048_576 {
+        return Err("no top, or a text that is too large".into());
+    }
+    Ok(
+        read_script(alloc, text.as_bytes(), schema, top)
+            .ok()
+            .ok_or("a script that breaks a rule")?,
+    )
+}

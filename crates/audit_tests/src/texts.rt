@@ -1,0 +1,89 @@
+ghost use Rattle.handler_script.specs.Valid.{IsValid};
+ghost use Rattle.ipdl_base.specs.Sound.{IsSound};
+ghost use Rattle.std.specs.Prelude.{◌≤◌, length};
+
+use super::given::script_of;
+use super::rows::{AUDITS, SCRIPT};
+use handler_script::Script;
+use history_of_text::schema_of;
+use ipdl_base::Schema;
+use ipdl_top::{Audit, audit};
+use std::alloc::Global;
+use std::test::Fail;
+
+/// What an audit says, as text.
+fn shown(alloc: Global, found: Audit) -> Result<String, Fail> {
+    Ok(match found {
+        Audit::Legal(events) => format!(in alloc; "legal {events}")?,
+        Audit::Early(line) => format!(in alloc; "early {line}")?,
+        Audit::NoStep(line) => format!(in alloc; "no step {line}")?,
+    })
+}
+
+/// What the audit of a text says.
+pub fn said(
+    alloc: Global,
+    schema: &Schema,
+    script: &Script,
+    limit: u32,
+    text: &[u8],
+) -> Result<String, Fail>
+    requires sound { IsSound schema.now }
+    requires valid { IsValid schema.now script.now }
+{
+    if limit > 20_000 || text.len() > 16_777_216 {
+        return Err("a limit or a text that is too large".into());
+    }
+    shown(alloc, audit(alloc, schema, script, limit, text)?)
+}
+
+/// Notes a row of which the audit says something else.
+fn check(
+    alloc: Global,
+    schema: &Schema,
+    script: &Script,
+    row: &str,
+    wrong: &mut String,
+) -> Result<(), Fail>
+    requires sound { IsSound schema.now }
+    requires valid { IsValid schema.now script.now }
+{
+    let (head, text) = row.split_once("\n").ok_or("a row of no line")?;
+    let (name, head) = head.split_once(" ").ok_or("a row without its limit")?;
+    let (limit, wanted) = head.split_once(" ").ok_or("a row that wants nothing")?;
+    let found = said(alloc, schema, script, limit.parse::<u32>()?, text.as_bytes())?;
+    if found.as_str() != wanted {
+        writeln!(wrong, "{name}: {found}")?;
+    }
+    Ok(())
+}
+
+/// The rows of which the audit says something else, and how many rows there are.
+fn checked(alloc: Global, schema: &Schema, script: &Script) -> Result<String, Fail>
+    requires sound { IsSound schema.now }
+    requires valid { IsValid schema.now script.now }
+{
+    let mut wrong = String::new(alloc);
+    let mut count = 0u32;
+    for row in AUDITS.split("====\n") {
+        check(alloc, schema, script, row, &mut wrong)?;
+        count = count.wrapping_add(1);
+    }
+    write!(wrong, "{count}")?;
+    Ok(wrong)
+}
+
+/// What the audits of the rows say that is wrong, under a schema.
+fn all_rows(alloc: Global, schema: &Schema) -> Result<String, Fail>
+    requires { IsSound schema.now }
+{
+    let script = script_of(alloc, schema, "PW.ipdl", SCRIPT)?;
+    checked(alloc, schema, &script)
+}
+
+#[test]
+fn audited_rows(rt: HostRuntime) -> Result<(), Fail> {
+    let schema = schema_of(rt.alloc(), "PW.ipdl")?;
+    assert_eq!(rt; all_rows(rt.alloc(), &schema)?.as_str(), "15");
+    Ok(())
+}

@@ -1,5 +1,0 @@
-use Rattle.script_transcripts.proofs.Tells as law
-use Rattle.script_transcripts.proofs.laws.line_texts_tell_choices.Goals as goal
-
-pub returns : goal.returns
-returns c = law.line_texts_tell_choices
