@@ -102,6 +102,7 @@ fn answer_to<F: Files, D: Driver>(
             };
             feed(alloc, files, &list, path.as_slice(), &file, &wanted)
         }
+        Ok(Command::Audit { .. }) => Err(Failure::NoMemory),
         Err(WordsFault::Usage) => CommandAnswer::of_no_command(alloc),
         Err(WordsFault::NoMemory) => Err(Failure::NoMemory),
     }
