@@ -1,0 +1,12 @@
+-- What follows for every half run, and for a relay in turns.
+use Rattle.std.specs.Prelude.{List}
+use Rattle.handler_script.specs.Valid.{IsValid}
+use Rattle.ipdl_base.specs.declared.kinds.Side.{Side}
+use Rattle.ipdl_base.specs.declared.line.Line.{Line}
+use Rattle.ipdl_base.specs.Sound.{IsSound}
+use Rattle.script_steps.specs.Choices.{Setting}
+use Rattle.relay_runs.specs.HalfRuns.{HalfRun, HalfState, StandsFor}
+
+-- A mark that is delivered in place of a packet is the last that is delivered.
+abbrev pub MarksComeLast : Type 0
+MarksComeLast = (setting : Setting) (side : Side) (state : HalfState) → HalfRun setting side state → StandsFor state.came state.delivered

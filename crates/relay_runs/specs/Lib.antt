@@ -1,0 +1,3 @@
+pub mod HalfRuns
+pub mod Relays
+pub mod Laws

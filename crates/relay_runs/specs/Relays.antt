@@ -1,0 +1,130 @@
+-- Both ends of a run apart from one another: what one has sent comes to the other in order, and nothing is common to them.
+use Rattle.std.specs.Prelude.{◌≡◌, ℕ, zero, suc, Bool, true, false, ◌&&◌, ◌||◌, if◌then◌else◌, List, [], ◌∷◌, ◌++◌, drop, length, Option, Some, None, is_some}
+use Rattle.std.specs.Option.{option_map_or}
+use Rattle.handler_script.specs.ScriptOf.{first_of}
+use Rattle.ipdl_base.specs.declared.kinds.Side.{Side}
+use Rattle.ipdl_base.specs.declared.kinds.Side.TheVariants as sides
+use Rattle.ipdl_base.specs.declared.line.Line.{Line}
+use Rattle.channel_model.specs.Ends.{Packet}
+use Rattle.channel_model.specs.Events.{Event}
+use Rattle.channel_model.specs.Events as event
+use Rattle.channel_model.specs.Numbers.{other}
+use Rattle.channel_model.specs.Outputs.{is_open}
+use Rattle.channel_model.specs.Steps.{step}
+use Rattle.script_steps.specs.Choices.{Setting}
+use Rattle.script_steps.specs.Turns.{RunEnding, at_limit, at_rest}
+use Rattle.relay_runs.specs.HalfRuns.{HalfRun, HalfState, behind, behind_packet, delivered_for, is_within, opening_half, own_event}
+
+-- how far both ends have come
+pub record RelayState : Type 0 where
+  pub parent : HalfState
+  pub child : HalfState
+
+abbrev pub half_of : Side → RelayState → HalfState
+half_of sides.Parent state = state.parent
+half_of sides.Child state = state.child
+
+abbrev pub with_half : Side → HalfState → RelayState → RelayState
+with_half sides.Parent half state = record state { parent = half }
+with_half sides.Child half state = record state { child = half }
+
+-- both ends as they begin
+abbrev pub opening_relay : Setting → RelayState
+opening_relay setting = record { parent = opening_half setting sides.Parent; child = opening_half setting sides.Child }
+
+-- what comes to a side next: of what the other has sent, the first that did not come yet
+abbrev pub next_packet : Side → RelayState → Option Packet
+next_packet side state = first_of (drop (length (half_of side state).came) (half_of (other side) state).sent)
+
+-- whether a side has something left to do: a step of its own or, while it is open, a packet that has not come
+abbrev pub has_left : Setting → Side → RelayState → Bool
+has_left setting side state = is_some (own_event setting side (half_of side state)) || is_open (half_of side state).end.state && is_some (next_packet side state)
+
+-- how it ends: neither has anything left to do; or a side has, but as many events as the limit
+abbrev pub EndsAs : Setting → RelayState → RunEnding → Type 0
+EndsAs setting state at_rest = (has_left setting sides.Parent state ≡ false) × (has_left setting sides.Child state ≡ false)
+EndsAs setting state (at_limit side) = (has_left setting side state ≡ true) × (is_within setting side (half_of side state) ≡ false)
+
+-- What came to a side is a front of what the other has sent.
+abbrev pub ComeInOrder : Side → RelayState → Type 0
+ComeInOrder side state = (waiting : List Packet) × ((half_of (other side) state).sent ≡ (half_of side state).came ++ waiting)
+
+-- Both ends have come so far apart from one another.
+pub record IsRelay (setting : Setting) (state : RelayState) : Type 0 where
+  pub parent_runs : HalfRun setting sides.Parent state.parent
+  pub child_runs : HalfRun setting sides.Child state.child
+  pub to_parent : ComeInOrder sides.Parent state
+  pub to_child : ComeInOrder sides.Child state
+
+-- What a relay gives: the lines of both ends, and how it ends.
+pub record Relayed (setting : Setting) (parent child : List Line) (ending : RunEnding) : Type 0 where
+  pub state : RelayState
+  pub relay : IsRelay setting state
+  pub parent_lines : state.parent.lines ≡ parent
+  pub child_lines : state.child.lines ≡ child
+  pub ends : EndsAs setting state ending
+
+-- The same where the sides take turns, the parent first.
+
+-- What a turn of a side does: it leads to another state, or there is nothing to do, or the side is at the limit.
+pub data RelayTurn : Type 0 where
+  leads : RelayState → RelayTurn
+  idles : RelayTurn
+  exceeds : RelayTurn
+
+-- the half behind an own step, and behind a packet that comes; a step that is not possible changes nothing
+abbrev pub behind_own : Setting → HalfState → Event → HalfState
+behind_own setting half own = option_map_or (behind half) (step setting.schema half.end [] own) half
+
+abbrev pub behind_next : Setting → HalfState → Packet → HalfState
+behind_next setting half packet =
+    let given : Packet = delivered_for setting.schema half.end packet in
+    option_map_or (behind_packet half packet given) (step setting.schema half.end (given ∷ []) event.deliver) half
+
+-- what is done where the limit lets it
+abbrev pub within : Setting → Side → RelayState → HalfState → RelayTurn
+within setting side state half = if is_within setting side (half_of side state) then leads (with_half side half state) else exceeds
+
+abbrev pub packet_turn : Setting → Side → RelayState → Option Packet → RelayTurn
+packet_turn setting side state None = idles
+packet_turn setting side state (Some packet) = within setting side state (behind_next setting (half_of side state) packet)
+
+abbrev pub turn_by : Setting → Side → RelayState → Option Event → RelayTurn
+turn_by setting side state (Some own) = within setting side state (behind_own setting (half_of side state) own)
+turn_by setting side state None = if is_open (half_of side state).end.state then packet_turn setting side state (next_packet side state) else idles
+
+-- A turn of a side: its own step, if it has one, and else, while it is open, the packet that comes next.
+abbrev pub relay_turn : Setting → Side → RelayState → RelayTurn
+relay_turn setting side state = turn_by setting side state (own_event setting side (half_of side state))
+
+-- What the sides do in turn, this one first, where so many turns in a row have still to do nothing until the relay rests.
+pub data RelayTurns (setting : Setting) : Side → ℕ → RelayState → RelayState → RunEnding → Type 0 where
+  rests : (side : Side) (state : RelayState) → RelayTurns setting side 0 state state at_rest
+  goes_on : (side : Side) (idle : ℕ) (state next last : RelayState) (ending : RunEnding) → relay_turn setting side state ≡ leads next → RelayTurns setting (other side) 2 next last ending
+      → RelayTurns setting side (suc idle) state last ending
+  passes : (side : Side) (idle : ℕ) (state last : RelayState) (ending : RunEnding) → relay_turn setting side state ≡ idles → RelayTurns setting (other side) idle state last ending
+      → RelayTurns setting side (suc idle) state last ending
+  stops : (side : Side) (idle : ℕ) (state : RelayState) → relay_turn setting side state ≡ exceeds → RelayTurns setting side (suc idle) state state (at_limit side)
+
+-- What the turns of both sides give, from the beginning on.
+pub record RelayedByTurns (setting : Setting) (parent child : List Line) (ending : RunEnding) : Type 0 where
+  pub last : RelayState
+  pub turns : RelayTurns setting sides.Parent 2 (opening_relay setting) last ending
+  pub parent_lines : last.parent.lines ≡ parent
+  pub child_lines : last.child.lines ≡ child
+
+-- The same as a function, for worked cases, where so many turns are enough.
+
+-- the last state of a relay, and how it ended there
+pub record RelayEnd : Type 0 where
+  pub state : RelayState
+  pub ending : RunEnding
+
+abbrev pub relayed : Setting → ℕ → Side → ℕ → RelayState → Option RelayEnd
+relayed setting fuel side zero state = Some (record { state = state; ending = at_rest })
+relayed setting zero side (suc idle) state = None
+relayed setting (suc fuel) side (suc idle) state = elim (relay_turn setting side state) [
+  | leads next ↦ relayed setting fuel (other side) 2 next
+  | idles ↦ relayed setting fuel (other side) idle state
+  | exceeds ↦ Some (record { state = state; ending = at_limit side })
+]
