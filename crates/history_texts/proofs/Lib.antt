@@ -1,3 +1,7 @@
 pub mod Spans
 pub mod Forms
 pub mod Values
+pub mod Messages
+pub mod WhatForms
+pub mod Told
+pub mod Whats

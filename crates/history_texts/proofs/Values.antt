@@ -90,7 +90,7 @@ built-again (value.Actor id) = refl
 
 -- Lists in parts
 
-cancelled : (before x y : List ℕ) → before ++ x ≡ before ++ y → x ≡ y
+pub cancelled : (before x y : List ℕ) → before ++ x ≡ before ++ y → x ≡ y
 cancelled before x y e = (lengths-decide before before x y refl e).1
 
 -- what stands between two others is told, if the text behind the first is
@@ -101,7 +101,7 @@ inner a b c r b' c' q e =
     cancelled a (b ++ (c ++ r)) (b' ++ (c' ++ q)) (sym one ∙ e ∙ other)
 
 -- two lists that begin with different bytes are not the same
-differ : {a b : ℕ} {x y : List ℕ} → (a == b) ≡ false → a ∷ x ≡ b ∷ y → ⊥
+pub differ : {a b : ℕ} {x y : List ℕ} → (a == b) ≡ false → a ∷ x ≡ b ∷ y → ⊥
 differ {a} {b} {x} {y} d e =
     let same : a ≡ b = ap (λ (bytes : List ℕ). get_or bytes 0 0) e in
     true≢false (sym (eq-eqb a b same) ∙ d)
