@@ -1,5 +1,5 @@
 -- Which form of value a type has, and what of it a text says whose length is not fixed.
-use Rattle.std.proofs.Common.{◌≡◌, ℕ, ◌-◌, ◌<◌, ◌≤◌, ◌^◌, nat_abs, ℤ, pos, negsuc, ◌≤ℤ◌, Bool, true, false, List, Option, Some, None, IsSomeAnd, IsTrue, refl, sym, ap, subst, ◌∙◌, arith}
+use Rattle.std.proofs.Common.{◌≡◌, ℕ, ◌-◌, ◌<◌, ◌^◌, nat_abs, ℤ, pos, negsuc, ◌≤ℤ◌, List, Option, Some, None, IsSomeAnd, IsTrue, refl, sym, ap, subst, ◌∙◌, arith}
 use Rattle.std.specs.Prelude.{slice_get, option_and_then}
 use Rattle.std.proofs.lemmas.Int.{ints}
 use Rattle.ipdl_base.specs.declared.builtin.Builtin.{Builtin as BuiltinType}
@@ -12,10 +12,8 @@ use Rattle.ipdl_base.specs.declared.schema.TypeRow.TheVariants.{Struct, Union}
 use Rattle.ipdl_base.specs.declared.value.Value.{Value, Union', Held-Value-Maybe-0, None', Some'}
 use Rattle.ipdl_base.specs.declared.value.Value as boxed
 use Rattle.ipdl_base.specs.declared.value.Value.TheVariants as value
-use Rattle.ipdl_base.specs.declared.value.Values.{Values}
-use Rattle.ipdl_base.specs.declared.value.Values.TheVariants as values
 use Rattle.value_types.specs.HasType.{HasType, IsActorOf, IsInRange, IsWithinBits}
-use Rattle.value_types.specs.Shapes.{builtin_of, component_in, component_of, element_of, fields_in, fields_of, float_bits, held_by, is_byte_builtin, is_bytes, range_of, row_of}
+use Rattle.value_types.specs.Shapes.{builtin_of, component_in, component_of, element_of, fields_in, fields_of, float_bits, held_by, is_byte_builtin, is_bytes, range_of}
 use Rattle.value_types.specs.ValueText.{digit_count_of}
 
 -- the number of a value's form
@@ -326,4 +324,3 @@ form-told s shape (value.Actor id) h = sym (of-actor s shape id h)
 
 pub same-form : (s : Schema) (shape : Shape) (v w : Value) → HasType s shape v → HasType s shape w → form w ≡ form v
 same-form s shape v w h k = form-told s shape w k ∙ sym (form-told s shape v h)
-

@@ -5,3 +5,4 @@ pub mod Messages
 pub mod WhatForms
 pub mod Told
 pub mod Whats
+pub mod Histories

@@ -1,5 +1,5 @@
 -- The names of protocols and messages in a text decide them.
-use Rattle.std.proofs.Common.{◌≡◌, ◌≢◌, ◌⊎◌, ℕ, zero, suc, ◌+◌, ◌*◌, ◌/◌, ◌%◌, ◌<◌, ◌==◌, Bool, true, false, ◌&&◌, ◌||◌, if◌then◌else◌, List, [], ◌∷◌, ◌++◌, codes, length, drop, get_or, Option, Some, None, is_some, refl, sym, ap, subst, ◌∙◌, arith, append_assoc, true≢false, ⊎_elim, inl, inr}
+use Rattle.std.proofs.Common.{◌≡◌, ◌≢◌, ◌⊎◌, ℕ, zero, suc, ◌/◌, ◌%◌, ◌<◌, ◌==◌, Bool, true, false, ◌&&◌, ◌||◌, if◌then◌else◌, List, [], ◌∷◌, ◌++◌, codes, length, drop, get_or, Option, Some, None, is_some, refl, sym, ap, ◌∙◌, arith, append_assoc, true≢false, ⊎_elim, inl, inr}
 use Rattle.std.specs.Prelude.{slice_get}
 use Rattle.std.specs.List.{AllByRecursion, AllPairs, list_all, list_any}
 use Rattle.std.specs.Option.{option_map_or}
@@ -14,13 +14,7 @@ use Rattle.ipdl_base.specs.Words.{IsFullName, IsWord, is_word_byte, is_word_star
 use Rattle.history.specs.Text.{message_text, protocol_text}
 use Rattle.channel_model.proofs.SoundRows.{IsAt, row-at}
 use Rattle.channel_laws.specs.PrintedNames.{is_printable_message}
-use Rattle.history_texts.proofs.Spans.{StopsAt, spans}
-
-both : (a b : Bool) → (a && b) ≡ true → (a ≡ true) × (b ≡ true)
-both true true h = (refl, refl)
-both true false h = cc
-both false true h = cc
-both false false h = cc
+use Rattle.history_texts.proofs.Spans.{StopsAt, both, or-right, spans}
 
 or-left : (a b : Bool) → a ≡ true → (a || b) ≡ true
 or-left true b h = refl
@@ -36,10 +30,6 @@ word-bytes (b ∷ bs) h =
 -- bytes of words, and colons
 abbrev is_name_byte : ℕ → Bool
 is_name_byte b = (b == 58) || is_word_byte b
-
-or-right : (a b : Bool) → b ≡ true → (a || b) ≡ true
-or-right true b h = refl
-or-right false b h = h
 
 words-names : (bs : List ℕ) → list_all is_word_byte bs ≡ true → list_all is_name_byte bs ≡ true
 words-names [] h = refl

@@ -1,5 +1,5 @@
 -- The text of a line tells its form.
-use Rattle.std.proofs.Common.{◌≡◌, ℕ, ℤ, pos, negsuc, nat_abs, ◌/◌, ◌<◌, ◌≤◌, ◌^◌, ◌==◌, Bool, true, false, ◌&&◌, if◌then◌else◌, List, [], ◌∷◌, ◌++◌, codes, drop, refl, sym, ap, ◌∙◌, arith, append_assoc, true≢false}
+use Rattle.std.proofs.Common.{◌≡◌, ℕ, ℤ, ◌/◌, ◌==◌, Bool, true, false, ◌&&◌, if◌then◌else◌, List, [], ◌∷◌, ◌++◌, codes, drop, refl, ap, ◌∙◌, append_assoc}
 use Rattle.std.specs.Fmt.{signed_decimal}
 use Rattle.std.specs.List.{list_all}
 use Rattle.ipdl_base.specs.declared.kinds.SendRefusal.{SendRefusal}
@@ -8,13 +8,12 @@ use Rattle.ipdl_base.specs.declared.line.What.{What}
 use Rattle.ipdl_base.specs.declared.line.What.TheVariants as what
 use Rattle.ipdl_base.specs.declared.schema.ParamRow.{ParamRow}
 use Rattle.ipdl_base.specs.declared.schema.Schema.{Schema}
-use Rattle.ipdl_base.specs.Signatures.{params_of}
 use Rattle.ipdl_base.specs.Sound.{IsSound}
 use Rattle.ipdl_base.specs.Words.{is_word_byte}
-use Rattle.history.specs.Text.{listed_values, message_text, numbered, protocol_text, request_text, what_text}
+use Rattle.history.specs.Text.{listed_values, message_text, protocol_text, request_text, what_text}
 use Rattle.history.specs.Words.{reason_word, refusal_word}
 use Rattle.history_texts.proofs.Messages.{message-begins, protocol-words}
-use Rattle.history_texts.proofs.Spans.{StopsAt, is_number_byte, signed-numbers}
+use Rattle.history_texts.proofs.Spans.{StopsAt, both, is_number_byte, signed-numbers}
 use Rattle.history_texts.proofs.WhatForms.{WhatForm, form_send, form_call, form_refused_send, form_refused_close, form_refused_resolve, form_refused_reject, form_resolve, form_reject, form_keep, form_let, form_close, form_die, form_deliver_request, form_deliver_reply, form_deliver_goodbye, form_deliver_broken, form_take, form_drop, form_take_reply, form_shut_normal, form_shut_abnormal, form_return, form_resume_ok, form_resume_fault, form_flush, form_built, form_replaced, form_answer_ok, form_answer_fault, form_fails, form_resolved, form_rejected, form_fall, what_form}
 
 -- whether a text begins with a word
@@ -27,12 +26,6 @@ begins (c ∷ word) (b ∷ text) = (c == b) && begins word text
 abbrev behind : (ℕ → Bool) → List ℕ → List ℕ
 behind ok [] = []
 behind ok (b ∷ bs) = if ok b then behind ok bs else b ∷ bs
-
-both : (a b : Bool) → (a && b) ≡ true → (a ≡ true) × (b ≡ true)
-both true true h = (refl, refl)
-both true false h = cc
-both false true h = cc
-both false false h = cc
 
 behind-span : (ok : ℕ → Bool) (x r : List ℕ) → list_all ok x ≡ true → StopsAt ok r → behind ok (x ++ r) ≡ r
 behind-span ok [] [] h s = refl
@@ -128,7 +121,7 @@ module _ (schema : Schema) (sound : IsSound schema) where
   pub form-told : (types : ℤ → List ParamRow) (w : What) (r : List ℕ) → form_told (what_text schema types w ++ 10 ∷ r) ≡ what_form w
   form-told types (what.Send n route message vs) r = refl
   form-told types (what.Call n transaction route message vs) r = refl
-  form-told types (what.RefusedSend cause message) r = 
+  form-told types (what.RefusedSend cause message) r =
       ap (λ (text : List ℕ). act_told (drop 1 text)) (ap (behind is_word_byte) (ap (λ (t : List ℕ). t ++ 10 ∷ r) (append_assoc (refusal_word cause) (codes " ") (message_text schema message))) ∙ behind-cause cause (codes " " ++ message_text schema message) (10 ∷ r) refl) ∙ send-told message (10 ∷ r)
   form-told types (what.RefusedClose cause) r = ap (λ (text : List ℕ). act_told (drop 1 text)) (behind-cause cause (codes " close") (10 ∷ r) refl)
   form-told types (what.RefusedResolve cause) r = ap (λ (text : List ℕ). act_told (drop 1 text)) (behind-cause cause (codes " resolve") (10 ∷ r) refl)

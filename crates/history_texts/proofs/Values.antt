@@ -1,5 +1,5 @@
 -- Values of one type with one text are the same, up to where their boxes lie, and what stands behind them is the same.
-use Rattle.std.proofs.Common.{◌≡◌, ℕ, zero, suc, ◌==◌, get_or, true≢false, ◌<◌, ◌≤◌, ◌^◌, nat_abs, ℤ, pos, Bool, true, false, if◌then◌else◌, List, [], ◌∷◌, ◌++◌, codes, drop, Option, Some, None, IsSomeAnd, IsTrue, unwrap_or, refl, sym, ap, subst, ◌∙◌, arith, append_assoc}
+use Rattle.std.proofs.Common.{◌≡◌, ℕ, zero, suc, ◌==◌, get_or, true≢false, ℤ, pos, Bool, true, false, if◌then◌else◌, List, [], ◌∷◌, ◌++◌, codes, drop, Option, Some, None, IsSomeAnd, unwrap_or, refl, sym, ap, subst, ◌∙◌, arith, append_assoc}
 use Rattle.std.specs.Fmt.{decimal, signed_decimal}
 use Rattle.std.specs.List.{flat_map, list_all}
 use Rattle.std.specs.Option.{option_map_or}
@@ -8,8 +8,6 @@ use Rattle.std.proofs.lemmas.Bool.{eq-eqb}
 use Rattle.std.proofs.lemmas.Bool.Decides.{Decides-int_eq}
 use Rattle.std.specs.declared.alloc.Global.{Global}
 use Rattle.std.specs.declared.boxed.Box.{Box}
-use Rattle.ipdl_base.specs.declared.builtin.Builtin.{Builtin as BuiltinType}
-use Rattle.ipdl_base.specs.declared.builtin.Builtin.TheVariants as builtin
 use Rattle.ipdl_base.specs.declared.schema.ParamRow.{ParamRow}
 use Rattle.ipdl_base.specs.declared.schema.Schema.{Schema}
 use Rattle.ipdl_base.specs.declared.schema.Shape.{Shape}
@@ -20,10 +18,10 @@ use Rattle.ipdl_base.specs.declared.value.Values.TheVariants as values
 use Rattle.ipdl_base.specs.Plain.{one_box, plain, plain_held, plain_values}
 use Rattle.value_types.specs.HasType.{AllHaveType, HasType, HaveTypes, HeldHasType}
 use Rattle.value_types.specs.Shapes.{builtin_of, component_of, element_of, fields_of, held_by}
-use Rattle.value_types.specs.ValueText.{actor_text, bool_text, bytes_text, digit_count_of, elements_text, escaped, held_text, hex_byte, hex_digits, parts_text, quoted, value_text, values_text}
+use Rattle.value_types.specs.ValueText.{digit_count_of, elements_text, escaped, held_text, hex_byte, hex_digits, parts_text, value_text, values_text}
 use Rattle.history_texts.proofs.Forms.{bits-small, form, range-small, same-form}
 use Rattle.history_texts.proofs.Spans.{Stops, bits-decide, bytes-decide, counts-decide, is_number_byte, lengths-decide, numbers-decide, signed-numbers, signed-some, texts-decide}
-use Rattle.history_texts.specs.Held.{AreHeld, IsCount, IsHeld, IsHeldIn, IsNumber}
+use Rattle.history_texts.specs.Held.{AreHeld, IsHeld, IsHeldIn}
 
 -- What a value of a form holds; of another form, anything.
 

@@ -1,6 +1,6 @@
 -- The text of a line decides what it says.
-use Rattle.std.proofs.Common.{◌≡◌, ℕ, ℤ, pos, nat_abs, ◌+◌, ◌/◌, ◌<◌, ◌≤◌, ◌^◌, ◌==◌, Bool, true, false, ◌&&◌, if◌then◌else◌, List, [], ◌∷◌, ◌++◌, codes, drop, get_or, Option, Some, None, refl, sym, ap, subst, ◌∙◌, arith, append_assoc}
-use Rattle.std.specs.Fmt.{decimal, signed_decimal}
+use Rattle.std.proofs.Common.{◌≡◌, ℕ, ℤ, true, if◌then◌else◌, List, ◌∷◌, ◌++◌, codes, drop, Option, refl, sym, ap, subst, ◌∙◌, arith, append_assoc}
+use Rattle.std.specs.Fmt.{signed_decimal}
 use Rattle.std.specs.List.{list_all}
 use Rattle.ipdl_base.specs.declared.kinds.Destroy.{Destroy}
 use Rattle.ipdl_base.specs.declared.kinds.Destroy.TheVariants as destroys
@@ -13,11 +13,9 @@ use Rattle.ipdl_base.specs.declared.line.What.TheVariants as what
 use Rattle.ipdl_base.specs.declared.schema.ParamRow.{ParamRow}
 use Rattle.ipdl_base.specs.declared.schema.Schema.{Schema}
 use Rattle.ipdl_base.specs.declared.value.Values.{Values}
-use Rattle.ipdl_base.specs.Plain.{plain_values}
 use Rattle.ipdl_base.specs.Signatures.{params_of}
 use Rattle.ipdl_base.specs.Sound.{IsSound}
 use Rattle.ipdl_base.specs.Words.{IsWord, is_word_byte}
-use Rattle.value_types.specs.ValueText.{values_text}
 use Rattle.history.specs.Text.{listed_values, message_text, numbered, protocol_text, request_text, returns_named, what_text}
 use Rattle.history.specs.Words.{destroy_word, reason_word, refusal_word}
 use Rattle.channel_laws.specs.PrintedNames.{finds_names, is_printable_message}
@@ -25,8 +23,8 @@ use Rattle.history_texts.proofs.Messages.{messages-decide, protocols-decide, wor
 use Rattle.history_texts.proofs.Spans.{Stops, StopsAt, counts-decide, numbers-decide, spans}
 use Rattle.history_texts.proofs.Told.{begins, form-told, form_told, three}
 use Rattle.history_texts.proofs.Values.{cancelled, listed-decide}
-use Rattle.history_texts.proofs.WhatForms.{WhatForm, form_send, form_call, form_refused_send, form_refused_close, form_refused_resolve, form_refused_reject, form_resolve, form_reject, form_keep, form_let, form_close, form_die, form_deliver_request, form_deliver_reply, form_deliver_goodbye, form_deliver_broken, form_take, form_drop, form_take_reply, form_shut_normal, form_shut_abnormal, form_return, form_resume_ok, form_resume_fault, form_flush, form_built, form_replaced, form_answer_ok, form_answer_fault, form_fails, form_resolved, form_rejected, form_fall, cause_in, destroy_in, first_in, message_in, name_in, reason_in, said, said-again, second_in, third_in, values_in, what_form}
-use Rattle.history_texts.specs.Held.{IsCount, IsNumber}
+use Rattle.history_texts.proofs.WhatForms.{WhatForm, cause_in, destroy_in, first_in, message_in, name_in, reason_in, said, said-again, second_in, third_in, values_in, what_form}
+use Rattle.history_texts.specs.Held.{IsNumber}
 use Rattle.history_texts.specs.Typed.{AreOf, SaysTyped}
 
 -- Words that stand for something, each for another
