@@ -9,7 +9,8 @@ use std::test::Fail;
 /// command is the one that prints frames, or `<2` where it converts them. Behind `!` stand the script,
 /// the file, the word of turns behind `=`, the limit and the death of a run. Behind `&` stand the script,
 /// the file, the file of frames, the side and the limit of one end on a file of bytes. Behind `^` stand the
-/// script, the file, the transcript and the limit of an audit. `%` stands before
+/// script, the file, the transcript and the limit of an audit; behind `~` the
+/// script, the file, the limit and the death of a relay. `%` stands before
 /// the rounds and the actors of a generated case. Nothing stands where the words are no command. An
 /// empty word is written as two single quotes.
 const ROWS: &str = "x.ipdl => none . x.ipdl
@@ -159,6 +160,22 @@ feed --side parent -s l -s m s.ids x.ipdl f =>
 feed feed feed.ipdl feed --side child => none . & feed feed.ipdl feed child 10000
 --side parent feed s.ids x.ipdl f =>
 relay x.ipdl =>
+relay s.ids x.ipdl => none . ~ s.ids x.ipdl 10000 -
+relay -sl s.ids --path d:e x.ipdl => =l d:e ~ s.ids x.ipdl 10000 -
+relay --limit 7 --die=child:3 s.ids x.ipdl => none . ~ s.ids x.ipdl 7 child:3
+relay s.ids x.ipdl --die parent:0 -- => none . ~ s.ids x.ipdl 10000 parent:0
+relay -- -s x.ipdl => none . ~ -s x.ipdl 10000 -
+relay s.ids =>
+relay s.ids x.ipdl t =>
+relay x.ipdl s.ids =>
+relay s.ids x.ipdlh =>
+relay --limit 0 s.ids x.ipdl =>
+relay --die child:20001 s.ids x.ipdl =>
+relay --die both:1 s.ids x.ipdl =>
+relay --schedule PC s.ids x.ipdl =>
+relay --side parent s.ids x.ipdl =>
+relay relay relay.ipdl => none . ~ relay relay.ipdl 10000 -
+--limit 1 relay s.ids x.ipdl =>
 audit x.ipdl =>
 audit s.ids x.ipdl t => none . ^ s.ids x.ipdl t 10000
 audit -sl --path d:e --limit 7 s.ids x.ipdl t => =l d:e ^ s.ids x.ipdl t 7
@@ -419,6 +436,18 @@ fn push_command(line: &mut String, command: &Command) -> Result<(), AllocError> 
             push_shared(line, list, path.as_slice())?;
             write!(line, "^ {script} {file} {transcript} {limit}")
         }
+        Command::Relay {
+            list,
+            path,
+            limit,
+            death,
+            script,
+            file,
+        } => {
+            push_shared(line, list, path.as_slice())?;
+            write!(line, "~ {script} {file} {limit} ")?;
+            push_death(line, death)
+        }
     }
 }
 
@@ -471,7 +500,7 @@ fn checked(alloc: Global) -> Result<String, Fail> {
 
 #[test]
 fn lists_of_words(rt: HostRuntime) -> Result<(), Fail> {
-    assert_eq!(rt; checked(rt.alloc())?.as_str(), "269");
+    assert_eq!(rt; checked(rt.alloc())?.as_str(), "285");
     Ok(())
 }
 

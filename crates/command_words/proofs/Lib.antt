@@ -19,4 +19,5 @@ pub mod RunFound
 pub mod GenFound
 pub mod FeedFound
 pub mod AuditFound
+pub mod RelayFound
 pub mod OneCommand

@@ -49,7 +49,7 @@ schedule_ne e = let first : 115 ≡ 119 = ap (λ (t : Text). slice_index t 0) e 
 pub limit_ne : codes "limit" ≢ own_id
 limit_ne e = let first : 108 ≡ 119 = ap (λ (t : Text). slice_index t 0) e in absurd (omega (arith, first))
 
-die_ne : codes "die" ≢ own_id
+pub die_ne : codes "die" ≢ own_id
 die_ne e = let first : 100 ≡ 119 = ap (λ (t : Text). slice_index t 0) e in absurd (omega (arith, first))
 
 -- what is found makes the command
@@ -93,10 +93,10 @@ no_operands_found words found is none list path course script file command =
 
 -- ---- one command
 
-same_first : (a b c d : Text) → a ∷ b ∷ [] ≡ c ∷ d ∷ [] → a ≡ c
+pub same_first : (a b c d : Text) → a ∷ b ∷ [] ≡ c ∷ d ∷ [] → a ≡ c
 same_first a b c d e = cc
 
-same_second : (a b c d : Text) → a ∷ b ∷ [] ≡ c ∷ d ∷ [] → b ≡ d
+pub same_second : (a b c d : Text) → a ∷ b ∷ [] ≡ c ∷ d ∷ [] → b ≡ d
 same_second a b c d e = cc
 
 same_course : (a b : Course) → a.schedule ≡ b.schedule → a.limit ≡ b.limit → a.death ≡ b.death → a ≡ b

@@ -1,12 +1,13 @@
 -- The command that words are.
-use Rattle.std.specs.Prelude.{◌≡◌, ℕ, Bool, List, ◌∷◌, Option, map, option_map, string_bytes}
+use Rattle.std.specs.Prelude.{◌≡◌, ℕ, Bool, List, Option, map, option_map, string_bytes}
 use Rattle.command_words.specs.declared.command.Command.{Command}
 use Rattle.command_words.specs.declared.command.Command.TheVariants as commands
 use Rattle.command_words.specs.Audit.{IsAudit}
-use Rattle.command_words.specs.Compile.{HasWord, IsCompile, unbuilt_commands}
+use Rattle.command_words.specs.Compile.{IsCompile}
 use Rattle.command_words.specs.Feed.{FeedCourse, IsFeed}
 use Rattle.command_words.specs.Frames.{IsFrames}
 use Rattle.command_words.specs.Gen.{IsGen}
+use Rattle.command_words.specs.Relay.{RelayCourse, IsRelay}
 use Rattle.command_words.specs.Run.{Course, IsRun}
 use Rattle.command_words.specs.Waits.{IsWaits}
 
@@ -19,6 +20,7 @@ pub data CommandView : Type 0 where
   gen : ℕ → ℕ → CommandView
   feed : Option (List ℕ) → List (List ℕ) → FeedCourse → List ℕ → List ℕ → List ℕ → CommandView
   audit : Option (List ℕ) → List (List ℕ) → ℕ → List ℕ → List ℕ → List ℕ → CommandView
+  relay : Option (List ℕ) → List (List ℕ) → RelayCourse → List ℕ → List ℕ → CommandView
 
 abbrev pub view_of : Command → CommandView
 view_of (commands.Compile list path files) = compile (option_map string_bytes list) (map string_bytes path.items) (map string_bytes files.items)
@@ -30,6 +32,7 @@ view_of (commands.Gen rounds actors) = gen rounds actors
 view_of (commands.Feed list path limit side script file given) =
     feed (option_map string_bytes list) (map string_bytes path.items) (record { side = side; limit = limit }) (string_bytes script) (string_bytes file) (string_bytes given)
 view_of (commands.Audit list path limit script file given) = audit (option_map string_bytes list) (map string_bytes path.items) limit (string_bytes script) (string_bytes file) (string_bytes given)
+view_of (commands.Relay list path limit death script file) = relay (option_map string_bytes list) (map string_bytes path.items) (record { limit = limit; death = death }) (string_bytes script) (string_bytes file)
 
 -- the words say this
 abbrev pub Say : List (List ℕ) → CommandView → Type 0
@@ -40,6 +43,7 @@ Say words (run list path course script file) = IsRun words list path course scri
 Say words (gen rounds actors) = IsGen words rounds actors
 Say words (feed list path course script file given) = IsFeed words list path course script file given
 Say words (audit list path limit script file given) = IsAudit words list path limit script file given
+Say words (relay list path course script file) = IsRelay words list path course script file
 
 -- the words are this command
 abbrev pub CommandOf : List (List ℕ) → Command → Type 0
@@ -52,7 +56,3 @@ IsNoCommand words = (command : CommandView) → ¬ Say words command
 -- words are one command at most
 abbrev pub OneCommand : Type 0
 OneCommand = (words : List (List ℕ)) (one other : CommandView) → Say words one → Say words other → one ≡ other
-
--- a first word that chooses a command which is not built yet makes the words none
-abbrev pub OthersAreNone : Type 0
-OthersAreNone = (word : List ℕ) (words : List (List ℕ)) → HasWord unbuilt_commands word → IsNoCommand (word ∷ words)

@@ -10,13 +10,9 @@ abbrev pub HasWord : List (List ℕ) → List ℕ → Type 0
 HasWord [] word = ⊥
 HasWord (w ∷ ws) word = (w ≡ word) ⊎ HasWord ws word
 
--- the first words that will choose a command of their own which is not built yet
-abbrev pub unbuilt_commands : List (List ℕ)
-unbuilt_commands = codes "relay" ∷ []
-
 -- the first words that choose another command
 abbrev pub other_commands : List (List ℕ)
-other_commands = codes "frames" ∷ codes "waits" ∷ codes "run" ∷ codes "gen" ∷ codes "feed" ∷ codes "audit" ∷ unbuilt_commands
+other_commands = codes "frames" ∷ codes "waits" ∷ codes "run" ∷ codes "gen" ∷ codes "feed" ∷ codes "audit" ∷ codes "relay" ∷ []
 
 -- the words choose the compile command: the first of them chooses no other one
 abbrev pub IsForCompile : List (List ℕ) → Type 0

@@ -11,5 +11,6 @@ pub mod Gen
 pub mod Operands
 pub mod Feed
 pub mod Audit
+pub mod Relay
 pub mod Command
 pub mod Listed

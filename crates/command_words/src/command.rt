@@ -1,8 +1,5 @@
-ghost use Rattle.std.specs.Prelude.{◌≡◌, ◌↔◌, IfErr, IfOk, IsTrue, map, string_bytes};
-ghost use Rattle.std.specs.List.{list_any};
-ghost use Rattle.std.specs.Str.{bytes_eq};
+ghost use Rattle.std.specs.Prelude.{◌≡◌, IfErr, IfOk, map, string_bytes};
 ghost use Rattle.command_words.specs.Command.{CommandOf, IsNoCommand};
-ghost use Rattle.command_words.specs.Compile.{HasWord, unbuilt_commands};
 
 use crate::WordsFault;
 use crate::audit::audit;
@@ -10,6 +7,7 @@ use crate::compile::compile;
 use crate::feed::feed;
 use crate::frames::frames;
 use crate::generation::generation;
+use crate::relay::relay;
 use crate::run::run;
 use crate::waits::waits;
 use ipdl_base::Side;
@@ -106,23 +104,21 @@ pub enum Command {
         /// The name of the file of the text.
         transcript: String,
     },
-}
-
-/// The first words that will choose a command of their own which is not built yet.
-const UNBUILT_COMMANDS: [&str; 1] = ["relay"];
-
-/// Whether the word is one of these.
-fn has_word(words: &[&str], word: &str) -> bool
-    ensures { result ≡ list_any (λ w. bytes_eq w.now word.now) words.now }
-{
-    words.iter().any(|other| *other == word)
-}
-
-/// Whether a first word will choose a command that is not built yet.
-fn is_unbuilt_command(word: &str) -> bool
-    ensures { IsTrue result ↔ HasWord unbuilt_commands word.now }
-{
-    has_word(&UNBUILT_COMMANDS, word)
+    /// Run a script over two queues, and print what each end has seen.
+    Relay {
+        /// The name of the sync list, where one is given.
+        list: Option<String>,
+        /// The folders in which files are looked for, in order.
+        path: Vec<String>,
+        /// The most events of a side, from 1 to 20,000.
+        limit: u32,
+        /// The death of an end, where one is given.
+        death: Option<Stop>,
+        /// The name of the script.
+        script: String,
+        /// The name of the file of the top protocol.
+        file: String,
+    },
 }
 
 /// The command that the words are; the name of the program is not among them. The fault is `Usage`
@@ -150,8 +146,8 @@ pub fn read_words(alloc: Global, words: &[String]) -> Result<Command, WordsFault
         if first.as_str() == "audit" {
             return audit(alloc, rest);
         }
-        if is_unbuilt_command(first.as_str()) {
-            return Err(WordsFault::Usage);
+        if first.as_str() == "relay" {
+            return relay(alloc, rest);
         }
     }
     compile(alloc, words)

@@ -16,10 +16,11 @@ mod laws;
 mod numbers;
 mod operands;
 mod options;
+mod relay;
 mod run;
 mod texts;
 mod waits;
 
 pub use command::{Command, read_words};
 pub use fault::WordsFault;
-pub use laws::{one_command, other_commands_are_none};
+pub use laws::one_command;

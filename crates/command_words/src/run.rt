@@ -34,15 +34,17 @@ const RUN_OPTIONS: [Choice; 5] = [
     },
 ];
 
-/// The words that are values of no option.
+/// The words of the commands that run a script.
 #[derive(Drop)]
-struct Operands {
-    script: String,
-    file: String,
+pub struct RunOperands {
+    /// The name of the script.
+    pub script: String,
+    /// The name of the file of the top protocol.
+    pub file: String,
 }
 
 /// SCRIPT and FILE, where the words are these.
-fn operands_of(alloc: Global, words: &[&str]) -> Result<Operands, WordsFault>
+pub fn run_operands_of(alloc: Global, words: &[&str]) -> Result<RunOperands, WordsFault>
     ensures operands { IfOk result (λ found. AreRunOperands (map (λ w. w.now) words.entry.now) (string_bytes found.script) (string_bytes found.file)) }
     ensures usage { IfErr result (λ fault. fault ≡ WordsFault.Usage → (script file : List ℕ) → ¬ AreRunOperands (map (λ w. w.now) words.entry.now) script file) }
 {
@@ -52,7 +54,7 @@ fn operands_of(alloc: Global, words: &[&str]) -> Result<Operands, WordsFault>
     if !file.ends_with(".ipdl") {
         return Err(WordsFault::Usage);
     }
-    Ok(Operands {
+    Ok(RunOperands {
         script: String::from_str(alloc, script)?,
         file: String::from_str(alloc, file)?,
     })
@@ -68,9 +70,9 @@ pub fn run(alloc: Global, words: &[String]) -> Result<Command, WordsFault>
     let death = death_of(found.get_str("die"))?;
     let path = folders_of(alloc, found.get_str("path"))?;
     let schedule = schedule_of(alloc, found.get_str("schedule"))?;
-    let operands = operands_of(alloc, found.get_strs("words").unwrap_or(&[]))?;
+    let operands = run_operands_of(alloc, found.get_strs("words").unwrap_or(&[]))?;
     let list = copy_of(alloc, found.get_str("sync-msg-list"))?;
-    let Operands { script, file } = operands;
+    let RunOperands { script, file } = operands;
     Ok(Command::Run {
         list,
         path,

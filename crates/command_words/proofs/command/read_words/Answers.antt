@@ -1,17 +1,18 @@
 use Rattle.std.proofs.Common.{◌≡◌, ◌≢◌, ◌∙◌, map, string_bytes, ℕ, Bool, false, List, ◌∷◌, sym, ap, subst, true≢false}
 use Rattle.std.specs.Str.{bytes_eq}
 use Rattle.command_words.specs.Audit.{audit_word}
-use Rattle.command_words.specs.Compile.{HasWord, IsForCompile, unbuilt_commands}
+use Rattle.command_words.specs.Compile.{IsForCompile}
 use Rattle.command_words.specs.Feed.{feed_word}
 use Rattle.command_words.specs.Frames.{frames_word}
 use Rattle.command_words.specs.Gen.{gen_word}
+use Rattle.command_words.specs.Relay.{relay_word}
 use Rattle.command_words.specs.Run.{run_word}
 use Rattle.command_words.specs.Waits.{waits_word}
 use Rattle.command_words.proofs.Comparisons.{same_text, text_is}
 use Rattle.command_words.proofs.Errors.{weaker}
-use Rattle.command_words.proofs.OneCommand.{none_behind_audit, none_behind_feed, none_behind_frames, none_behind_gen, none_behind_run, none_behind_waits, none_for_compile, none_to_compile, for_compile}
+use Rattle.command_words.proofs.OneCommand.{none_behind_audit, none_behind_feed, none_behind_frames, none_behind_gen, none_behind_relay, none_behind_run, none_behind_waits, none_for_compile, none_to_compile, for_compile}
 use Rattle.command_words.proofs.command.read_words.Goals as goal
-use Rattle.command_words.proofs.command.read_words.Goals.{in-Some+else-eq+else-eq-2+else-eq-3+else-eq-4+else-eq-5+else-eq-6+else-is_unbuilt_command, in_default}
+use Rattle.command_words.proofs.command.read_words.Goals.{in-Some+else-eq+else-eq-2+else-eq-3+else-eq-4+else-eq-5+else-eq-6+else-eq-7, in_default}
 
 pub returns-then-eq-clause-usage : goal.returns-then-eq-clause-usage
 returns-then-eq-clause-usage c =
@@ -55,15 +56,21 @@ returns-then-eq-6-clause-usage c =
     ap (map string_bytes) c.in-Some.ensures.cases.0 ∙ ap (λ (w : List ℕ). w ∷ map string_bytes c.in-Some.rest.now) first in
     weaker c.audit.result _ _ c.audit.ensures.usage (λ fault none usage. none_behind_audit _ _ words (none usage))
 
+pub returns-then-eq-7-clause-usage : goal.returns-then-eq-7-clause-usage
+returns-then-eq-7-clause-usage c =
+    let first : string_bytes c.in-Some.first.now ≡ relay_word = sym c.as_str-in-Some-6.ensures.value ∙ text_is c.as_str-in-Some-6.result.now relay_word (sym c.eq-in-Some-6.ensures ∙ c.if-eq-7.true) in
+    let words : map string_bytes c.args.words.now ≡ relay_word ∷ map string_bytes c.in-Some.rest.now =
+    ap (map string_bytes) c.in-Some.ensures.cases.0 ∙ ap (λ (w : List ℕ). w ∷ map string_bytes c.in-Some.rest.now) first in
+    weaker c.relay.result _ _ c.relay.ensures.usage (λ fault none usage. none_behind_relay _ _ words (none usage))
+
 -- a word that is not another
 other_word : (word first other : List ℕ) (test : Bool) → first ≡ word → test ≡ bytes_eq first other → test ≡ false → word ≢ other
 other_word word first other test is tests fails e = true≢false (sym (same_text other) ∙ ap (λ (t : List ℕ). bytes_eq t other) (sym (is ∙ e)) ∙ sym tests ∙ fails)
 
 pub returns-clause-usage : goal.returns-clause-usage
 returns-clause-usage c = elim c.match-split_first.branch [
-  | in-Some+else-eq+else-eq-2+else-eq-3+else-eq-4+else-eq-5+else-eq-6+else-is_unbuilt_command w ↦
+  | in-Some+else-eq+else-eq-2+else-eq-3+else-eq-4+else-eq-5+else-eq-6+else-eq-7 w ↦
       let first = string_bytes w.in-Some.first.now in
-      let no_unbuilt : ¬ HasWord unbuilt_commands first = λ has. true≢false (sym (w.is_unbuilt_command.ensures.1 (subst (HasWord unbuilt_commands) (sym w.as_str-in-Some-6.ensures.value) has)) ∙ w.if-is_unbuilt_command.false) in
       let chosen : IsForCompile (map string_bytes c.args.words.now) =
       subst IsForCompile (sym (ap (map string_bytes) w.in-Some.ensures.cases.0))
       (for_compile first (map string_bytes w.in-Some.rest.now)
@@ -73,7 +80,7 @@ returns-clause-usage c = elim c.match-split_first.branch [
       (other_word first w.as_str-in-Some-3.result.now gen_word _ w.as_str-in-Some-3.ensures.value w.eq-in-Some-3.ensures w.if-eq-4.false)
       (other_word first w.as_str-in-Some-4.result.now feed_word _ w.as_str-in-Some-4.ensures.value w.eq-in-Some-4.ensures w.if-eq-5.false)
       (other_word first w.as_str-in-Some-5.result.now audit_word _ w.as_str-in-Some-5.ensures.value w.eq-in-Some-5.ensures w.if-eq-6.false)
-      no_unbuilt) in
+      (other_word first w.as_str-in-Some-6.result.now relay_word _ w.as_str-in-Some-6.ensures.value w.eq-in-Some-6.ensures w.if-eq-7.false)) in
       weaker c.compile.result _ _ c.compile.ensures.usage (λ fault none usage. none_for_compile _ chosen (none usage))
   | in_default w ↦ weaker c.compile.result _ _ c.compile.ensures.usage (λ fault none usage. none_for_compile _ (none_to_compile string_bytes c.args.words.now w.in_default.ensures.cases) (none usage))
 ]

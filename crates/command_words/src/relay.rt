@@ -1,0 +1,54 @@
+ghost use Rattle.std.specs.Prelude.{◌≡◌, ◌∷◌, IfErr, IfOk, map, string_bytes};
+ghost use Rattle.command_words.specs.Command.{CommandOf};
+ghost use Rattle.command_words.specs.Relay.{IsNoRelay, relay_word};
+
+use crate::WordsFault;
+use crate::command::Command;
+use crate::courses::{death_of, limit_of};
+use crate::folders::folders_of;
+use crate::options::{Choice, read_options};
+use crate::run::{RunOperands, run_operands_of};
+use crate::texts::copy_of;
+use std::alloc::Global;
+
+/// The options of the command that runs a script over two queues.
+const RELAY_OPTIONS: [Choice; 4] = [
+    Choice {
+        name: "sync-msg-list",
+        letter: Some('s'),
+    },
+    Choice {
+        name: "path",
+        letter: None,
+    },
+    Choice {
+        name: "limit",
+        letter: None,
+    },
+    Choice {
+        name: "die",
+        letter: None,
+    },
+];
+
+/// The command that runs a script over two queues, where the words behind its first one are such.
+pub fn relay(alloc: Global, words: &[String]) -> Result<Command, WordsFault>
+    ensures command { IfOk result (λ command. CommandOf (relay_word ∷ map string_bytes words.now) command) }
+    ensures usage { IfErr result (λ fault. fault ≡ WordsFault.Usage → IsNoRelay (relay_word ∷ map string_bytes words.now)) }
+{
+    let found = read_options(alloc, &RELAY_OPTIONS, words)?;
+    let limit = limit_of(found.get_str("limit"))?;
+    let death = death_of(found.get_str("die"))?;
+    let path = folders_of(alloc, found.get_str("path"))?;
+    let operands = run_operands_of(alloc, found.get_strs("words").unwrap_or(&[]))?;
+    let list = copy_of(alloc, found.get_str("sync-msg-list"))?;
+    let RunOperands { script, file } = operands;
+    Ok(Command::Relay {
+        list,
+        path,
+        limit,
+        death,
+        script,
+        file,
+    })
+}
