@@ -12,7 +12,7 @@ ghost use Rattle.world_core.specs.Turns.{GivesUnless, GrowsTo, StandsAs, WordGiv
 ghost use Rattle.world_core.specs.Worlds.{IsCase, IsLawful};
 
 use crate::exchange::OpenFault;
-use crate::gate::Gate;
+use gates::Gate;
 use crate::pass::{Exchange, Pass};
 use crate::turns::low_half;
 use std::alloc::{AllocError, Global};
