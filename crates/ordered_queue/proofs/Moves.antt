@@ -23,7 +23,7 @@ module _ {T : Type 0} where
       ⊎_elim
       (λ (x : (pass ≡ port) × (w ≡ view)). subst (λ (y : ℕ × PassView T). F y.0 y.1) (λ i. (sym x.0 i, x.1 i)) mine)
       (λ (x : (pass ≢ port) × (get_elem? views pass ≡ some view)). others pass view x.0 x.1)
-      (at_set views port w pass view at)
+      (at_set views port pass w view at)
 
   -- what a rule says of each pass
   abbrev Seen : ℕ → ℕ → List T → List T → ℕ → PassView T → Type 0
@@ -121,7 +121,7 @@ module _ {T : Type 0} where
         let both : PassView T = whole v u in
         let mine = rule.seen port v at in
         let between : List (PassView T) = set views port both in
-        let was : get_elem? views other ≡ some u = ⊎_elim (λ x. absurd (two x.0)) (λ x. x.1) (at_set views port both other u at') in
+        let was : get_elem? views other ≡ some u = ⊎_elim (λ x. absurd (two x.0)) (λ x. x.1) (at_set views port other both u at') in
         let theirs = (rule.seen other u was).1 may_pop in
         let Now : ℕ → PassView T → Type 0 = λ pass view. pass ≢ other → Seen rule.pusher port rule.pushed rule.popped pass view in
         let now : Each Now between =

@@ -45,12 +45,7 @@ impl<T: Drop, B: Contents<T>> OrderedQueue<T, B> {
     }
 
     /// Pushes a value. The only error is want of memory, where nothing is pushed.
-    pub fn push<R: Wait>(
-        &self,
-        rt: &R,
-        pass: &mut QueuePass<T>,
-        value: T,
-    ) -> Result<(), AllocError>
+    pub fn push<R: Wait>(&self, rt: &R, pass: &mut QueuePass<T>, value: T) -> Result<(), AllocError>
         requires pass { IsSegPassOf self.now.queue pass.old }
         requires may { pass.old.me.view.client.pushes ≡ true }
         requires fit { B.fit value }

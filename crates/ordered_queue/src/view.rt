@@ -1,7 +1,6 @@
+use crossbeam_queue::protocol::{Join, Lesson, Outcome, Protocol, Split};
 use std::collections::LinkedList;
 use std::marker::PhantomData;
-
-use crossbeam_queue::protocol::{Join, Lesson, Outcome, Protocol, Split};
 
 /// What is true of each value of a queue.
 pub trait Contents<T> {
