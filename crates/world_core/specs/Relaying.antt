@@ -48,6 +48,13 @@ pub record GoesApart (setting : Setting) (side : Side) (state : HalfState) (hand
   pub packets : half.end.packets ≡ packets_of setting.schema held
   pub framed : AllByRecursion (IsFramed setting.schema) state.sent
 
+-- a half that goes apart, in whatever state; and one that has no own step there
+abbrev pub IsApart : Setting → Side → HalfView → Type 0
+IsApart setting side half = (state : HalfState) × (handed : List model.Packet) × GoesApart setting side state handed half
+
+abbrev pub RestsApart : Setting → Side → HalfView → Type 0
+RestsApart setting side half = (state : HalfState) × (handed : List model.Packet) × GoesApart setting side state handed half × (own_event setting side state ≡ None)
+
 -- It has done its own step.
 pub record HasActed (setting : Setting) (side : Side) (state : HalfState) (handed : List model.Packet) (half' : HalfView) : Type 0 where
   pub own : Event

@@ -13,24 +13,24 @@ use channel_core::Packet;
 use history::History;
 
 impl<'s> Half<'s> {
-    ghost use Rattle.world_core.specs.Relaying.{AcceptGives, GoesApart, GoingGives, PutGives};
+    ghost use Rattle.world_core.specs.Relaying.{AcceptGives, GoesApart, GoingGives, IsApart, PutGives, RestsApart};
 
     /// One own step of a half that goes by itself: what the end does next by its script. `Nothing`
     /// comes exactly where it does nothing, and `Spent` exactly where it does something but has as
     /// many events as it may have.
     pub fn go_on(&mut self) -> StepAnswer
-        ghost at: { Setting × EndSide × HalfState × List ends.Packet }
-        requires { GoesApart at.0 at.1 at.2 at.3 self.old }
-        ensures { GoingGives at.0 at.1 at.2 at.3 result self.new }
+        ghost at: { Setting × EndSide }
+        requires { IsApart at.0 at.1 self.old }
+        ensures { (state : HalfState) (handed : List ends.Packet) → GoesApart at.0 at.1 state handed self.old → GoingGives at.0 at.1 state handed result self.new }
     {
         StepAnswer::NoMemory
     }
 
     /// The oldest packet that was not handed out; `None` exactly where all were. It takes no memory.
     pub fn put(&mut self) -> Option<Packet>
-        ghost at: { Setting × EndSide × HalfState × List ends.Packet }
-        requires { GoesApart at.0 at.1 at.2 at.3 self.old }
-        ensures { PutGives at.0 at.1 at.2 at.3 result self.new }
+        ghost at: { Setting × EndSide }
+        requires { IsApart at.0 at.1 self.old }
+        ensures { (state : HalfState) (handed : List ends.Packet) → GoesApart at.0 at.1 state handed self.old → PutGives at.0 at.1 state handed result self.new }
     {
         self.end.outgoing()
     }
@@ -40,13 +40,10 @@ impl<'s> Half<'s> {
     /// where it has as many events as it may have, and else `Refused` exactly where it refuses the
     /// packet.
     pub fn accept(&mut self, packet: &Packet) -> AcceptAnswer
-        ghost at: { Setting × EndSide × HalfState × List ends.Packet }
-        ghost came: { ends.Packet }
-        requires goes { GoesApart at.0 at.1 at.2 at.3 self.old }
-        requires rests { own_event at.0 at.1 at.2 ≡ None }
-        requires packet { packet.now ≡ packet_of at.0.schema came }
-        requires framed { IsFramed at.0.schema came }
-        ensures { AcceptGives at.0 at.1 at.2 at.3 came result self.new }
+        ghost at: { Setting × EndSide }
+        requires goes { RestsApart at.0 at.1 self.old }
+        requires packet { (came : ends.Packet) × (packet.now ≡ packet_of at.0.schema came) × IsFramed at.0.schema came }
+        ensures { (state : HalfState) (handed : List ends.Packet) (came : ends.Packet) → GoesApart at.0 at.1 state handed self.old → packet.now ≡ packet_of at.0.schema came → IsFramed at.0.schema came → AcceptGives at.0 at.1 state handed came result self.new }
     {
         let _packet = packet;
         AcceptAnswer::NoMemory
