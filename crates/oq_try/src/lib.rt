@@ -1,4 +1,0 @@
-//! A trial.
-#![tactic(auto)]
-mod work;
-pub use work::both;
