@@ -3,7 +3,6 @@
 #![tactic(auto)]
 
 mod exchange;
-mod gate;
 mod parts;
 mod pass;
 mod threads;
@@ -11,6 +10,6 @@ mod turns;
 mod workers;
 
 pub use exchange::OpenFault;
-pub use gate::{Gate, Open};
+pub use gates::{Gate, Open};
 pub use pass::{Exchange, Pass};
 pub use threads::TwoThreads;

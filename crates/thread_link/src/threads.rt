@@ -4,8 +4,8 @@ ghost use Rattle.thread_link.specs.Runs.{RunsAtOnce};
 ghost use Rattle.world_core.specs.Turns.{GivesUnless, GrowsTo, StandsAs};
 ghost use Rattle.world_core.specs.Worlds.{IsCase, IsLawful};
 
-use crate::gate::{Gate, Open};
 use crate::workers::run_at_once;
+use gates::{Gate, Open};
 use std::sync::Wait;
 use std::thread::Threads;
 use world_core::{Driver, RunAnswer, World};

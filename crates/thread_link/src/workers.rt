@@ -12,9 +12,9 @@ ghost use Rattle.world_core.specs.Turns.{GivesUnless, GrowsTo, StandsAs, WordGiv
 ghost use Rattle.world_core.specs.Worlds.{IsCase, IsLawful};
 
 use crate::exchange::OpenFault;
-use crate::gate::Gate;
 use crate::pass::{Exchange, Pass};
 use crate::turns::low_half;
+use gates::Gate;
 use std::alloc::{AllocError, Global};
 use std::sync::Wait;
 use std::thread::{Threads, join_mut};

@@ -334,7 +334,7 @@ feed-begins setting bytes half trace sound valid small are about opens counted l
 -- What is fed
 
 module _ (schema : Schema) (script : Script) (side : Side) (limit : ℕ) (bytes : List ℕ) (half : HalfView)
-    (made : half ≡ record { end = opened side schema script.top; script = script; stop = None; limit = limit; counts = half.counts }) where
+    (made : half ≡ record { end = opened side schema script.top; script = script; stop = None; limit = limit; counts = half.counts; history = half.history; spare = half.spare }) where
   abbrev setting_is : FeedSetting
   setting_is = record { schema = schema; script = script; side = side; limit = limit }
 

@@ -11,14 +11,16 @@ use Rattle.world_core.specs.CountsView.{CountsView}
 use Rattle.world_core.specs.Counted.{AreCountsOf}
 use Rattle.world_core.specs.Resolvers.{HoldResolvers}
 
--- The end, with the lines and packets that were not appended to the link; the script, the stop and the limit; and the
--- counts of its side.
+-- The end, with the lines and packets that were not appended to the link; the script, the stop and the limit; the counts
+-- of its side; and the lines that the half has taken over from its end, with room for so many more.
 pub record HalfView : Type 0 where
   pub end : EndView
   pub script : Script
   pub stop : Option Stop
   pub limit : ℕ
   pub counts : CountsView
+  pub history : List Line
+  pub spare : ℕ
 
 -- what the run of a half is about
 abbrev pub setting_of : HalfView → Setting

@@ -16,5 +16,6 @@ pub mod Halves
 pub mod FeedLaws
 pub mod Feeding
 pub mod Fed
+pub mod Relaying
 pub mod Replayed
 pub mod Followed

@@ -34,3 +34,18 @@ pub enum MeetAnswer {
     /// The lines were appended, and the deliveries were done before the one that wanted memory.
     NoMemory,
 }
+
+/// What a half answers to a packet that comes to it by itself.
+#[derive(Clone, Copy, Debug, PartialEq, Eq)]
+pub enum AcceptAnswer {
+    /// The packet was delivered.
+    Did,
+    /// The end refuses the packet, and the mark of a death was delivered in its place.
+    Refused,
+    /// The end is not open. Nothing changed.
+    Nothing,
+    /// This side has as many events as it may have. Nothing changed.
+    Spent(Side),
+    /// Nothing changed.
+    NoMemory,
+}

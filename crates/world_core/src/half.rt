@@ -4,6 +4,7 @@ ghost use Rattle.ipdl_base.specs.Sound.{IsSound};
 ghost use Rattle.script_steps.specs.Progress.{Progress};
 
 mod acting;
+mod apart;
 mod ending;
 mod fed;
 mod meeting;
@@ -20,6 +21,7 @@ use crate::counts::Counts;
 use crate::link::Link;
 use channel_core::{DeliverAnswer, End, EndState, Packet};
 use handler_script::Script;
+use history::History;
 use ipdl_base::{Schema, Side};
 use schedules::Stop;
 use std::alloc::{AllocError, Global};
@@ -36,11 +38,14 @@ pub struct Half<'s> {
     stop: Option<Stop>,
     limit: u32,
     counts: Counts,
+    /// The lines that were taken over from the end.
+    history: History,
 }
 
 impl<'s> Model for Half<'s> {
-    ghost use Rattle.std.specs.Prelude.{◌≡◌};
+    ghost use Rattle.std.specs.Prelude.{◌≡◌, map};
     ghost use Rattle.std.specs.Coded.{codes};
+    ghost use Rattle.end_parts.specs.PlainLines.{plain_line};
     ghost use Rattle.indexmap.specs.Layout.{hash_map_code};
     ghost use Rattle.ipdl_base.specs.contracts.value.Values as values;
     ghost use Rattle.ipdl_base.specs.contracts.schema.Shape as shape;
@@ -57,6 +62,8 @@ impl<'s> Model for Half<'s> {
       stop = a.stop;
       limit = a.limit;
       counts = a.counts;
+      history = map plain_line a.history.lines;
+      spare = a.history.spare;
     } };
 
     ghost invariant = { λ a. a.end.schema ≡ a.schema.now };
@@ -87,7 +94,7 @@ impl<'s> Half<'s> {
         requires sound { IsSound schema.now }
         requires top { script.now.top < length schema.now.protocols }
         requires few { length script.now.blocks < 2 ^ 32 }
-        ensures made { IfOk result (λ half. half ≡ record { end = opened side schema.entry.now script.entry.now.top; script = script.entry.now; stop = stop; limit = limit; counts = half.counts }) }
+        ensures made { IfOk result (λ half. half ≡ record { end = opened side schema.entry.now script.entry.now.top; script = script.entry.now; stop = stop; limit = limit; counts = half.counts; history = half.history; spare = half.spare }) }
         ensures counted { IfOk result (λ half. IsCountedBy half no_progress) }
     {
         Ok(Half {
@@ -98,6 +105,7 @@ impl<'s> Half<'s> {
             stop,
             limit,
             counts: Counts::new(alloc, script, side)?,
+            history: History::new(alloc),
         })
     }
 

@@ -1,6 +1,6 @@
 //! A run of two ends by a handler script: step by step, by a word of turns, or by a driver
 //! (docs/scripts.md). The history of every run is one of the script. And one end by itself against
-//! any bytes (docs/feed.md).
+//! any bytes (docs/feed.md); and both ends of a run apart from one another (docs/relay.md).
 #![tactic(auto)]
 
 mod answers;
@@ -10,10 +10,11 @@ mod feeding;
 mod half;
 mod laws;
 mod link;
+mod relay;
 mod side_turns;
 mod world;
 
-pub use answers::{MeetAnswer, RunAnswer, StepAnswer};
+pub use answers::{AcceptAnswer, MeetAnswer, RunAnswer, StepAnswer};
 pub use driver::{Driver, OneThread};
 pub use feed_runs::FeedFault;
 pub use feeding::{Fed, feed};
@@ -22,5 +23,6 @@ pub use laws::{
     feed_turns_are_possible, feeds_come_to_an_end, halves_fit_behind_more, stored_lines_follow,
 };
 pub use link::Link;
+pub use relay::{Halves, Relay, take_turns};
 pub use schedules::{Stop, Turn};
 pub use world::{Replay, World};

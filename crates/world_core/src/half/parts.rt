@@ -5,6 +5,7 @@ use super::Half;
 use crate::counts::Counts;
 use channel_core::{End, EndParts};
 use handler_script::Script;
+use history::History;
 use ipdl_base::Schema;
 use schedules::Stop;
 use std::alloc::Global;
@@ -19,10 +20,13 @@ pub struct HalfParts {
     stop: Option<Stop>,
     limit: u32,
     counts: Counts,
+    history: History,
 }
 
 impl Model for HalfParts {
+    ghost use Rattle.std.specs.Prelude.{map};
     ghost use Rattle.std.specs.Coded.{codes};
+    ghost use Rattle.end_parts.specs.PlainLines.{plain_line};
     ghost use Rattle.indexmap.specs.Layout.{hash_map_code};
     ghost use Rattle.ipdl_base.specs.contracts.value.Values as values;
     ghost use Rattle.world_core.specs.HalfParts.{HalfPartsView};
@@ -31,7 +35,7 @@ impl Model for HalfParts {
 
     ghost coded = { Prim.hlevel (codes, hash_map_code, values.the_row.coded) };
 
-    ghost view = { λ a. record { end = a.end; stop = a.stop; limit = a.limit; counts = a.counts } };
+    ghost view = { λ a. record { end = a.end; stop = a.stop; limit = a.limit; counts = a.counts; history = map plain_line a.history.lines; spare = a.history.spare } };
 }
 
 impl<'s> Half<'s> {
@@ -48,6 +52,7 @@ impl<'s> Half<'s> {
             stop: self.stop,
             limit: self.limit,
             counts: self.counts,
+            history: self.history,
         }
     }
 
@@ -64,6 +69,7 @@ impl<'s> Half<'s> {
             stop: parts.stop,
             limit: parts.limit,
             counts: parts.counts,
+            history: parts.history,
         }
     }
 }

@@ -1,5 +1,7 @@
 //! A world taken apart into its halves and its link, and put together again.
-ghost use Rattle.std.specs.Prelude.{◌≡◌};
+ghost use Rattle.std.specs.Prelude.{◌≡◌, []};
+ghost use Rattle.ipdl_base.specs.declared.kinds.Side.TheVariants as sides;
+ghost use Rattle.relay_runs.specs.HalfRuns.{opening_half};
 
 use super::World;
 use crate::half::Half;
@@ -8,6 +10,8 @@ use crate::link::Link;
 impl<'s> World<'s> {
     ghost use Rattle.world_core.specs.HalfView.{setting_of};
     ghost use Rattle.world_core.specs.Halves.{IsSplit, joined};
+    ghost use Rattle.world_core.specs.Relaying.{GoesApart};
+    ghost use Rattle.world_core.specs.WorldView.{opening_of};
 
     /// The parent, the child and the link of the run, each of which can go on apart. It takes no
     /// memory.
@@ -32,5 +36,19 @@ impl<'s> World<'s> {
             child,
             link,
         }
+    }
+
+    /// The parent and the child of a run that has just begun, each of which goes by itself. It takes
+    /// no memory.
+    pub fn into_halves(self) -> (Half<'s>, Half<'s>)
+        requires { self ≡ opening_of self.setting }
+        ensures parent { GoesApart self.entry.setting sides.Parent (opening_half self.entry.setting sides.Parent) [] result.0 }
+        ensures child { GoesApart self.entry.setting sides.Child (opening_half self.entry.setting sides.Child) [] result.1 }
+    {
+        let mut parent = self.parent;
+        let mut child = self.child;
+        parent.set_out();
+        child.set_out();
+        (parent, child)
     }
 }

@@ -1,0 +1,12 @@
+ghost use Rattle.relay_laws.specs.Laws.{HalfRunsRunAlone, RelaysObeyAlone};
+
+/// The law of runs: a half run is a run of one end by itself.
+pub fn half_runs_run_alone()
+    ensures { HalfRunsRunAlone }
+{}
+
+/// The law of one end, for relays: what each end settles and goes on with comes of what the other has
+/// sent.
+pub fn relays_obey_alone()
+    ensures { RelaysObeyAlone }
+{}

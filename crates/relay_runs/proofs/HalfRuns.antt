@@ -1,0 +1,125 @@
+-- In a half run a mark that stands for a packet is the last that is delivered.
+use Rattle.std.proofs.Common.{◌≡◌, ◌⊎◌, inl, inr, ℕ, Bool, true, false, List, [], ◌∷◌, ◌++◌, Option, Some, None, refl, sym, ap, subst, ◌∙◌}
+use Rattle.std.specs.Option.{option_map_or}
+use Rattle.std.proofs.lemmas.Option.{same_Some}
+use Rattle.ipdl_base.specs.declared.kinds.Side.{Side}
+use Rattle.ipdl_base.specs.declared.line.What.{What}
+use Rattle.ipdl_base.specs.declared.schema.Schema.{Schema}
+use Rattle.channel_model.specs.Answers as answers
+use Rattle.channel_model.specs.Deliveries.{deliver}
+use Rattle.channel_model.specs.Ends.{End, Packet, mark}
+use Rattle.channel_model.specs.Events.{Answering, Event, handled, kept}
+use Rattle.channel_model.specs.Events as event
+use Rattle.channel_model.specs.Outputs.{Output, beginning, is_open}
+use Rattle.channel_model.specs.Parts as parts
+use Rattle.channel_model.specs.Parts.{DeliveryPart, FirstPart, LaterPart, end_behind}
+use Rattle.channel_model.specs.Phases.{Phase}
+use Rattle.channel_model.specs.Refusals.{DeliveryRefusal, packet_refusal}
+use Rattle.channel_model.specs.Steps.{provided, step}
+use Rattle.channel_model.proofs.StepParts.{EachPartKeeps, parts-keep}
+use Rattle.script_steps.specs.Choices.{Setting}
+use Rattle.relay_runs.specs.HalfRuns.{HalfRun, HalfState, StandsFor, acts, begins, gets}
+use Rattle.relay_runs.specs.Laws.{MarksComeLast}
+
+-- An end that is not open stays so
+
+abbrev IsEnded : End → Type 0
+IsEnded e = is_open e.state ≡ false
+
+behind-ended : (b : Bool) (e : End) → IsEnded e → IsEnded (end_behind b e)
+behind-ended true e h = h
+behind-ended false e h = h
+
+used-ended : (by : Answering) (e : End) → IsEnded e → IsEnded (record (answers.without_resolver by e) { outbox = [] })
+used-ended (handled seq) e h = h
+used-ended (kept name number) e h = h
+
+first-ended : {schema : Schema} {p : Phase} {e f : End} {ws : List What} {ps : List Packet} → FirstPart schema e ws ps f p → IsEnded e → IsEnded f
+first-ended (parts.refuses w is) h = h
+first-ended (parts.renames w is) h = h
+first-ended (parts.flushes opened) h = h
+first-ended (parts.sends row route vs name sent) h = h
+first-ended {e = e} (parts.answers by vs r row found may ok is) h = used-ended by e h
+first-ended (parts.closes opened none) h = refl
+first-ended (parts.dies opened) h = refl
+first-ended (parts.dies_silent ended alive) h = refl
+first-ended (parts.takes m sync level row vs next body found stays) h = h
+first-ended (parts.drops m sync level row vs id replies next body found gone is) h = behind-ended replies _ h
+first-ended (parts.drops_unknown m sync level vs next body none) h = h
+first-ended (parts.takes_reply m sync level a next body late) h = h
+first-ended (parts.settles m sync level row a next body found is) h = h
+first-ended (parts.shuts last next is) h = refl
+first-ended (parts.returns entry row vs told lost returns t l) h = behind-ended lost _ (behind-ended told _ h)
+first-ended (parts.resumes wait row on_top found) h = h
+
+later-ended : {p q : Phase} {e f : End} {ws : List What} {ps : List Packet} → LaterPart p e ws ps f q → IsEnded e → IsEnded f
+later-ended (parts.unnames name may silent) h = h
+later-ended (parts.lets_go name r may held opened) h = h
+later-ended (parts.names more actors) h = h
+later-ended (parts.releases seq closed) h = h
+later-ended (parts.keeps seq name r held closed) h = h
+later-ended (parts.builds id protocol rest is built) h = h
+later-ended (parts.deletes id due) h = h
+later-ended (parts.falls why due) h = h
+
+delivery-ended : {schema : Schema} {packet : Packet} {p : Phase} {e f : End} {ws : List What} {ps : List Packet} → DeliveryPart schema packet e ws ps f p → IsEnded e → IsEnded f
+delivery-ended (parts.gets_request m row vs body found none) h = h
+delivery-ended (parts.replaces m row vs old sync level replies body found rep k) h = behind-ended replies _ h
+delivery-ended (parts.gets_answer m row a body found sync) h = h
+delivery-ended (parts.gets_reply m row a body found async) h = h
+delivery-ended (parts.drains packet last) h = refl
+delivery-ended (parts.passes_by m ordinary none) h = h
+
+stays-ended : (schema : Schema) (e : End) (link : List Packet) (happened : Event) (output : Output) → step schema e link happened ≡ Some output → IsEnded e → IsEnded output.end
+stays-ended schema e link happened output is h = parts-keep schema IsEnded (record { first = first-ended; later = later-ended; delivery = delivery-ended }) e link happened output is h
+
+-- and so it is behind a mark
+mark-ends : (schema : Schema) (e : End) (output : Output) → step schema e (mark ∷ []) event.deliver ≡ Some output → IsEnded output.end
+mark-ends schema e output is = by (is_open e.state) is
+  where
+    by : (b : Bool) → provided b (deliver schema mark) e ≡ Some output → IsEnded output.end
+    by true h = subst (λ (o : Output). IsEnded o.end) (same_Some (deliver schema mark (beginning e)) output h) refl
+    by false h = cc
+
+-- What is delivered
+
+-- a mark stands for the last that came, and its end is not open
+record IsCutOff (state : HalfState) : Type 0 where
+  before : List Packet
+  packet : Packet
+  came : state.came ≡ before ++ packet ∷ []
+  delivered : state.delivered ≡ before ++ mark ∷ []
+  ended : IsEnded state.end
+
+abbrev IsTold : HalfState → Type 0
+IsTold state = (state.delivered ≡ state.came) ⊎ IsCutOff state
+
+one-more : (schema : Schema) (state : HalfState) (packet : Packet) (output : Output) (refusal : Option DeliveryRefusal) → state.delivered ≡ state.came
+    → step schema state.end (option_map_or (λ r. mark) refusal packet ∷ []) event.deliver ≡ Some output
+    → IsTold (record { end = output.end; lines = state.lines ++ output.lines; came = state.came ++ packet ∷ []; delivered = state.delivered ++ option_map_or (λ r. mark) refusal packet ∷ []; sent = state.sent ++ output.packets })
+one-more schema state packet output None same is = inl (ap (λ (ps : List Packet). ps ++ packet ∷ []) same)
+one-more schema state packet output (Some r) same is =
+    inr (record { before = state.came; packet = packet; came = refl; delivered = ap (λ (ps : List Packet). ps ++ mark ∷ []) same; ended = mark-ends schema state.end output is })
+
+not-both : {A : Type 0} (b : Bool) → b ≡ true → b ≡ false → A
+not-both b h k = let e : true ≡ false = sym h ∙ k in cc
+
+told : (setting : Setting) (side : Side) (state : HalfState) → HalfRun setting side state → IsTold state
+told setting side _ begins = inl refl
+told setting side _ (acts state own output run within is_own is) = by (told setting side state run)
+  where
+    by : IsTold state → IsTold (record state { end = output.end; lines = state.lines ++ output.lines; sent = state.sent ++ output.packets })
+    by (inl same) = inl same
+    by (inr cut) = inr (record { before = cut.before; packet = cut.packet; came = cut.came; delivered = cut.delivered; ended = stays-ended setting.schema state.end [] own output is cut.ended })
+told setting side _ (gets state packet output run within rests opened fits is) = by (told setting side state run)
+  where
+    by : IsTold state → _
+    by (inl same) = one-more setting.schema state packet output (packet_refusal setting.schema state.end packet) same is
+    by (inr cut) = not-both (is_open state.end.state) opened cut.ended
+
+pub marks_come_last : MarksComeLast
+marks_come_last setting side state run = by (told setting side state run)
+  where
+    by : IsTold state → StandsFor state.came state.delivered
+    by (inl same) = inl same
+    by (inr cut) = inr (cut.before, cut.packet, cut.came, cut.delivered)

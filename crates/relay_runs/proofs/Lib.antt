@@ -1,0 +1,2 @@
+pub mod HalfRuns
+mod WorkedRelays
