@@ -23,6 +23,8 @@ mod OwnRuns
 pub mod Halves
 mod Meetings
 mod Apart
+mod KeptEnds
+mod KeptHalves
 mod FeedEnds
 mod FeedStates
 mod FeedFrames

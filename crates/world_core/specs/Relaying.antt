@@ -1,5 +1,5 @@
 -- How a half goes on by itself, apart from any link, and what both halves of a run make where each goes by itself.
-use Rattle.std.specs.Prelude.{◌≡◌, ◌≤◌, true, false, is_some, List, [], ◌∷◌, ◌++◌, map, Option, Some, None}
+use Rattle.std.specs.Prelude.{◌≡◌, ◌+◌, ◌*◌, ◌-◌, ◌≤◌, true, false, is_some, List, [], ◌∷◌, ◌++◌, length, map, Option, Some, None}
 use Rattle.std.specs.List.{AllByRecursion}
 use Rattle.handler_script.specs.Valid.{IsValid}
 use Rattle.ipdl_base.specs.declared.kinds.Side.{Side}
@@ -16,7 +16,7 @@ use Rattle.channel_core.specs.EndView.{IsFramed, packet_of, packets_of}
 use Rattle.end_parts.specs.declared.packet.Packet.{Packet}
 use Rattle.end_parts.specs.PlainLines.{plain_line}
 use Rattle.script_steps.specs.Choices.{Setting}
-use Rattle.script_steps.specs.Progress.{progress_of}
+use Rattle.script_steps.specs.Progress.{Progress, progress_of}
 use Rattle.script_steps.specs.Turns.{RunEnding, at_limit, at_rest}
 use Rattle.relay_runs.specs.HalfRuns.{HalfRun, HalfState, behind, behind_packet, delivered_for, is_within, own_event}
 use Rattle.relay_runs.specs.Relays.{EndsAs, IsRelay, RelayState, RelayTurns, Relayed, RelayedByTurns}
@@ -27,6 +27,7 @@ use Rattle.world_core.specs.declared.answers.RunAnswer.TheVariants as run
 use Rattle.world_core.specs.declared.answers.StepAnswer.{StepAnswer}
 use Rattle.world_core.specs.declared.answers.StepAnswer.TheVariants as answer
 use Rattle.world_core.specs.declared.relay.Halves.{Halves}
+use Rattle.world_core.specs.HalfSteps.{IsHalfStep}
 use Rattle.world_core.specs.HalfView.{HalfView, IsCountedBy, setting_of}
 use Rattle.world_core.specs.WorldView.{WorldView}
 use Rattle.world_core.specs.Worlds.{most_events}
@@ -47,6 +48,16 @@ pub record GoesApart (setting : Setting) (side : Side) (state : HalfState) (hand
   pub sent : state.sent ≡ handed ++ held
   pub packets : half.end.packets ≡ packets_of setting.schema held
   pub framed : AllByRecursion (IsFramed setting.schema) state.sent
+
+-- a half has room for all lines that may come to be its own
+abbrev pub HasLineRoom : HalfView → Type 0
+HasLineRoom half = 5 * half.limit + 1 - length half.history ≤ half.spare
+
+-- A half has taken over the lines of its end.
+pub record HasTakenOver (before after : HalfView) : Type 0 where
+  pub end : after.end ≡ record before.end { lines = [] }
+  pub history : after.history ≡ before.history ++ before.end.lines
+  pub same : after ≡ record before { end = after.end; history = after.history; spare = after.spare }
 
 -- It has done its own step.
 pub record HasActed (setting : Setting) (side : Side) (state : HalfState) (handed : List model.Packet) (half' : HalfView) : Type 0 where
@@ -82,6 +93,20 @@ AcceptGives setting side state handed came accept.Nothing half' = (is_open state
 AcceptGives setting side state handed came (accept.Spent at) half' =
     (is_open state.end.state ≡ true) × (is_within setting side state ≡ false) × (at ≡ side) × GoesApart setting side state handed half'
 AcceptGives setting side state handed came accept.NoMemory half' = GoesApart setting side state handed half'
+
+-- what an open end refuses or not was delivered, or the mark in its place; or nothing changed
+abbrev pub DeliversFor : HalfView → Progress → model.Packet → AcceptAnswer → HalfView → Type 0
+DeliversFor before progress came accept.Did after = (packet_refusal before.end.schema before.end.end came ≡ None) × IsHalfStep before progress (came ∷ []) event.deliver after
+DeliversFor before progress came accept.Refused after = (is_some (packet_refusal before.end.schema before.end.end came) ≡ true) × IsHalfStep before progress (model.mark ∷ []) event.deliver after
+DeliversFor before progress came accept.Nothing after = ⊥
+DeliversFor before progress came (accept.Spent at) after = ⊥
+DeliversFor before progress came accept.NoMemory after = after ≡ before
+
+-- A packet may come to a half: it has no own step, and the packet is what comes, which has a frame.
+pub record MayAccept (setting : Setting) (side : Side) (state : HalfState) (came : model.Packet) (packet : Packet) : Type 0 where
+  pub rests : own_event setting side state ≡ None
+  pub is : packet ≡ packet_of setting.schema came
+  pub framed : IsFramed setting.schema came
 
 -- It has handed out one packet more.
 pub record HasHandedOut (setting : Setting) (side : Side) (state : HalfState) (handed : List model.Packet) (packet : Packet) (half' : HalfView) : Type 0 where

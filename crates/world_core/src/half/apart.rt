@@ -1,19 +1,25 @@
 //! What a half does by itself, apart from any link.
-ghost use Rattle.std.specs.Prelude.{◌≡◌, [], List, map, None};
+ghost use Rattle.std.specs.Prelude.{◌≡◌, ◌<◌, ◌≤◌, [], List, length, map, nat_lt, true, OnOk};
+ghost use Rattle.channel_model.specs.Ends as ends;
+ghost use Rattle.channel_model.specs.Outputs.{is_open};
+ghost use Rattle.end_parts.specs.PacketReading.{carried, packet_read};
 ghost use Rattle.end_parts.specs.PlainLines.{plain_line};
 ghost use Rattle.ipdl_base.specs.declared.kinds.Side.{Side as EndSide};
-ghost use Rattle.channel_core.specs.EndView.{IsFramed, packet_of};
-ghost use Rattle.channel_model.specs.Ends as ends;
-ghost use Rattle.relay_runs.specs.HalfRuns.{HalfState, own_event};
+ghost use Rattle.relay_runs.specs.HalfRuns.{HalfState, is_within};
 ghost use Rattle.script_steps.specs.Choices.{Setting};
+ghost use Rattle.script_steps.specs.Progress.{Progress};
 
 use super::Half;
 use crate::answers::{AcceptAnswer, StepAnswer};
-use channel_core::Packet;
+use crate::side_turns::holds_bytes;
+use channel_core::{DeliverAnswer, Packet};
 use history::History;
+use std::alloc::AllocError;
 
 impl<'s> Half<'s> {
-    ghost use Rattle.world_core.specs.Relaying.{AcceptGives, GoesApart, GoingGives, PutGives};
+    ghost use Rattle.world_core.specs.HalfSteps.{OfferGives};
+    ghost use Rattle.world_core.specs.HalfView.{IsCountedBy};
+    ghost use Rattle.world_core.specs.Relaying.{AcceptGives, DeliversFor, GoesApart, GoingGives, HasLineRoom, HasTakenOver, MayAccept, PutGives};
 
     /// One own step of a half that goes by itself: what the end does next by its script. `Nothing`
     /// comes exactly where it does nothing, and `Spent` exactly where it does something but has as
@@ -23,7 +29,22 @@ impl<'s> Half<'s> {
         requires { GoesApart at.0 at.1 at.2 at.3 self.old }
         ensures { GoingGives at.0 at.1 at.2 at.3 result self.new }
     {
-        StepAnswer::NoMemory
+        match self.make_room() {
+            Err(_) => StepAnswer::NoMemory,
+            Ok(()) => self.step_on(),
+        }
+    }
+
+    // The same, where there is room for the lines.
+    fn step_on(&mut self) -> StepAnswer
+        ghost at: { Setting × EndSide × HalfState × List ends.Packet }
+        requires goes { GoesApart at.0 at.1 at.2 at.3 self.old }
+        requires room { HasLineRoom self.old }
+        ensures { GoingGives at.0 at.1 at.2 at.3 result self.new }
+    {
+        let answer = self.own_step();
+        self.take_over();
+        answer
     }
 
     /// The oldest packet that was not handed out; `None` exactly where all were. It takes no memory.
@@ -43,13 +64,101 @@ impl<'s> Half<'s> {
         ghost at: { Setting × EndSide × HalfState × List ends.Packet }
         ghost came: { ends.Packet }
         requires goes { GoesApart at.0 at.1 at.2 at.3 self.old }
-        requires rests { own_event at.0 at.1 at.2 ≡ None }
-        requires packet { packet.now ≡ packet_of at.0.schema came }
-        requires framed { IsFramed at.0.schema came }
+        requires may { MayAccept at.0 at.1 at.2 came packet.now }
         ensures { AcceptGives at.0 at.1 at.2 at.3 came result self.new }
     {
-        let _packet = packet;
-        AcceptAnswer::NoMemory
+        if !self.is_open() {
+            AcceptAnswer::Nothing
+        } else if self.is_spent() {
+            AcceptAnswer::Spent(self.side())
+        } else {
+            match self.make_room() {
+                Err(_) => AcceptAnswer::NoMemory,
+                Ok(()) => self.take_in(packet),
+            }
+        }
+    }
+
+    // The same, where the end is open and there is room for one event more and its lines.
+    fn take_in(&mut self, packet: &Packet) -> AcceptAnswer
+        ghost at: { Setting × EndSide × HalfState × List ends.Packet }
+        ghost came: { ends.Packet }
+        requires goes { GoesApart at.0 at.1 at.2 at.3 self.old }
+        requires may { MayAccept at.0 at.1 at.2 came packet.now }
+        requires opened { is_open at.2.end.state ≡ true }
+        requires within { is_within at.0 at.1 at.2 ≡ true }
+        requires room { HasLineRoom self.old }
+        ensures { AcceptGives at.0 at.1 at.2 at.3 came result self.new }
+    {
+        holds_bytes(packet);
+        let answer = self.deliver_for(packet);
+        self.take_over();
+        answer
+    }
+
+    // Has a packet delivered, or the mark of a death in its place.
+    fn deliver_for(&mut self, packet: &Packet) -> AcceptAnswer
+        ghost given: { Progress × ends.Packet }
+        requires counted { IsCountedBy self.old given.0 }
+        requires opened { is_open self.old.end.end.state ≡ true }
+        requires few { self.old.end.end.delivered < 268435456 }
+        requires within { nat_lt self.old.counts.events self.old.limit ≡ true }
+        requires carries { packet_read self.old.end.schema packet.now ≡ carried given.1 }
+        ensures { DeliversFor self.old given.0 given.1 result self.new }
+    {
+        match self.offer_packet(packet) {
+            DeliverAnswer::Done => AcceptAnswer::Did,
+            DeliverAnswer::NoMemory => AcceptAnswer::NoMemory,
+            DeliverAnswer::Bad(_, _) | DeliverAnswer::Stray(_) | DeliverAnswer::WrongActor(_, _) =>
+                match self.deliver(&Packet::Broken) {
+                    StepAnswer::Did => AcceptAnswer::Refused,
+                    StepAnswer::NoMemory => AcceptAnswer::NoMemory,
+                    StepAnswer::Nothing | StepAnswer::Spent(_) => unreachable!(),
+                },
+        }
+    }
+
+    // Has a packet delivered, or refuses it and changes nothing.
+    fn offer_packet(&mut self, packet: &Packet) -> DeliverAnswer
+        ghost given: { Progress × ends.Packet }
+        requires counted { IsCountedBy self.old given.0 }
+        requires opened { is_open self.old.end.end.state ≡ true }
+        requires few { self.old.end.end.delivered < 268435456 }
+        requires within { nat_lt self.old.counts.events self.old.limit ≡ true }
+        requires carries { packet_read self.old.end.schema packet.now ≡ carried given.1 }
+        ensures { OfferGives self.old given.0 given.1 result self.new }
+    {
+        let _within = self.may_count();
+        match self.end.deliver(packet) {
+            DeliverAnswer::Done => {
+                self.counts.count_event();
+                DeliverAnswer::Done
+            }
+            DeliverAnswer::NoMemory => DeliverAnswer::NoMemory,
+            DeliverAnswer::Bad(offset, rule) => DeliverAnswer::Bad(offset, rule),
+            DeliverAnswer::Stray(seq) => DeliverAnswer::Stray(seq),
+            DeliverAnswer::WrongActor(id, number) => DeliverAnswer::WrongActor(id, number),
+        }
+    }
+
+    // Makes room for all lines that may come to be the half's own.
+    fn make_room(&mut self) -> Result<(), AllocError>
+        ensures same { self.new ≡ record self.old { spare = self.new.spare } }
+        ensures room { OnOk result (HasLineRoom self.new) }
+    {
+        let most = 5 * self.limit as usize + 1;
+        let have = self.history.lines().len();
+        self.history.reserve(most.saturating_sub(have))
+    }
+
+    // Takes the lines of the end over. It takes no memory, since there is room for them.
+    fn take_over(&mut self)
+        requires { length self.old.end.lines ≤ self.old.spare }
+        ensures { HasTakenOver self.old self.new }
+    {
+        if self.end.drain(&mut self.history).is_err() {
+            unreachable!();
+        }
     }
 
     /// The lines that the half has taken over from its end and appended to no link: all its lines,
