@@ -31,7 +31,7 @@ use Rattle.script_steps.specs.NextEvent.{next_event}
 use Rattle.script_steps.specs.Progress.{Progress, progress_of}
 use Rattle.relay_runs.specs.HalfRuns.{HalfRun, HalfState, acts, begins, gets, behind, behind_packet, delivered_for, is_within, own_event}
 use Rattle.world_core.proofs.Delivering.{framed-read}
-use Rattle.world_core.proofs.KeptEnds.{KeepsEnd, begins-kept, delivery-keeps, fewer, kept, known, own-allowed, own-keeps, stands}
+use Rattle.world_core.proofs.KeptEnds.{KeepsEnd, begins-kept, delivery-keeps, fewer, grown, kept, known, own-allowed, own-keeps, stands}
 use Rattle.world_core.proofs.Played.{own-progress}
 use Rattle.world_core.specs.declared.answers.AcceptAnswer.{AcceptAnswer}
 use Rattle.world_core.specs.declared.answers.AcceptAnswer.TheVariants as accept
@@ -127,6 +127,11 @@ module _ (setting : Setting) (side : Side) (state : HalfState) (handed : List mo
       let few = few-events in
       let same = ap (λ (e : End). e.delivered) goes.end in
       omega (arith, delivered, within, few, same)
+
+  -- each step is one event more
+  pub step-grows : (happened : Event) (link : List model.Packet) (output : Output) → step setting.schema state.end link happened ≡ Some output → (progress_of side (state.lines ++ output.lines)).events ≡ progress.events + 1
+  step-grows happened link output is =
+      grown setting side goes.sound goes.valid few-events state.end state.lines state.delivered keeps happened link output is (step-prints setting.schema state.end link happened output is)
 
   -- with other room for lines it goes apart all the same
   pub goes-roomy : (half' : HalfView) → half' ≡ record half { spare = half'.spare } → GoesApart setting side state handed half'

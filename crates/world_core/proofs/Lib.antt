@@ -25,6 +25,7 @@ mod Meetings
 mod Apart
 mod KeptEnds
 mod KeptHalves
+mod RelayLoop
 mod FeedEnds
 mod FeedStates
 mod FeedFrames

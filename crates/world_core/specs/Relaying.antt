@@ -1,5 +1,5 @@
 -- How a half goes on by itself, apart from any link, and what both halves of a run make where each goes by itself.
-use Rattle.std.specs.Prelude.{◌≡◌, ◌+◌, ◌*◌, ◌-◌, ◌≤◌, true, false, is_some, List, [], ◌∷◌, ◌++◌, length, map, Option, Some, None}
+use Rattle.std.specs.Prelude.{◌≡◌, ◌+◌, ◌*◌, ◌-◌, ◌<◌, ◌≤◌, true, false, is_some, List, [], ◌∷◌, ◌++◌, length, map, Option, Some, None}
 use Rattle.std.specs.List.{AllByRecursion}
 use Rattle.handler_script.specs.Valid.{IsValid}
 use Rattle.ipdl_base.specs.declared.kinds.Side.{Side}
@@ -9,6 +9,7 @@ use Rattle.ipdl_base.specs.Sound.{IsSound}
 use Rattle.channel_model.specs.Ends as model
 use Rattle.channel_model.specs.Events.{Event}
 use Rattle.channel_model.specs.Events as event
+use Rattle.channel_model.specs.Numbers.{other}
 use Rattle.channel_model.specs.Outputs.{Output, is_open}
 use Rattle.channel_model.specs.Refusals.{packet_refusal}
 use Rattle.channel_model.specs.Steps.{step}
@@ -19,7 +20,7 @@ use Rattle.script_steps.specs.Choices.{Setting}
 use Rattle.script_steps.specs.Progress.{Progress, progress_of}
 use Rattle.script_steps.specs.Turns.{RunEnding, at_limit, at_rest}
 use Rattle.relay_runs.specs.HalfRuns.{HalfRun, HalfState, behind, behind_packet, delivered_for, is_within, own_event}
-use Rattle.relay_runs.specs.Relays.{EndsAs, IsRelay, RelayState, RelayTurns, Relayed, RelayedByTurns}
+use Rattle.relay_runs.specs.Relays.{EndsAs, IsRelay, RelayState, RelayTurns, Relayed, RelayedByTurns, exceeds, half_of, idles, leads, relay_turn}
 use Rattle.world_core.specs.declared.answers.AcceptAnswer.{AcceptAnswer}
 use Rattle.world_core.specs.declared.answers.AcceptAnswer.TheVariants as accept
 use Rattle.world_core.specs.declared.answers.RunAnswer.{RunAnswer}
@@ -120,10 +121,36 @@ abbrev pub PutGives : Setting → Side → HalfState → List model.Packet → O
 PutGives setting side state handed None half' = (state.sent ≡ handed) × GoesApart setting side state handed half'
 PutGives setting side state handed (Some packet) half' = HasHandedOut setting side state handed packet half'
 
--- Both halves go apart, and what each has handed out is what came to the other.
-pub record GoApart (setting : Setting) (state : RelayState) (parent child : HalfView) : Type 0 where
-  pub parent_goes : GoesApart setting sides.Parent state.parent state.child.came parent
-  pub child_goes : GoesApart setting sides.Child state.child state.parent.came child
+-- The half of a side and the one that faces it go apart, and what each has handed out is what came to the other.
+pub record GoApart (setting : Setting) (side : Side) (state : RelayState) (half facing : HalfView) : Type 0 where
+  pub goes : GoesApart setting side (half_of side state) (half_of (other side) state).came half
+  pub faces : GoesApart setting (other side) (half_of (other side) state) (half_of side state).came facing
+
+-- A turn has led to another state, by one event more.
+pub record HasLed (setting : Setting) (side : Side) (state : RelayState) (half' facing' : HalfView) : Type 0 where
+  pub next : RelayState
+  pub leads_to : relay_turn setting side state ≡ leads next
+  pub apart : GoApart setting side next half' facing'
+  pub few : (progress_of side (half_of side state).lines).events < setting.limit
+  pub more : (progress_of side (half_of side next).lines).events ≡ (progress_of side (half_of side state).lines).events + 1
+  pub same : half_of (other side) next ≡ half_of (other side) state
+
+-- a turn of a side: it led on; or there is nothing to do; or the side has something to do, but is at the limit; or memory
+-- ran out
+abbrev pub RelayTurnGives : Setting → Side → RelayState → StepAnswer → HalfView → HalfView → Type 0
+RelayTurnGives setting side state answer.Did half' facing' = HasLed setting side state half' facing'
+RelayTurnGives setting side state answer.Nothing half' facing' = (relay_turn setting side state ≡ idles) × GoApart setting side state half' facing'
+RelayTurnGives setting side state (answer.Spent at) half' facing' =
+    (relay_turn setting side state ≡ exceeds) × (at ≡ side) × (half'.history ≡ (half_of side state).lines) × (facing'.history ≡ (half_of (other side) state).lines)
+RelayTurnGives setting side state answer.NoMemory half' facing' = Unit {0}
+
+-- what a turn answers, by what a half answers to a packet
+abbrev pub turn_answer : AcceptAnswer → StepAnswer
+turn_answer accept.Did = answer.Did
+turn_answer accept.Refused = answer.Did
+turn_answer accept.Nothing = answer.Nothing
+turn_answer (accept.Spent at) = answer.Spent at
+turn_answer accept.NoMemory = answer.NoMemory
 
 -- Turns of both, the parent first, led from a state to the last, where the relay ends so.
 pub record HasTakenTurns (setting : Setting) (from : RelayState) (ending : RunEnding) (parent' child' : HalfView) : Type 0 where
