@@ -86,6 +86,7 @@ fn call(
     let mut out = sink(alloc, piece, failing)?;
     let mut err = sink(alloc, 1000, 0)?;
     let mut driver = OneThread::new(Vec::new(alloc));
+    let mut relay = OneThread::new(Vec::new(alloc));
     let status = ipdl(
         alloc,
         words.as_slice(),
@@ -93,6 +94,7 @@ fn call(
         &mut out,
         &mut err,
         &mut driver,
+        &mut relay,
     );
     Ok(Left { status, out, err })
 }

@@ -17,6 +17,7 @@ fn printed(alloc: Global, words: &str, mut files: MemoryFiles) -> Result<String,
     let mut out = MemorySink::new(alloc, ROOM, ROOM, Vec::new(alloc))?;
     let mut err = MemorySink::new(alloc, 1000, 1000, Vec::new(alloc))?;
     let mut driver = OneThread::new(Vec::new(alloc));
+    let mut relay = OneThread::new(Vec::new(alloc));
     let status = ipdl(
         alloc,
         words.as_slice(),
@@ -24,6 +25,7 @@ fn printed(alloc: Global, words: &str, mut files: MemoryFiles) -> Result<String,
         &mut out,
         &mut err,
         &mut driver,
+        &mut relay,
     );
     if status != Status::Done || !err.written().is_empty() {
         return Err(Fail::from("a call that is not done"));

@@ -1,4 +1,4 @@
--- The command that runs a script over two queues: `ipdl relay [-s LIST] [--path DIRS] [--limit N] [--die SIDE:K] SCRIPT FILE`.
+-- The command that runs a script over two queues: `ipdl relay [-s LIST] [--path DIRS] [--die SIDE:K] [--limit N] SCRIPT FILE`.
 use Rattle.std.specs.Prelude.{◌≡◌, ℕ, List, [], ◌∷◌, Option, codes}
 use Rattle.schedules.specs.declared.stop.Stop.{Stop}
 use Rattle.command_words.specs.Options.{Choice, WordUse, Reads, EachOnce, own_words, value_of}

@@ -11,7 +11,7 @@ use ipdl_base::{Files, Sink};
 use ipdl_top::ipdl;
 use std::alloc::{AllocError, Global};
 use std::process::ExitCode;
-use world_core::Driver;
+use world_core::{Driver, Relay};
 
 /// The words behind the first, which is the program's name.
 pub fn behind_name(alloc: Global, words: Vec<String>) -> Result<Vec<String>, AllocError>
@@ -22,16 +22,18 @@ pub fn behind_name(alloc: Global, words: Vec<String>) -> Result<Vec<String>, All
 
 /// Calls the program on these words, files and sinks, and gives the number of its status as the exit code of the process
 /// (docs/formats.md, "Statuses").
-pub fn exit_code_of<F: Files, O: Sink, E: Sink, D: Driver>(
+pub fn exit_code_of<F: Files, O: Sink, E: Sink, D: Driver, Q: Relay>(
     alloc: Global,
     words: &[String],
     files: &mut F,
     out: &mut O,
     err: &mut E,
     driver: &mut D,
+    relay: &mut Q,
 ) -> ExitCode
     requires ready { D.ready driver.old }
-    ensures answer { ForMap (F.told files.old) (λ map'. EndsWith (IsAnswer (D.Gives driver.old) map' (map string_bytes words.now)) (exit_status result)
+    requires relay_ready { Q.ready relay.old }
+    ensures answer { ForMap (F.told files.old) (λ map'. EndsWith (IsAnswer (D.Gives driver.old) (Q.Gives relay.old) map' (map string_bytes words.now)) (exit_status result)
         (record { old = O.written out.old; new = O.written out.new })
         (record { old = E.written err.old; new = E.written err.new })) }
     ensures code { IsCode (exit_status result) }
@@ -40,5 +42,5 @@ pub fn exit_code_of<F: Files, O: Sink, E: Sink, D: Driver>(
     ensures write_fault { exit_status result ≡ 4 → Rose (O.faults out.old) (O.faults out.new) ⊎ Rose (E.faults err.old) (E.faults err.new) }
     ensures nothing { (exit_status result ≡ 3) ⊎ (exit_status result ≡ 6) → (out.new ≡ out.old) × (err.new ≡ err.old) }
 {
-    ExitCode::from(ipdl(alloc, words, files, out, err, driver).code())
+    ExitCode::from(ipdl(alloc, words, files, out, err, driver, relay).code())
 }

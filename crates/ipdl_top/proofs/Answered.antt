@@ -2,8 +2,9 @@
 use Rattle.std.proofs.Common.{◌≡◌, ◌⊎◌, ℕ, Bool, true, false, List, [], ◌∷◌, refl, ap, ◌∙◌, sym, inl, inr, true≢false}
 use Rattle.std.specs.Prelude.{Option, Some, None}
 use Rattle.ipdl_base.specs.Outside.{FileMap}
-use Rattle.command_words.specs.Command.{CommandView, IsNoCommand, audit, compile, feed, frames, gen, run, waits}
+use Rattle.command_words.specs.Command.{CommandView, IsNoCommand, audit, compile, feed, frames, gen, relay, run, waits}
 use Rattle.command_words.specs.Feed.{FeedCourse}
+use Rattle.command_words.specs.Relay.{RelayCourse}
 use Rattle.command_words.specs.Run.{Course}
 use Rattle.feed_runs.specs.declared.fault.FeedFault.{FeedFault}
 use Rattle.ipdl_base.specs.declared.kinds.Side.{Side}
@@ -22,6 +23,7 @@ use Rattle.ipdl_top.specs.Feed.{SaysFedOf, SaysFeed, feed_answer}
 use Rattle.ipdl_top.specs.Frames.{SaysFrames, frames_answer, frames_out}
 use Rattle.ipdl_top.specs.FileViews.{FileViews, ForMap, steady}
 use Rattle.ipdl_top.specs.Gen.{SaysGen, case_course, case_files, case_path, holder_name, script_name}
+use Rattle.ipdl_top.specs.Relay.{Relaying, SaysRelay, SaysRelayed, halves_text, relay_answer}
 use Rattle.ipdl_top.specs.Run.{Driving, SaysHistory, SaysRun, run_answer}
 use Rattle.ipdl_top.specs.Scripts.{SaysOfHeld}
 use Rattle.ipdl_top.specs.Waits.{SaysWaits}
@@ -110,6 +112,16 @@ of_audit : (limit : ℕ) (script : List ℕ) (held : Option (List ℕ)) (name : 
     → SaysAudit limit script held name text file schema answer → IsSaidSo answer
 of_audit limit script held name text file schema answer told = of_held (SaysAuditedOf limit name text schema) (of_audited limit name text schema) script held schema told.top answer told.says
 
+of_ending : (text : List ℕ) (ending : RunEnding) → IsSaidSo (relay_answer text ending)
+of_ending text at_rest = refl
+of_ending text (at_limit side) = refl
+
+of_relayed : (Relays : Relaying) (course : RelayCourse) (schema : Schema) (script : Script) (answer : CommandAnswer) → SaysRelayed Relays course schema script answer → IsSaidSo answer
+of_relayed Relays course schema script answer told = said_so _ _ told.says (of_ending (halves_text schema told.halves) told.ending)
+
+of_relay : (Relays : Relaying) (course : RelayCourse) (name : List ℕ) (held : Option (List ℕ)) (file : List ℕ) (schema : Schema) (answer : CommandAnswer) → SaysRelay Relays course name held file schema answer → IsSaidSo answer
+of_relay Relays course name held file schema answer told = of_held (SaysRelayed Relays course schema) (of_relayed Relays course schema) name held schema told.top answer told.says
+
 -- and so is that of a compilation
 compiled : (Says : Schema → CommandAnswer → Type 0) → ((schema : Schema) (answer : CommandAnswer) → Says schema answer → IsSaidSo answer)
     → (given : LoadInput) (lists : FileMap) (list : Option (List ℕ)) (answer : CommandAnswer) → IsCompilation Says given lists list answer → IsSaidSo answer
@@ -117,35 +129,37 @@ compiled Says none given lists list answer (inl h) = said_so _ _ h.says refl
 compiled Says none given lists list answer (inr (inl h)) = said_so _ _ h.says refl
 compiled Says none given lists list answer (inr (inr h)) = none h.schema answer h.says
 
-of_command : (Gives : Driving) (seen : FileViews) (command : CommandView) (answer : CommandAnswer) → AnswersTo Gives seen command answer → IsSaidSo answer
-of_command Gives seen (compile list path names) answer h = compiled SaysTables of_tables (given_by seen.files path names) seen.list list answer h
-of_command Gives seen (frames list path file name convert) answer h = compiled (SaysFrames name convert (seen.input name)) (of_frames name convert (seen.input name)) (given_by seen.files path (file ∷ [])) seen.list list answer h
-of_command Gives seen (waits list path file) answer h = compiled (SaysWaits file) (of_waits file) (given_by seen.files path (file ∷ [])) seen.list list answer h
-of_command Gives seen (run list path course script file) answer h =
+of_command : (Gives : Driving) (Relays : Relaying) (seen : FileViews) (command : CommandView) (answer : CommandAnswer) → AnswersTo Gives Relays seen command answer → IsSaidSo answer
+of_command Gives Relays seen (compile list path names) answer h = compiled SaysTables of_tables (given_by seen.files path names) seen.list list answer h
+of_command Gives Relays seen (frames list path file name convert) answer h = compiled (SaysFrames name convert (seen.input name)) (of_frames name convert (seen.input name)) (given_by seen.files path (file ∷ [])) seen.list list answer h
+of_command Gives Relays seen (waits list path file) answer h = compiled (SaysWaits file) (of_waits file) (given_by seen.files path (file ∷ [])) seen.list list answer h
+of_command Gives Relays seen (run list path course script file) answer h =
     compiled (SaysRun Gives Transcript course script (seen.script script) file) (of_run Gives Transcript course script (seen.script script) file) (given_by seen.files path (file ∷ [])) seen.list list answer h
-of_command Gives seen (gen rounds actors) answer h =
+of_command Gives Relays seen (gen rounds actors) answer h =
     compiled (SaysGen Gives rounds actors) (of_run Gives (Summary rounds actors) case_course script_name (case_files rounds actors script_name) holder_name) (given_by (case_files rounds actors) case_path (holder_name ∷ [])) (case_files rounds actors) None answer h
-of_command Gives seen (feed list path course script file name) answer h =
+of_command Gives Relays seen (feed list path course script file name) answer h =
     compiled (SaysFeed course script (seen.script script) name (seen.input name) file) (of_feed course script (seen.script script) name (seen.input name) file) (given_by seen.files path (file ∷ [])) seen.list list answer h
-of_command Gives seen (audit list path limit script file name) answer h =
+of_command Gives Relays seen (audit list path limit script file name) answer h =
     compiled (SaysAudit limit script (seen.script script) name (seen.input name) file) (of_audit limit script (seen.script script) name (seen.input name) file) (given_by seen.files path (file ∷ [])) seen.list list answer h
+of_command Gives Relays seen (relay list path course script file) answer h =
+    compiled (SaysRelay Relays course script (seen.script script) file) (of_relay Relays course script (seen.script script) file) (given_by seen.files path (file ∷ [])) seen.list list answer h
 
 -- words that are no command have the usage answer
-pub of_no_command : (Gives : Driving) (seen : FileViews) (words : List (List ℕ)) (answer : CommandAnswer) → IsNoCommand words → IsAnswer Gives seen words answer → answer ≡ usage_answer
-of_no_command Gives seen words answer none (inl h) = absurd (none h.command h.said)
-of_no_command Gives seen words answer none (inr h) = h.1
+pub of_no_command : (Gives : Driving) (Relays : Relaying) (seen : FileViews) (words : List (List ℕ)) (answer : CommandAnswer) → IsNoCommand words → IsAnswer Gives Relays seen words answer → answer ≡ usage_answer
+of_no_command Gives Relays seen words answer none (inl h) = absurd (none h.command h.said)
+of_no_command Gives Relays seen words answer none (inr h) = h.1
 
 -- and no others have it
-pub no_command_of : (Gives : Driving) (seen : FileViews) (words : List (List ℕ)) (answer : CommandAnswer) → answer.status ≡ Usage → IsAnswer Gives seen words answer → IsNoCommand words
-no_command_of Gives seen words answer usage (inl h) = absurd (true≢false (sym (of_command Gives seen h.command answer h.answers) ∙ ap is_said usage))
-no_command_of Gives seen words answer usage (inr h) = h.0
+pub no_command_of : (Gives : Driving) (Relays : Relaying) (seen : FileViews) (words : List (List ℕ)) (answer : CommandAnswer) → answer.status ≡ Usage → IsAnswer Gives Relays seen words answer → IsNoCommand words
+no_command_of Gives Relays seen words answer usage (inl h) = absurd (true≢false (sym (of_command Gives Relays seen h.command answer h.answers) ∙ ap is_said usage))
+no_command_of Gives Relays seen words answer usage (inr h) = h.0
 
 -- an answer is none where a read failed or memory ran out
-pub no_failure : (Gives : Driving) (seen : FileViews) (words : List (List ℕ)) (answer : CommandAnswer) → IsAnswer Gives seen words answer → (answer.status ≡ ReadFault) ⊎ (answer.status ≡ NoMemory) → ⊥
-no_failure Gives seen words answer (inl h) (inl e) = true≢false (sym (of_command Gives seen h.command answer h.answers) ∙ ap is_said e)
-no_failure Gives seen words answer (inl h) (inr e) = true≢false (sym (of_command Gives seen h.command answer h.answers) ∙ ap is_said e)
-no_failure Gives seen words answer (inr h) (inl e) = let both : Usage ≡ ReadFault = sym (status_of answer usage_answer h.1) ∙ e in cc
-no_failure Gives seen words answer (inr h) (inr e) = let both : Usage ≡ NoMemory = sym (status_of answer usage_answer h.1) ∙ e in cc
+pub no_failure : (Gives : Driving) (Relays : Relaying) (seen : FileViews) (words : List (List ℕ)) (answer : CommandAnswer) → IsAnswer Gives Relays seen words answer → (answer.status ≡ ReadFault) ⊎ (answer.status ≡ NoMemory) → ⊥
+no_failure Gives Relays seen words answer (inl h) (inl e) = true≢false (sym (of_command Gives Relays seen h.command answer h.answers) ∙ ap is_said e)
+no_failure Gives Relays seen words answer (inl h) (inr e) = true≢false (sym (of_command Gives Relays seen h.command answer h.answers) ∙ ap is_said e)
+no_failure Gives Relays seen words answer (inr h) (inl e) = let both : Usage ≡ ReadFault = sym (status_of answer usage_answer h.1) ∙ e in cc
+no_failure Gives Relays seen words answer (inr h) (inr e) = let both : Usage ≡ NoMemory = sym (status_of answer usage_answer h.1) ∙ e in cc
 
 -- what follows whatever is seen, and does not speak of it
 pub for_any : (told : Option FileMap) (P : FileViews → Type 0) (Q : Type 0) → ((seen : FileViews) → P seen → Q) → ForMap told P → Q

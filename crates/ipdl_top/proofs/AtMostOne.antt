@@ -41,6 +41,7 @@ use Rattle.ipdl_top.specs.Frames.{SaysBytes, SaysFrames, frames_answer, frames_o
 use Rattle.ipdl_top.specs.Laws.{LeavesNothing, OneAnswer}
 use Rattle.ipdl_top.specs.declared.rendering.Rendering.TheVariants.{Summary, Transcript}
 use Rattle.ipdl_top.specs.Gen.{SaysGen, case_course, case_files, case_path, holder_name, script_name}
+use Rattle.ipdl_top.specs.Relay.{Relaying}
 use Rattle.ipdl_top.specs.Run.{Driving, SaysRun}
 use Rattle.ipdl_top.specs.Waits.{SaysWaits, pair_line, waits_text}
 use Rattle.ipdl_top.specs.Lists.{AreSections, list_names}
@@ -213,41 +214,44 @@ compilations laws Says unique given lists list one other (inr (inl x)) (inr (inr
 compilations laws Says unique given lists list one other (inr (inr x)) (inr (inl y)) = absurd (not_said laws Says given lists list other one y x)
 compilations laws Says unique given lists list one other (inr (inr x)) (inr (inr y)) = said laws Says unique given lists list one other x y
 
--- what a command leaves to nobody: all but a run without a word of turns
+-- what a command leaves to nobody: all but a run without a word of turns, and a relay
 abbrev LeavesNone : CommandView → Type 0
 LeavesNone (command.run list path course script file) = course.schedule ≢ None
+LeavesNone (command.relay list path course script file) = ⊥
 LeavesNone _ = Unit {0}
 
 leaves_none : (words : List (List ℕ)) (command : CommandView) → Say words command → LeavesNothing words → LeavesNone command
 leaves_none words (command.compile list path names) said leaves = tt
 leaves_none words (command.frames list path file name convert) said leaves = tt
 leaves_none words (command.waits list path file) said leaves = tt
-leaves_none words (command.run list path course script file) said leaves = leaves list path course script file said
+leaves_none words (command.run list path course script file) said leaves = leaves.0 list path course script file said
 leaves_none words (command.gen rounds actors) said leaves = tt
 leaves_none words (command.feed list path course script file name) said leaves = tt
 leaves_none words (command.audit list path limit script file name) said leaves = tt
+leaves_none words (command.relay list path course script file) said leaves = leaves.1 list path course script file said
 
 -- so has each command
-commands : TheLaws → (Gives : Driving) (seen : FileViews) (command : CommandView) → LeavesNone command → (one other : CommandAnswer) → AnswersTo Gives seen command one → AnswersTo Gives seen command other → one ≡ other
-commands laws Gives seen (command.compile list path names) leaves one other x y = compilations laws SaysTables tables_one (given_by seen.files path names) seen.list list one other x y
-commands laws Gives seen (command.frames list path file name convert) leaves one other x y =
+commands : TheLaws → (Gives : Driving) (Relays : Relaying) (seen : FileViews) (command : CommandView) → LeavesNone command → (one other : CommandAnswer) → AnswersTo Gives Relays seen command one → AnswersTo Gives Relays seen command other → one ≡ other
+commands laws Gives Relays seen (command.compile list path names) leaves one other x y = compilations laws SaysTables tables_one (given_by seen.files path names) seen.list list one other x y
+commands laws Gives Relays seen (command.frames list path file name convert) leaves one other x y =
     compilations laws (SaysFrames name convert (seen.input name)) (frames_one laws name convert (seen.input name)) (given_by seen.files path (file ∷ [])) seen.list list one other x y
-commands laws Gives seen (command.waits list path file) leaves one other x y = compilations laws (SaysWaits file) (waits_one laws file) (given_by seen.files path (file ∷ [])) seen.list list one other x y
-commands laws Gives seen (command.run list path course script file) leaves one other x y =
+commands laws Gives Relays seen (command.waits list path file) leaves one other x y = compilations laws (SaysWaits file) (waits_one laws file) (given_by seen.files path (file ∷ [])) seen.list list one other x y
+commands laws Gives Relays seen (command.run list path course script file) leaves one other x y =
     compilations laws (SaysRun Gives Transcript course script (seen.script script) file) (run_one laws.runs Gives Transcript course leaves script (seen.script script) file) (given_by seen.files path (file ∷ [])) seen.list list one other x y
-commands laws Gives seen (command.gen rounds actors) leaves one other x y =
+commands laws Gives Relays seen (command.gen rounds actors) leaves one other x y =
     compilations laws (SaysGen Gives rounds actors) (run_one laws.runs Gives (Summary rounds actors) case_course (λ e. cc) script_name (case_files rounds actors script_name) holder_name) (given_by (case_files rounds actors) case_path (holder_name ∷ []))
     (case_files rounds actors) None one other x y
-commands laws Gives seen (command.feed list path course script file name) leaves one other x y =
+commands laws Gives Relays seen (command.feed list path course script file name) leaves one other x y =
     compilations laws (SaysFeed course script (seen.script script) name (seen.input name) file) (feed_one laws.feeds course script (seen.script script) name (seen.input name) file) (given_by seen.files path (file ∷ [])) seen.list list one other x y
-commands laws Gives seen (command.audit list path limit script file name) leaves one other x y =
+commands laws Gives Relays seen (command.audit list path limit script file name) leaves one other x y =
     compilations laws (SaysAudit limit script (seen.script script) name (seen.input name) file) (audit_one laws.audits limit script (seen.script script) name (seen.input name) file) (given_by seen.files path (file ∷ [])) seen.list list one other x y
+commands laws Gives Relays seen (command.relay list path course script file) leaves one other x y = absurd leaves
 
 -- words are one command or none
-pub answer_is_determined : TheLaws → (Gives : Driving) → OneAnswer Gives
-answer_is_determined laws Gives seen words one other leaves (inl x) (inl y) =
+pub answer_is_determined : TheLaws → (Gives : Driving) (Relays : Relaying) → OneAnswer Gives Relays
+answer_is_determined laws Gives Relays seen words one other leaves (inl x) (inl y) =
     let same : y.command ≡ x.command = laws.command words y.command x.command y.said x.said in
-    commands laws Gives seen x.command (leaves_none words x.command x.said leaves) one other x.answers (subst (λ (command : CommandView). AnswersTo Gives seen command other) same y.answers)
-answer_is_determined laws Gives seen words one other leaves (inl x) (inr y) = absurd (y.0 x.command x.said)
-answer_is_determined laws Gives seen words one other leaves (inr x) (inl y) = absurd (x.0 y.command y.said)
-answer_is_determined laws Gives seen words one other leaves (inr x) (inr y) = x.1 ∙ sym y.1
+    commands laws Gives Relays seen x.command (leaves_none words x.command x.said leaves) one other x.answers (subst (λ (command : CommandView). AnswersTo Gives Relays seen command other) same y.answers)
+answer_is_determined laws Gives Relays seen words one other leaves (inl x) (inr y) = absurd (y.0 x.command x.said)
+answer_is_determined laws Gives Relays seen words one other leaves (inr x) (inl y) = absurd (x.0 y.command y.said)
+answer_is_determined laws Gives Relays seen words one other leaves (inr x) (inr y) = x.1 ∙ sym y.1

@@ -18,4 +18,5 @@ pub mod OneAudit
 pub mod Scripted
 pub mod Feeds
 pub mod Summed
+pub mod Relays
 mod Audits

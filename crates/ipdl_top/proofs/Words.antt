@@ -7,6 +7,7 @@ use Rattle.command_words.specs.Command.{CommandView, OneCommand, Say, gen}
 use Rattle.command_words.specs.Feed.{FeedCourse, IsFeed}
 use Rattle.command_words.specs.Gen.{IsActors, IsGen}
 use Rattle.command_words.specs.Options.{value_of}
+use Rattle.command_words.specs.Relay.{RelayCourse, IsRelay}
 use Rattle.command_words.specs.Run.{Course, IsRun}
 use Rattle.command_words.specs.RunOptions.{IsLimit}
 use Rattle.include_graph.specs.Keys.{AreFileWords}
@@ -29,6 +30,10 @@ audit_limit (word ∷ words) list path limit script file transcript (e, h) = giv
 pub run_limit : (words : List (List ℕ)) (list : Option (List ℕ)) (path : List (List ℕ)) (course : Course) (script file : List ℕ) → IsRun words list path course script file → course.limit ≤ 20000
 run_limit [] list path course script file h = absurd h
 run_limit (word ∷ words) list path course script file (e, h) = given_limit (value_of (codes "limit") h.said) course.limit h.limit_is
+
+pub relay_limit : (words : List (List ℕ)) (list : Option (List ℕ)) (path : List (List ℕ)) (course : RelayCourse) (script file : List ℕ) → IsRelay words list path course script file → course.limit ≤ 20000
+relay_limit [] list path course script file h = absurd h
+relay_limit (word ∷ words) list path course script file (e, h) = given_limit (value_of (codes "limit") h.said) course.limit h.limit_is
 
 -- the numbers of a generated case
 pub record AreNumbers (rounds actors : ℕ) : Type 0 where

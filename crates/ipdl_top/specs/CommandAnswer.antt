@@ -5,7 +5,7 @@ use Rattle.ipdl_base.specs.declared.finding.Finding.{Finding}
 use Rattle.ipdl_base.specs.declared.schema.Schema.{Schema}
 use Rattle.ipdl_syntax.specs.declared.program.Entry.{Entry}
 use Rattle.ipdl_syntax.specs.Programs.{IsProgram}
-use Rattle.command_words.specs.Command.{CommandView, IsNoCommand, Say, audit, compile, feed, frames, gen, run, waits}
+use Rattle.command_words.specs.Command.{CommandView, IsNoCommand, Say, audit, compile, feed, frames, gen, relay, run, waits}
 use Rattle.findings.specs.Report.{IsReport}
 use Rattle.include_graph.specs.Load.{IsProgramOf}
 use Rattle.include_graph.specs.Reach.{IsReach}
@@ -26,6 +26,7 @@ use Rattle.ipdl_top.specs.Feed.{SaysFeed}
 use Rattle.ipdl_top.specs.Frames.{SaysFrames}
 use Rattle.ipdl_top.specs.Gen.{SaysGen, case_files, case_path, holder_name}
 use Rattle.ipdl_top.specs.Lists.{IsFaultOfList, AreSections, list_names}
+use Rattle.ipdl_top.specs.Relay.{Relaying, SaysRelay}
 use Rattle.ipdl_top.specs.Report.{report_text}
 use Rattle.ipdl_top.specs.Run.{Driving, SaysRun}
 use Rattle.ipdl_top.specs.FileViews.{FileViews}
@@ -108,25 +109,27 @@ SaysTables schema answer = answer ≡ table_answer (table_text schema)
 abbrev pub given_by : FileMap → List (List ℕ) → List (List ℕ) → LoadInput
 given_by files path names = record { files = files; words = names; path = path }
 
--- The answer to what words say, with these files; a run goes as the driver has it, where no word of turns is given. A
+-- The answer to what words say, with these files; a run goes as the driver has it, where no word of turns is given, and a
+-- relay as what relays has it. A
 -- generated case has files of its own, and no others are looked at.
-abbrev pub AnswersTo : Driving → FileViews → CommandView → CommandAnswer → Type 0
-AnswersTo Gives seen (compile list path names) answer = IsCompilation SaysTables (given_by seen.files path names) seen.list list answer
-AnswersTo Gives seen (frames list path file name convert) answer = IsCompilation (SaysFrames name convert (seen.input name)) (given_by seen.files path (file ∷ [])) seen.list list answer
-AnswersTo Gives seen (waits list path file) answer = IsCompilation (SaysWaits file) (given_by seen.files path (file ∷ [])) seen.list list answer
-AnswersTo Gives seen (run list path course script file) answer = IsCompilation (SaysRun Gives Transcript course script (seen.script script) file) (given_by seen.files path (file ∷ [])) seen.list list answer
-AnswersTo Gives seen (gen rounds actors) answer = IsCompilation (SaysGen Gives rounds actors) (given_by (case_files rounds actors) case_path (holder_name ∷ [])) (case_files rounds actors) None answer
-AnswersTo Gives seen (feed list path course script file name) answer =
+abbrev pub AnswersTo : Driving → Relaying → FileViews → CommandView → CommandAnswer → Type 0
+AnswersTo Gives Relays seen (compile list path names) answer = IsCompilation SaysTables (given_by seen.files path names) seen.list list answer
+AnswersTo Gives Relays seen (frames list path file name convert) answer = IsCompilation (SaysFrames name convert (seen.input name)) (given_by seen.files path (file ∷ [])) seen.list list answer
+AnswersTo Gives Relays seen (waits list path file) answer = IsCompilation (SaysWaits file) (given_by seen.files path (file ∷ [])) seen.list list answer
+AnswersTo Gives Relays seen (run list path course script file) answer = IsCompilation (SaysRun Gives Transcript course script (seen.script script) file) (given_by seen.files path (file ∷ [])) seen.list list answer
+AnswersTo Gives Relays seen (gen rounds actors) answer = IsCompilation (SaysGen Gives rounds actors) (given_by (case_files rounds actors) case_path (holder_name ∷ [])) (case_files rounds actors) None answer
+AnswersTo Gives Relays seen (feed list path course script file name) answer =
     IsCompilation (SaysFeed course script (seen.script script) name (seen.input name) file) (given_by seen.files path (file ∷ [])) seen.list list answer
-AnswersTo Gives seen (audit list path limit script file name) answer =
+AnswersTo Gives Relays seen (audit list path limit script file name) answer =
     IsCompilation (SaysAudit limit script (seen.script script) name (seen.input name) file) (given_by seen.files path (file ∷ [])) seen.list list answer
+AnswersTo Gives Relays seen (relay list path course script file) answer = IsCompilation (SaysRelay Relays course script (seen.script script) file) (given_by seen.files path (file ∷ [])) seen.list list answer
 
 -- the words are a command, and the answer is the one to it
-pub record IsCommandAnswer (Gives : Driving) (seen : FileViews) (words : List (List ℕ)) (answer : CommandAnswer) : Type 0 where
+pub record IsCommandAnswer (Gives : Driving) (Relays : Relaying) (seen : FileViews) (words : List (List ℕ)) (answer : CommandAnswer) : Type 0 where
   pub command : CommandView
   pub said : Say words command
-  pub answers : AnswersTo Gives seen command answer
+  pub answers : AnswersTo Gives Relays seen command answer
 
 -- The answer to words, with these files: that of the command that they are, or how the program is called where they are none.
-abbrev pub IsAnswer : Driving → FileViews → List (List ℕ) → CommandAnswer → Type 0
-IsAnswer Gives seen words answer = IsCommandAnswer Gives seen words answer ⊎ (IsNoCommand words × (answer ≡ usage_answer))
+abbrev pub IsAnswer : Driving → Relaying → FileViews → List (List ℕ) → CommandAnswer → Type 0
+IsAnswer Gives Relays seen words answer = IsCommandAnswer Gives Relays seen words answer ⊎ (IsNoCommand words × (answer ≡ usage_answer))

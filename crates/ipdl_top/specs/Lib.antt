@@ -20,3 +20,5 @@ pub mod Written
 pub mod Audited
 pub mod Audit
 pub mod AuditSteps
+pub mod Relay
+pub mod RelaySteps

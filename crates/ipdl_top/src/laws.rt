@@ -13,15 +13,15 @@ use schema_laws::{
 use script_steps::words_have_one_result;
 use sync_list::one_list;
 use value_types::boxes_say_nothing;
-use world_core::Driver;
+use world_core::{Driver, Relay};
 
 /// The law of the answer: for the same files, words have at most one, but for those that run a script
-/// without a word of turns. So the files and the words determine an answer's status, its text for `out`
+/// without a word of turns, or over two queues. So the files and the words determine an answer's status, its text for `out`
 /// and its text for `err`.
-pub fn answer_is_determined<D: Driver>(driver: &D)
-    ensures { OneAnswer (D.Gives driver.now) }
+pub fn answer_is_determined<D: Driver, Q: Relay>(driver: &D, relay: &Q)
+    ensures { OneAnswer (D.Gives driver.now) (Q.Gives relay.now) }
 {
-    let _ = driver;
+    let _ = (driver, relay);
     one_answer();
     one_tree();
     one_command();

@@ -13,6 +13,7 @@ mod held;
 mod laws;
 mod list;
 mod program;
+mod relay;
 mod rendering;
 mod report;
 mod rules;

@@ -12,6 +12,7 @@ use crate::compile::compile;
 use crate::feed::{FeedRequest, feed};
 use crate::frames::{FramesRequest, frames};
 use crate::generation::generation;
+use crate::relay::{RelayRequest, relay_script};
 use crate::rendering::Rendering;
 use crate::run::{RunRequest, run};
 use crate::status::Status;
@@ -21,17 +22,19 @@ use crate::write::write_answer;
 use command_words::{Command, WordsFault, one_command, read_words};
 use ipdl_base::{Files, Sink};
 use std::alloc::Global;
-use world_core::Driver;
+use world_core::{Driver, Relay};
 
 /// The answer to the words of a call.
-fn answer_to<F: Files, D: Driver>(
+fn answer_to<F: Files, D: Driver, Q: Relay>(
     alloc: Global,
     words: &[String],
     files: &mut F,
     driver: &mut D,
+    relay: &mut Q,
 ) -> Result<CommandAnswer, Failure>
     requires ready { D.ready driver.old }
-    ensures answer { ForMap (F.told files.old) (λ map'. IfOk result (IsAnswer (D.Gives driver.old) map' (map string_bytes words.now))) }
+    requires relay_ready { Q.ready relay.old }
+    ensures answer { ForMap (F.told files.old) (λ map'. IfOk result (IsAnswer (D.Gives driver.old) (Q.Gives relay.old) map' (map string_bytes words.now))) }
     ensures no_command { IsNoCommand (map string_bytes words.now) → result ≢ Err Failure.ReadFault }
     ensures read_fault { result ≡ Err Failure.ReadFault → Rose (F.faults files.old) (F.faults files.new) }
     ensures unread { (rounds actors : ℕ) → IsGen (map string_bytes words.now) rounds actors → files.new ≡ files.old }
@@ -120,21 +123,40 @@ fn answer_to<F: Files, D: Driver>(
             };
             audit_transcript(alloc, files, &list, path.as_slice(), &file, &wanted)
         }
+        Ok(
+            Command::Relay {
+                list,
+                path,
+                limit,
+                death,
+                script,
+                file,
+            },
+        ) => {
+            let wanted = RelayRequest {
+                script: script.as_str(),
+                limit,
+                death,
+            };
+            relay_script(alloc, files, &list, path.as_slice(), &file, &wanted, relay)
+        }
         Err(WordsFault::Usage) => CommandAnswer::of_no_command(alloc),
         Err(WordsFault::NoMemory) => Err(Failure::NoMemory),
     }
 }
 
 /// Runs the program on its words, which do not hold its own name (docs/theorems.md, "The program").
-pub fn ipdl<F: Files, O: Sink, E: Sink, D: Driver>(
+pub fn ipdl<F: Files, O: Sink, E: Sink, D: Driver, Q: Relay>(
     alloc: Global,
     words: &[String],
     files: &mut F,
     out: &mut O,
     err: &mut E,
     driver: &mut D,
+    relay: &mut Q,
 ) -> Status
     requires ready { D.ready driver.old }
+    requires relay_ready { Q.ready relay.old }
 
     // Usage comes exactly where the words are no command, unless a write fails or memory runs out.
     ensures usage { result ≡ Status.Usage → IsNoCommand (map string_bytes words.now) }
@@ -145,7 +167,7 @@ pub fn ipdl<F: Files, O: Sink, E: Sink, D: Driver>(
         (record { old = E.written err.old; new = E.written err.new }) }
 
     // The status is that of an answer, of which all was written; or a write failed, and a front of one was.
-    ensures answer { ForMap (F.told files.old) (λ map'. IsOutcome (IsAnswer (D.Gives driver.old) map' (map string_bytes words.now)) result
+    ensures answer { ForMap (F.told files.old) (λ map'. IsOutcome (IsAnswer (D.Gives driver.old) (Q.Gives relay.old) map' (map string_bytes words.now)) result
         (record { old = O.written out.old; new = O.written out.new })
         (record { old = E.written err.old; new = E.written err.new })) }
 
@@ -157,7 +179,7 @@ pub fn ipdl<F: Files, O: Sink, E: Sink, D: Driver>(
     // A generated case reads no file.
     ensures unread { (rounds actors : ℕ) → IsGen (map string_bytes words.now) rounds actors → files.new ≡ files.old }
 {
-    match answer_to(alloc, words, files, driver) {
+    match answer_to(alloc, words, files, driver, relay) {
         Ok(answer) => match write_answer(&answer, out, err) {
             Ok(()) => answer.status,
             Err(_) => Status::WriteFault,

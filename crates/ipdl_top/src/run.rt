@@ -74,7 +74,7 @@ fn driven<'s, D: Driver>(
 }
 
 /// The answer that is a text of a history, and behind it the line that says how the run ended.
-fn with_ending(
+pub fn with_ending(
     alloc: Global,
     status: Status,
     text: Vec<u8>,

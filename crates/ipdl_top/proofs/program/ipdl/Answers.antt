@@ -6,12 +6,12 @@ use Rattle.ipdl_top.proofs.program.ipdl.Goals as goal
 
 pub returns-in-Ok-write_answer-clause-usage : goal.returns-in-Ok-write_answer-clause-usage
 returns-in-Ok-write_answer-clause-usage g c = λ usage.
-    for_any (g.F.Files.told c.args.files.now) _ _ (λ files h. no_command_of (g.D.Driver.Gives c.args.driver.now) files (map string_bytes c.args.words.now) c.in-Ok.answer usage h) c.in-Ok.ensures.answer
+    for_any (g.F.Files.told c.args.files.now) _ _ (λ files h. no_command_of (g.D.Driver.Gives c.args.driver.now) (g.Q.Relay.Gives c.args.relay.now) files (map string_bytes c.args.words.now) c.in-Ok.answer usage h) c.in-Ok.ensures.answer
 
 pub returns-in-Ok-write_answer-clause-no_command : goal.returns-in-Ok-write_answer-clause-no_command
 returns-in-Ok-write_answer-clause-no_command g c = λ none.
-    for_any (g.F.Files.told c.args.files.now) _ _ (λ files h. inl (ap (λ (a : CommandAnswer). a.status) (of_no_command (g.D.Driver.Gives c.args.driver.now) files (map string_bytes c.args.words.now) c.in-Ok.answer none h))) c.in-Ok.ensures.answer
+    for_any (g.F.Files.told c.args.files.now) _ _ (λ files h. inl (ap (λ (a : CommandAnswer). a.status) (of_no_command (g.D.Driver.Gives c.args.driver.now) (g.Q.Relay.Gives c.args.relay.now) files (map string_bytes c.args.words.now) c.in-Ok.answer none h))) c.in-Ok.ensures.answer
 
 pub returns-in-Ok-write_answer-clause-nothing : goal.returns-in-Ok-write_answer-clause-nothing
 returns-in-Ok-write_answer-clause-nothing g c = λ failed.
-    absurd (for_any (g.F.Files.told c.args.files.now) _ _ (λ files h. no_failure (g.D.Driver.Gives c.args.driver.now) files (map string_bytes c.args.words.now) c.in-Ok.answer h failed) c.in-Ok.ensures.answer)
+    absurd (for_any (g.F.Files.told c.args.files.now) _ _ (λ files h. no_failure (g.D.Driver.Gives c.args.driver.now) (g.Q.Relay.Gives c.args.relay.now) files (map string_bytes c.args.words.now) c.in-Ok.answer h failed) c.in-Ok.ensures.answer)

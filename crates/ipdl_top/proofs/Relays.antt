@@ -1,0 +1,79 @@
+-- What is said of a relay that was made.
+use Rattle.std.proofs.Common.{◌≡◌, ◌∙◌, ◌++◌, ℕ, List, [], refl, sym, ap, subst}
+use Rattle.ipdl_base.specs.declared.kinds.Side.{Side}
+use Rattle.ipdl_base.specs.declared.line.Line.{Line}
+use Rattle.ipdl_base.specs.declared.schema.Schema.{Schema}
+use Rattle.ipdl_base.specs.Sound.{IsSound}
+use Rattle.channel_model.specs.Numbers.{other}
+use Rattle.command_words.specs.Relay.{RelayCourse}
+use Rattle.handler_script.specs.declared.script.Script.{Script}
+use Rattle.history_reading.specs.declared.law.Law.TheVariants as law
+use Rattle.history_reading.specs.Holds.{Holds}
+use Rattle.law_statements.specs.Fallen.{Fallen}
+use Rattle.law_statements.specs.Laws.{DecidesFallen, DecidesReadable, LawsWantReadable}
+use Rattle.law_statements.specs.Readable.{Readable}
+use Rattle.ipdl_base.specs.declared.kinds.Side.TheVariants as sides
+use Rattle.relay_laws.specs.Laws.{ObeysAlone, RelaysObeyAlone}
+use Rattle.relay_runs.specs.Relays.{Relayed, half_of}
+use Rattle.script_runs.specs.Endings.{ending_line}
+use Rattle.script_steps.specs.Choices.{Setting}
+use Rattle.script_steps.specs.Turns.{RunEnding, at_limit, at_rest}
+use Rattle.world_core.specs.declared.answers.RunAnswer.{RunAnswer}
+use Rattle.world_core.specs.declared.relay.Halves.{Halves}
+use Rattle.world_core.specs.Relaying.{IsRelayed, RelayGives}
+use Rattle.world_core.specs.WorldView.{WorldView, opening_of}
+use Rattle.ipdl_top.specs.declared.answer.CommandAnswer.{CommandAnswer}
+use Rattle.ipdl_top.specs.Relay.{Relaying, SaysRelayed, half_lines, halves_text, relay_answer, relay_setting}
+use Rattle.ipdl_top.specs.RelaySteps.{IsTextAnswer}
+use Rattle.ipdl_top.specs.Run.{answer_of, run_status}
+
+-- a world that is as one begins begins itself
+pub opens-itself : (w : WorldView) (setting : Setting) → w ≡ opening_of setting → w ≡ opening_of w.setting
+opens-itself w setting is = is ∙ ap (λ (v : WorldView). opening_of v.setting) (sym is)
+
+-- An answer that is a text and the line of an ending.
+pub ended_so : (text line : List ℕ) (ending : RunEnding) (answer : CommandAnswer) → line ≡ ending_line ending → answer ≡ record { status = run_status ending; out = text ++ line; err = [] } → IsTextAnswer text (answer_of ending) answer
+ended_so text line ending answer line_is is = record { ending = ending; ends = refl; says = is ∙ ap (λ (l : List ℕ). record { status = run_status ending; out = text ++ l; err = [] }) line_is }
+
+-- a relay that did not run out of memory was made, and is one
+made_so : (Relays : Relaying) (opened : WorldView) (halves : Halves) (ending : RunEnding) → RelayGives Relays opened halves (answer_of ending) → Relays opened halves (answer_of ending)
+made_so Relays opened halves at_rest made = made
+made_so Relays opened halves (at_limit side) made = made
+
+relayed_so : (setting : Setting) (halves : Halves) (ending : RunEnding) → IsRelayed setting halves (answer_of ending) → Relayed setting (half_lines halves.parent) (half_lines halves.child) ending
+relayed_so setting halves at_rest relayed = relayed
+relayed_so setting halves (at_limit side) relayed = relayed
+
+module _ (decides_readable : DecidesReadable) (decides_fallen : DecidesFallen) (want : LawsWantReadable) (schema : Schema) where
+  reads : (lines : List Line) → Holds law.Fallen schema lines → Readable schema lines
+  reads lines holds = want law.Fallen schema lines holds
+
+  falls : (lines : List Line) → Holds law.Fallen schema lines → Fallen schema lines
+  falls lines holds = (decides_fallen schema lines ((decides_readable schema lines).1 (reads lines holds))).0 holds
+
+pub says_relayed : RelaysObeyAlone → DecidesReadable → DecidesFallen → LawsWantReadable → (Relays : Relaying) (course : RelayCourse) (schema : Schema) (script : Script) (opened : WorldView) (halves : Halves) (ended : RunAnswer) (answer : CommandAnswer)
+    → IsSound schema → opened ≡ opening_of (relay_setting schema script course) → RelayGives Relays opened halves ended → IsRelayed opened.setting halves ended → IsTextAnswer (halves_text schema halves) ended answer → SaysRelayed Relays course schema script answer
+says_relayed obey decides_readable decides_fallen want Relays course schema script opened halves ended answer sound opens gives relayed printed =
+    let setting : Setting = relay_setting schema script course in
+    let about : opened.setting ≡ setting = ap (λ (w : WorldView). w.setting) opens in
+    let made : Relays (opening_of setting) halves (answer_of printed.ending) =
+    made_so Relays (opening_of setting) halves printed.ending
+    (subst (λ (answer : RunAnswer). RelayGives Relays (opening_of setting) halves answer) printed.ends (subst (λ (w : WorldView). RelayGives Relays w halves ended) opens gives)) in
+    let is : Relayed setting (half_lines halves.parent) (half_lines halves.child) printed.ending =
+    relayed_so setting halves printed.ending
+    (subst (λ (answer : RunAnswer). IsRelayed setting halves answer) printed.ends (subst (λ (s : Setting). IsRelayed s halves ended) about relayed)) in
+    let alone : (side : Side) → ObeysAlone setting side (half_of side is.state) (half_of (other side) is.state).sent = obey setting is.state sound is.relay in
+    let parent : Holds law.Fallen schema (half_lines halves.parent) = subst (Holds law.Fallen schema) is.parent_lines (alone sides.Parent).fallen in
+    let child : Holds law.Fallen schema (half_lines halves.child) = subst (Holds law.Fallen schema) is.child_lines (alone sides.Child).fallen in
+    record {
+      halves = halves;
+      ending = printed.ending;
+      made = made;
+      relayed = is;
+      alone = alone;
+      parent_readable = reads decides_readable decides_fallen want schema (half_lines halves.parent) parent;
+      parent_fallen = falls decides_readable decides_fallen want schema (half_lines halves.parent) parent;
+      child_readable = reads decides_readable decides_fallen want schema (half_lines halves.child) child;
+      child_fallen = falls decides_readable decides_fallen want schema (half_lines halves.child) child;
+      says = printed.says;
+    }

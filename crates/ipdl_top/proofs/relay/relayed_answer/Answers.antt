@@ -1,0 +1,13 @@
+use Rattle.std.proofs.lemmas.Result.{IfOk-weaker}
+use Rattle.ipdl_top.specs.RelaySteps.{relay_course}
+use Rattle.ipdl_top.proofs.Relays.{opens-itself, says_relayed}
+use Rattle.ipdl_top.proofs.relay.relayed_answer.Goals as goal
+
+pub run_queues-requires-clause-opening : goal.run_queues-requires-clause-opening
+run_queues-requires-clause-opening g c = opens-itself c.in_ok-world.world _ c.in_ok-world.ensures.opened
+
+pub returns : goal.returns
+returns g c =
+    IfOk-weaker c.halves_answer.result _ _
+    (λ answer printed. says_relayed c.relays_obey_alone.ensures c.decides_readable.ensures c.decides_fallen.ensures c.laws_want_readable_lines.ensures (g.Q.Relay.Gives c.args.relay.now) (relay_course c.args.wanted.now) c.args.schema.now c.args.script.now
+    c.in_ok-world.world c.run_queues-halves.result.0 c.run_queues-halves.result.1 answer c.requires.sound c.in_ok-world.ensures.opened c.run_queues-halves.ensures.gives c.run_queues-halves.ensures.relayed printed) c.halves_answer.ensures

@@ -1,0 +1,64 @@
+-- What the command that runs a script over two queues says of a schema.
+use Rattle.std.specs.Prelude.{◌≡◌, ℕ, List, [], ◌++◌, map, Option}
+use Rattle.ipdl_base.specs.declared.kinds.Side.{Side}
+use Rattle.ipdl_base.specs.declared.line.Line.{Line}
+use Rattle.ipdl_base.specs.declared.schema.Schema.{Schema}
+use Rattle.channel_model.specs.Numbers.{other}
+use Rattle.command_words.specs.Relay.{RelayCourse}
+use Rattle.end_parts.specs.PlainLines.{plain_line}
+use Rattle.handler_script.specs.declared.script.Script.{Script}
+use Rattle.history.specs.HistoryView.{HistoryView}
+use Rattle.history.specs.Text.{transcript_text}
+use Rattle.law_statements.specs.Fallen.{Fallen}
+use Rattle.law_statements.specs.Readable.{Readable}
+use Rattle.relay_laws.specs.Laws.{ObeysAlone}
+use Rattle.relay_runs.specs.Relays.{Relayed, half_of}
+use Rattle.script_runs.specs.Endings.{ending_line}
+use Rattle.script_steps.specs.Choices.{Setting}
+use Rattle.script_steps.specs.Turns.{RunEnding}
+use Rattle.world_core.specs.declared.answers.RunAnswer.{RunAnswer}
+use Rattle.world_core.specs.declared.relay.Halves.{Halves}
+use Rattle.world_core.specs.WorldView.{WorldView, opening_of}
+use Rattle.ipdl_top.specs.declared.answer.CommandAnswer.{CommandAnswer}
+use Rattle.ipdl_top.specs.Run.{answer_of, run_status}
+use Rattle.ipdl_top.specs.Scripts.{SaysByScript}
+
+-- what a relay gives: the world as it begins, the lines of both ends, and how it ended
+abbrev pub Relaying : Type 1
+Relaying = WorldView → Halves → RunAnswer → Type 0
+
+-- what a relay is about: the schema, the script, and the death and the limit of its course
+abbrev pub relay_setting : Schema → Script → RelayCourse → Setting
+relay_setting schema script course = record { schema = schema; script = script; stop = course.death; limit = course.limit }
+
+-- the lines of one end, with every box at one place
+abbrev pub half_lines : HistoryView → List Line
+half_lines history = map plain_line history.lines
+
+-- the text of both halves: the parent's lines, and then the child's
+abbrev pub halves_text : Schema → Halves → List ℕ
+halves_text schema halves = transcript_text schema (half_lines halves.parent) ++ transcript_text schema (half_lines halves.child)
+
+-- the answer that is a text of both halves, and behind it how the relay ended
+abbrev pub relay_answer : List ℕ → RunEnding → CommandAnswer
+relay_answer text ending = record { status = run_status ending; out = text ++ ending_line ending; err = [] }
+
+-- The answer has what each end has seen, as the relay gives it: each of the two is a half run of the script; what came to a
+-- side is a front of what the other has sent; and so it obeys the law of one end, with what was delivered to it. The lines
+-- of each can be read, and managed actors fall before managers. It is finished exactly where neither side has a step or a
+-- packet left, and spent only where a side has, but as many events as the limit. Nothing is said of the two together.
+pub record SaysRelayed (Relays : Relaying) (course : RelayCourse) (schema : Schema) (script : Script) (answer : CommandAnswer) : Type 0 where
+  pub halves : Halves
+  pub ending : RunEnding
+  pub made : Relays (opening_of (relay_setting schema script course)) halves (answer_of ending)
+  pub relayed : Relayed (relay_setting schema script course) (half_lines halves.parent) (half_lines halves.child) ending
+  pub alone : (side : Side) → ObeysAlone (relay_setting schema script course) side (half_of side relayed.state) (half_of (other side) relayed.state).sent
+  pub parent_readable : Readable schema (half_lines halves.parent)
+  pub parent_fallen : Fallen schema (half_lines halves.parent)
+  pub child_readable : Readable schema (half_lines halves.child)
+  pub child_fallen : Fallen schema (half_lines halves.child)
+  pub says : answer ≡ relay_answer (halves_text schema halves) ending
+
+-- The answer is that for a script of this name, of which this is held.
+abbrev pub SaysRelay : Relaying → RelayCourse → List ℕ → Option (List ℕ) → List ℕ → Schema → CommandAnswer → Type 0
+SaysRelay Relays course name held file schema answer = SaysByScript (SaysRelayed Relays course schema) name held file schema answer

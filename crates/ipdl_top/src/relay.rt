@@ -1,0 +1,210 @@
+ghost use Rattle.std.specs.Prelude.{◌≡◌, ◌≤◌, ◌∷◌, ◌++◌, [], ℕ, IfOk, List, Option, codes, map, option_map, string_bytes};
+ghost use Rattle.handler_script.specs.Valid.{IsValid};
+ghost use Rattle.include_graph.specs.Keys.{AreFileWords};
+ghost use Rattle.include_graph.specs.Load as load;
+ghost use Rattle.ipdl_base.specs.Outside.{Rose};
+ghost use Rattle.ipdl_base.specs.Sound.{IsSound};
+ghost use Rattle.world_core.specs.Worlds.{most_events};
+ghost use Rattle.ipdl_top.specs.CommandAnswer.{IsCompilation, given_by};
+ghost use Rattle.ipdl_top.specs.FileViews.{ForMap};
+ghost use Rattle.ipdl_top.specs.Relay.{SaysRelay, SaysRelayed, half_lines, halves_text};
+ghost use Rattle.ipdl_top.specs.RelaySteps.{IsTextAnswer, relay_course};
+ghost use Rattle.ipdl_top.specs.Steps.{HasTop, IsHeld, IsSmall, IsSoundChecked, IsToldOf};
+ghost use Rattle.ipdl_top.specs.Waits.{IsTop};
+ghost use Rattle.history.specs.Text.{transcript_text};
+
+use crate::answer::{CommandAnswer, Failure};
+use crate::checked::CheckResult;
+use crate::compile::{checked, leave};
+use crate::held::{HeldFile, read_held};
+use crate::run::{spent_line, with_ending};
+use crate::scripts::{ScriptCheck, script_checked};
+use crate::status::Status;
+use handler_script::Script;
+use history::{History, history_text};
+use ipdl_base::{Files, Schema};
+use law_statements::{decides_fallen, decides_readable, laws_want_readable_lines};
+use line_laws::texts_see_no_box;
+use relay_laws::relays_obey_alone;
+use schedules::Stop;
+use std::alloc::{AllocError, Global};
+use std::slice::from_ref;
+use world_core::{Halves, Relay, RunAnswer, World};
+
+/// A script to run over two queues, and how.
+#[derive(Drop)]
+pub struct RelayRequest<'w> {
+    /// The name of the script.
+    pub script: &'w str,
+    /// The most events of a side.
+    pub limit: u32,
+    /// The death of an end, where one is given.
+    pub death: Option<Stop>,
+}
+
+/// The text of what one end has seen.
+fn half_text(alloc: Global, schema: &Schema, half: &History) -> Result<Vec<u8>, AllocError>
+    requires { IsSound schema.now }
+    ensures { IfOk result (λ text. text.items ≡ transcript_text schema.now (half_lines half.now)) }
+{
+    texts_see_no_box();
+    history_text(alloc, schema, half)
+}
+
+/// The text of what both ends have seen: the parent's lines, and then the child's.
+fn text_of(alloc: Global, schema: &Schema, halves: &Halves) -> Result<Vec<u8>, AllocError>
+    requires { IsSound schema.now }
+    ensures { IfOk result (λ text. text.items ≡ halves_text schema.now halves.now) }
+{
+    let mut text = half_text(alloc, schema, &halves.parent)?;
+    let child = half_text(alloc, schema, &halves.child)?;
+    text.extend_from_slice(child.as_slice())?;
+    Ok(text)
+}
+
+/// The answer by a text of both halves and how their relay ended.
+fn ended_answer(
+    alloc: Global,
+    text: Vec<u8>,
+    ending: RunAnswer,
+) -> Result<CommandAnswer, AllocError>
+    ensures { IfOk result (IsTextAnswer text.items ending) }
+{
+    match ending {
+        RunAnswer::Finished => with_ending(alloc, Status::Done, text, b"finished\n"),
+        RunAnswer::Spent(side) => with_ending(alloc, Status::Spent, text, spent_line(side)),
+        RunAnswer::NoMemory => Err(AllocError),
+    }
+}
+
+/// The answer by both halves of a relay that ended so.
+fn halves_answer(
+    alloc: Global,
+    schema: &Schema,
+    halves: Halves,
+    ending: RunAnswer,
+) -> Result<CommandAnswer, AllocError>
+    requires { IsSound schema.now }
+    ensures { IfOk result (IsTextAnswer (halves_text schema.now halves) ending) }
+{
+    let text = text_of(alloc, schema, &halves);
+    leave(halves);
+    ended_answer(alloc, text?, ending)
+}
+
+/// The answer by the relay of a script.
+fn relayed_answer<Q: Relay>(
+    alloc: Global,
+    schema: &Schema,
+    script: &Script,
+    wanted: &RelayRequest<'_>,
+    relay: &mut Q,
+) -> Result<CommandAnswer, AllocError>
+    requires sound { IsSound schema.now }
+    requires valid { IsValid schema.now script.now }
+    requires limit { wanted.now.limit ≤ most_events }
+    requires ready { Q.ready relay.old }
+    ensures { IfOk result (SaysRelayed (Q.Gives relay.old) (relay_course wanted.now) schema.now script.now) }
+{
+    relays_obey_alone();
+    decides_readable();
+    decides_fallen();
+    laws_want_readable_lines();
+    let world = World::open(alloc, schema, script, wanted.death, wanted.limit)?;
+    let (halves, ending) = relay.run_queues(world);
+    halves_answer(alloc, schema, halves, ending)
+}
+
+/// The answer by what was found of a script, under the schema of a file's program.
+fn held_answer<Q: Relay>(
+    alloc: Global,
+    schema: &Schema,
+    file: &str,
+    wanted: &RelayRequest<'_>,
+    held: &HeldFile,
+    relay: &mut Q,
+) -> Result<CommandAnswer, AllocError>
+    requires small { IsSmall held.now }
+    requires sound { IsSound schema.now }
+    requires top { (top : ℕ) × IsTop file.now schema.now top }
+    requires limit { wanted.now.limit ≤ most_events }
+    requires ready { Q.ready relay.old }
+    ensures { IfOk result (λ answer. (text : Option (List ℕ)) → IsHeld text held.now → SaysRelay (Q.Gives relay.old) (relay_course wanted.now) wanted.now.script.now text file.now schema.now answer) }
+{
+    match script_checked(alloc, schema, file, wanted.script, held)? {
+        ScriptCheck::Broken(answer) => Ok(answer),
+        ScriptCheck::Valid(script) => relayed_answer(alloc, schema, &script, wanted, relay),
+    }
+}
+
+/// The answer by what was found of the files of a command and of the script.
+fn checked_answer<Q: Relay>(
+    alloc: Global,
+    checked: CheckResult,
+    file: &str,
+    wanted: &RelayRequest<'_>,
+    held: &HeldFile,
+    relay: &mut Q,
+) -> Result<CommandAnswer, AllocError>
+    requires small { IsSmall held.now }
+    requires sound { IsSoundChecked checked }
+    requires top { HasTop file.now checked }
+    requires limit { wanted.now.limit ≤ most_events }
+    requires ready { Q.ready relay.old }
+    ensures { IfOk result (λ answer. (text : Option (List ℕ)) → IsHeld text held.now → IsToldOf (SaysRelay (Q.Gives relay.old) (relay_course wanted.now) wanted.now.script.now text file.now) checked answer) }
+{
+    match checked {
+        CheckResult::Report(report) => Ok(report),
+        CheckResult::Clean(schema) => {
+            let answer = held_answer(alloc, &schema, file, wanted, held, relay);
+            leave(schema);
+            answer
+        }
+    }
+}
+
+/// Reads the script, and answers by what was found of the files of a command.
+fn answer_with<F: Files, Q: Relay>(
+    alloc: Global,
+    files: &mut F,
+    checked: CheckResult,
+    file: &str,
+    wanted: &RelayRequest<'_>,
+    relay: &mut Q,
+) -> Result<CommandAnswer, Failure>
+    requires sound { IsSoundChecked checked }
+    requires top { HasTop file.now checked }
+    requires limit { wanted.now.limit ≤ most_events }
+    requires ready { Q.ready relay.old }
+    ensures answer { load.ForMap (F.told files.old) (λ map'. IfOk result (IsToldOf (SaysRelay (Q.Gives relay.old) (relay_course wanted.now) wanted.now.script.now (map' wanted.now.script.now) file.now) checked)) }
+    ensures read_fault { result ≡ Err Failure.ReadFault → Rose (F.faults files.old) (F.faults files.new) }
+{
+    let held = read_held(alloc, files, wanted.script)?;
+    Ok(checked_answer(alloc, checked, file, wanted, &held, relay)?)
+}
+
+/// The command that runs a script over two queues: the report on the file and on what it includes by
+/// the path, with this sync list; or the rules that the script breaks; or what each end has seen, and
+/// how it ended.
+pub fn relay_script<F: Files, Q: Relay>(
+    alloc: Global,
+    files: &mut F,
+    list: &Option<String>,
+    path: &[String],
+    file: &String,
+    wanted: &RelayRequest<'_>,
+    relay: &mut Q,
+) -> Result<CommandAnswer, Failure>
+    requires words { AreFileWords (string_bytes file.now ∷ []) }
+    requires ending { (front : List ℕ) × (string_bytes file.now ≡ front ++ codes ".ipdl") }
+    requires limit { wanted.now.limit ≤ most_events }
+    requires ready { Q.ready relay.old }
+    ensures answer { ForMap (F.told files.old) (λ seen. IfOk result
+        (IsCompilation (SaysRelay (Q.Gives relay.old) (relay_course wanted.now) wanted.now.script.now (seen.script wanted.now.script.now) (string_bytes file.now)) (given_by seen.files (map string_bytes path.now) (string_bytes file.now ∷ [])) seen.list (option_map string_bytes list.now))) }
+    ensures read_fault { result ≡ Err Failure.ReadFault → Rose (F.faults files.old) (F.faults files.new) }
+{
+    match checked(alloc, files, list, path, from_ref(file)) {
+        Ok(checked) => answer_with(alloc, files, checked, file.as_str(), wanted, relay),
+        Err(failure) => Err(failure),
+    }
+}
