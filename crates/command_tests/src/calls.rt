@@ -2,6 +2,7 @@ use super::audit_rows::AUDITS;
 use super::call_rows::{HELLO, LISTED, LISTS, NAMES, REACHES, REPORTS, WORDS};
 use super::feed_rows::{FEEDS, IDLE};
 use super::frame_rows::{FLAG, FRAMES};
+use super::relay_rows::RELAYS;
 use super::run_rows::{RACE, RUNS};
 use super::wait_rows::WAITS;
 use ipdl_base::{MemoryFiles, MemorySink};
@@ -17,6 +18,7 @@ const USAGE: &str = "usage: ipdl [-s LIST] [--path DIRS] FILES
        ipdl gen [--actors A] N
        ipdl feed [-s LIST] [--path DIRS] [--limit N] --side SIDE SCRIPT FILE FRAMES
        ipdl audit [-s LIST] [--path DIRS] [--limit N] SCRIPT FILE TRANSCRIPT
+       ipdl relay [-s LIST] [--path DIRS] [--die SIDE:K] [--limit N] SCRIPT FILE
 ";
 
 /// A file by its name.
@@ -198,6 +200,7 @@ fn calls(rt: HostRuntime) -> Result<(), Fail> {
     assert_eq!(rt; wrong_calls(alloc, RUNS, RACE)?.as_str(), "");
     assert_eq!(rt; wrong_calls(alloc, FEEDS, IDLE)?.as_str(), "");
     assert_eq!(rt; wrong_calls(alloc, AUDITS, RACE)?.as_str(), "");
+    assert_eq!(rt; wrong_calls(alloc, RELAYS, RACE)?.as_str(), "");
     Ok(())
 }
 

@@ -15,6 +15,8 @@ mod frame_rows;
 #[cfg(test)]
 mod generated;
 #[cfg(test)]
+mod relay_rows;
+#[cfg(test)]
 mod run_rows;
 #[cfg(test)]
 mod wait_rows;
