@@ -1,3 +1,4 @@
+use super::audit_rows::AUDITS;
 use super::call_rows::{HELLO, LISTED, LISTS, NAMES, REACHES, REPORTS, WORDS};
 use super::feed_rows::{FEEDS, IDLE};
 use super::frame_rows::{FLAG, FRAMES};
@@ -15,6 +16,7 @@ const USAGE: &str = "usage: ipdl [-s LIST] [--path DIRS] FILES
        ipdl waits [-s LIST] [--path DIRS] FILE
        ipdl gen [--actors A] N
        ipdl feed [-s LIST] [--path DIRS] [--limit N] --side SIDE SCRIPT FILE FRAMES
+       ipdl audit [-s LIST] [--path DIRS] [--limit N] SCRIPT FILE TRANSCRIPT
 ";
 
 /// A file by its name.
@@ -193,6 +195,7 @@ fn calls(rt: HostRuntime) -> Result<(), Fail> {
     assert_eq!(rt; wrong_calls(alloc, WAITS, "")?.as_str(), "");
     assert_eq!(rt; wrong_calls(alloc, RUNS, RACE)?.as_str(), "");
     assert_eq!(rt; wrong_calls(alloc, FEEDS, IDLE)?.as_str(), "");
+    assert_eq!(rt; wrong_calls(alloc, AUDITS, RACE)?.as_str(), "");
     Ok(())
 }
 
@@ -347,45 +350,37 @@ fn fronts(alloc: Global) -> Result<String, Fail> {
     Ok(shown)
 }
 
-/// The statuses of a feed, where each of its reads fails: of the program, of the script and of the frames. The last one
-/// of these counts also where the script is bad.
-fn unread_feeds(alloc: Global) -> Result<String, Fail> {
+/// The statuses of a call with these words and files, where each of its first reads fails, up to so many, and whether it
+/// wrote anything.
+fn unread(alloc: Global, words: &str, shared: &str, reads: u64) -> Result<String, Fail> {
     let mut shown = String::new(alloc);
-    for failing in 1..5 {
+    for failing in 1..=reads {
         let mut all = Vec::new(alloc);
-        push_files(alloc, IDLE, &mut all)?;
+        push_files(alloc, shared, &mut all)?;
         let files = MemoryFiles::new(all, vec![in alloc; failing]?);
-        let left = call(
-            alloc,
-            "feed --side parent PF.ipdl PF.ipdl idle.ids",
-            files,
-            1000,
-            0,
-        )?;
+        let left = call(alloc, words, files, 1000, 0)?;
         let wrote = !left.out.written().is_empty() || !left.err.written().is_empty();
         write!(shown, "{} {wrote} ", left.status.code())?;
     }
     Ok(shown)
 }
 
-/// The statuses of the run of two calls at once, where each of its reads fails.
+/// Those of the run of two calls at once.
 fn unread_runs(alloc: Global) -> Result<String, Fail> {
-    let mut shown = String::new(alloc);
-    for failing in 1..4 {
-        let mut all = Vec::new(alloc);
-        push_files(alloc, RACE, &mut all)?;
-        let files = MemoryFiles::new(all, vec![in alloc; failing]?);
-        let left = call(
-            alloc,
-            "run --schedule PCPC race.ids PW.ipdl",
-            files,
-            1000,
-            0,
-        )?;
-        let wrote = !left.out.written().is_empty() || !left.err.written().is_empty();
-        write!(shown, "{} {wrote} ", left.status.code())?;
-    }
-    Ok(shown)
+    unread(alloc, "run --schedule PCPC race.ids PW.ipdl", RACE, 3)
+}
+
+/// Those of a feed: of the program, of the script and of the frames. The last one of these counts also where the script is
+/// bad.
+fn unread_feeds(alloc: Global) -> Result<String, Fail> {
+    let words = "feed --side parent PF.ipdl PF.ipdl idle.ids";
+    unread(alloc, words, IDLE, 4)
+}
+
+/// Those of an audit: of the program, of the script and of the text. The last one of these counts also where the script is
+/// bad.
+fn unread_audits(alloc: Global) -> Result<String, Fail> {
+    unread(alloc, "audit PF.ipdl PF.ipdl idle.ids", IDLE, 4)
 }
 
 #[test]
@@ -397,11 +392,15 @@ fn failing_runs(rt: HostRuntime) -> Result<(), Fail> {
         unread_feeds(alloc)?.as_str(),
         "3 false 3 false 3 false 7 true "
     );
+    assert_eq!(rt;
+        unread_audits(alloc)?.as_str(),
+        "3 false 3 false 3 false 7 true "
+    );
     Ok(())
 }
 
-/// A program without a message.
-const EMPTY: Sources = &[("PF.ipdl", b"protocol PF {\n};\n")];
+/// A program without a message, and a script that does nothing.
+const EMPTY: Sources = &[("PF.ipdl", b"protocol PF {\n};\n"), ("idle.ids", b"")];
 
 /// A file of frames that is too large.
 const LARGER_FRAMES: Row = Row {
@@ -421,24 +420,37 @@ const LARGER_LIST: Row = Row {
     err: "list.ini:0:0: A5 too large\n",
 };
 
-/// Calls, and the names of files that have one byte more than are read.
-const LARGER: &[(&str, Row)] = &[("f.bin", LARGER_FRAMES), ("list.ini", LARGER_LIST)];
+/// A text to audit that is too large.
+const LARGER_TEXT: Row = Row {
+    words: "audit idle.ids PF.ipdl t.txt",
+    files: EMPTY,
+    status: Status::BadTranscript,
+    out: b"",
+    err: "t.txt:0: larger\n",
+};
 
-/// The program, and a file with this name that has one byte more than is read.
-fn with_larger(alloc: Global, name: &str) -> Result<MemoryFiles, AllocError> {
+/// Calls, and the names of files that have one byte more than are read, with how many that are.
+const LARGER: &[(&str, usize, Row)] = &[
+    ("f.bin", 1_048_577, LARGER_FRAMES),
+    ("list.ini", 1_048_577, LARGER_LIST),
+    ("t.txt", 16_777_217, LARGER_TEXT),
+];
+
+/// The program, and a file with this name and so many bytes.
+fn with_larger(alloc: Global, name: &str, size: usize) -> Result<MemoryFiles, AllocError> {
     let mut files = Vec::new(alloc);
     for (name, bytes) in EMPTY {
         files.push(file(alloc, name, Vec::from_slice(alloc, bytes)?)?)?;
     }
-    files.push(file(alloc, name, vec![in alloc; 0u8; 1_048_577]?)?)?;
+    files.push(file(alloc, name, vec![in alloc; 0u8; size]?)?)?;
     Ok(MemoryFiles::new(files, Vec::new(alloc)))
 }
 
 /// Which of these leave something else.
 fn wrong_larger(alloc: Global) -> Result<String, AllocError> {
     let mut wrong = String::new(alloc);
-    for (name, row) in LARGER {
-        let left = call(alloc, row.words, with_larger(alloc, name)?, 1000, 0)?;
+    for (name, size, row) in LARGER {
+        let left = call(alloc, row.words, with_larger(alloc, name, *size)?, 1000, 0)?;
         note_row(row, &left, &mut wrong)?;
     }
     Ok(wrong)
@@ -464,6 +476,7 @@ const CODES: &[(Status, u8)] = &[
     (Status::NoMemory, 6),
     (Status::BadScript, 7),
     (Status::BadFrames, 8),
+    (Status::BadTranscript, 9),
 ];
 
 #[test]

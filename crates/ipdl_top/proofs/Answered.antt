@@ -2,7 +2,7 @@
 use Rattle.std.proofs.Common.{◌≡◌, ◌⊎◌, ℕ, Bool, true, false, List, [], ◌∷◌, refl, ap, ◌∙◌, sym, inl, inr, true≢false}
 use Rattle.std.specs.Prelude.{Option, Some, None}
 use Rattle.ipdl_base.specs.Outside.{FileMap}
-use Rattle.command_words.specs.Command.{CommandView, IsNoCommand, compile, feed, frames, gen, run, waits}
+use Rattle.command_words.specs.Command.{CommandView, IsNoCommand, audit, compile, feed, frames, gen, run, waits}
 use Rattle.command_words.specs.Feed.{FeedCourse}
 use Rattle.command_words.specs.Run.{Course}
 use Rattle.feed_runs.specs.declared.fault.FeedFault.{FeedFault}
@@ -13,8 +13,11 @@ use Rattle.ipdl_top.specs.declared.answer.CommandAnswer.{CommandAnswer}
 use Rattle.ipdl_top.specs.declared.rendering.Rendering.{Rendering}
 use Rattle.ipdl_top.specs.declared.rendering.Rendering.TheVariants.{Summary, Transcript}
 use Rattle.ipdl_top.specs.declared.status.Status.{Status}
-use Rattle.ipdl_top.specs.declared.status.Status.TheVariants.{Done, Broken, Usage, ReadFault, Spent, NoMemory, BadScript, BadFrames}
+use Rattle.ipdl_top.specs.declared.status.Status.TheVariants.{Done, Broken, Usage, ReadFault, Spent, NoMemory, BadScript, BadFrames, BadTranscript}
 use Rattle.ipdl_top.specs.CommandAnswer.{AnswersTo, IsAnswer, IsCompilation, SaysTables, given_by, usage_answer}
+use Rattle.ipdl_top.specs.declared.audited.Audit.{Audit}
+use Rattle.ipdl_top.specs.declared.audited.Audit.TheVariants as audits
+use Rattle.ipdl_top.specs.Audit.{SaysAudit, SaysAuditedOf, audit_answer}
 use Rattle.ipdl_top.specs.Feed.{SaysFedOf, SaysFeed, feed_answer}
 use Rattle.ipdl_top.specs.Frames.{SaysFrames, frames_answer, frames_out}
 use Rattle.ipdl_top.specs.FileViews.{FileViews, ForMap, steady}
@@ -37,6 +40,7 @@ is_said Broken = true
 is_said Spent = true
 is_said BadScript = true
 is_said BadFrames = true
+is_said BadTranscript = true
 is_said _ = false
 
 -- an answer is that of a command
@@ -92,6 +96,20 @@ of_feed : (course : FeedCourse) (script : List ℕ) (held : Option (List ℕ)) (
     → SaysFeed course script held name bytes file schema answer → IsSaidSo answer
 of_feed course script held name bytes file schema answer told = of_held (SaysFedOf course name bytes schema) (of_fed course name bytes schema) script held schema told.top answer told.says
 
+found : (name : List ℕ) (a : Audit) → IsSaidSo (audit_answer name a)
+found name (audits.Legal events) = refl
+found name (audits.Early at) = refl
+found name (audits.NoStep at) = refl
+
+of_audited : (limit : ℕ) (name : List ℕ) (text : Option (List ℕ)) (schema : Schema) (script : Script) (answer : CommandAnswer) → SaysAuditedOf limit name text schema script answer → IsSaidSo answer
+of_audited limit name None schema script answer says = said_so _ _ says refl
+of_audited limit name (Some text) schema script answer (inl larger) = said_so _ _ larger.1 refl
+of_audited limit name (Some text) schema script answer (inr told) = said_so _ _ told.1.says (found name told.1.found)
+
+of_audit : (limit : ℕ) (script : List ℕ) (held : Option (List ℕ)) (name : List ℕ) (text : Option (List ℕ)) (file : List ℕ) (schema : Schema) (answer : CommandAnswer)
+    → SaysAudit limit script held name text file schema answer → IsSaidSo answer
+of_audit limit script held name text file schema answer told = of_held (SaysAuditedOf limit name text schema) (of_audited limit name text schema) script held schema told.top answer told.says
+
 -- and so is that of a compilation
 compiled : (Says : Schema → CommandAnswer → Type 0) → ((schema : Schema) (answer : CommandAnswer) → Says schema answer → IsSaidSo answer)
     → (given : LoadInput) (lists : FileMap) (list : Option (List ℕ)) (answer : CommandAnswer) → IsCompilation Says given lists list answer → IsSaidSo answer
@@ -109,6 +127,8 @@ of_command Gives seen (gen rounds actors) answer h =
     compiled (SaysGen Gives rounds actors) (of_run Gives (Summary rounds actors) case_course script_name (case_files rounds actors script_name) holder_name) (given_by (case_files rounds actors) case_path (holder_name ∷ [])) (case_files rounds actors) None answer h
 of_command Gives seen (feed list path course script file name) answer h =
     compiled (SaysFeed course script (seen.script script) name (seen.input name) file) (of_feed course script (seen.script script) name (seen.input name) file) (given_by seen.files path (file ∷ [])) seen.list list answer h
+of_command Gives seen (audit list path limit script file name) answer h =
+    compiled (SaysAudit limit script (seen.script script) name (seen.input name) file) (of_audit limit script (seen.script script) name (seen.input name) file) (given_by seen.files path (file ∷ [])) seen.list list answer h
 
 -- words that are no command have the usage answer
 pub of_no_command : (Gives : Driving) (seen : FileViews) (words : List (List ℕ)) (answer : CommandAnswer) → IsNoCommand words → IsAnswer Gives seen words answer → answer ≡ usage_answer

@@ -35,6 +35,7 @@ use Rattle.sync_list.specs.Lists.{IsListOf}
 use Rattle.sync_list.specs.Laws.{OneList}
 use Rattle.ipdl_top.specs.declared.answer.CommandAnswer.{CommandAnswer}
 use Rattle.ipdl_top.specs.CommandAnswer.{IsBrokenFile, BreaksRules, IsFileReport, IsReading, IsRuleReport, IsSaidOf, IsCompilation, AnswersTo, SaysTables, given_by, report_answer, table_answer}
+use Rattle.ipdl_top.specs.Audit.{SaysAudit}
 use Rattle.ipdl_top.specs.Feed.{SaysFeed}
 use Rattle.ipdl_top.specs.Frames.{SaysBytes, SaysFrames, frames_answer, frames_out}
 use Rattle.ipdl_top.specs.Laws.{LeavesNothing, OneAnswer}
@@ -47,6 +48,7 @@ use Rattle.ipdl_top.specs.FileViews.{FileViews}
 use Rattle.ipdl_top.proofs.Alike.{alike, same_keys}
 use Rattle.ipdl_top.proofs.Compilations.{names_called, no_fault}
 use Rattle.ipdl_top.proofs.TableTexts.{one_text}
+use Rattle.ipdl_top.proofs.OneAudit.{AuditLaws, audit_one}
 use Rattle.ipdl_top.proofs.OneFeed.{FeedLaws, feed_one}
 use Rattle.ipdl_top.proofs.OneRun.{RunLaws, run_one}
 use Rattle.ipdl_top.proofs.OneTop.{one_top}
@@ -67,6 +69,7 @@ pub record TheLaws : Type 0 where
   pub wait_report : OneWaitReport
   pub runs : RunLaws
   pub feeds : FeedLaws
+  pub audits : AuditLaws
 
 -- Lists
 
@@ -222,6 +225,7 @@ leaves_none words (command.waits list path file) said leaves = tt
 leaves_none words (command.run list path course script file) said leaves = leaves list path course script file said
 leaves_none words (command.gen rounds actors) said leaves = tt
 leaves_none words (command.feed list path course script file name) said leaves = tt
+leaves_none words (command.audit list path limit script file name) said leaves = tt
 
 -- so has each command
 commands : TheLaws → (Gives : Driving) (seen : FileViews) (command : CommandView) → LeavesNone command → (one other : CommandAnswer) → AnswersTo Gives seen command one → AnswersTo Gives seen command other → one ≡ other
@@ -236,6 +240,8 @@ commands laws Gives seen (command.gen rounds actors) leaves one other x y =
     (case_files rounds actors) None one other x y
 commands laws Gives seen (command.feed list path course script file name) leaves one other x y =
     compilations laws (SaysFeed course script (seen.script script) name (seen.input name) file) (feed_one laws.feeds course script (seen.script script) name (seen.input name) file) (given_by seen.files path (file ∷ [])) seen.list list one other x y
+commands laws Gives seen (command.audit list path limit script file name) leaves one other x y =
+    compilations laws (SaysAudit limit script (seen.script script) name (seen.input name) file) (audit_one laws.audits limit script (seen.script script) name (seen.input name) file) (given_by seen.files path (file ∷ [])) seen.list list one other x y
 
 -- words are one command or none
 pub answer_is_determined : TheLaws → (Gives : Driving) → OneAnswer Gives

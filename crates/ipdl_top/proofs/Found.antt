@@ -1,5 +1,5 @@
 -- What is found of a list.
-use Rattle.std.proofs.Common.{◌≡◌, ◌≤◌, ◌<◌, ℕ, List, length, refl, inl, inr}
+use Rattle.std.proofs.Common.{◌≡◌, ◌≤◌, ◌<◌, ℕ, suc, List, length, refl, inl, inr, arith}
 use Rattle.std.proofs.Math.ListN.{replicate}
 use Rattle.std.proofs.lemmas.List.{length-replicate}
 use Rattle.std.specs.Prelude.{Option, Some, None}
@@ -24,6 +24,10 @@ spelled bytes sections few spells = record { bytes = bytes; has = refl; small = 
 -- some list of each length
 long : (n : ℕ) → (xs : List ℕ) × (length xs ≡ n)
 long n = (replicate n 0, length-replicate n 0)
+
+-- more bytes than so many
+pub more_than : (most : ℕ) → (xs : List ℕ) × (most < length xs)
+more_than most = let some = long (suc most) in (some.0, omega (arith, some.1))
 
 -- bytes that are not all read
 pub more_than_read : (xs : List ℕ) × (length xs ≡ 1048577)

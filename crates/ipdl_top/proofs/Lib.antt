@@ -14,6 +14,7 @@ pub mod OneTop
 pub mod OneScript
 pub mod OneRun
 pub mod OneFeed
+pub mod OneAudit
 pub mod Scripted
 pub mod Feeds
 pub mod Summed

@@ -8,10 +8,12 @@ use Rattle.channel_model.specs.Runs.{IsLegalHistory, RunState}
 use Rattle.command_words.specs.Run.{Course}
 use Rattle.handler_script.specs.declared.script.Script.{Script}
 use Rattle.schedules.specs.declared.turn.Turn.{Turn}
-use Rattle.script_runs.specs.Endings.{ending_line}
+use Rattle.history.specs.Text.{transcript_text}
+use Rattle.script_runs.specs.Endings.{EndsAs, ending_line}
 use Rattle.script_steps.specs.Choices.{IsCaseHistory, Setting}
 use Rattle.script_steps.specs.Laws.{ChoicesAreRuns}
 use Rattle.script_steps.specs.Turns.{RunEnding, at_limit, at_rest}
+use Rattle.script_transcripts.specs.Legal.{IsLegalText}
 use Rattle.world_core.specs.declared.answers.RunAnswer.{RunAnswer}
 use Rattle.world_core.specs.Turns.{StandsAs}
 use Rattle.world_core.specs.WorldView.{WorldView, opening_of}
@@ -29,6 +31,15 @@ made_so Gives None before after (at_limit side) made = made
 made_so Gives (Some word) before after at_rest made = made
 made_so Gives (Some word) before after (at_limit side) made = made
 
+-- A run that stands as it ended may end so.
+ends_so : (w : WorldView) (ending : RunEnding) → StandsAs w (answer_of ending) → EndsAs w.setting w.state ending
+ends_so w at_rest h = h.0
+ends_so w (at_limit side) h = (h.full, h.left)
+
+-- What is printed of a world whose run ended so is a legal text.
+prints_legal : (w : WorldView) (ending : RunEnding) → IsCase w → StandsAs w (answer_of ending) → IsLegalText w.setting (transcript_text w.setting.schema w.state.lines ++ ending_line ending)
+prints_legal w ending case' stands = record { choices = case'.leading; state = w.state; plays = case'.plays; ending = ending; ends = ends_so w ending stands; is = refl }
+
 -- The history that a world has made by a word of turns or a driver is the script's own, legal and lawful, and ended as its
 -- answer says.
 pub says_history : ChoicesAreRuns → HistoriesAreLawful → (Gives : Driving) (shown : Rendering) (course : Course) (schema : Schema) (script : Script) (opened after : WorldView) (ended : RunAnswer) (answer : CommandAnswer)
@@ -37,6 +48,7 @@ pub says_history : ChoicesAreRuns → HistoriesAreLawful → (Gives : Driving) (
 says_history runs lawful Gives shown course schema script opened after ended answer sound opens made same stands case' printed =
     let setting : Setting = setting_by schema script course in
     let about : after.setting ≡ setting = same ∙ ap (λ (w : WorldView). w.setting) opens in
+    let stands_so : StandsAs after (answer_of printed.ending) = subst (λ (answer : RunAnswer). StandsAs after answer) printed.ends stands in
     let run = runs after.setting case'.leading after.state case'.plays in
     let legal : IsLegalHistory schema script.top after.state.lines = subst (λ (s : Setting). IsLegalHistory s.schema s.script.top after.state.lines) about (run.moves, ap (λ (s : RunState). s.lines) run.runs) in
     let laws : IsLawfulHistory schema after.state.lines = subst (IsLawfulHistory schema) legal.1 (lawful schema sound script.top legal.0) in
@@ -54,7 +66,8 @@ says_history runs lawful Gives shown course schema script opened after ended ans
       waits = laws.waits;
       settled = laws.settled;
       fallen = laws.fallen;
-      stands = subst (λ (answer : RunAnswer). StandsAs after answer) printed.ends stands;
+      stands = stands_so;
+      legal_text = subst (λ (s : Setting). IsLegalText s (transcript_text s.schema after.state.lines ++ ending_line printed.ending)) about (prints_legal after printed.ending case' stands_so);
       says = printed.says ∙ ap (λ (s : Setting). run_answer shown s.schema after.state.lines printed.ending) about;
     }
 

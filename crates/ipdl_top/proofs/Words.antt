@@ -1,6 +1,7 @@
 -- What the words of a command are known to be: words of files, and a limit.
 use Rattle.std.proofs.Common.{◌≡◌, ◌≤◌, ◌∙◌, ℕ, Bool, true, false, List, [], ◌∷◌, sym, ap, arith, codes, true≢false}
 use Rattle.std.specs.Prelude.{Option, None, Some}
+use Rattle.command_words.specs.Audit.{IsAudit}
 use Rattle.command_words.specs.Compile.{IsCompile}
 use Rattle.command_words.specs.Command.{CommandView, OneCommand, Say, gen}
 use Rattle.command_words.specs.Feed.{FeedCourse, IsFeed}
@@ -20,6 +21,10 @@ given_limit (Some text) limit is = is.most
 pub feed_limit : (words : List (List ℕ)) (list : Option (List ℕ)) (path : List (List ℕ)) (course : FeedCourse) (script file frames : List ℕ) → IsFeed words list path course script file frames → course.limit ≤ 20000
 feed_limit [] list path course script file frames h = absurd h
 feed_limit (word ∷ words) list path course script file frames (e, h) = given_limit (value_of (codes "limit") h.said) course.limit h.limit_is
+
+pub audit_limit : (words : List (List ℕ)) (list : Option (List ℕ)) (path : List (List ℕ)) (limit : ℕ) (script file transcript : List ℕ) → IsAudit words list path limit script file transcript → limit ≤ 20000
+audit_limit [] list path limit script file transcript h = absurd h
+audit_limit (word ∷ words) list path limit script file transcript (e, h) = given_limit (value_of (codes "limit") h.said) limit h.limit_is
 
 pub run_limit : (words : List (List ℕ)) (list : Option (List ℕ)) (path : List (List ℕ)) (course : Course) (script file : List ℕ) → IsRun words list path course script file → course.limit ≤ 20000
 run_limit [] list path course script file h = absurd h

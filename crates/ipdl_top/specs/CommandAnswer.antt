@@ -5,7 +5,7 @@ use Rattle.ipdl_base.specs.declared.finding.Finding.{Finding}
 use Rattle.ipdl_base.specs.declared.schema.Schema.{Schema}
 use Rattle.ipdl_syntax.specs.declared.program.Entry.{Entry}
 use Rattle.ipdl_syntax.specs.Programs.{IsProgram}
-use Rattle.command_words.specs.Command.{CommandView, IsNoCommand, Say, compile, feed, frames, gen, run, waits}
+use Rattle.command_words.specs.Command.{CommandView, IsNoCommand, Say, audit, compile, feed, frames, gen, run, waits}
 use Rattle.findings.specs.Report.{IsReport}
 use Rattle.include_graph.specs.Load.{IsProgramOf}
 use Rattle.include_graph.specs.Reach.{IsReach}
@@ -20,6 +20,7 @@ use Rattle.actor_tables.specs.TableText.{table_text}
 use Rattle.ipdl_top.specs.declared.answer.CommandAnswer.{CommandAnswer}
 use Rattle.ipdl_top.specs.declared.rendering.Rendering.TheVariants.{Transcript}
 use Rattle.ipdl_top.specs.declared.status.Status.TheVariants.{Done, Broken, Usage}
+use Rattle.ipdl_top.specs.Audit.{SaysAudit}
 use Rattle.ipdl_top.specs.Command.{usage_text}
 use Rattle.ipdl_top.specs.Feed.{SaysFeed}
 use Rattle.ipdl_top.specs.Frames.{SaysFrames}
@@ -117,6 +118,8 @@ AnswersTo Gives seen (run list path course script file) answer = IsCompilation (
 AnswersTo Gives seen (gen rounds actors) answer = IsCompilation (SaysGen Gives rounds actors) (given_by (case_files rounds actors) case_path (holder_name ∷ [])) (case_files rounds actors) None answer
 AnswersTo Gives seen (feed list path course script file name) answer =
     IsCompilation (SaysFeed course script (seen.script script) name (seen.input name) file) (given_by seen.files path (file ∷ [])) seen.list list answer
+AnswersTo Gives seen (audit list path limit script file name) answer =
+    IsCompilation (SaysAudit limit script (seen.script script) name (seen.input name) file) (given_by seen.files path (file ∷ [])) seen.list list answer
 
 -- the words are a command, and the answer is the one to it
 pub record IsCommandAnswer (Gives : Driving) (seen : FileViews) (words : List (List ℕ)) (answer : CommandAnswer) : Type 0 where

@@ -3,7 +3,7 @@ use Rattle.std.specs.Prelude.{Option, Some, None}
 use Rattle.ipdl_base.specs.Outside.{FileMap}
 
 -- What each name has: while the files of a program are read, when the sync list is, behind them, when the script is, and
--- when the file that is the input is, as one of frames.
+-- when the file that is the input is, as one of frames or a text to audit.
 pub record FileViews : Type 0 where
   pub files : FileMap
   pub list : FileMap

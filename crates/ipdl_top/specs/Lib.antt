@@ -18,3 +18,5 @@ pub mod FileViews
 pub mod Steps
 pub mod Written
 pub mod Audited
+pub mod Audit
+pub mod AuditSteps

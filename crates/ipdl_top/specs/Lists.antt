@@ -13,11 +13,15 @@ use Rattle.sync_list.specs.Lists.{IsListOf, IsFirstBad}
 abbrev pub finding_at : Rule → Place → Finding
 finding_at rule place = record { place = place; rule = rule }
 
--- the bytes are more than are read of a file
-pub record IsLargeList (held : Option (List ℕ)) : Type 0 where
+-- what is held is more than so many bytes
+pub record HasMore (most : ℕ) (held : Option (List ℕ)) : Type 0 where
   pub bytes : List ℕ
   pub has : held ≡ Some bytes
-  pub large : 1048576 < length bytes
+  pub large : most < length bytes
+
+-- it is more than is read of a list
+abbrev pub IsLargeList : Option (List ℕ) → Type 0
+IsLargeList held = HasMore 1048576 held
 
 -- the line with this number is the first that is not of the list's format
 pub record HasBadLine (held : Option (List ℕ)) (line : ℕ) : Type 0 where

@@ -11,6 +11,7 @@ use Rattle.history.specs.Text.{transcript_text}
 use Rattle.script_runs.specs.Endings.{ending_line}
 use Rattle.script_steps.specs.Choices.{IsCaseHistory, Setting}
 use Rattle.script_steps.specs.Turns.{RunEnding, at_limit, at_rest}
+use Rattle.script_transcripts.specs.Legal.{IsLegalText}
 use Rattle.schedules.specs.declared.turn.Turn.{Turn}
 use Rattle.world_core.specs.declared.answers.RunAnswer.{RunAnswer}
 use Rattle.world_core.specs.declared.answers.RunAnswer.TheVariants as run
@@ -65,7 +66,7 @@ run_answer shown schema lines ending = record { status = run_status ending; out 
 -- It can be read, and all five laws hold of it: what is delivered is what was sent; what is taken goes to the living actor
 -- of its id, or is dropped; no two waits block each other; a closed end's promises are settled once each; and managed
 -- actors fall before managers. Where it is finished nothing is left to do and no end waits; and where it is spent, that
--- side has something to do but as many events as the limit.
+-- side has something to do but as many events as the limit. With the line of its ending, its transcript is a legal text.
 pub record SaysHistory (Gives : Driving) (shown : Rendering) (course : Course) (schema : Schema) (script : Script) (answer : CommandAnswer) : Type 0 where
   pub after : WorldView
   pub ending : RunEnding
@@ -80,6 +81,7 @@ pub record SaysHistory (Gives : Driving) (shown : Rendering) (course : Course) (
   pub settled : Settled schema after.state.lines
   pub fallen : Fallen schema after.state.lines
   pub stands : StandsAs after (answer_of ending)
+  pub legal_text : IsLegalText (setting_by schema script course) (transcript_text schema after.state.lines ++ ending_line ending)
   pub says : answer ≡ run_answer shown schema after.state.lines ending
 
 -- The answer is that for a script of this name, of which this is held, where the protocol of the file is the top.

@@ -19,7 +19,7 @@ use Rattle.ipdl_top.specs.declared.held.HeldFile.{HeldFile}
 use Rattle.ipdl_top.specs.declared.held.HeldFile.TheVariants.{Absent, Larger, Bytes}
 use Rattle.ipdl_top.specs.CommandAnswer.{BreaksRules, IsFileReport, IsRuleReport, IsSchemaRead, report_answer}
 use Rattle.ipdl_top.specs.Waits.{IsTop}
-use Rattle.ipdl_top.specs.Lists.{AreSections, IsFaultOfList, IsLargeList, IsListFault, SpellsList, list_names}
+use Rattle.ipdl_top.specs.Lists.{AreSections, HasMore, IsFaultOfList, IsListFault, SpellsList, list_names}
 
 -- what a list that holds this was found to be, as the file of this number
 abbrev pub IsFound : Option (List ℕ) → ℕ → SyncListFile → Type 0
@@ -82,17 +82,25 @@ abbrev pub IsSoundChecked : CheckResult → Type 0
 IsSoundChecked (Report report) = Unit {0}
 IsSoundChecked (Clean schema) = IsSound schema
 
+-- what a file was found to be of which no more than so many bytes are read
+abbrev pub IsHeldWithin : ℕ → Option (List ℕ) → HeldFile → Type 0
+IsHeldWithin most held Absent = held ≡ None
+IsHeldWithin most held Larger = HasMore most held
+IsHeldWithin most held (Bytes bytes) = (held ≡ Some bytes.items) × (length bytes.items ≤ most)
+
+-- a file that was read has no more than so many bytes
+abbrev pub HasAtMost : ℕ → HeldFile → Type 0
+HasAtMost most Absent = Unit {0}
+HasAtMost most Larger = Unit {0}
+HasAtMost most (Bytes bytes) = length bytes.items ≤ most
+
 -- what a file of frames or a script was found to be
 abbrev pub IsHeld : Option (List ℕ) → HeldFile → Type 0
-IsHeld held Absent = held ≡ None
-IsHeld held Larger = IsLargeList held
-IsHeld held (Bytes bytes) = (held ≡ Some bytes.items) × (length bytes.items ≤ 1048576)
+IsHeld held file = IsHeldWithin 1048576 held file
 
--- a file that was read has no more bytes than are read
+-- a file that was read has no more bytes than are read of one of frames or of a script
 abbrev pub IsSmall : HeldFile → Type 0
-IsSmall Absent = Unit {0}
-IsSmall Larger = Unit {0}
-IsSmall (Bytes bytes) = length bytes.items ≤ 1048576
+IsSmall file = HasAtMost 1048576 file
 
 -- the answer is the report of these findings and of what the list breaks
 pub record AreFilesReported (findings : List Finding) (listed : SyncListFile) (names : List (List ℕ)) (answer : CommandAnswer) : Type 0 where

@@ -7,7 +7,7 @@ use std::alloc::{AllocError, AllocFailed, Global};
 
 /// The text that says how the program is called.
 const USAGE: &[u8] =
-    b"usage: ipdl [-s LIST] [--path DIRS] FILES\n       ipdl run [-s LIST] [--path DIRS] [--schedule WORD] [--limit N] [--die SIDE:K] SCRIPT FILE\n       ipdl frames [-s LIST] [--path DIRS] [--to 2] FILE FRAMES\n       ipdl waits [-s LIST] [--path DIRS] FILE\n       ipdl gen [--actors A] N\n       ipdl feed [-s LIST] [--path DIRS] [--limit N] --side SIDE SCRIPT FILE FRAMES\n";
+    b"usage: ipdl [-s LIST] [--path DIRS] FILES\n       ipdl run [-s LIST] [--path DIRS] [--schedule WORD] [--limit N] [--die SIDE:K] SCRIPT FILE\n       ipdl frames [-s LIST] [--path DIRS] [--to 2] FILE FRAMES\n       ipdl waits [-s LIST] [--path DIRS] FILE\n       ipdl gen [--actors A] N\n       ipdl feed [-s LIST] [--path DIRS] [--limit N] --side SIDE SCRIPT FILE FRAMES\n       ipdl audit [-s LIST] [--path DIRS] [--limit N] SCRIPT FILE TRANSCRIPT\n";
 
 /// What the program answers: how it ends, and the texts that it writes.
 #[derive(Debug, Drop)]
@@ -50,6 +50,7 @@ impl<T: Drop> From<AllocFailed<T>> for Failure {
 
 impl CommandAnswer {
     ghost use Rattle.ipdl_top.specs.CommandAnswer.{table_answer, report_answer, usage_answer};
+    ghost use Rattle.ipdl_top.specs.Audit.{bad_transcript_answer};
     ghost use Rattle.ipdl_top.specs.Frames.{bad_frames_answer};
 
     /// The answer of a command that did its work: this text.
@@ -70,6 +71,17 @@ impl CommandAnswer {
         CommandAnswer {
             status: Status::BadFrames,
             out: Items::from_vec(before),
+            err: Items::from_vec(line),
+        }
+    }
+
+    /// The answer that a text is none that a run prints: the line that says why.
+    pub fn of_bad_transcript(alloc: Global, line: Vec<u8>) -> CommandAnswer
+        ensures { result ≡ bad_transcript_answer line.items }
+    {
+        CommandAnswer {
+            status: Status::BadTranscript,
+            out: Items::from_vec(Vec::new(alloc)),
             err: Items::from_vec(line),
         }
     }

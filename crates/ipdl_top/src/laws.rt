@@ -7,8 +7,8 @@ use grammar_laws::one_tree;
 use ipdl_lex::one_answer;
 use program_schema::one_schema;
 use schema_laws::{
-    feeds_alike, frames_alike, one_list_of_frames, one_wait_report, picks_alike, scripts_alike,
-    texts_alike, waits_alike,
+    choices_alike, feeds_alike, frames_alike, one_list_of_frames, one_wait_report, picks_alike,
+    scripts_alike, texts_alike, waits_alike,
 };
 use script_steps::words_have_one_result;
 use sync_list::one_list;
@@ -41,4 +41,5 @@ pub fn answer_is_determined<D: Driver>(driver: &D)
     words_have_one_result();
     feeds_alike();
     feeds_have_one_result();
+    choices_alike();
 }

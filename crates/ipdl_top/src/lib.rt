@@ -19,6 +19,7 @@ mod rules;
 mod run;
 mod scripts;
 mod status;
+mod transcript_audit;
 mod waits;
 mod write;
 

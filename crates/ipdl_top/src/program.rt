@@ -15,6 +15,7 @@ use crate::generation::generation;
 use crate::rendering::Rendering;
 use crate::run::{RunRequest, run};
 use crate::status::Status;
+use crate::transcript_audit::{AuditRequest, audit_transcript};
 use crate::waits::waits;
 use crate::write::write_answer;
 use command_words::{Command, WordsFault, one_command, read_words};
@@ -102,7 +103,23 @@ fn answer_to<F: Files, D: Driver>(
             };
             feed(alloc, files, &list, path.as_slice(), &file, &wanted)
         }
-        Ok(Command::Audit { .. }) => Err(Failure::NoMemory),
+        Ok(
+            Command::Audit {
+                list,
+                path,
+                limit,
+                script,
+                file,
+                transcript,
+            },
+        ) => {
+            let wanted = AuditRequest {
+                script: script.as_str(),
+                transcript: transcript.as_str(),
+                limit,
+            };
+            audit_transcript(alloc, files, &list, path.as_slice(), &file, &wanted)
+        }
         Err(WordsFault::Usage) => CommandAnswer::of_no_command(alloc),
         Err(WordsFault::NoMemory) => Err(Failure::NoMemory),
     }

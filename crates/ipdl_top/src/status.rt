@@ -19,6 +19,8 @@ pub enum Status {
     BadScript,
     /// The file of frames is missing, has more bytes than a file may have, or is no list of frames.
     BadFrames,
+    /// The text to audit is missing, has more bytes than one may have, or is none that a run prints.
+    BadTranscript,
 }
 
 impl Status {
@@ -39,6 +41,7 @@ impl Status {
             Status::NoMemory => 6,
             Status::BadScript => 7,
             Status::BadFrames => 8,
+            Status::BadTranscript => 9,
         }
     }
 }

@@ -20,6 +20,7 @@ mod TermsAlike
 pub mod StepsAlike
 pub mod EventsAlike
 pub mod PicksAlike
+pub mod ChoicesAlike
 pub mod FeedsAlike
 pub mod TextsAlike
 mod NamedAlike

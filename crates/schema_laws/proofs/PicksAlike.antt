@@ -20,16 +20,16 @@ use Rattle.schema_laws.proofs.StepsAlike.{steps_alike}
 module _ (a b : Setting) (alike : AreSettingsAlike a b) where
   -- What a turn does
 
-  within_alike : (side : Side) (state : RunState) → is_within a side state ≡ is_within b side state
+  pub within_alike : (side : Side) (state : RunState) → is_within a side state ≡ is_within b side state
   within_alike side state = λ i. nat_lt (progress_of side state.lines).events (alike.limit i)
 
-  event_alike : (choice : Choice) (state : RunState) → event_by a choice state ≡ event_by b choice state
+  pub event_alike : (choice : Choice) (state : RunState) → event_by a choice state ≡ event_by b choice state
   event_alike choice state = λ i. if choice.delivers then (if may_deliver choice.side state.world then Some event.deliver else None) else events_alike a b alike choice.side state i
 
   happens_alike : (world : World) (move : Move) → happens a.schema world move ≡ happens b.schema world move
   happens_alike world move = λ i. passed_by (steps_alike a.schema b.schema alike.schemas (end_of move.side world) (link_to move.side world) move.event i) move world
 
-  behind_alike : (side : Side) (state : RunState) (what : Event) → behind_event a side state what ≡ behind_event b side state what
+  pub behind_alike : (side : Side) (state : RunState) (what : Event) → behind_event a side state what ≡ behind_event b side state what
   behind_alike side state what = λ i.
       let next : RunState = happens_alike state.world (record { side = side; event = what }) i in
       record { world = next.world; lines = state.lines ++ next.lines }
@@ -62,7 +62,7 @@ module _ (a b : Setting) (alike : AreSettingsAlike a b) where
   picks_too _ _ _ _ (turn_idles turn word state last ending does rest) = turn_idles turn word state last ending (sym (outcome_alike turn state) ∙ does) (picks_too word state last ending rest)
   picks_too _ _ _ _ (turn_exceeds turn word state does) = turn_exceeds turn word state (sym (outcome_alike turn state) ∙ does)
 
-  beginning_alike : beginning_of a ≡ beginning_of b
+  pub beginning_alike : beginning_of a ≡ beginning_of b
   beginning_alike = λ i. record { world = opening (alike.scripts i).top; lines = [] }
 
 pub picks_alike : PicksAlike

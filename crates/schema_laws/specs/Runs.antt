@@ -17,8 +17,8 @@ use Rattle.handler_script.specs.Faults.{IsFault}
 use Rattle.handler_script.specs.Plain.{plain_script}
 use Rattle.handler_script.specs.ScriptOf.{IsScriptOf}
 use Rattle.schedules.specs.declared.turn.Turn.{Turn}
-use Rattle.script_steps.specs.Choices.{Setting, beginning_of, own_event}
-use Rattle.script_steps.specs.Turns.{RunEnding, Picks}
+use Rattle.script_steps.specs.Choices.{Choice, Setting, beginning_of, is_within, own_event, played}
+use Rattle.script_steps.specs.Turns.{RunEnding, Picks, is_quiet_at}
 
 -- Two settings are the same, up to where the boxes of their types and of their terms lie.
 pub record AreSettingsAlike (a b : Setting) : Type 0 where
@@ -40,6 +40,13 @@ abbrev pub PicksAlike : Type 0
 PicksAlike =
     (a b : Setting) → AreSettingsAlike a b → (word : List Turn) (state : RunState) (ending : RunEnding)
     → Picks a word (beginning_of a) state ending → Picks b word (beginning_of b) state ending
+
+-- Choices make the same run of both, or of neither; and in each state a side is at the limit by both, and has something to
+-- do by both.
+pub record ChoicesAlike : Type 0 where
+  pub plays : (a b : Setting) → AreSettingsAlike a b → (choices : List Choice) → played a choices (beginning_of a) ≡ played b choices (beginning_of b)
+  pub within : (a b : Setting) → AreSettingsAlike a b → (side : Side) (state : RunState) → is_within a side state ≡ is_within b side state
+  pub quiet : (a b : Setting) → AreSettingsAlike a b → (state : RunState) (side : Side) → is_quiet_at a state side ≡ is_quiet_at b state side
 
 -- Under such schemas lines have the same text.
 abbrev pub TextsAlike : Type 0

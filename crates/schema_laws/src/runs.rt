@@ -1,5 +1,5 @@
 ghost use Rattle.schema_laws.specs.Feeds.{FeedsAlike};
-ghost use Rattle.schema_laws.specs.Runs.{EventsAlike, PicksAlike, ScriptsAlike, StepsAlike, TextsAlike};
+ghost use Rattle.schema_laws.specs.Runs.{ChoicesAlike, EventsAlike, PicksAlike, ScriptsAlike, StepsAlike, TextsAlike};
 
 use script_laws::one_answer;
 
@@ -18,6 +18,12 @@ pub fn events_alike()
 /// The law of alike words: by such settings a word makes the same run, with the same ending.
 pub fn picks_alike()
     ensures { PicksAlike }
+{}
+
+/// The law of alike choices: by such settings choices make the same run, or none, and in each state a
+/// side is at the limit by both, and has something to do by both.
+pub fn choices_alike()
+    ensures { ChoicesAlike }
 {}
 
 /// The law of alike feeds: one end makes the same of bytes by settings that are the same up to where the

@@ -1,7 +1,7 @@
 use Rattle.std.proofs.Common.{◌≡◌, ◌∙◌, refl, sym}
 use Rattle.ipdl_top.specs.Codes.{code_of}
 use Rattle.ipdl_top.specs.declared.status.Status.{Status}
-use Rattle.ipdl_top.specs.declared.status.Status.TheVariants.{Done, Broken, Usage, ReadFault, WriteFault, Spent, NoMemory, BadScript, BadFrames}
+use Rattle.ipdl_top.specs.declared.status.Status.TheVariants.{Done, Broken, Usage, ReadFault, WriteFault, Spent, NoMemory, BadScript, BadFrames, BadTranscript}
 use Rattle.ipdl_top.proofs.Maps.{for_each_seen}
 use Rattle.ipdl_cli.proofs.edge.exit_code_of.Goals as goal
 
@@ -16,6 +16,7 @@ usage-alone Spent is = cc
 usage-alone NoMemory is = cc
 usage-alone BadScript is = cc
 usage-alone BadFrames is = cc
+usage-alone BadTranscript is = cc
 
 pub returns-clause-usage : goal.returns-clause-usage
 returns-clause-usage g c = λ is. c.ipdl.ensures.usage (usage-alone c.ipdl.result (sym c.code.ensures ∙ sym c.from.ensures ∙ is))

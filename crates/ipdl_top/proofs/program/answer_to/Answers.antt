@@ -2,9 +2,10 @@ use Rattle.std.proofs.Common.{List, ℕ, [], ◌∷◌, inl, inr, map, refl, sub
 use Rattle.std.specs.Prelude.{Err, None, string_bytes, IfOk, option_map}
 use Rattle.std.proofs.lemmas.Result.{IfOk-weaker}
 use Rattle.ipdl_top.specs.declared.answer.Failure.TheVariants.{NoMemory}
-use Rattle.command_words.specs.Command.{CommandOf, Say, compile, feed, frames, gen, run, waits}
+use Rattle.command_words.specs.Command.{CommandOf, Say, audit, compile, feed, frames, gen, run, waits}
 use Rattle.command_words.specs.Feed.{FeedCourse}
 use Rattle.command_words.specs.Run.{Course}
+use Rattle.ipdl_top.specs.Audit.{SaysAudit}
 use Rattle.ipdl_top.specs.CommandAnswer.{IsAnswer, IsCompilation, SaysTables, given_by}
 use Rattle.ipdl_top.specs.declared.rendering.Rendering.TheVariants.{Transcript}
 use Rattle.ipdl_top.specs.Feed.{SaysFeed}
@@ -14,7 +15,7 @@ use Rattle.ipdl_top.specs.FileViews.{FileViews, ForMap}
 use Rattle.ipdl_top.specs.Run.{SaysRun}
 use Rattle.ipdl_top.specs.Waits.{SaysWaits}
 use Rattle.ipdl_top.proofs.Maps.{for_all_seen, for_each_seen}
-use Rattle.ipdl_top.proofs.Words.{case_numbers, command_files, feed_limit, no_case, run_limit}
+use Rattle.ipdl_top.proofs.Words.{audit_limit, case_numbers, command_files, feed_limit, no_case, run_limit}
 use Rattle.ipdl_top.proofs.program.answer_to.Goals as goal
 
 pub compile-requires : goal.compile-requires
@@ -215,3 +216,39 @@ returns-in-Ok-Feed-clause-unread g c =
     let course : FeedCourse = record { side = c.in-Ok-Feed.side; limit = c.in-Ok-Feed.limit } in
     λ rounds actors is.
     absurd (no_case c.one_command.ensures words (feed list path course (string_bytes c.in-Ok-Feed.script) (string_bytes c.in-Ok-Feed.file) (string_bytes c.in-Ok-Feed.name)) (subst (CommandOf words) c.in-Ok-Feed.field-0-is c.in-Ok-Feed.ensures.command) refl rounds actors is)
+
+pub audit_transcript-requires-clause-limit : goal.audit_transcript-requires-clause-limit
+audit_transcript-requires-clause-limit g c =
+    let words = map string_bytes c.args.words.now in
+    let list = option_map string_bytes c.in-Ok-Audit.list in
+    let path = map string_bytes c.in-Ok-Audit.path.items in
+    audit_limit words list path c.in-Ok-Audit.limit (string_bytes c.in-Ok-Audit.script) (string_bytes c.in-Ok-Audit.file) (string_bytes c.in-Ok-Audit.transcript) (subst (CommandOf words) c.in-Ok-Audit.field-0-is c.in-Ok-Audit.ensures.command)
+
+pub returns-in-Ok-Audit-clause-answer : goal.returns-in-Ok-Audit-clause-answer
+returns-in-Ok-Audit-clause-answer g c =
+    let words = map string_bytes c.args.words.now in
+    let Gives = g.D.Driver.Gives c.args.driver.now in
+    let told = g.F.Files.told c.args.files.now in
+    let list = option_map string_bytes c.in-Ok-Audit.list in
+    let path = map string_bytes c.in-Ok-Audit.path.items in
+    let limit = c.in-Ok-Audit.limit in
+    let file = string_bytes c.in-Ok-Audit.file in
+    let script = string_bytes c.in-Ok-Audit.script in
+    let name = string_bytes c.in-Ok-Audit.transcript in
+    let said : Say words (audit list path limit script file name) = subst (CommandOf words) c.in-Ok-Audit.field-0-is c.in-Ok-Audit.ensures.command in
+    let K : List ℕ → List ℕ → List (List ℕ) → FileViews → Type 0 = λ s n p seen. IfOk c.audit_transcript.result (IsCompilation (SaysAudit limit s (seen.script s) n (seen.input n) file) (given_by seen.files p (file ∷ [])) seen.list list) in
+    let R : FileViews → Type 0 = λ seen. IfOk c.audit_transcript.result (IsAnswer Gives seen words) in
+    for_each_seen told (K script name path) R
+    (λ seen h. IfOk-weaker c.audit_transcript.result (IsCompilation (SaysAudit limit script (seen.script script) name (seen.input name) file) (given_by seen.files path (file ∷ [])) seen.list list) (IsAnswer Gives seen words)
+    (λ answer k. inl (record { command = audit list path limit script file name; said = said; answers = k })) h)
+    (subst (λ (s : List ℕ). ForMap told (K s name path)) c.as_str-in-Ok-Audit.ensures.value
+    (subst (λ (n : List ℕ). ForMap told (K c.as_str-in-Ok-Audit.result.now n path)) c.as_str-in-Ok-Audit-2.ensures.value
+    (subst (λ p. ForMap told (K c.as_str-in-Ok-Audit.result.now c.as_str-in-Ok-Audit-2.result.now (map string_bytes p))) c.as_slice-in-Ok-Audit.ensures.value c.audit_transcript.ensures.answer)))
+
+pub returns-in-Ok-Audit-clause-unread : goal.returns-in-Ok-Audit-clause-unread
+returns-in-Ok-Audit-clause-unread g c =
+    let words = map string_bytes c.args.words.now in
+    let list = option_map string_bytes c.in-Ok-Audit.list in
+    let path = map string_bytes c.in-Ok-Audit.path.items in
+    λ rounds actors is.
+    absurd (no_case c.one_command.ensures words (audit list path c.in-Ok-Audit.limit (string_bytes c.in-Ok-Audit.script) (string_bytes c.in-Ok-Audit.file) (string_bytes c.in-Ok-Audit.transcript)) (subst (CommandOf words) c.in-Ok-Audit.field-0-is c.in-Ok-Audit.ensures.command) refl rounds actors is)

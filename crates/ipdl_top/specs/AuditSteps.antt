@@ -1,0 +1,15 @@
+-- What the steps of the command that audits a text make.
+use Rattle.std.specs.Prelude.{ℕ, List, Option}
+use Rattle.transcript_reader.specs.Compared.{most_text_bytes}
+use Rattle.ipdl_top.specs.declared.transcript_audit.AuditFiles.{AuditFiles}
+use Rattle.ipdl_top.specs.Steps.{IsHeld, IsHeldWithin, IsSmall, HasAtMost}
+
+-- what the script and the text were found to be
+pub record AreHeld (script text : Option (List ℕ)) (held : AuditFiles) : Type 0 where
+  pub script_is : IsHeld script held.script
+  pub text_is : IsHeldWithin most_text_bytes text held.text
+
+-- neither has more bytes than are read
+pub record AreSmall (held : AuditFiles) : Type 0 where
+  pub script : IsSmall held.script
+  pub text : HasAtMost most_text_bytes held.text

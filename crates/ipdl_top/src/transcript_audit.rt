@@ -1,0 +1,230 @@
+ghost use Rattle.std.specs.Prelude.{◌≡◌, ◌≤◌, ◌∷◌, ◌++◌, [], ℕ, IfOk, List, Option, codes, length, map, option_map, string_bytes};
+ghost use Rattle.handler_script.specs.Valid.{IsValid};
+ghost use Rattle.include_graph.specs.Keys.{AreFileWords};
+ghost use Rattle.ipdl_base.specs.Outside.{Rose};
+ghost use Rattle.ipdl_base.specs.Sound.{IsSound};
+ghost use Rattle.transcript_reader.specs.Compared.{most_text_bytes};
+ghost use Rattle.world_core.specs.Worlds.{most_events};
+ghost use Rattle.ipdl_top.specs.Audit as told;
+ghost use Rattle.ipdl_top.specs.Audit.{SaysAudit, SaysAudited, SaysAuditedOf, audit_answer, bad_line_answer, bad_transcript_answer};
+ghost use Rattle.ipdl_top.specs.AuditSteps.{AreHeld, AreSmall};
+ghost use Rattle.ipdl_top.specs.CommandAnswer.{IsCompilation, given_by};
+ghost use Rattle.ipdl_top.specs.FileViews.{ForMap};
+ghost use Rattle.ipdl_top.specs.Steps.{HasAtMost, HasTop, IsHeldWithin, IsSoundChecked, IsToldOf};
+ghost use Rattle.ipdl_top.specs.Waits.{IsTop};
+
+use crate::answer::{CommandAnswer, Failure};
+use crate::audited::Audit;
+use crate::auditing::audit;
+use crate::checked::CheckResult;
+use crate::compile::{checked, leave};
+use crate::held::{HeldFile, read_held, read_within};
+use crate::scripts::{ScriptCheck, script_checked};
+use handler_script::Script;
+use ipdl_base::{Files, Rule, Schema};
+use std::alloc::{AllocError, Global};
+use std::slice::from_ref;
+
+/// The most bytes of a text that is audited.
+const MOST_TEXT_BYTES: usize = 16_777_216;
+
+/// A text to audit.
+#[derive(Drop)]
+pub struct AuditRequest<'w> {
+    /// The name of the script.
+    pub script: &'w str,
+    /// The name of the file of the text.
+    pub transcript: &'w str,
+    /// The most events of a side.
+    pub limit: u32,
+}
+
+/// The files that an audit goes by, beside those of its program.
+#[derive(Drop)]
+struct AuditFiles {
+    script: HeldFile,
+    text: HeldFile,
+}
+
+/// The answer that the text of a file of this name is none that a run prints, with these words behind
+/// the name.
+fn bad_answer(alloc: Global, name: &str, why: &str) -> Result<CommandAnswer, AllocError>
+    ensures { IfOk result (λ answer. answer ≡ bad_transcript_answer (name.now ++ why.now)) }
+{
+    let mut line = Vec::from_slice(alloc, name.as_bytes())?;
+    line.extend_from_slice(why.as_bytes())?;
+    Ok(CommandAnswer::of_bad_transcript(alloc, line))
+}
+
+/// The answer that the text of a file of this name breaks a rule at the line of this number.
+fn broken_answer(
+    alloc: Global,
+    name: &str,
+    at: u32,
+    rule: Rule,
+) -> Result<CommandAnswer, AllocError>
+    ensures { IfOk result (λ answer. answer ≡ bad_line_answer name.now at rule) }
+{
+    let why = format!(in alloc; ":{at}: {rule}\n")?;
+    bad_answer(alloc, name, why.as_str())
+}
+
+/// The answer that a text is one that a run prints which has so many events.
+fn legal_answer(alloc: Global, events: u32) -> Result<CommandAnswer, AllocError>
+    ensures { IfOk result (λ answer. answer ≡ told.legal_answer events) }
+{
+    let text = format!(in alloc; "legal {events}\n")?;
+    Ok(CommandAnswer::of_table(alloc, text.into_bytes()))
+}
+
+/// The answer by what an audit finds of the text of a file of this name.
+fn found_answer(alloc: Global, name: &str, found: Audit) -> Result<CommandAnswer, AllocError>
+    ensures { IfOk result (λ answer. answer ≡ audit_answer name.now found) }
+{
+    match found {
+        Audit::Legal(events) => legal_answer(alloc, events),
+        Audit::Early(at) => broken_answer(alloc, name, at, Rule::EARLY_END),
+        Audit::NoStep(at) => broken_answer(alloc, name, at, Rule::NO_SUCH_STEP),
+    }
+}
+
+/// The answer by the bytes of the text.
+fn bytes_answer(
+    alloc: Global,
+    schema: &Schema,
+    script: &Script,
+    wanted: &AuditRequest<'_>,
+    bytes: &[u8],
+) -> Result<CommandAnswer, AllocError>
+    requires sound { IsSound schema.now }
+    requires valid { IsValid schema.now script.now }
+    requires limit { wanted.now.limit ≤ most_events }
+    requires few { length bytes.now ≤ most_text_bytes }
+    ensures { IfOk result (SaysAudited wanted.now.limit wanted.now.transcript.now bytes.now schema.now script.now) }
+{
+    let found = audit(alloc, schema, script, wanted.limit, bytes)?;
+    found_answer(alloc, wanted.transcript, found)
+}
+
+/// The answer by what was found of the file of the text.
+fn text_answer(
+    alloc: Global,
+    schema: &Schema,
+    script: &Script,
+    wanted: &AuditRequest<'_>,
+    text: &HeldFile,
+) -> Result<CommandAnswer, AllocError>
+    requires small { HasAtMost most_text_bytes text.now }
+    requires sound { IsSound schema.now }
+    requires valid { IsValid schema.now script.now }
+    requires limit { wanted.now.limit ≤ most_events }
+    ensures { IfOk result (λ answer. (bytes : Option (List ℕ)) → IsHeldWithin most_text_bytes bytes text.now → SaysAuditedOf wanted.now.limit wanted.now.transcript.now bytes schema.now script.now answer) }
+{
+    match text {
+        HeldFile::Absent => bad_answer(alloc, wanted.transcript, ":0: absent\n"),
+        HeldFile::Larger => bad_answer(alloc, wanted.transcript, ":0: larger\n"),
+        HeldFile::Bytes(bytes) => bytes_answer(alloc, schema, script, wanted, bytes.as_slice()),
+    }
+}
+
+/// The answer by what was found of the script and of the text, under the schema of a file's program.
+fn held_answer(
+    alloc: Global,
+    schema: &Schema,
+    file: &str,
+    wanted: &AuditRequest<'_>,
+    held: &AuditFiles,
+) -> Result<CommandAnswer, AllocError>
+    requires small { AreSmall held.now }
+    requires sound { IsSound schema.now }
+    requires top { (top : ℕ) × IsTop file.now schema.now top }
+    requires limit { wanted.now.limit ≤ most_events }
+    ensures { IfOk result (λ answer. (script text : Option (List ℕ)) → AreHeld script text held.now → SaysAudit wanted.now.limit wanted.now.script.now script wanted.now.transcript.now text file.now schema.now answer) }
+{
+    match script_checked(alloc, schema, file, wanted.script, &held.script)? {
+        ScriptCheck::Broken(answer) => Ok(answer),
+        ScriptCheck::Valid(script) => text_answer(alloc, schema, &script, wanted, &held.text),
+    }
+}
+
+/// The answer by what was found of the files of a command, of the script and of the text.
+fn checked_answer(
+    alloc: Global,
+    checked: CheckResult,
+    file: &str,
+    wanted: &AuditRequest<'_>,
+    held: &AuditFiles,
+) -> Result<CommandAnswer, AllocError>
+    requires small { AreSmall held.now }
+    requires sound { IsSoundChecked checked }
+    requires top { HasTop file.now checked }
+    requires limit { wanted.now.limit ≤ most_events }
+    ensures { IfOk result (λ answer. (script text : Option (List ℕ)) → AreHeld script text held.now → IsToldOf (SaysAudit wanted.now.limit wanted.now.script.now script wanted.now.transcript.now text file.now) checked answer) }
+{
+    match checked {
+        CheckResult::Report(report) => Ok(report),
+        CheckResult::Clean(schema) => {
+            let answer = held_answer(alloc, &schema, file, wanted, held);
+            leave(schema);
+            answer
+        }
+    }
+}
+
+/// Reads the script, and then the text.
+fn read_files<F: Files>(
+    alloc: Global,
+    files: &mut F,
+    wanted: &AuditRequest<'_>,
+) -> Result<AuditFiles, Failure>
+    ensures held { ForMap (F.told files.old) (λ seen. IfOk result (AreHeld (seen.script wanted.now.script.now) (seen.input wanted.now.transcript.now))) }
+    ensures small { IfOk result AreSmall }
+    ensures read_fault { result ≡ Err Failure.ReadFault → Rose (F.faults files.old) (F.faults files.new) }
+{
+    let script = read_held(alloc, files, wanted.script)?;
+    let text = read_within(alloc, files, wanted.transcript, MOST_TEXT_BYTES)?;
+    Ok(AuditFiles { script, text })
+}
+
+/// Reads the script and the text, and answers by what was found of the files of a command.
+fn answer_with<F: Files>(
+    alloc: Global,
+    files: &mut F,
+    checked: CheckResult,
+    file: &str,
+    wanted: &AuditRequest<'_>,
+) -> Result<CommandAnswer, Failure>
+    requires sound { IsSoundChecked checked }
+    requires top { HasTop file.now checked }
+    requires limit { wanted.now.limit ≤ most_events }
+    ensures answer { ForMap (F.told files.old) (λ seen. IfOk result
+        (IsToldOf (SaysAudit wanted.now.limit wanted.now.script.now (seen.script wanted.now.script.now) wanted.now.transcript.now (seen.input wanted.now.transcript.now) file.now) checked)) }
+    ensures read_fault { result ≡ Err Failure.ReadFault → Rose (F.faults files.old) (F.faults files.new) }
+{
+    let held = read_files(alloc, files, wanted)?;
+    Ok(checked_answer(alloc, checked, file, wanted, &held)?)
+}
+
+/// The command that audits a text: the report on the file and on what it includes by the path, with
+/// this sync list; or the rules that the script breaks; or that there is no text to read; or how many
+/// events a run has that may print the text, or at which of its lines no run does (docs/audit.md).
+pub fn audit_transcript<F: Files>(
+    alloc: Global,
+    files: &mut F,
+    list: &Option<String>,
+    path: &[String],
+    file: &String,
+    wanted: &AuditRequest<'_>,
+) -> Result<CommandAnswer, Failure>
+    requires words { AreFileWords (string_bytes file.now ∷ []) }
+    requires ending { (front : List ℕ) × (string_bytes file.now ≡ front ++ codes ".ipdl") }
+    requires limit { wanted.now.limit ≤ most_events }
+    ensures answer { ForMap (F.told files.old) (λ seen. IfOk result
+        (IsCompilation (SaysAudit wanted.now.limit wanted.now.script.now (seen.script wanted.now.script.now) wanted.now.transcript.now (seen.input wanted.now.transcript.now) (string_bytes file.now)) (given_by seen.files (map string_bytes path.now) (string_bytes file.now ∷ [])) seen.list (option_map string_bytes list.now))) }
+    ensures read_fault { result ≡ Err Failure.ReadFault → Rose (F.faults files.old) (F.faults files.new) }
+{
+    match checked(alloc, files, list, path, from_ref(file)) {
+        Ok(checked) => answer_with(alloc, files, checked, file.as_str(), wanted),
+        Err(failure) => Err(failure),
+    }
+}
