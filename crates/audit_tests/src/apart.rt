@@ -71,7 +71,8 @@ fn legal_events<R: Threads + Wait + Sync + AllocGlobal>(
     )
 }
 
-/// How many of a hundred runs are legal, and have so many events.
+/// How many of a hundred runs are legal, and have so many events. That is the limit of each side, so it
+/// stops none of them.
 fn legal_runs<R: Threads + Wait + Sync + AllocGlobal>(
     rt: &R,
     schema: &Schema,
@@ -83,7 +84,7 @@ fn legal_runs<R: Threads + Wait + Sync + AllocGlobal>(
 {
     let mut good = 0u32;
     for _ in 0..100 {
-        if legal_events(rt, schema, script, 10_000)? == Some(events) {
+        if legal_events(rt, schema, script, events)? == Some(events) {
             good = good.wrapping_add(1);
         }
     }
