@@ -6,6 +6,14 @@ use handler_script::{Script, read_script};
 use ipdl_base::{Schema, short_name};
 use std::alloc::Global;
 use std::test::Fail;
+use worked_runs::{Row, protocol_files};
+
+/// The schema of the worked protocol of a file.
+pub fn schema_of(alloc: Global, word: &str) -> Result<Schema, Fail>
+    ensures { IfOk result IsSound }
+{
+    schema_of_text::schema_of(alloc, protocol_files(alloc)?, word)
+}
 
 /// The number of the protocol with this short name.
 fn number_of(schema: &Schema, name: &str) -> Result<u32, Fail> {
@@ -34,4 +42,15 @@ pub fn script_of(alloc: Global, schema: &Schema, file: &str, text: &str) -> Resu
             .ok()
             .ok_or("a script that breaks a rule")?,
     )
+}
+
+/// The limit of a worked run, if it has no death.
+pub fn limit_of(row: Row<'_>) -> Result<Option<u32>, Fail> {
+    let (_, rest) = row.course.split_once(" ").ok_or("a word alone")?;
+    let (limit, death) = rest.split_once(" ").ok_or("a limit without a death")?;
+    if death == "-" {
+        Ok(Some(limit.parse::<u32>()?))
+    } else {
+        Ok(None)
+    }
 }

@@ -2,10 +2,9 @@ ghost use Rattle.handler_script.specs.Valid.{IsValid};
 ghost use Rattle.ipdl_base.specs.Sound.{IsSound};
 ghost use Rattle.std.specs.Prelude.{◌≤◌, length};
 
-use super::given::script_of;
+use super::given::{schema_of, script_of};
 use super::rows::{AUDITS, SCRIPT};
 use handler_script::Script;
-use history_of_text::schema_of;
 use ipdl_base::Schema;
 use ipdl_top::{Audit, audit};
 use std::alloc::Global;
@@ -20,7 +19,24 @@ fn shown(alloc: Global, found: Audit) -> Result<String, Fail> {
     })
 }
 
-/// What the audit of a text says.
+/// What the audit of a text finds.
+pub fn found(
+    alloc: Global,
+    schema: &Schema,
+    script: &Script,
+    limit: u32,
+    text: &[u8],
+) -> Result<Audit, Fail>
+    requires sound { IsSound schema.now }
+    requires valid { IsValid schema.now script.now }
+{
+    if limit > 20_000 || text.len() > 16_777_216 {
+        return Err("a limit or a text that is too large".into());
+    }
+    Ok(audit(alloc, schema, script, limit, text)?)
+}
+
+/// What the audit of a text says, as text.
 pub fn said(
     alloc: Global,
     schema: &Schema,
@@ -31,10 +47,7 @@ pub fn said(
     requires sound { IsSound schema.now }
     requires valid { IsValid schema.now script.now }
 {
-    if limit > 20_000 || text.len() > 16_777_216 {
-        return Err("a limit or a text that is too large".into());
-    }
-    shown(alloc, audit(alloc, schema, script, limit, text)?)
+    shown(alloc, found(alloc, schema, script, limit, text)?)
 }
 
 /// Notes a row of which the audit says something else.
@@ -51,9 +64,15 @@ fn check(
     let (head, text) = row.split_once("\n").ok_or("a row of no line")?;
     let (name, head) = head.split_once(" ").ok_or("a row without its limit")?;
     let (limit, wanted) = head.split_once(" ").ok_or("a row that wants nothing")?;
-    let found = said(alloc, schema, script, limit.parse::<u32>()?, text.as_bytes())?;
-    if found.as_str() != wanted {
-        writeln!(wrong, "{name}: {found}")?;
+    let said = said(
+        alloc,
+        schema,
+        script,
+        limit.parse::<u32>()?,
+        text.as_bytes(),
+    )?;
+    if said.as_str() != wanted {
+        writeln!(wrong, "{name}: {said}")?;
     }
     Ok(())
 }
@@ -84,6 +103,6 @@ fn all_rows(alloc: Global, schema: &Schema) -> Result<String, Fail>
 #[test]
 fn audited_rows(rt: HostRuntime) -> Result<(), Fail> {
     let schema = schema_of(rt.alloc(), "PW.ipdl")?;
-    assert_eq!(rt; all_rows(rt.alloc(), &schema)?.as_str(), "15");
+    assert_eq!(rt; all_rows(rt.alloc(), &schema)?.as_str(), "30");
     Ok(())
 }

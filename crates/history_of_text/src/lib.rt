@@ -4,7 +4,6 @@
 #![tactic(auto)]
 
 mod lists;
-mod protocols;
 mod schemas;
 
 pub use lists::{history_of, message_of, values_of};

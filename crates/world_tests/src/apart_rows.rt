@@ -1,4 +1,4 @@
-/// Runs in the order in which halves make them that go on apart, in the form of `run_rows`: each side
+/// Runs in the order in which halves make them that go on apart, in the form of `worked_runs::RUNS`: each side
 /// does own steps until it rests, the parent hands in, and the child and then the parent meet the
 /// link. Each has the word of turns that makes it too.
 pub const APART: &str = "calls-cross PW.ipdl PCcp 10000 -

@@ -4,13 +4,13 @@ ghost use Rattle.handler_script.specs.Valid.{IsValid};
 use super::courses::{course_of, printed};
 use super::given::script_of;
 use super::laws::ALL_LAWS;
-use super::run_rows::RUNS;
-use super::texts::{events_of, row_named};
+use super::texts::events_of;
 use handler_script::Script;
 use history_of_text::schema_of;
 use ipdl_base::Schema;
 use std::alloc::Global;
 use std::test::Fail;
+use worked_runs::{RUNS, row_named};
 
 /// What is wrong with the run in which a side dies once it has so many events: that it does not end,
 /// dies at another event or not at all, or that a law does not hold.

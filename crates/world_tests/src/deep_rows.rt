@@ -1,4 +1,4 @@
-/// A worked run of calls nested as deep as they can be, in the form of `run_rows`.
+/// A worked run of calls nested as deep as they can be, in the form of `worked_runs::RUNS`.
 pub const DEEP: &str = "refused-too-deep PW.ipdl P 10000 -
 parent main
 send top PW.CallC()

@@ -14,14 +14,14 @@ use super::apart_rows::{APART, HALVES};
 use super::courses::{Printout, course_of, opened, printed_of};
 use super::deep_rows::DEEP;
 use super::given::script_of;
-use super::run_rows::RUNS;
-use super::texts::{Row, lines_and_ending, row_named};
+use super::texts::lines_and_ending;
 use super::transcripts::fault_of;
 use handler_script::Script;
 use history_of_text::schema_of;
 use ipdl_base::{Schema, Side};
 use std::alloc::Global;
 use std::test::Fail;
+use worked_runs::{RUNS, Row, row_named};
 use world_core::{Half, Link, MeetAnswer, RunAnswer, StepAnswer, World, halves_fit_behind_more};
 
 /// What is seen of a run by halves: how it ended, if it did; of either side, whether its end is open,

@@ -31,10 +31,7 @@ mod limits;
 mod made_feeds;
 #[cfg(test)]
 mod order_rows;
-mod run_rows;
+#[cfg(test)]
 mod texts;
 #[cfg(test)]
 mod transcripts;
-
-pub use run_rows::RUNS;
-pub use texts::{Row, row_of};

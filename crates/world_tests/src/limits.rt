@@ -4,13 +4,13 @@ ghost use Rattle.handler_script.specs.Valid.{IsValid};
 use super::courses::{Course, printed, word_of};
 use super::given::script_of;
 use super::laws::ALL_LAWS;
-use super::run_rows::RUNS;
-use super::texts::{events_of, lines_and_ending, row_named};
+use super::texts::{events_of, lines_and_ending};
 use handler_script::Script;
 use history_of_text::schema_of;
 use ipdl_base::Schema;
 use std::alloc::Global;
 use std::test::Fail;
+use worked_runs::{RUNS, row_named};
 
 /// How a run by a word goes within a limit.
 fn course(alloc: Global, letters: &str, limit: u32) -> Result<Course, Fail> {

@@ -1,4 +1,4 @@
-/// Runs for the order of own steps, in the form of `run_rows`, each as the rules have it.
+/// Runs for the order of own steps, in the form of `worked_runs::RUNS`, each as the rules have it.
 pub const ORDERS: &str = "the-last-block-serves-the-rest PW.ipdl PPP 10000 -
 parent main
 send top PW.Tell(1)

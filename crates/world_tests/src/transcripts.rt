@@ -7,14 +7,14 @@ use super::deep_rows::DEEP;
 use super::given::script_of;
 use super::laws::{ALL_LAWS, lawful};
 use super::order_rows::ORDERS;
-use super::run_rows::RUNS;
-use super::texts::{Row, lines_and_ending, row_of};
+use super::texts::lines_and_ending;
 use handler_script::Script;
 use history::history_text;
 use history_of_text::{history_of, schema_of};
 use ipdl_base::Schema;
 use std::alloc::Global;
 use std::test::Fail;
+use worked_runs::{RUNS, Row, row_of};
 
 /// What is wrong with the lines that a run is to have: a law that does not hold, or another text than
 /// these.

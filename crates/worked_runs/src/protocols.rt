@@ -1,5 +1,8 @@
+use ipdl_base::MemoryFiles;
+use std::alloc::{AllocError, Global};
+
 /// Files of protocols: each has its name behind `@ `, and then its text.
-pub const PROTOCOLS: &str = "@ PC.ipdl
+const PROTOCOLS: &str = "@ PC.ipdl
 protocol PC { parent: [Compress] async Up(int32_t n); [Compress=all] async Alls(int32_t n); async Mark(); [Compress] async Ask(int32_t n) returns (bool b); };
 @ PDesk.ipdl
 include protocol PPage;
@@ -112,3 +115,20 @@ child:
   async Give(PW w);
 };
 ";
+
+/// A file with this name and text.
+fn file(alloc: Global, name: &str, text: &str) -> Result<(String, Vec<u8>), AllocError> {
+    let name = String::from_str(alloc, name)?;
+    Ok((name, Vec::from_slice(alloc, text.as_bytes())?))
+}
+
+/// The files of all worked protocols, in memory.
+pub fn protocol_files(alloc: Global) -> Result<MemoryFiles, AllocError> {
+    let mut files = Vec::new(alloc);
+    for piece in PROTOCOLS.split("@ ") {
+        if let Some((name, text)) = piece.split_once("\n") {
+            files.push(file(alloc, name, text)?)?;
+        }
+    }
+    Ok(MemoryFiles::new(files, Vec::new(alloc)))
+}

@@ -1,0 +1,105 @@
+ghost use Rattle.handler_script.specs.Valid.{IsValid};
+ghost use Rattle.ipdl_base.specs.Sound.{IsSound};
+
+use super::given::{limit_of, schema_of, script_of};
+use super::swap_rows::SWAPS;
+use super::texts::said;
+use handler_script::Script;
+use ipdl_base::Schema;
+use std::alloc::Global;
+use std::test::Fail;
+use worked_runs::{RUNS, Row, row_of};
+
+/// The events of what a run prints, each with its effects, and behind them the line of how it ended.
+fn events_of(alloc: Global, printed: &str) -> Result<Vec<String>, Fail> {
+    let mut events = Vec::new(alloc);
+    for line in printed.lines() {
+        if !line.starts_with("  ") {
+            events.push(String::new(alloc))?;
+        }
+        let event: &mut String = events.last_mut().ok_or("an effect without its event")?;
+        writeln!(event, "{line}")?;
+    }
+    Ok(events)
+}
+
+/// The text of these events, in which the one of a place comes behind the next.
+fn swapped(alloc: Global, events: &[String], place: usize) -> Result<String, Fail> {
+    let next = place.saturating_add(1);
+    let mut text = String::new(alloc);
+    for (at, event) in events.iter().enumerate() {
+        if at == place {
+            text.push_str(events.get(next).ok_or("no next event")?.as_str())?;
+        }
+        if at != next {
+            text.push_str(event.as_str())?;
+        }
+    }
+    Ok(text)
+}
+
+/// Whether two events are of different sides.
+fn are_apart(one: &str, other: &str) -> bool {
+    one.starts_with("parent ") && other.starts_with("child ")
+        || one.starts_with("child ") && other.starts_with("parent ")
+}
+
+/// Writes what the audits of a row say, with any two neighbours of different sides in the other order.
+fn write_swaps(
+    alloc: Global,
+    schema: &Schema,
+    script: &Script,
+    limit: u32,
+    row: Row<'_>,
+    out: &mut String,
+) -> Result<(), Fail>
+    requires sound { IsSound schema.now }
+    requires valid { IsValid schema.now script.now }
+{
+    let events = events_of(alloc, row.printed)?;
+    let events = events.as_slice();
+    for (place, event) in events.iter().enumerate() {
+        let number = place.saturating_add(1);
+        let next = events.get(number).map_or("", |next| next.as_str());
+        if are_apart(event.as_str(), next) {
+            let text = swapped(alloc, events, place)?;
+            let said = said(alloc, schema, script, limit, text.as_bytes())?;
+            writeln!(out, "{} {number} {said}", row.name)?;
+        }
+    }
+    Ok(())
+}
+
+/// Writes what the audits of a row say, under its schema.
+fn write_row(
+    alloc: Global,
+    schema: &Schema,
+    limit: u32,
+    row: Row<'_>,
+    out: &mut String,
+) -> Result<(), Fail>
+    requires { IsSound schema.now }
+{
+    let script = script_of(alloc, schema, row.file, row.script)?;
+    write_swaps(alloc, schema, &script, limit, row, out)
+}
+
+/// What the audits of the worked runs without a death say, each with any two neighbours of different
+/// sides in the other order.
+fn all_swaps(alloc: Global) -> Result<String, Fail> {
+    let mut out = String::new(alloc);
+    for text in RUNS.split("====\n") {
+        let row = row_of(text).ok_or("a row without one of its parts")?;
+        if let Some(limit) = limit_of(row)? {
+            let schema = schema_of(alloc, row.file)?;
+            write_row(alloc, &schema, limit, row, &mut out)?;
+        }
+    }
+    Ok(out)
+}
+
+#[test]
+fn swapped_events(rt: HostRuntime) -> Result<(), Fail> {
+    assert_eq!(rt; all_swaps(rt.alloc())?.as_str(), SWAPS);
+    Ok(())
+}
