@@ -1,0 +1,187 @@
+//! One step of a side: what its half does, and what is pushed and popped for it.
+ghost use Rattle.std.specs.Prelude.{◌≡◌, ◌++◌, ◌∷◌, [], true, List, IfOk, MatchBool, OnOk};
+ghost use Rattle.channel_model.specs.Outputs.{is_open};
+ghost use Rattle.crossbeam_queue.specs.SegTies.{IsSegPassOf};
+ghost use Rattle.end_parts.specs.declared.packet.Packet.{Packet as OfPacket};
+ghost use Rattle.ipdl_base.specs.declared.kinds.Side.{Side as EndSide};
+ghost use Rattle.ordered_queue.specs.Passes.{view_of};
+ghost use Rattle.queue_link.specs.Packets.{IsPacketOf};
+ghost use Rattle.queue_link.specs.Work.{DeliveryGives, HandsOver, HasNoStep, IsAtWork, OnlyPops, OnlyPushes, OwnGives, StepGives, TakeGives};
+ghost use Rattle.script_steps.specs.Choices.{Setting};
+ghost use Rattle.value_codec.specs.Laws.{AreBytes};
+ghost use Rattle.world_core.specs.LinkView.{HoldsBytes};
+
+use crate::packets::{Framing, PacketPass, PacketQueue};
+use channel_core::Packet;
+use std::alloc::AllocError;
+use std::sync::Wait;
+use world_core::{AcceptAnswer, Half, StepAnswer};
+
+// Each element of a slice is a byte.
+fn are_bytes(bytes: &[u8])
+    ensures { AreBytes bytes.now }
+{
+    let _length = bytes.len();
+}
+
+// Each element of a frame is a byte.
+fn holds_bytes(packet: &Packet)
+    ensures { HoldsBytes packet.now }
+{
+    match packet {
+        Packet::Bytes(frame) => are_bytes(frame.as_slice()),
+        Packet::Broken => {}
+    }
+}
+
+// Pushes the next packet that the half has not handed out, and says whether there was one. The only
+// error is want of memory.
+fn push_next<S: Framing, R: Wait>(
+    rt: &R,
+    queue: &PacketQueue<S>,
+    pass: &mut PacketPass,
+    half: &mut Half<'_>,
+) -> Result<bool, AllocError>
+    ghost at: { Setting × EndSide × List OfPacket }
+    requires schema { at.0.schema ≡ S.schema }
+    requires pass { IsSegPassOf queue.now.queue pass.old × ((view_of pass.old).pushes ≡ true) }
+    requires hands { HandsOver at.0 at.1 (view_of pass.old).pushed at.2 half.old }
+    ensures pass { IsSegPassOf queue.now.queue pass.new × OnlyPushes (view_of pass.old) (view_of pass.new) }
+    ensures hands { IfOk result (λ more. MatchBool more (HandsOver at.0 at.1 (view_of pass.new).pushed at.2 half.new) (IsAtWork at.0 at.1 (view_of pass.new).pushed at.2 half.new)) }
+{
+    let Some(packet) = half.put() else {
+        return Ok(false);
+    };
+    holds_bytes(&packet);
+    queue.push(rt, pass, packet)?;
+    Ok(true)
+}
+
+// Pushes all packets that the half has not handed out. The only error is want of memory.
+fn hand_over<S: Framing, R: Wait>(
+    rt: &R,
+    queue: &PacketQueue<S>,
+    pass: &mut PacketPass,
+    half: &mut Half<'_>,
+) -> Result<(), AllocError>
+    ghost at: { Setting × EndSide × List OfPacket }
+    requires schema { at.0.schema ≡ S.schema }
+    requires pass { IsSegPassOf queue.now.queue pass.old × ((view_of pass.old).pushes ≡ true) }
+    requires hands { HandsOver at.0 at.1 (view_of pass.old).pushed at.2 half.old }
+    ensures pass { IsSegPassOf queue.now.queue pass.new × OnlyPushes (view_of pass.old) (view_of pass.new) }
+    ensures work { OnOk result (IsAtWork at.0 at.1 (view_of pass.new).pushed at.2 half.new) }
+{
+    for _ in rt.forever() {
+        if !push_next(rt, queue, pass, half)? {
+            return Ok(());
+        }
+    }
+    unreachable!()
+}
+
+// What a step is that was done, where there was memory for what it sent.
+fn done(handed_over: Result<(), AllocError>) -> StepAnswer {
+    match handed_over {
+        Ok(()) => StepAnswer::Did,
+        Err(AllocError) => StepAnswer::NoMemory,
+    }
+}
+
+// An own step of the half.
+fn go_on(half: &mut Half<'_>) -> StepAnswer
+    ghost at: { Setting × EndSide × List OfPacket × List OfPacket }
+    requires { IsAtWork at.0 at.1 at.2 at.3 half.old }
+    ensures { OwnGives at.0 at.1 at.2 at.3 result half.new }
+{
+    half.go_on()
+}
+
+// A delivery to an open half that has no own step, of a packet that was popped for it.
+fn accept(half: &mut Half<'_>, packet: &Packet) -> AcceptAnswer
+    ghost at: { Setting × EndSide × List OfPacket × List OfPacket }
+    requires rests { HasNoStep at.0 at.1 at.2 at.3 half.old }
+    requires open { is_open half.old.end.end.state ≡ true }
+    requires packet { IsPacketOf at.0.schema packet.now }
+    ensures { DeliveryGives at.0 at.1 at.2 (at.3 ++ packet.now ∷ []) result half.new }
+{
+    half.accept(packet)
+}
+
+// The delivery of a packet to an open half that has no own step.
+fn deliver<S: Framing, R: Wait>(
+    rt: &R,
+    queue: &PacketQueue<S>,
+    pass: &mut PacketPass,
+    half: &mut Half<'_>,
+    packet: &Packet,
+) -> StepAnswer
+    ghost at: { Setting × EndSide × List OfPacket }
+    requires schema { at.0.schema ≡ S.schema }
+    requires pass { IsSegPassOf queue.now.queue pass.old × ((view_of pass.old).pushes ≡ true) }
+    requires rests { HasNoStep at.0 at.1 (view_of pass.old).pushed at.2 half.old }
+    requires open { is_open half.old.end.end.state ≡ true }
+    requires packet { IsPacketOf at.0.schema packet.now }
+    ensures pass { IsSegPassOf queue.now.queue pass.new × OnlyPushes (view_of pass.old) (view_of pass.new) }
+    ensures gives { TakeGives at.0 at.1 (view_of pass.new).pushed (at.2 ++ packet.now ∷ []) result half.new }
+{
+    match accept(half, packet) {
+        AcceptAnswer::Did | AcceptAnswer::Refused => done(hand_over(rt, queue, pass, half)),
+        AcceptAnswer::Spent(side) => StepAnswer::Spent(side),
+        AcceptAnswer::Nothing => unreachable!(),
+        AcceptAnswer::NoMemory => StepAnswer::NoMemory,
+    }
+}
+
+// The delivery of the next packet to a half that has no own step.
+fn take<S: Framing, R: Wait>(
+    rt: &R,
+    out: &PacketQueue<S>,
+    incoming: &PacketQueue<S>,
+    pushing: &mut PacketPass,
+    popping: &mut PacketPass,
+    half: &mut Half<'_>,
+) -> StepAnswer
+    ghost at: { Setting × EndSide }
+    requires schema { at.0.schema ≡ S.schema }
+    requires pushing { IsSegPassOf out.now.queue pushing.old × ((view_of pushing.old).pushes ≡ true) }
+    requires popping { IsSegPassOf incoming.now.queue popping.old × ((view_of popping.old).pops ≡ true) }
+    requires rests { HasNoStep at.0 at.1 (view_of pushing.old).pushed (view_of popping.old).popped half.old }
+    ensures pushing { IsSegPassOf out.now.queue pushing.new × OnlyPushes (view_of pushing.old) (view_of pushing.new) }
+    ensures popping { IsSegPassOf incoming.now.queue popping.new × OnlyPops (view_of popping.old) (view_of popping.new) }
+    ensures gives { StepGives at.0 at.1 (view_of pushing.old) (view_of popping.old) result (view_of pushing.new) (view_of popping.new) half.new }
+{
+    if !half.is_open() {
+        return StepAnswer::Nothing;
+    }
+    match incoming.pop(rt, popping) {
+        None => StepAnswer::Nothing,
+        Some(packet) => deliver(rt, out, pushing, half, &packet),
+    }
+}
+
+/// One step of a half: its own, or else, while its end is open, the delivery of the packet that comes
+/// next. What it sends by it is pushed. `Nothing` comes where it has neither, and `Spent` where it has
+/// one but as many events as it may have.
+pub fn step<S: Framing, R: Wait>(
+    rt: &R,
+    out: &PacketQueue<S>,
+    incoming: &PacketQueue<S>,
+    pushing: &mut PacketPass,
+    popping: &mut PacketPass,
+    half: &mut Half<'_>,
+) -> StepAnswer
+    ghost at: { Setting × EndSide }
+    requires schema { at.0.schema ≡ S.schema }
+    requires pushing { IsSegPassOf out.now.queue pushing.old × ((view_of pushing.old).pushes ≡ true) }
+    requires popping { IsSegPassOf incoming.now.queue popping.old × ((view_of popping.old).pops ≡ true) }
+    requires work { IsAtWork at.0 at.1 (view_of pushing.old).pushed (view_of popping.old).popped half.old }
+    ensures pushing { IsSegPassOf out.now.queue pushing.new × OnlyPushes (view_of pushing.old) (view_of pushing.new) }
+    ensures popping { IsSegPassOf incoming.now.queue popping.new × OnlyPops (view_of popping.old) (view_of popping.new) }
+    ensures gives { StepGives at.0 at.1 (view_of pushing.old) (view_of popping.old) result (view_of pushing.new) (view_of popping.new) half.new }
+{
+    match go_on(half) {
+        StepAnswer::Did => done(hand_over(rt, out, pushing, half)),
+        StepAnswer::Nothing => take(rt, out, incoming, pushing, popping, half),
+        answer => answer,
+    }
+}
