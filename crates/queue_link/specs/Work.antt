@@ -25,13 +25,6 @@ use Rattle.world_core.specs.Relaying.{GoesApart}
 abbrev pub PacketView : Type 0
 PacketView = PassView Packet
 
--- nothing but what was pushed with a pass changes, or nothing but what was popped
-abbrev pub OnlyPushes : PacketView → PacketView → Type 0
-OnlyPushes before after = after ≡ record before { pushed = after.pushed }
-
-abbrev pub OnlyPops : PacketView → PacketView → Type 0
-OnlyPops before after = after ≡ record before { popped = after.popped }
-
 -- What was popped is these packets, each of which has a frame.
 pub record HasTaken (setting : Setting) (popped : List Packet) (taken : List model.Packet) : Type 0 where
   pub is : popped ≡ packets_of setting.schema taken
@@ -171,7 +164,3 @@ BothWorked setting down up run.NoMemory parent child = Unit {0}
 -- a pass that may push and pop, and has seen the order of its queue
 abbrev pub IsOrdered : PacketView → Type 0
 IsOrdered view = (held : List Packet) × (view.pushed ≡ view.popped ++ held)
-
--- a pass may push and pop
-abbrev pub IsWhole : PacketView → Type 0
-IsWhole view = (view.pushes ≡ true) × (view.pops ≡ true)

@@ -1,12 +1,11 @@
 //! One step of a side: what its half does, and what is pushed and popped for it.
 ghost use Rattle.std.specs.Prelude.{◌≡◌, ◌++◌, ◌∷◌, [], true, List, IfOk, MatchBool, OnOk};
 ghost use Rattle.channel_model.specs.Outputs.{is_open};
-ghost use Rattle.crossbeam_queue.specs.SegTies.{IsSegPassOf};
 ghost use Rattle.end_parts.specs.declared.packet.Packet.{Packet as OfPacket};
 ghost use Rattle.ipdl_base.specs.declared.kinds.Side.{Side as EndSide};
-ghost use Rattle.ordered_queue.specs.Passes.{view_of};
+ghost use Rattle.ordered_queue.specs.Passes.{HasPopped, HasPushed, MayPop, MayPush, view_of};
 ghost use Rattle.queue_link.specs.Packets.{IsPacketOf};
-ghost use Rattle.queue_link.specs.Work.{DeliveryGives, HandsOver, HasNoStep, IsAtWork, OnlyPops, OnlyPushes, OwnGives, StepGives, TakeGives};
+ghost use Rattle.queue_link.specs.Work.{DeliveryGives, HandsOver, HasNoStep, IsAtWork, OwnGives, StepGives, TakeGives};
 ghost use Rattle.script_steps.specs.Choices.{Setting};
 ghost use Rattle.value_codec.specs.Laws.{AreBytes};
 ghost use Rattle.world_core.specs.LinkView.{HoldsBytes};
@@ -44,9 +43,9 @@ fn push_next<S: Framing, R: Wait>(
 ) -> Result<bool, AllocError>
     ghost at: { Setting × EndSide × List OfPacket }
     requires schema { at.0.schema ≡ S.schema }
-    requires pass { IsSegPassOf queue.now.queue pass.old × ((view_of pass.old).pushes ≡ true) }
+    requires pass { MayPush queue.now.queue pass.old }
     requires hands { HandsOver at.0 at.1 (view_of pass.old).pushed at.2 half.old }
-    ensures pass { IsSegPassOf queue.now.queue pass.new × OnlyPushes (view_of pass.old) (view_of pass.new) }
+    ensures pass { HasPushed queue.now.queue pass.old pass.new }
     ensures hands { IfOk result (λ more. MatchBool more (HandsOver at.0 at.1 (view_of pass.new).pushed at.2 half.new) (IsAtWork at.0 at.1 (view_of pass.new).pushed at.2 half.new)) }
 {
     let Some(packet) = half.put() else {
@@ -66,9 +65,9 @@ fn hand_over<S: Framing, R: Wait>(
 ) -> Result<(), AllocError>
     ghost at: { Setting × EndSide × List OfPacket }
     requires schema { at.0.schema ≡ S.schema }
-    requires pass { IsSegPassOf queue.now.queue pass.old × ((view_of pass.old).pushes ≡ true) }
+    requires pass { MayPush queue.now.queue pass.old }
     requires hands { HandsOver at.0 at.1 (view_of pass.old).pushed at.2 half.old }
-    ensures pass { IsSegPassOf queue.now.queue pass.new × OnlyPushes (view_of pass.old) (view_of pass.new) }
+    ensures pass { HasPushed queue.now.queue pass.old pass.new }
     ensures work { OnOk result (IsAtWork at.0 at.1 (view_of pass.new).pushed at.2 half.new) }
 {
     for _ in rt.forever() {
@@ -117,11 +116,11 @@ fn deliver<S: Framing, R: Wait>(
 ) -> StepAnswer
     ghost at: { Setting × EndSide × List OfPacket }
     requires schema { at.0.schema ≡ S.schema }
-    requires pass { IsSegPassOf queue.now.queue pass.old × ((view_of pass.old).pushes ≡ true) }
+    requires pass { MayPush queue.now.queue pass.old }
     requires rests { HasNoStep at.0 at.1 (view_of pass.old).pushed at.2 half.old }
     requires open { is_open half.old.end.end.state ≡ true }
     requires packet { IsPacketOf at.0.schema packet.now }
-    ensures pass { IsSegPassOf queue.now.queue pass.new × OnlyPushes (view_of pass.old) (view_of pass.new) }
+    ensures pass { HasPushed queue.now.queue pass.old pass.new }
     ensures gives { TakeGives at.0 at.1 (view_of pass.new).pushed (at.2 ++ packet.now ∷ []) result half.new }
 {
     match accept(half, packet) {
@@ -143,11 +142,11 @@ fn take<S: Framing, R: Wait>(
 ) -> StepAnswer
     ghost at: { Setting × EndSide }
     requires schema { at.0.schema ≡ S.schema }
-    requires pushing { IsSegPassOf out.now.queue pushing.old × ((view_of pushing.old).pushes ≡ true) }
-    requires popping { IsSegPassOf incoming.now.queue popping.old × ((view_of popping.old).pops ≡ true) }
+    requires pushing { MayPush out.now.queue pushing.old }
+    requires popping { MayPop incoming.now.queue popping.old }
     requires rests { HasNoStep at.0 at.1 (view_of pushing.old).pushed (view_of popping.old).popped half.old }
-    ensures pushing { IsSegPassOf out.now.queue pushing.new × OnlyPushes (view_of pushing.old) (view_of pushing.new) }
-    ensures popping { IsSegPassOf incoming.now.queue popping.new × OnlyPops (view_of popping.old) (view_of popping.new) }
+    ensures pushing { HasPushed out.now.queue pushing.old pushing.new }
+    ensures popping { HasPopped incoming.now.queue popping.old popping.new }
     ensures gives { StepGives at.0 at.1 (view_of pushing.old) (view_of popping.old) result (view_of pushing.new) (view_of popping.new) half.new }
 {
     if !half.is_open() {
@@ -172,11 +171,11 @@ pub fn step<S: Framing, R: Wait>(
 ) -> StepAnswer
     ghost at: { Setting × EndSide }
     requires schema { at.0.schema ≡ S.schema }
-    requires pushing { IsSegPassOf out.now.queue pushing.old × ((view_of pushing.old).pushes ≡ true) }
-    requires popping { IsSegPassOf incoming.now.queue popping.old × ((view_of popping.old).pops ≡ true) }
+    requires pushing { MayPush out.now.queue pushing.old }
+    requires popping { MayPop incoming.now.queue popping.old }
     requires work { IsAtWork at.0 at.1 (view_of pushing.old).pushed (view_of popping.old).popped half.old }
-    ensures pushing { IsSegPassOf out.now.queue pushing.new × OnlyPushes (view_of pushing.old) (view_of pushing.new) }
-    ensures popping { IsSegPassOf incoming.now.queue popping.new × OnlyPops (view_of popping.old) (view_of popping.new) }
+    ensures pushing { HasPushed out.now.queue pushing.old pushing.new }
+    ensures popping { HasPopped incoming.now.queue popping.old popping.new }
     ensures gives { StepGives at.0 at.1 (view_of pushing.old) (view_of popping.old) result (view_of pushing.new) (view_of popping.new) half.new }
 {
     match go_on(half) {

@@ -1,9 +1,8 @@
 //! Both halves on one thread, in turn, over their queues.
 ghost use Rattle.std.specs.Prelude.{◌≡◌, true};
-ghost use Rattle.crossbeam_queue.specs.SegTies.{IsSegPassOf};
 ghost use Rattle.ipdl_base.specs.declared.kinds.Side.TheVariants as sides;
-ghost use Rattle.ordered_queue.specs.Passes.{view_of};
-ghost use Rattle.queue_link.specs.Work.{AreAtWork, BothEnd, IsWhole, RoundGives, is_over, of_round};
+ghost use Rattle.ordered_queue.specs.Passes.{MayBoth, view_of};
+ghost use Rattle.queue_link.specs.Work.{AreAtWork, BothEnd, RoundGives, is_over, of_round};
 ghost use Rattle.script_steps.specs.Choices.{Setting};
 
 use crate::packets::{Framing, PacketPass, PacketQueue};
@@ -43,11 +42,11 @@ fn round<S: Framing, R: Wait>(
 ) -> StepAnswer
     ghost at: { Setting }
     requires schema { at.schema ≡ S.schema }
-    requires to_child { IsSegPassOf down.now.queue to_child.old × IsWhole (view_of to_child.old) }
-    requires to_parent { IsSegPassOf up.now.queue to_parent.old × IsWhole (view_of to_parent.old) }
+    requires to_child { MayBoth down.now.queue to_child.old }
+    requires to_parent { MayBoth up.now.queue to_parent.old }
     requires work { AreAtWork at (view_of to_child.old) (view_of to_parent.old) parent.old child.old }
-    ensures to_child { IsSegPassOf down.now.queue to_child.new × IsWhole (view_of to_child.new) }
-    ensures to_parent { IsSegPassOf up.now.queue to_parent.new × IsWhole (view_of to_parent.new) }
+    ensures to_child { MayBoth down.now.queue to_child.new }
+    ensures to_parent { MayBoth up.now.queue to_parent.new }
     ensures gives { RoundGives at (view_of to_child.new) (view_of to_parent.new) result parent.new child.new }
 {
     let first = step(rt, down, up, to_child, to_parent, parent);
@@ -70,11 +69,11 @@ pub fn take_turns<S: Framing, R: Wait>(
 ) -> RunAnswer
     ghost at: { Setting }
     requires schema { at.schema ≡ S.schema }
-    requires to_child { IsSegPassOf down.now.queue to_child.old × IsWhole (view_of to_child.old) }
-    requires to_parent { IsSegPassOf up.now.queue to_parent.old × IsWhole (view_of to_parent.old) }
+    requires to_child { MayBoth down.now.queue to_child.old }
+    requires to_parent { MayBoth up.now.queue to_parent.old }
     requires work { AreAtWork at (view_of to_child.old) (view_of to_parent.old) parent.old child.old }
-    ensures to_child { IsSegPassOf down.now.queue to_child.new × IsWhole (view_of to_child.new) }
-    ensures to_parent { IsSegPassOf up.now.queue to_parent.new × IsWhole (view_of to_parent.new) }
+    ensures to_child { MayBoth down.now.queue to_child.new }
+    ensures to_parent { MayBoth up.now.queue to_parent.new }
     ensures ends { BothEnd at (view_of to_child.new) (view_of to_parent.new) result parent.new child.new }
 {
     for _ in rt.forever() {
