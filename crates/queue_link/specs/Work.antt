@@ -68,6 +68,11 @@ pub record IsSpent (setting : Setting) (side : Side) (pushed popped : List Packe
   pub full : is_within setting side stands.state ≡ false
   pub left : (is_some (own_event setting side stands.state) ≡ true) ⊎ ((packet : model.Packet) × (in_hands ≡ packet ∷ []) × (is_open stands.state.end.state ≡ true))
 
+-- a packet was pushed that the half has handed out, or there was none
+abbrev pub PushGives : Setting → Side → List Packet → List Packet → Bool → HalfView → Type 0
+PushGives setting side pushed popped true half' = HandsOver setting side pushed popped half'
+PushGives setting side pushed popped false half' = IsAtWork setting side pushed popped half'
+
 -- an own step was done; or there is none; or the half is spent; or memory ran out
 abbrev pub OwnGives : Setting → Side → List Packet → List Packet → StepAnswer → HalfView → Type 0
 OwnGives setting side pushed popped answer.Did half' = HandsOver setting side pushed popped half'

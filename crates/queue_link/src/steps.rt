@@ -1,11 +1,11 @@
 //! One step of a side: what its half does, and what is pushed and popped for it.
-ghost use Rattle.std.specs.Prelude.{◌≡◌, ◌++◌, ◌∷◌, [], true, List, IfOk, MatchBool, OnOk};
+ghost use Rattle.std.specs.Prelude.{◌≡◌, ◌++◌, ◌∷◌, [], true, List, IfOk, OnOk};
 ghost use Rattle.channel_model.specs.Outputs.{is_open};
 ghost use Rattle.end_parts.specs.declared.packet.Packet.{Packet as OfPacket};
 ghost use Rattle.ipdl_base.specs.declared.kinds.Side.{Side as EndSide};
 ghost use Rattle.ordered_queue.specs.Passes.{HasPopped, HasPushed, MayPop, MayPush, view_of};
 ghost use Rattle.queue_link.specs.Packets.{IsPacketOf};
-ghost use Rattle.queue_link.specs.Work.{DeliveryGives, HandsOver, HasNoStep, IsAtWork, OwnGives, StepGives, TakeGives};
+ghost use Rattle.queue_link.specs.Work.{DeliveryGives, HandsOver, HasNoStep, IsAtWork, OwnGives, PushGives, StepGives, TakeGives};
 ghost use Rattle.script_steps.specs.Choices.{Setting};
 ghost use Rattle.value_codec.specs.Laws.{AreBytes};
 ghost use Rattle.world_core.specs.LinkView.{HoldsBytes};
@@ -41,12 +41,12 @@ fn push_next<S: Framing, R: Wait>(
     pass: &mut PacketPass,
     half: &mut Half<'_>,
 ) -> Result<bool, AllocError>
-    ghost at: { Setting × EndSide × List OfPacket }
+    ghost at: { Setting × EndSide }
     requires schema { at.0.schema ≡ S.schema }
     requires pass { MayPush queue.now.queue pass.old }
-    requires hands { HandsOver at.0 at.1 (view_of pass.old).pushed at.2 half.old }
+    requires hands { (popped : List OfPacket) × HandsOver at.0 at.1 (view_of pass.old).pushed popped half.old }
     ensures pass { HasPushed queue.now.queue pass.old pass.new }
-    ensures hands { IfOk result (λ more. MatchBool more (HandsOver at.0 at.1 (view_of pass.new).pushed at.2 half.new) (IsAtWork at.0 at.1 (view_of pass.new).pushed at.2 half.new)) }
+    ensures hands { (popped : List OfPacket) → HandsOver at.0 at.1 (view_of pass.old).pushed popped half.old → IfOk result (λ more. PushGives at.0 at.1 (view_of pass.new).pushed popped more half.new) }
 {
     let Some(packet) = half.put() else {
         return Ok(false);
@@ -63,12 +63,12 @@ fn hand_over<S: Framing, R: Wait>(
     pass: &mut PacketPass,
     half: &mut Half<'_>,
 ) -> Result<(), AllocError>
-    ghost at: { Setting × EndSide × List OfPacket }
+    ghost at: { Setting × EndSide }
     requires schema { at.0.schema ≡ S.schema }
     requires pass { MayPush queue.now.queue pass.old }
-    requires hands { HandsOver at.0 at.1 (view_of pass.old).pushed at.2 half.old }
+    requires hands { (popped : List OfPacket) × HandsOver at.0 at.1 (view_of pass.old).pushed popped half.old }
     ensures pass { HasPushed queue.now.queue pass.old pass.new }
-    ensures work { OnOk result (IsAtWork at.0 at.1 (view_of pass.new).pushed at.2 half.new) }
+    ensures work { (popped : List OfPacket) → HandsOver at.0 at.1 (view_of pass.old).pushed popped half.old → OnOk result (IsAtWork at.0 at.1 (view_of pass.new).pushed popped half.new) }
 {
     for _ in rt.forever() {
         if !push_next(rt, queue, pass, half)? {
@@ -88,20 +88,20 @@ fn done(handed_over: Result<(), AllocError>) -> StepAnswer {
 
 // An own step of the half.
 fn go_on(half: &mut Half<'_>) -> StepAnswer
-    ghost at: { Setting × EndSide × List OfPacket × List OfPacket }
-    requires { IsAtWork at.0 at.1 at.2 at.3 half.old }
-    ensures { OwnGives at.0 at.1 at.2 at.3 result half.new }
+    ghost at: { Setting × EndSide }
+    requires { (pushed : List OfPacket) × (popped : List OfPacket) × IsAtWork at.0 at.1 pushed popped half.old }
+    ensures { (pushed popped : List OfPacket) → IsAtWork at.0 at.1 pushed popped half.old → OwnGives at.0 at.1 pushed popped result half.new }
 {
     half.go_on()
 }
 
 // A delivery to an open half that has no own step, of a packet that was popped for it.
 fn accept(half: &mut Half<'_>, packet: &Packet) -> AcceptAnswer
-    ghost at: { Setting × EndSide × List OfPacket × List OfPacket }
-    requires rests { HasNoStep at.0 at.1 at.2 at.3 half.old }
+    ghost at: { Setting × EndSide }
+    requires rests { (pushed : List OfPacket) × (popped : List OfPacket) × HasNoStep at.0 at.1 pushed popped half.old }
     requires open { is_open half.old.end.end.state ≡ true }
     requires packet { IsPacketOf at.0.schema packet.now }
-    ensures { DeliveryGives at.0 at.1 at.2 (at.3 ++ packet.now ∷ []) result half.new }
+    ensures { (pushed popped : List OfPacket) → HasNoStep at.0 at.1 pushed popped half.old → DeliveryGives at.0 at.1 pushed (popped ++ packet.now ∷ []) result half.new }
 {
     half.accept(packet)
 }
@@ -114,14 +114,14 @@ fn deliver<S: Framing, R: Wait>(
     half: &mut Half<'_>,
     packet: &Packet,
 ) -> StepAnswer
-    ghost at: { Setting × EndSide × List OfPacket }
+    ghost at: { Setting × EndSide }
     requires schema { at.0.schema ≡ S.schema }
     requires pass { MayPush queue.now.queue pass.old }
-    requires rests { HasNoStep at.0 at.1 (view_of pass.old).pushed at.2 half.old }
+    requires rests { (popped : List OfPacket) × HasNoStep at.0 at.1 (view_of pass.old).pushed popped half.old }
     requires open { is_open half.old.end.end.state ≡ true }
     requires packet { IsPacketOf at.0.schema packet.now }
     ensures pass { HasPushed queue.now.queue pass.old pass.new }
-    ensures gives { TakeGives at.0 at.1 (view_of pass.new).pushed (at.2 ++ packet.now ∷ []) result half.new }
+    ensures gives { (popped : List OfPacket) → HasNoStep at.0 at.1 (view_of pass.old).pushed popped half.old → TakeGives at.0 at.1 (view_of pass.new).pushed (popped ++ packet.now ∷ []) result half.new }
 {
     match accept(half, packet) {
         AcceptAnswer::Did | AcceptAnswer::Refused => done(hand_over(rt, queue, pass, half)),

@@ -1,4 +1,4 @@
 use Rattle.queue_link.proofs.steps.go_on.Given as goal
 
 abbrev pub ghost-go_on : goal.ghost-go_on
-ghost-go_on g a = (g.at.0, g.at.1)
+ghost-go_on g a = g.at
