@@ -1,12 +1,10 @@
 //! What a half does by itself, apart from any link.
-ghost use Rattle.std.specs.Prelude.{◌≡◌, ◌<◌, ◌≤◌, [], List, length, map, nat_lt, true, OnOk};
+ghost use Rattle.std.specs.Prelude.{◌≡◌, ◌<◌, ◌≤◌, [], None, length, map, nat_lt, true, OnOk};
+ghost use Rattle.channel_core.specs.EndView.{IsFramed, packet_of};
 ghost use Rattle.channel_model.specs.Ends as ends;
 ghost use Rattle.channel_model.specs.Outputs.{is_open};
 ghost use Rattle.end_parts.specs.PacketReading.{carried, packet_read};
 ghost use Rattle.end_parts.specs.PlainLines.{plain_line};
-ghost use Rattle.ipdl_base.specs.declared.kinds.Side.{Side as EndSide};
-ghost use Rattle.relay_runs.specs.HalfRuns.{HalfState, is_within};
-ghost use Rattle.script_steps.specs.Choices.{Setting};
 ghost use Rattle.script_steps.specs.Progress.{Progress};
 
 use super::Half;
@@ -17,17 +15,16 @@ use history::History;
 use std::alloc::AllocError;
 
 impl<'s> Half<'s> {
-    ghost use Rattle.world_core.specs.HalfSteps.{OfferGives};
+    ghost use Rattle.world_core.specs.HalfSteps.{next_of};
     ghost use Rattle.world_core.specs.HalfView.{IsCountedBy};
-    ghost use Rattle.world_core.specs.Relaying.{AcceptGives, DeliversFor, GoesApart, GoingGives, HasLineRoom, HasTakenOver, MayAccept, PutGives};
+    ghost use Rattle.world_core.specs.Relaying.{AcceptGives, BreaksOff, ContentGives, DeliversFor, GoingGives, HasLineRoom, HasTakenOver, InEach, IsApart, PutGives, own_progress};
 
     /// One own step of a half that goes by itself: what the end does next by its script. `Nothing`
     /// comes exactly where it does nothing, and `Spent` exactly where it does something but has as
     /// many events as it may have.
     pub fn go_on(&mut self) -> StepAnswer
-        ghost at: { Setting × EndSide × HalfState × List ends.Packet }
-        requires { GoesApart at.0 at.1 at.2 at.3 self.old }
-        ensures { GoingGives at.0 at.1 at.2 at.3 result self.new }
+        requires { IsApart self.old }
+        ensures { InEach self.old (λ setting side state handed. GoingGives setting side state handed result self.new) }
     {
         match self.make_room() {
             Err(_) => StepAnswer::NoMemory,
@@ -37,10 +34,9 @@ impl<'s> Half<'s> {
 
     // The same, where there is room for the lines.
     fn step_on(&mut self) -> StepAnswer
-        ghost at: { Setting × EndSide × HalfState × List ends.Packet }
-        requires goes { GoesApart at.0 at.1 at.2 at.3 self.old }
+        requires apart { IsApart self.old }
         requires room { HasLineRoom self.old }
-        ensures { GoingGives at.0 at.1 at.2 at.3 result self.new }
+        ensures { InEach self.old (λ setting side state handed. GoingGives setting side state handed result self.new) }
     {
         let answer = self.own_step();
         self.take_over();
@@ -49,9 +45,7 @@ impl<'s> Half<'s> {
 
     /// The oldest packet that was not handed out; `None` exactly where all were. It takes no memory.
     pub fn put(&mut self) -> Option<Packet>
-        ghost at: { Setting × EndSide × HalfState × List ends.Packet }
-        requires { GoesApart at.0 at.1 at.2 at.3 self.old }
-        ensures { PutGives at.0 at.1 at.2 at.3 result self.new }
+        ensures { InEach self.old (λ setting side state handed. PutGives setting side state handed result self.new) }
     {
         self.end.outgoing()
     }
@@ -59,14 +53,14 @@ impl<'s> Half<'s> {
     /// Has a packet delivered, where the half has no own step, or the mark of a death in place of one
     /// that its end refuses. `Nothing` comes exactly where the end is not open, else `Spent` exactly
     /// where it has as many events as it may have, and else `Refused` exactly where it refuses the
-    /// packet.
+    /// packet. A packet that a half hands out is read as what it was made of.
     pub fn accept(&mut self, packet: &Packet) -> AcceptAnswer
-        ghost at: { Setting × EndSide × HalfState × List ends.Packet }
-        ghost came: { ends.Packet }
-        requires goes { GoesApart at.0 at.1 at.2 at.3 self.old }
-        requires may { MayAccept at.0 at.1 at.2 came packet.now }
-        ensures { AcceptGives at.0 at.1 at.2 at.3 came result self.new }
+        requires apart { IsApart self.old }
+        requires rests { next_of self.old (own_progress self.old) ≡ None }
+        ensures gives { InEach self.old (λ setting side state handed. AcceptGives setting side state handed (packet_read setting.schema packet.now) result self.new) }
+        ensures reads { (carries : ends.Packet) → IsFramed self.old.end.schema carries → packet.now ≡ packet_of self.old.end.schema carries → packet_read self.old.end.schema packet.now ≡ carried carries }
     {
+        holds_bytes(packet);
         if !self.is_open() {
             AcceptAnswer::Nothing
         } else if self.is_spent() {
@@ -81,14 +75,12 @@ impl<'s> Half<'s> {
 
     // The same, where the end is open and there is room for one event more and its lines.
     fn take_in(&mut self, packet: &Packet) -> AcceptAnswer
-        ghost at: { Setting × EndSide × HalfState × List ends.Packet }
-        ghost came: { ends.Packet }
-        requires goes { GoesApart at.0 at.1 at.2 at.3 self.old }
-        requires may { MayAccept at.0 at.1 at.2 came packet.now }
-        requires opened { is_open at.2.end.state ≡ true }
-        requires within { is_within at.0 at.1 at.2 ≡ true }
+        requires apart { IsApart self.old }
+        requires rests { next_of self.old (own_progress self.old) ≡ None }
+        requires opened { is_open self.old.end.end.state ≡ true }
+        requires within { nat_lt self.old.counts.events self.old.limit ≡ true }
         requires room { HasLineRoom self.old }
-        ensures { AcceptGives at.0 at.1 at.2 at.3 came result self.new }
+        ensures { InEach self.old (λ setting side state handed. AcceptGives setting side state handed (packet_read setting.schema packet.now) result self.new) }
     {
         holds_bytes(packet);
         let answer = self.deliver_for(packet);
@@ -98,35 +90,45 @@ impl<'s> Half<'s> {
 
     // Has a packet delivered, or the mark of a death in its place.
     fn deliver_for(&mut self, packet: &Packet) -> AcceptAnswer
-        ghost given: { Progress × ends.Packet }
-        requires counted { IsCountedBy self.old given.0 }
+        ghost progress: { Progress }
+        requires counted { IsCountedBy self.old progress }
         requires opened { is_open self.old.end.end.state ≡ true }
         requires few { self.old.end.end.delivered < 268435456 }
         requires within { nat_lt self.old.counts.events self.old.limit ≡ true }
-        requires carries { packet_read self.old.end.schema packet.now ≡ carried given.1 }
-        ensures { DeliversFor self.old given.0 given.1 result self.new }
+        ensures { DeliversFor self.old progress (packet_read self.old.end.schema packet.now) result self.new }
     {
         match self.offer_packet(packet) {
             DeliverAnswer::Done => AcceptAnswer::Did,
             DeliverAnswer::NoMemory => AcceptAnswer::NoMemory,
             DeliverAnswer::Bad(_, _) | DeliverAnswer::Stray(_) | DeliverAnswer::WrongActor(_, _) =>
-                match self.deliver(&Packet::Broken) {
-                    StepAnswer::Did => AcceptAnswer::Refused,
-                    StepAnswer::NoMemory => AcceptAnswer::NoMemory,
-                    StepAnswer::Nothing | StepAnswer::Spent(_) => unreachable!(),
-                },
+                self.break_off(),
+        }
+    }
+
+    // Has the mark of a death delivered in place of a packet.
+    fn break_off(&mut self) -> AcceptAnswer
+        ghost progress: { Progress }
+        requires counted { IsCountedBy self.old progress }
+        requires opened { is_open self.old.end.end.state ≡ true }
+        requires few { self.old.end.end.delivered < 268435456 }
+        requires within { nat_lt self.old.counts.events self.old.limit ≡ true }
+        ensures { BreaksOff self.old progress result self.new }
+    {
+        match self.deliver(&Packet::Broken) {
+            StepAnswer::Did => AcceptAnswer::Refused,
+            StepAnswer::NoMemory => AcceptAnswer::NoMemory,
+            StepAnswer::Nothing | StepAnswer::Spent(_) => unreachable!(),
         }
     }
 
     // Has a packet delivered, or refuses it and changes nothing.
     fn offer_packet(&mut self, packet: &Packet) -> DeliverAnswer
-        ghost given: { Progress × ends.Packet }
-        requires counted { IsCountedBy self.old given.0 }
+        ghost progress: { Progress }
+        requires counted { IsCountedBy self.old progress }
         requires opened { is_open self.old.end.end.state ≡ true }
         requires few { self.old.end.end.delivered < 268435456 }
         requires within { nat_lt self.old.counts.events self.old.limit ≡ true }
-        requires carries { packet_read self.old.end.schema packet.now ≡ carried given.1 }
-        ensures { OfferGives self.old given.0 given.1 result self.new }
+        ensures { ContentGives self.old progress (packet_read self.old.end.schema packet.now) result self.new }
     {
         let _within = self.may_count();
         match self.end.deliver(packet) {
