@@ -1,2 +1,3 @@
 pub mod HalfRuns
+pub mod TurnEnds
 mod WorkedRelays

@@ -1,9 +1,5 @@
--- What follows for every half run, and for a relay in turns.
-use Rattle.std.specs.Prelude.{List}
-use Rattle.handler_script.specs.Valid.{IsValid}
+-- What follows for every half run.
 use Rattle.ipdl_base.specs.declared.kinds.Side.{Side}
-use Rattle.ipdl_base.specs.declared.line.Line.{Line}
-use Rattle.ipdl_base.specs.Sound.{IsSound}
 use Rattle.script_steps.specs.Choices.{Setting}
 use Rattle.relay_runs.specs.HalfRuns.{HalfRun, HalfState, StandsFor}
 

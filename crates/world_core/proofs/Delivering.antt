@@ -47,7 +47,7 @@ use Rattle.world_core.specs.Worlds.{IsLinkOf}
 -- What is read of a packet on a link
 
 -- the packet of a message that has its frame is read as the message, and a mark as the mark
-framed-read : (schema : Schema) (p : model.Packet) (packet : Packet) → IsSound schema → IsFramed schema p → HoldsBytes packet → packet ≡ packet_of schema p → packet_read schema packet ≡ carried p
+pub framed-read : (schema : Schema) (p : model.Packet) (packet : Packet) → IsSound schema → IsFramed schema p → HoldsBytes packet → packet ≡ packet_of schema p → packet_read schema packet ≡ carried p
 framed-read schema (model.message m) packet sound framed fits is =
     let bytes : List ℕ = frame_bytes NEW schema m in
     let are : AreBytes bytes = subst HoldsBytes is fits in

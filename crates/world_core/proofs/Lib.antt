@@ -23,6 +23,9 @@ mod OwnRuns
 pub mod Halves
 mod Meetings
 mod Apart
+mod KeptEnds
+mod KeptHalves
+mod RelayLoop
 mod FeedEnds
 mod FeedStates
 mod FeedFrames

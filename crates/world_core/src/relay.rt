@@ -1,17 +1,17 @@
 //! Both ends of a run apart from one another (docs/relay.md).
-ghost use Rattle.std.specs.Prelude.{◌≡◌};
-ghost use Rattle.relay_runs.specs.Relays.{RelayState};
-ghost use Rattle.script_steps.specs.Choices.{Setting};
-ghost use Rattle.world_core.specs.Relaying.{GoApart, IsRelayed, IsRelayedByTurns, RelayGives, TurnsGive};
+ghost use Rattle.std.specs.Prelude.{◌≡◌, None};
+ghost use Rattle.world_core.specs.HalfSteps.{next_of};
+ghost use Rattle.world_core.specs.Relaying.{AreFacing, BothApart, BothInEach, FacingEach, IsRelayed, IsRelayedByTurns, RelayGives, RelayTurnGives, SideTurnGives, TurnsGive, own_progress, turn_answer};
 ghost use Rattle.world_core.specs.WorldView.{WorldView, opening_of};
 ghost use Rattle.world_core.specs.declared.answers.RunAnswer.{RunAnswer as OfRunAnswer};
 ghost use Rattle.world_core.specs.declared.relay.Halves.{Halves as OfHalves};
 
-use crate::answers::RunAnswer;
+use crate::answers::{AcceptAnswer, RunAnswer, StepAnswer};
 use crate::driver::OneThread;
-use crate::half::Half;
+use crate::half::{Half, other};
 use crate::world::World;
 use history::History;
+use ipdl_base::Side;
 
 /// The lines of both ends of a run, each by itself.
 #[derive(Drop)]
@@ -54,11 +54,69 @@ impl Relay for OneThread {
 /// Turns of both halves, the parent first, until two in a row do nothing. In its turn a half does its
 /// own step, or else, while its end is open, accepts the packet that the other hands out next.
 pub fn take_turns(parent: &mut Half<'_>, child: &mut Half<'_>) -> RunAnswer
-    ghost at: { Setting × RelayState }
-    requires { GoApart at.0 at.1 parent.old child.old }
-    ensures { TurnsGive at.0 at.1 result parent.new child.new }
+    requires { BothApart parent.old child.old }
+    ensures { BothInEach parent.old child.old (λ setting state. TurnsGive setting state result parent.new child.new) }
 {
-    let _ = parent.is_open();
-    let _ = child.is_open();
-    RunAnswer::NoMemory
+    let mut side = Side::Parent;
+    let mut left = 2u32;
+    while left > 0 {
+        let turn = side;
+        side = other(side);
+        match side_turn(parent, child, turn) {
+            StepAnswer::Did => left = 2,
+            StepAnswer::Nothing => left -= 1,
+            StepAnswer::Spent(at) => return RunAnswer::Spent(at),
+            StepAnswer::NoMemory => return RunAnswer::NoMemory,
+        }
+    }
+    RunAnswer::Finished
+}
+
+// A turn of a side.
+fn side_turn(parent: &mut Half<'_>, child: &mut Half<'_>, side: Side) -> StepAnswer
+    requires { BothApart parent.old child.old }
+    ensures { BothInEach parent.old child.old (λ setting state. SideTurnGives setting side state result parent.new child.new) }
+{
+    match side {
+        Side::Parent => relay_turn(parent, child),
+        Side::Child => relay_turn(child, parent),
+    }
+}
+
+// A turn of a half, which the other one faces.
+fn relay_turn(half: &mut Half<'_>, facing: &mut Half<'_>) -> StepAnswer
+    requires { AreFacing half.old facing.old }
+    ensures { FacingEach half.old facing.old (λ setting side state. RelayTurnGives setting side state result half.new facing.new) }
+{
+    match half.go_on() {
+        StepAnswer::Nothing => receive(half, facing),
+        answer => answer,
+    }
+}
+
+// A half without an own step accepts what comes next, where it is open.
+fn receive(half: &mut Half<'_>, facing: &mut Half<'_>) -> StepAnswer
+    requires facing { AreFacing half.old facing.old }
+    requires rests { next_of half.old (own_progress half.old) ≡ None }
+    ensures { FacingEach half.old facing.old (λ setting side state. RelayTurnGives setting side state result half.new facing.new) }
+{
+    if !half.is_open() {
+        return StepAnswer::Nothing;
+    }
+    match facing.put() {
+        None => StepAnswer::Nothing,
+        Some(packet) => turn_answer(half.accept(&packet)),
+    }
+}
+
+// What a turn answers, by what a half answers to a packet.
+fn turn_answer(answer: AcceptAnswer) -> StepAnswer
+    ensures { result ≡ turn_answer answer }
+{
+    match answer {
+        AcceptAnswer::Did | AcceptAnswer::Refused => StepAnswer::Did,
+        AcceptAnswer::Nothing => StepAnswer::Nothing,
+        AcceptAnswer::Spent(side) => StepAnswer::Spent(side),
+        AcceptAnswer::NoMemory => StepAnswer::NoMemory,
+    }
 }

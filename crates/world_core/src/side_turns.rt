@@ -104,8 +104,8 @@ fn hand_over(half: &mut Half<'_>, link: &Link, side: Side) -> StepAnswer
     }
 }
 
-// Each element of a frame is a byte.
-fn holds_bytes(packet: &Packet)
+/// Each element of a frame is a byte.
+pub(crate) fn holds_bytes(packet: &Packet)
     ensures { HoldsBytes packet.now }
 {
     match packet {

@@ -1,36 +1,51 @@
 //! What a half does by itself, apart from any link.
-ghost use Rattle.std.specs.Prelude.{◌≡◌, [], List, map, None};
-ghost use Rattle.end_parts.specs.PlainLines.{plain_line};
-ghost use Rattle.ipdl_base.specs.declared.kinds.Side.{Side as EndSide};
+ghost use Rattle.std.specs.Prelude.{◌≡◌, ◌<◌, ◌≤◌, [], None, length, map, nat_lt, true, OnOk};
 ghost use Rattle.channel_core.specs.EndView.{IsFramed, packet_of};
 ghost use Rattle.channel_model.specs.Ends as ends;
-ghost use Rattle.relay_runs.specs.HalfRuns.{HalfState, own_event};
-ghost use Rattle.script_steps.specs.Choices.{Setting};
+ghost use Rattle.channel_model.specs.Outputs.{is_open};
+ghost use Rattle.end_parts.specs.PacketReading.{carried, packet_read};
+ghost use Rattle.end_parts.specs.PlainLines.{plain_line};
+ghost use Rattle.script_steps.specs.Progress.{Progress};
 
 use super::Half;
 use crate::answers::{AcceptAnswer, StepAnswer};
-use channel_core::Packet;
+use crate::side_turns::holds_bytes;
+use channel_core::{DeliverAnswer, Packet};
 use history::History;
+use std::alloc::AllocError;
 
 impl<'s> Half<'s> {
-    ghost use Rattle.world_core.specs.Relaying.{AcceptGives, GoesApart, GoingGives, IsApart, PutGives, RestsApart};
+    ghost use Rattle.world_core.specs.HalfSteps.{next_of};
+    ghost use Rattle.world_core.specs.HalfView.{IsCountedBy};
+    ghost use Rattle.world_core.specs.Relaying.{AcceptGives, BreaksOff, ContentGives, DeliversFor, GoingGives, HasLineRoom, HasTakenOver, InEach, IsApart, PutGives, own_progress};
 
     /// One own step of a half that goes by itself: what the end does next by its script. `Nothing`
     /// comes exactly where it does nothing, and `Spent` exactly where it does something but has as
     /// many events as it may have.
     pub fn go_on(&mut self) -> StepAnswer
-        ghost at: { Setting × EndSide }
-        requires { IsApart at.0 at.1 self.old }
-        ensures { (state : HalfState) (handed : List ends.Packet) → GoesApart at.0 at.1 state handed self.old → GoingGives at.0 at.1 state handed result self.new }
+        requires { IsApart self.old }
+        ensures { InEach self.old (λ setting side state handed. GoingGives setting side state handed result self.new) }
     {
-        StepAnswer::NoMemory
+        match self.make_room() {
+            Err(_) => StepAnswer::NoMemory,
+            Ok(()) => self.step_on(),
+        }
+    }
+
+    // The same, where there is room for the lines.
+    fn step_on(&mut self) -> StepAnswer
+        requires apart { IsApart self.old }
+        requires room { HasLineRoom self.old }
+        ensures { InEach self.old (λ setting side state handed. GoingGives setting side state handed result self.new) }
+    {
+        let answer = self.own_step();
+        self.take_over();
+        answer
     }
 
     /// The oldest packet that was not handed out; `None` exactly where all were. It takes no memory.
     pub fn put(&mut self) -> Option<Packet>
-        ghost at: { Setting × EndSide }
-        requires { IsApart at.0 at.1 self.old }
-        ensures { (state : HalfState) (handed : List ends.Packet) → GoesApart at.0 at.1 state handed self.old → PutGives at.0 at.1 state handed result self.new }
+        ensures { InEach self.old (λ setting side state handed. PutGives setting side state handed result self.new) }
     {
         self.end.outgoing()
     }
@@ -38,15 +53,114 @@ impl<'s> Half<'s> {
     /// Has a packet delivered, where the half has no own step, or the mark of a death in place of one
     /// that its end refuses. `Nothing` comes exactly where the end is not open, else `Spent` exactly
     /// where it has as many events as it may have, and else `Refused` exactly where it refuses the
-    /// packet.
+    /// packet. A packet that a half hands out is read as what it was made of.
     pub fn accept(&mut self, packet: &Packet) -> AcceptAnswer
-        ghost at: { Setting × EndSide }
-        requires goes { RestsApart at.0 at.1 self.old }
-        requires packet { (came : ends.Packet) × (packet.now ≡ packet_of at.0.schema came) × IsFramed at.0.schema came }
-        ensures { (state : HalfState) (handed : List ends.Packet) (came : ends.Packet) → GoesApart at.0 at.1 state handed self.old → packet.now ≡ packet_of at.0.schema came → IsFramed at.0.schema came → AcceptGives at.0 at.1 state handed came result self.new }
+        requires apart { IsApart self.old }
+        requires rests { next_of self.old (own_progress self.old) ≡ None }
+        ensures gives { InEach self.old (λ setting side state handed. AcceptGives setting side state handed (packet_read setting.schema packet.now) result self.new) }
+        ensures reads { (carries : ends.Packet) → IsFramed self.old.end.schema carries → packet.now ≡ packet_of self.old.end.schema carries → packet_read self.old.end.schema packet.now ≡ carried carries }
     {
-        let _packet = packet;
-        AcceptAnswer::NoMemory
+        holds_bytes(packet);
+        if !self.is_open() {
+            AcceptAnswer::Nothing
+        } else if self.is_spent() {
+            AcceptAnswer::Spent(self.side())
+        } else {
+            match self.make_room() {
+                Err(_) => AcceptAnswer::NoMemory,
+                Ok(()) => self.take_in(packet),
+            }
+        }
+    }
+
+    // The same, where the end is open and there is room for one event more and its lines.
+    fn take_in(&mut self, packet: &Packet) -> AcceptAnswer
+        requires apart { IsApart self.old }
+        requires rests { next_of self.old (own_progress self.old) ≡ None }
+        requires opened { is_open self.old.end.end.state ≡ true }
+        requires within { nat_lt self.old.counts.events self.old.limit ≡ true }
+        requires room { HasLineRoom self.old }
+        ensures { InEach self.old (λ setting side state handed. AcceptGives setting side state handed (packet_read setting.schema packet.now) result self.new) }
+    {
+        holds_bytes(packet);
+        let answer = self.deliver_for(packet);
+        self.take_over();
+        answer
+    }
+
+    // Has a packet delivered, or the mark of a death in its place.
+    fn deliver_for(&mut self, packet: &Packet) -> AcceptAnswer
+        ghost progress: { Progress }
+        requires counted { IsCountedBy self.old progress }
+        requires opened { is_open self.old.end.end.state ≡ true }
+        requires few { self.old.end.end.delivered < 268435456 }
+        requires within { nat_lt self.old.counts.events self.old.limit ≡ true }
+        ensures { DeliversFor self.old progress (packet_read self.old.end.schema packet.now) result self.new }
+    {
+        match self.offer_packet(packet) {
+            DeliverAnswer::Done => AcceptAnswer::Did,
+            DeliverAnswer::NoMemory => AcceptAnswer::NoMemory,
+            DeliverAnswer::Bad(_, _) | DeliverAnswer::Stray(_) | DeliverAnswer::WrongActor(_, _) =>
+                self.break_off(),
+        }
+    }
+
+    // Has the mark of a death delivered in place of a packet.
+    fn break_off(&mut self) -> AcceptAnswer
+        ghost progress: { Progress }
+        requires counted { IsCountedBy self.old progress }
+        requires opened { is_open self.old.end.end.state ≡ true }
+        requires few { self.old.end.end.delivered < 268435456 }
+        requires within { nat_lt self.old.counts.events self.old.limit ≡ true }
+        ensures { BreaksOff self.old progress result self.new }
+    {
+        match self.deliver(&Packet::Broken) {
+            StepAnswer::Did => AcceptAnswer::Refused,
+            StepAnswer::NoMemory => AcceptAnswer::NoMemory,
+            StepAnswer::Nothing | StepAnswer::Spent(_) => unreachable!(),
+        }
+    }
+
+    // Has a packet delivered, or refuses it and changes nothing.
+    fn offer_packet(&mut self, packet: &Packet) -> DeliverAnswer
+        ghost progress: { Progress }
+        requires counted { IsCountedBy self.old progress }
+        requires opened { is_open self.old.end.end.state ≡ true }
+        requires few { self.old.end.end.delivered < 268435456 }
+        requires within { nat_lt self.old.counts.events self.old.limit ≡ true }
+        ensures { ContentGives self.old progress (packet_read self.old.end.schema packet.now) result self.new }
+    {
+        let _within = self.may_count();
+        match self.end.deliver(packet) {
+            DeliverAnswer::Done => {
+                self.counts.count_event();
+                DeliverAnswer::Done
+            }
+            DeliverAnswer::NoMemory => DeliverAnswer::NoMemory,
+            DeliverAnswer::Bad(offset, rule) => DeliverAnswer::Bad(offset, rule),
+            DeliverAnswer::Stray(seq) => DeliverAnswer::Stray(seq),
+            DeliverAnswer::WrongActor(id, number) => DeliverAnswer::WrongActor(id, number),
+        }
+    }
+
+    // Makes room for all lines that may come to be the half's own.
+    fn make_room(&mut self) -> Result<(), AllocError>
+        ensures same { self.new ≡ record self.old { spare = self.new.spare } }
+        ensures room { OnOk result (HasLineRoom self.new) }
+    {
+        let most = 5 * self.limit as usize + 1;
+        let have = self.history.lines().len();
+        self.history.reserve(most.saturating_sub(have))
+    }
+
+    // Takes the lines of the end over. It takes no memory, since there is room for them.
+    fn take_over(&mut self)
+        requires { length self.old.end.lines ≤ self.old.spare }
+        ensures { HasTakenOver self.old self.new }
+    {
+        if self.end.drain(&mut self.history).is_err() {
+            unreachable!();
+        }
     }
 
     /// The lines that the half has taken over from its end and appended to no link: all its lines,
