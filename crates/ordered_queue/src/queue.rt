@@ -3,7 +3,7 @@ ghost use Rattle.crossbeam_queue.specs.SegTies.{IsSegPassOf};
 ghost use Rattle.ordered_queue.specs.Passes.{MayBoth, MayPop, MayPush, view_of};
 ghost use Rattle.ordered_queue.specs.InOrder.{first_view, popping_part, pushing_part, whole, with_popped, with_pushed};
 
-use crate::view::{Contents, InOrder, Parting, PassView, Popped, Pushed, Reunion};
+use crate::view::{InOrder, Parting, PassView, Popped, Pushed, Reunion};
 use crossbeam_queue::{RuledSegQueue, SegPass};
 use std::alloc::{AllocError, Global};
 use std::sync::Wait;
@@ -11,14 +11,14 @@ use std::sync::Wait;
 /// The right to push to a queue, or to pop from it, or both. It has no bytes.
 pub type QueuePass<T> = SegPass<T, PassView<T>>;
 
-/// A queue in order, of whose values something is true.
-pub struct OrderedQueue<T, B: Contents<T>> {
-    queue: RuledSegQueue<T, PassView<T>, InOrder<B>>,
+/// A queue in order.
+pub struct OrderedQueue<T> {
+    queue: RuledSegQueue<T, PassView<T>, InOrder>,
 }
 
-impl<T: Drop, B: Contents<T>> OrderedQueue<T, B> {
+impl<T: Drop> OrderedQueue<T> {
     /// An empty queue, with a pass that may push and pop. The only error is want of memory.
-    pub fn new(alloc: Global) -> Result<(OrderedQueue<T, B>, QueuePass<T>), AllocError>
+    pub fn new(alloc: Global) -> Result<(OrderedQueue<T>, QueuePass<T>), AllocError>
         ensures { IfOk result (λ made. IsSegPassOf made.0.queue made.1 × (view_of made.1 ≡ first_view)) }
     {
         let (queue, pass) = RuledSegQueue::with_rule(alloc)?;
@@ -45,8 +45,7 @@ impl<T: Drop, B: Contents<T>> OrderedQueue<T, B> {
 
     /// Pushes a value. The only error is want of memory, where nothing is pushed.
     pub fn push<R: Wait>(&self, rt: &R, pass: &mut QueuePass<T>, value: T) -> Result<(), AllocError>
-        requires pass { MayPush self.now.queue pass.old }
-        requires fit { B.fit value }
+        requires { MayPush self.now.queue pass.old }
         ensures pass { IsSegPassOf self.now.queue pass.new }
         ensures pushed { MatchResult result (λ _. view_of pass.new ≡ with_pushed (view_of pass.old) value) (λ _. view_of pass.new ≡ view_of pass.old) }
     {
@@ -60,11 +59,11 @@ impl<T: Drop, B: Contents<T>> OrderedQueue<T, B> {
     pub fn pop<R: Wait>(&self, rt: &R, pass: &mut QueuePass<T>) -> Option<T>
         requires { MayPop self.now.queue pass.old }
         ensures pass { IsSegPassOf self.now.queue pass.new }
-        ensures some { IfSome result (λ value. B.fit value × (view_of pass.new ≡ with_popped (view_of pass.old) value)) }
+        ensures some { IfSome result (λ value. view_of pass.new ≡ with_popped (view_of pass.old) value) }
         ensures none { IfNone result (view_of pass.new ≡ view_of pass.old) }
         ensures empty { IfNone result ((view_of pass.old).pushes ≡ true → (view_of pass.old).pushed ≡ (view_of pass.old).popped) }
     {
-        self.queue.pop_as::<Popped<B>, R>(rt, pass)
+        self.queue.pop_as::<Popped, R>(rt, pass)
     }
 
     /// How many values the queue held at one moment of the call.
@@ -73,11 +72,11 @@ impl<T: Drop, B: Contents<T>> OrderedQueue<T, B> {
         ensures pass { IsSegPassOf self.now.queue pass.new × (view_of pass.new ≡ view_of pass.old) }
         ensures held { (held : List T) × (length held ≡ result) × ((view_of pass.old).pushed ≡ (view_of pass.old).popped ++ held) }
     {
-        self.queue.len_as::<Popped<B>, R>(rt, pass)
+        self.queue.len_as::<Popped, R>(rt, pass)
     }
 }
 
-impl<T: Drop, B: Contents<T>> Drop for OrderedQueue<T, B> {
+impl<T: Drop> Drop for OrderedQueue<T> {
     fn drop(self) {
         let OrderedQueue { queue } = self;
         queue.destroy();

@@ -9,19 +9,11 @@ use Rattle.channel_model.specs.Events.{Event}
 use Rattle.channel_model.specs.Numbers.{other}
 use Rattle.channel_model.specs.Outputs.{is_open}
 use Rattle.end_parts.specs.declared.packet.Packet.{Packet}
-use Rattle.end_parts.specs.declared.packet.Packet.TheVariants.{Bytes, Broken}
+use Rattle.end_parts.specs.declared.packet.Packet.TheVariants.{Broken}
+use Rattle.end_parts.specs.PacketReading.{packet_read}
 use Rattle.ipdl_base.specs.declared.kinds.Side.{Side}
 use Rattle.ipdl_base.specs.declared.kinds.Side.TheVariants as sides
-use Rattle.ipdl_base.specs.declared.message.Message.{Message}
 use Rattle.ipdl_base.specs.declared.schema.Schema.{Schema}
-use Rattle.ipdl_base.specs.Plain.{plain_message}
-use Rattle.ipdl_base.specs.Sound.{IsSound}
-use Rattle.value_types.specs.declared.layout.TheConstants.{NEW}
-use Rattle.value_codec.specs.declared.decoding.Decoded.{Decoded}
-use Rattle.value_codec.specs.declared.decoding.Decoded.TheVariants as decoded
-use Rattle.value_codec.specs.Decoding.{begins}
-use Rattle.value_codec.specs.Spelling.{frame_bytes}
-use Rattle.value_codec.proofs.Cases.{read_again}
 use Rattle.relay_runs.specs.HalfRuns.{HalfState, is_within, own_event}
 use Rattle.relay_runs.specs.Relays.{ComeInOrder, EndsAs, IsRelay, RelayState, Relayed, has_left, next_packet}
 use Rattle.script_steps.specs.Choices.{Setting}
@@ -29,10 +21,8 @@ use Rattle.script_steps.specs.Turns.{RunEnding, at_limit, at_rest}
 use Rattle.world_core.specs.declared.answers.RunAnswer.{RunAnswer}
 use Rattle.world_core.specs.declared.answers.RunAnswer.TheVariants as run
 use Rattle.world_core.specs.HalfView.{HalfView}
-use Rattle.world_core.specs.LinkView.{HoldsBytes}
-use Rattle.queue_link.specs.Work.{BothEnd, EndsRelay, HasTaken, IsAtWork, IsOrdered, IsResting, IsSpent, OneIsSpent, PacketView, Stands, StandsSomehow}
-
--- Packets that are framed
+use Rattle.world_core.specs.Relaying.{came_by}
+use Rattle.queue_link.specs.Work.{BothEnd, EndsRelay, HasTaken, IsAtWork, IsReadBack, IsOrdered, IsResting, IsSpent, OneIsSpent, PacketView, Stands, StandsSomehow}
 
 -- What is left of packets behind those that were taken.
 record IsFront (schema : Schema) (sent taken : List model.Packet) (held : List Packet) : Type 0 where
@@ -40,53 +30,28 @@ record IsFront (schema : Schema) (sent taken : List model.Packet) (held : List P
   is : sent ≡ taken ++ waiting
   held_is : held ≡ packets_of schema waiting
 
-module _ (schema : Schema) (sound : IsSound schema) where
-  -- the message of a frame is read of it
-  read-frame : (m : Message) → IsFramed schema (model.message m) → HoldsBytes (packet_of schema (model.message m)) → begins NEW schema (frame_bytes NEW schema m) ≡ decoded.Frame m (length (frame_bytes NEW schema m))
-  read-frame m framed bytes =
-      ap (begins NEW schema) (sym (append-nil (frame_bytes NEW schema m)))
-      ∙ (read_again NEW (omega arith) schema sound m (frame_bytes NEW schema m) [] bytes framed.frame
-        ∙ ap (λ (x : Message). decoded.Frame x (length (frame_bytes NEW schema m))) framed.plain)
+head-of : Packet → List Packet → Packet
+head-of p [] = p
+head-of p (first ∷ rest) = first
 
-  bytes-of : Packet → List ℕ
-  bytes-of (Bytes bytes) = bytes
-  bytes-of Broken = []
+rest-of : List Packet → List Packet
+rest-of [] = []
+rest-of (first ∷ rest) = rest
 
-  message-of : Message → Decoded → Message
-  message-of m (decoded.Frame x n) = x
-  message-of m other = m
+module _ (schema : Schema) where
+  abbrev read : Packet → model.Packet
+  read packet = came_by (packet_read schema packet)
 
-  -- a packet is that of one message at most
-  one-packet : (p q : model.Packet) → IsFramed schema p → IsFramed schema q → HoldsBytes (packet_of schema q) → packet_of schema p ≡ packet_of schema q → p ≡ q
-  one-packet (model.message m) (model.message n) framed framed' bytes same =
-      let same_bytes : frame_bytes NEW schema m ≡ frame_bytes NEW schema n = ap bytes-of same in
-      let bytes' : HoldsBytes (packet_of schema (model.message m)) = subst HoldsBytes (sym same) bytes in
-      let read : decoded.Frame m (length (frame_bytes NEW schema m)) ≡ decoded.Frame n (length (frame_bytes NEW schema n)) =
-      sym (read-frame m framed bytes') ∙ (ap (begins NEW schema) same_bytes ∙ read-frame n framed' bytes)
-      in
-      ap (λ (d : Decoded). model.message (message-of m d)) read
-  one-packet (model.message m) model.mark framed framed' bytes same = cc
-  one-packet model.mark (model.message n) framed framed' bytes same = cc
-  one-packet model.mark model.mark framed framed' bytes same = refl
-
-  head-of : Packet → List Packet → Packet
-  head-of p [] = p
-  head-of p (first ∷ rest) = first
-
-  rest-of : List Packet → List Packet
-  rest-of [] = []
-  rest-of (first ∷ rest) = rest
-
-  front : (taken sent : List model.Packet) (held : List Packet) → AllByRecursion (IsFramed schema) taken → AllByRecursion (IsFramed schema) sent → AllByRecursion HoldsBytes (packets_of schema taken) → packets_of schema sent ≡ packets_of schema taken ++ held
-      → IsFront schema sent taken held
-  front [] sent held framed framed' bytes same = record { waiting = sent; is = refl; held_is = sym same }
-  front (t ∷ ts) [] held framed framed' bytes same = cc
-  front (t ∷ ts) (s ∷ ss) held framed framed' bytes same =
-      let first : s ≡ t = one-packet s t framed'.0 framed.0 bytes.0 (ap (head-of Broken) same) in
-      let f : IsFront schema ss ts held = front ts ss held framed.1 framed'.1 bytes.1 (ap rest-of same) in
+  -- what was popped is read as a front of what was sent
+  front : (popped : List Packet) (sent : List model.Packet) (held : List Packet) → AllByRecursion (IsReadBack schema) popped → AllByRecursion (IsFramed schema) sent → packets_of schema sent ≡ popped ++ held → IsFront schema sent (map read popped) held
+  front [] sent held reads framed same = record { waiting = sent; is = refl; held_is = sym same }
+  front (p ∷ ps) [] held reads framed same = cc
+  front (p ∷ ps) (s ∷ ss) held reads framed same =
+      let first : read p ≡ s = ap came_by (reads.0 s framed.0 (sym (ap (head-of Broken) same))) in
+      let f : IsFront schema ss (map read ps) held = front ps ss held reads.1 framed.1 (ap rest-of same) in
       record {
         waiting = f.waiting;
-        is = ap (λ (p : model.Packet). p ∷ ss) first ∙ ap (λ (ps : List model.Packet). t ∷ ps) f.is;
+        is = ap (λ (p : model.Packet). p ∷ ss) (sym first) ∙ ap (λ (ps : List model.Packet). read p ∷ ps) f.is;
         held_is = f.held_is;
       }
 
@@ -123,8 +88,7 @@ module _ (setting : Setting) where
     taken-front : (in_hands hands_there : List model.Packet) (here : Stands setting side pushed popped half in_hands) (there : Stands setting other_side pushed_there popped_there half_there hands_there) (held : List Packet) → pushed_there ≡ popped ++ held
         → IsFront setting.schema there.state.sent (here.state.came ++ in_hands) held
     taken-front in_hands hands_there here there held order =
-        front setting.schema here.goes.sound (here.state.came ++ in_hands) there.state.sent held here.pops.framed there.goes.framed (subst (AllByRecursion HoldsBytes) here.pops.is here.pops.bytes)
-        (sym there.pushes ∙ (order ∙ ap (λ (ps : List Packet). ps ++ held) here.pops.is))
+        subst (λ (ps : List model.Packet). IsFront setting.schema there.state.sent ps held) (sym here.pops.is) (front setting.schema popped there.state.sent held here.pops.reads there.goes.framed (sym there.pushes ∙ order))
 
   module _ (parent child : HalfView) (down up : PacketView) (down_order : IsOrdered down) (up_order : IsOrdered up) where
     module _ (parent_hands child_hands : List model.Packet) (p : Stands setting sides.Parent down.pushed up.popped parent parent_hands) (c : Stands setting sides.Child up.pushed down.popped child child_hands) where

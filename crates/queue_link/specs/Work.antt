@@ -1,12 +1,14 @@
 -- How a side stands that works with two queues: it pushes what its half sends, and pops what comes to it.
-use Rattle.std.specs.Prelude.{◌≡◌, ◌⊎◌, Bool, true, false, is_some, List, [], ◌∷◌, ◌++◌, None}
+use Rattle.std.specs.Prelude.{◌≡◌, ◌⊎◌, Bool, true, false, is_some, List, [], ◌∷◌, ◌++◌, map, None}
 use Rattle.std.specs.List.{AllByRecursion}
 use Rattle.ipdl_base.specs.declared.kinds.Side.{Side}
 use Rattle.ipdl_base.specs.declared.kinds.Side.TheVariants as sides
-use Rattle.channel_core.specs.EndView.{IsFramed, packets_of}
+use Rattle.channel_core.specs.EndView.{IsFramed, packet_of, packets_of}
 use Rattle.channel_model.specs.Ends as model
 use Rattle.channel_model.specs.Outputs.{is_open}
 use Rattle.end_parts.specs.declared.packet.Packet.{Packet}
+use Rattle.end_parts.specs.PacketReading.{carried, packet_read}
+use Rattle.ipdl_base.specs.declared.schema.Schema.{Schema}
 use Rattle.ordered_queue.specs.declared.view.PassView.{PassView}
 use Rattle.relay_runs.specs.HalfRuns.{HalfState, is_within, own_event}
 use Rattle.relay_runs.specs.Relays.{Relayed}
@@ -19,17 +21,19 @@ use Rattle.world_core.specs.declared.answers.RunAnswer.TheVariants as run
 use Rattle.world_core.specs.declared.answers.StepAnswer.{StepAnswer}
 use Rattle.world_core.specs.declared.answers.StepAnswer.TheVariants as answer
 use Rattle.world_core.specs.HalfView.{HalfView}
-use Rattle.world_core.specs.LinkView.{HoldsBytes}
-use Rattle.world_core.specs.Relaying.{GoesApart}
+use Rattle.world_core.specs.Relaying.{GoesApart, came_by}
 
 abbrev pub PacketView : Type 0
 PacketView = PassView Packet
 
--- What was popped is these packets, each of which has a frame.
+-- where a packet is that of something that has a frame, it is read as that
+abbrev pub IsReadBack : Schema → Packet → Type 0
+IsReadBack schema packet = (carries : model.Packet) → IsFramed schema carries → packet ≡ packet_of schema carries → packet_read schema packet ≡ carried carries
+
+-- What was popped is read as these packets; what has the frame of something is read as that.
 pub record HasTaken (setting : Setting) (popped : List Packet) (taken : List model.Packet) : Type 0 where
-  pub is : popped ≡ packets_of setting.schema taken
-  pub framed : AllByRecursion (IsFramed setting.schema) taken
-  pub bytes : AllByRecursion HoldsBytes popped
+  pub is : taken ≡ map (λ packet. came_by (packet_read setting.schema packet)) popped
+  pub reads : AllByRecursion (IsReadBack setting.schema) popped
 
 -- A half goes apart. It has handed out what was pushed, and what was popped has come to it.
 pub record HandsOver (setting : Setting) (side : Side) (pushed popped : List Packet) (half : HalfView) : Type 0 where

@@ -4,45 +4,24 @@ ghost use Rattle.channel_model.specs.Outputs.{is_open};
 ghost use Rattle.end_parts.specs.declared.packet.Packet.{Packet as OfPacket};
 ghost use Rattle.ipdl_base.specs.declared.kinds.Side.{Side as EndSide};
 ghost use Rattle.ordered_queue.specs.Passes.{HasPopped, HasPushed, MayPop, MayPush, view_of};
-ghost use Rattle.queue_link.specs.Packets.{IsPacketOf};
 ghost use Rattle.queue_link.specs.Work.{DeliveryGives, HandsOver, HasNoStep, IsAtWork, OwnGives, PushGives, StepGives, TakeGives};
 ghost use Rattle.script_steps.specs.Choices.{Setting};
-ghost use Rattle.value_codec.specs.Laws.{AreBytes};
-ghost use Rattle.world_core.specs.LinkView.{HoldsBytes};
 
-use crate::packets::{Framing, PacketPass, PacketQueue};
+use crate::packets::{PacketPass, PacketQueue};
 use channel_core::Packet;
 use std::alloc::AllocError;
 use std::sync::Wait;
 use world_core::{AcceptAnswer, Half, StepAnswer};
 
-// Each element of a slice is a byte.
-fn are_bytes(bytes: &[u8])
-    ensures { AreBytes bytes.now }
-{
-    let _length = bytes.len();
-}
-
-// Each element of a frame is a byte.
-fn holds_bytes(packet: &Packet)
-    ensures { HoldsBytes packet.now }
-{
-    match packet {
-        Packet::Bytes(frame) => are_bytes(frame.as_slice()),
-        Packet::Broken => {}
-    }
-}
-
 // Pushes the next packet that the half has not handed out, and says whether there was one. The only
 // error is want of memory.
-fn push_next<S: Framing, R: Wait>(
+fn push_next<R: Wait>(
     rt: &R,
-    queue: &PacketQueue<S>,
+    queue: &PacketQueue,
     pass: &mut PacketPass,
     half: &mut Half<'_>,
 ) -> Result<bool, AllocError>
     ghost at: { Setting × EndSide }
-    requires schema { at.0.schema ≡ S.schema }
     requires pass { MayPush queue.now.queue pass.old }
     requires hands { (popped : List OfPacket) × HandsOver at.0 at.1 (view_of pass.old).pushed popped half.old }
     ensures pass { HasPushed queue.now.queue pass.old pass.new }
@@ -51,20 +30,18 @@ fn push_next<S: Framing, R: Wait>(
     let Some(packet) = half.put() else {
         return Ok(false);
     };
-    holds_bytes(&packet);
     queue.push(rt, pass, packet)?;
     Ok(true)
 }
 
 // Pushes all packets that the half has not handed out. The only error is want of memory.
-fn hand_over<S: Framing, R: Wait>(
+fn hand_over<R: Wait>(
     rt: &R,
-    queue: &PacketQueue<S>,
+    queue: &PacketQueue,
     pass: &mut PacketPass,
     half: &mut Half<'_>,
 ) -> Result<(), AllocError>
     ghost at: { Setting × EndSide }
-    requires schema { at.0.schema ≡ S.schema }
     requires pass { MayPush queue.now.queue pass.old }
     requires hands { (popped : List OfPacket) × HandsOver at.0 at.1 (view_of pass.old).pushed popped half.old }
     ensures pass { HasPushed queue.now.queue pass.old pass.new }
@@ -100,26 +77,23 @@ fn accept(half: &mut Half<'_>, packet: &Packet) -> AcceptAnswer
     ghost at: { Setting × EndSide }
     requires rests { (pushed : List OfPacket) × (popped : List OfPacket) × HasNoStep at.0 at.1 pushed popped half.old }
     requires open { is_open half.old.end.end.state ≡ true }
-    requires packet { IsPacketOf at.0.schema packet.now }
     ensures { (pushed popped : List OfPacket) → HasNoStep at.0 at.1 pushed popped half.old → DeliveryGives at.0 at.1 pushed (popped ++ packet.now ∷ []) result half.new }
 {
     half.accept(packet)
 }
 
 // The delivery of a packet to an open half that has no own step.
-fn deliver<S: Framing, R: Wait>(
+fn deliver<R: Wait>(
     rt: &R,
-    queue: &PacketQueue<S>,
+    queue: &PacketQueue,
     pass: &mut PacketPass,
     half: &mut Half<'_>,
     packet: &Packet,
 ) -> StepAnswer
     ghost at: { Setting × EndSide }
-    requires schema { at.0.schema ≡ S.schema }
     requires pass { MayPush queue.now.queue pass.old }
     requires rests { (popped : List OfPacket) × HasNoStep at.0 at.1 (view_of pass.old).pushed popped half.old }
     requires open { is_open half.old.end.end.state ≡ true }
-    requires packet { IsPacketOf at.0.schema packet.now }
     ensures pass { HasPushed queue.now.queue pass.old pass.new }
     ensures gives { (popped : List OfPacket) → HasNoStep at.0 at.1 (view_of pass.old).pushed popped half.old → TakeGives at.0 at.1 (view_of pass.new).pushed (popped ++ packet.now ∷ []) result half.new }
 {
@@ -132,16 +106,15 @@ fn deliver<S: Framing, R: Wait>(
 }
 
 // The delivery of the next packet to a half that has no own step.
-fn take<S: Framing, R: Wait>(
+fn take<R: Wait>(
     rt: &R,
-    out: &PacketQueue<S>,
-    incoming: &PacketQueue<S>,
+    out: &PacketQueue,
+    incoming: &PacketQueue,
     pushing: &mut PacketPass,
     popping: &mut PacketPass,
     half: &mut Half<'_>,
 ) -> StepAnswer
     ghost at: { Setting × EndSide }
-    requires schema { at.0.schema ≡ S.schema }
     requires pushing { MayPush out.now.queue pushing.old }
     requires popping { MayPop incoming.now.queue popping.old }
     requires rests { HasNoStep at.0 at.1 (view_of pushing.old).pushed (view_of popping.old).popped half.old }
@@ -161,16 +134,15 @@ fn take<S: Framing, R: Wait>(
 /// One step of a half: its own, or else, while its end is open, the delivery of the packet that comes
 /// next. What it sends by it is pushed. `Nothing` comes where it has neither, and `Spent` where it has
 /// one but as many events as it may have.
-pub fn step<S: Framing, R: Wait>(
+pub fn step<R: Wait>(
     rt: &R,
-    out: &PacketQueue<S>,
-    incoming: &PacketQueue<S>,
+    out: &PacketQueue,
+    incoming: &PacketQueue,
     pushing: &mut PacketPass,
     popping: &mut PacketPass,
     half: &mut Half<'_>,
 ) -> StepAnswer
     ghost at: { Setting × EndSide }
-    requires schema { at.0.schema ≡ S.schema }
     requires pushing { MayPush out.now.queue pushing.old }
     requires popping { MayPop incoming.now.queue popping.old }
     requires work { IsAtWork at.0 at.1 (view_of pushing.old).pushed (view_of popping.old).popped half.old }

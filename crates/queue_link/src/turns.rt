@@ -5,7 +5,7 @@ ghost use Rattle.ordered_queue.specs.Passes.{MayBoth, view_of};
 ghost use Rattle.queue_link.specs.Work.{AreAtWork, BothEnd, RoundGives, is_over, of_round};
 ghost use Rattle.script_steps.specs.Choices.{Setting};
 
-use crate::packets::{Framing, PacketPass, PacketQueue};
+use crate::packets::{PacketPass, PacketQueue};
 use crate::steps::step;
 use std::sync::Wait;
 use world_core::{Half, RunAnswer, StepAnswer};
@@ -31,17 +31,16 @@ fn of_round(first: StepAnswer, second: StepAnswer) -> StepAnswer
 }
 
 // A step of each side, the parent's first. `Nothing` comes where neither has anything to do.
-fn round<S: Framing, R: Wait>(
+fn round<R: Wait>(
     rt: &R,
-    down: &PacketQueue<S>,
-    up: &PacketQueue<S>,
+    down: &PacketQueue,
+    up: &PacketQueue,
     to_child: &mut PacketPass,
     to_parent: &mut PacketPass,
     parent: &mut Half<'_>,
     child: &mut Half<'_>,
 ) -> StepAnswer
     ghost at: { Setting }
-    requires schema { at.schema ≡ S.schema }
     requires to_child { MayBoth down.now.queue to_child.old }
     requires to_parent { MayBoth up.now.queue to_parent.old }
     requires work { AreAtWork at (view_of to_child.old) (view_of to_parent.old) parent.old child.old }
@@ -58,17 +57,16 @@ fn round<S: Framing, R: Wait>(
 }
 
 /// Steps of both sides in turn, until neither has anything to do.
-pub fn take_turns<S: Framing, R: Wait>(
+pub fn take_turns<R: Wait>(
     rt: &R,
-    down: &PacketQueue<S>,
-    up: &PacketQueue<S>,
+    down: &PacketQueue,
+    up: &PacketQueue,
     to_child: &mut PacketPass,
     to_parent: &mut PacketPass,
     parent: &mut Half<'_>,
     child: &mut Half<'_>,
 ) -> RunAnswer
     ghost at: { Setting }
-    requires schema { at.schema ≡ S.schema }
     requires to_child { MayBoth down.now.queue to_child.old }
     requires to_parent { MayBoth up.now.queue to_parent.old }
     requires work { AreAtWork at (view_of to_child.old) (view_of to_parent.old) parent.old child.old }

@@ -3,11 +3,9 @@ ghost use Rattle.std.specs.Thread.{IsSync};
 ghost use Rattle.world_core.specs.Relaying.{IsRelayed};
 ghost use Rattle.world_core.specs.WorldView.{opening_of};
 
-use crate::packets::Framing;
 use crate::workers::run_apart;
 use gates::Gate;
 use std::alloc::Global;
-use std::marker::Brand;
 use std::sync::Wait;
 use std::thread::Threads;
 use world_core::{Halves, Relay, RunAnswer, World};
@@ -43,23 +41,22 @@ impl<'r, R: Threads + Wait + Sync + AllocGlobal, G: Gate + Sync> Relay for TwoQu
     ghost ready = { λ _. IsSync R.row × IsSync G.row };
 
     fn run_queues<'s>(&mut self, world: World<'s>) -> (Halves, RunAnswer) {
-        run_world::<Brand, R, G>(self.rt, self.rt.alloc(), &self.gate, world)
+        run_world(self.rt, self.rt.alloc(), &self.gate, world)
     }
 }
 
-// The run of a world whose packets are framed so.
-fn run_world<'s, S: Framing + Send + Sync, R: Threads + Wait + Sync, G: Gate + Sync>(
+// The run of a world over two queues.
+fn run_world<'s, R: Threads + Wait + Sync, G: Gate + Sync>(
     rt: &R,
     alloc: Global,
     gate: &G,
     world: World<'s>,
 ) -> (Halves, RunAnswer)
-    requires schema { world.setting.schema ≡ S.schema }
     requires opening { world ≡ opening_of world.setting }
     ensures { IsRelayed world.entry.setting result.0 result.1 }
 {
     let (mut parent, mut child) = world.into_halves();
-    let answer = run_apart::<S, R, G>(rt, alloc, gate, &mut parent, &mut child);
+    let answer = run_apart(rt, alloc, gate, &mut parent, &mut child);
     let halves = Halves {
         parent: parent.into_lines(),
         child: child.into_lines(),

@@ -11,7 +11,7 @@ ghost use Rattle.script_steps.specs.Choices.{Setting};
 ghost use Rattle.world_core.specs.HalfView.{setting_of};
 ghost use Rattle.world_core.specs.Relaying.{GoesApart};
 
-use crate::packets::{Framing, PacketPass, PacketQueue};
+use crate::packets::{PacketPass, PacketQueue};
 use crate::steps::step;
 use crate::turns::take_turns;
 use gates::Gate;
@@ -22,18 +22,17 @@ use std::thread::{Threads, join_mut};
 use world_core::{Half, RunAnswer, StepAnswer};
 
 // Steps of one side, until it has nothing to do. It passes the gate before each step of its own.
-fn work_on<S: Framing, R: Wait, G: Gate>(
+fn work_on<R: Wait, G: Gate>(
     rt: &R,
     gate: &G,
     side: Side,
-    out: &PacketQueue<S>,
-    incoming: &PacketQueue<S>,
+    out: &PacketQueue,
+    incoming: &PacketQueue,
     pushing: &mut PacketPass,
     popping: &mut PacketPass,
     half: &mut Half<'_>,
 ) -> RunAnswer
     ghost at: { Setting × EndSide }
-    requires schema { at.0.schema ≡ S.schema }
     requires pushing { MayPush out.now.queue pushing.old }
     requires popping { MayPop incoming.now.queue popping.old }
     requires work { IsAtWork at.0 at.1 (view_of pushing.old).pushed (view_of popping.old).popped half.old }
@@ -58,17 +57,16 @@ fn work_on<S: Framing, R: Wait, G: Gate>(
 }
 
 // The same, of the run that the half is about.
-fn work<S: Framing, R: Wait, G: Gate>(
+fn work<R: Wait, G: Gate>(
     rt: &R,
     gate: &G,
     side: Side,
-    out: &PacketQueue<S>,
-    incoming: &PacketQueue<S>,
+    out: &PacketQueue,
+    incoming: &PacketQueue,
     pushing: &mut PacketPass,
     popping: &mut PacketPass,
     half: &mut Half<'_>,
 ) -> RunAnswer
-    requires schema { (setting_of half.old).schema ≡ S.schema }
     requires pushing { MayPush out.now.queue pushing.old }
     requires popping { MayPop incoming.now.queue popping.old }
     requires work { IsAtWork (setting_of half.old) side (view_of pushing.old).pushed (view_of popping.old).popped half.old }
@@ -91,11 +89,11 @@ fn of_both(first: RunAnswer, second: RunAnswer) -> RunAnswer
 }
 
 // The work of both sides, each on a thread of its own.
-fn work_both<'b, 'c, S: Framing + Send + Sync, R: Threads + Wait + Sync, G: Gate + Sync>(
+fn work_both<'b, 'c, R: Threads + Wait + Sync, G: Gate + Sync>(
     rt: &R,
     gate: &G,
-    down: &PacketQueue<S>,
-    up: &PacketQueue<S>,
+    down: &PacketQueue,
+    up: &PacketQueue,
     pushing_down: &mut PacketPass,
     popping_up: &mut PacketPass,
     pushing_up: &mut PacketPass,
@@ -103,7 +101,6 @@ fn work_both<'b, 'c, S: Framing + Send + Sync, R: Threads + Wait + Sync, G: Gate
     parent: &mut Half<'b>,
     child: &mut Half<'c>,
 ) -> (RunAnswer, RunAnswer)
-    requires schema { ((setting_of parent.old).schema ≡ S.schema) × ((setting_of child.old).schema ≡ S.schema) }
     requires down { MayPush down.now.queue pushing_down.old × (MayPop down.now.queue popping_down.old) }
     requires up { MayPush up.now.queue pushing_up.old × (MayPop up.now.queue popping_up.old) }
     requires parent { IsAtWork (setting_of parent.old) sides.Parent (view_of pushing_down.old).pushed (view_of popping_up.old).popped parent.old }
@@ -116,11 +113,11 @@ fn work_both<'b, 'c, S: Framing + Send + Sync, R: Threads + Wait + Sync, G: Gate
     let (first, second) = join_mut(
         rt,
         &mut || -> RunAnswer
-            requires { ((setting_of parent.now).schema ≡ S.schema) × (MayPush down.now.queue pushing_down.now) × (MayPop up.now.queue popping_up.now) × IsAtWork (setting_of parent.now) sides.Parent (view_of pushing_down.now).pushed (view_of popping_up.now).popped parent.now }
+            requires { (MayPush down.now.queue pushing_down.now) × (MayPop up.now.queue popping_up.now) × IsAtWork (setting_of parent.now) sides.Parent (view_of pushing_down.now).pushed (view_of popping_up.now).popped parent.now }
             ensures { (HasPushed down.entry.now.queue pushing_down.entry.now pushing_down.exit.now) × (HasPopped up.entry.now.queue popping_up.entry.now popping_up.exit.now) × WorkEnds (setting_of parent.entry.now) sides.Parent (view_of pushing_down.exit.now).pushed (view_of popping_up.exit.now).popped result parent.exit.now }
         { work(rt, gate, Side::Parent, down, up, pushing_down, popping_up, parent) },
         &mut || -> RunAnswer
-            requires { ((setting_of child.now).schema ≡ S.schema) × (MayPush up.now.queue pushing_up.now) × (MayPop down.now.queue popping_down.now) × IsAtWork (setting_of child.now) sides.Child (view_of pushing_up.now).pushed (view_of popping_down.now).popped child.now }
+            requires { (MayPush up.now.queue pushing_up.now) × (MayPop down.now.queue popping_down.now) × IsAtWork (setting_of child.now) sides.Child (view_of pushing_up.now).pushed (view_of popping_down.now).popped child.now }
             ensures { (HasPushed up.entry.now.queue pushing_up.entry.now pushing_up.exit.now) × (HasPopped down.entry.now.queue popping_down.entry.now popping_down.exit.now) × WorkEnds (setting_of child.entry.now) sides.Child (view_of pushing_up.exit.now).pushed (view_of popping_down.exit.now).popped result child.exit.now }
         { work(rt, gate, Side::Child, up, down, pushing_up, popping_down, child) },
     );
@@ -128,18 +125,17 @@ fn work_both<'b, 'c, S: Framing + Send + Sync, R: Threads + Wait + Sync, G: Gate
 }
 
 // The work of both halves as they begin, at once, over new queues whose passes come back whole.
-fn work_at_once<S: Framing + Send + Sync, R: Threads + Wait + Sync, G: Gate + Sync>(
+fn work_at_once<R: Threads + Wait + Sync, G: Gate + Sync>(
     rt: &R,
     gate: &G,
-    down: &PacketQueue<S>,
-    up: &PacketQueue<S>,
+    down: &PacketQueue,
+    up: &PacketQueue,
     to_child: &mut PacketPass,
     to_parent: &mut PacketPass,
     parent: &mut Half<'_>,
     child: &mut Half<'_>,
 ) -> RunAnswer
     ghost at: { Setting }
-    requires schema { at.schema ≡ S.schema }
     requires to_child { IsSegPassOf down.now.queue to_child.old × (view_of to_child.old ≡ first_view) }
     requires to_parent { IsSegPassOf up.now.queue to_parent.old × (view_of to_parent.old ≡ first_view) }
     requires parent { GoesApart at sides.Parent (opening_half at sides.Parent) [] parent.old }
@@ -168,10 +164,10 @@ fn work_at_once<S: Framing + Send + Sync, R: Threads + Wait + Sync, G: Gate + Sy
 }
 
 // Steps of both in turn, where both worked to their ends and neither is spent.
-fn end_in_turn<S: Framing, R: Wait>(
+fn end_in_turn<R: Wait>(
     rt: &R,
-    down: &PacketQueue<S>,
-    up: &PacketQueue<S>,
+    down: &PacketQueue,
+    up: &PacketQueue,
     to_child: &mut PacketPass,
     to_parent: &mut PacketPass,
     parent: &mut Half<'_>,
@@ -179,7 +175,6 @@ fn end_in_turn<S: Framing, R: Wait>(
     worked: RunAnswer,
 ) -> RunAnswer
     ghost at: { Setting }
-    requires schema { at.schema ≡ S.schema }
     requires to_child { MayBoth down.now.queue to_child.old }
     requires to_parent { MayBoth up.now.queue to_parent.old }
     requires worked { BothWorked at (view_of to_child.old) (view_of to_parent.old) worked parent.old child.old }
@@ -194,7 +189,7 @@ fn end_in_turn<S: Framing, R: Wait>(
 }
 
 // What the pass of a queue has popped and then what the queue holds is what it has pushed.
-fn see_order<S: Framing, R: Wait>(rt: &R, queue: &PacketQueue<S>, pass: &mut PacketPass)
+fn see_order<R: Wait>(rt: &R, queue: &PacketQueue, pass: &mut PacketPass)
     requires { MayBoth queue.now.queue pass.old }
     ensures same { view_of pass.new ≡ view_of pass.old }
     ensures order { IsOrdered (view_of pass.old) }
@@ -203,16 +198,15 @@ fn see_order<S: Framing, R: Wait>(rt: &R, queue: &PacketQueue<S>, pass: &mut Pac
 }
 
 // The run of both halves over queues as they begin.
-fn run_over<S: Framing + Send + Sync, R: Threads + Wait + Sync, G: Gate + Sync>(
+fn run_over<R: Threads + Wait + Sync, G: Gate + Sync>(
     rt: &R,
     gate: &G,
-    down: (PacketQueue<S>, PacketPass),
-    up: (PacketQueue<S>, PacketPass),
+    down: (PacketQueue, PacketPass),
+    up: (PacketQueue, PacketPass),
     parent: &mut Half<'_>,
     child: &mut Half<'_>,
 ) -> RunAnswer
     ghost at: { Setting }
-    requires schema { at.schema ≡ S.schema }
     requires down { IsSegPassOf down.0.queue down.1 × (view_of down.1 ≡ first_view) }
     requires up { IsSegPassOf up.0.queue up.1 × (view_of up.1 ≡ first_view) }
     requires parent { GoesApart at sides.Parent (opening_half at sides.Parent) [] parent.old }
@@ -229,7 +223,7 @@ fn run_over<S: Framing + Send + Sync, R: Threads + Wait + Sync, G: Gate + Sync>(
 }
 
 /// The run of both halves as they begin, at once over two queues, and then in turn to the end.
-pub fn run_apart<S: Framing + Send + Sync, R: Threads + Wait + Sync, G: Gate + Sync>(
+pub fn run_apart<R: Threads + Wait + Sync, G: Gate + Sync>(
     rt: &R,
     alloc: Global,
     gate: &G,
@@ -237,15 +231,14 @@ pub fn run_apart<S: Framing + Send + Sync, R: Threads + Wait + Sync, G: Gate + S
     child: &mut Half<'_>,
 ) -> RunAnswer
     ghost at: { Setting }
-    requires schema { at.schema ≡ S.schema }
     requires parent { GoesApart at sides.Parent (opening_half at sides.Parent) [] parent.old }
     requires child { GoesApart at sides.Child (opening_half at sides.Child) [] child.old }
     ensures { EndsRelay at result parent.new child.new }
 {
-    let Ok(down) = PacketQueue::<S>::new(alloc) else {
+    let Ok(down) = PacketQueue::new(alloc) else {
         return RunAnswer::NoMemory;
     };
-    let Ok(up) = PacketQueue::<S>::new(alloc) else {
+    let Ok(up) = PacketQueue::new(alloc) else {
         return RunAnswer::NoMemory;
     };
     run_over(rt, gate, down, up, parent, child)

@@ -1,4 +1,0 @@
-use Rattle.queue_link.proofs.steps.accept.Given as goal
-
-abbrev pub ghost-accept : goal.ghost-accept
-ghost-accept g a = g.at
