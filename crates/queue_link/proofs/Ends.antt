@@ -67,18 +67,18 @@ none-mapped f (x ∷ xs) e = cc
 
 -- Whether something is left to do
 
-nothing-left : (own open next : Bool) → own ≡ false → (open ≡ false) ⊎ (next ≡ false) → own || open && next ≡ false
-nothing-left true open next h e = cc
+nothing-left : (own opened next : Bool) → own ≡ false → (opened ≡ false) ⊎ (next ≡ false) → own || opened && next ≡ false
+nothing-left true opened next h e = cc
 nothing-left false false next h e = refl
 nothing-left false true next h (inl e) = cc
 nothing-left false true next h (inr e) = e
 
-own-left : (own open next : Bool) → own ≡ true → own || open && next ≡ true
-own-left true open next h = refl
-own-left false open next h = cc
+own-left : (own opened next : Bool) → own ≡ true → own || opened && next ≡ true
+own-left true opened next h = refl
+own-left false opened next h = cc
 
-packet-left : (own open next : Bool) → open ≡ true → next ≡ true → own || open && next ≡ true
-packet-left true open next h e = refl
+packet-left : (own opened next : Bool) → opened ≡ true → next ≡ true → own || opened && next ≡ true
+packet-left true opened next h e = refl
 packet-left false true next h e = e
 packet-left false false next h e = cc
 

@@ -96,10 +96,10 @@ module _ (setting : Setting) where
           cc
 
       pub delivery-gives : is_open half.end.end.state ≡ true → (result : AcceptAnswer) → AcceptGives setting side rest.work.state rest.work.state.sent (packet_read setting.schema packet) result half' → DeliveryGives setting side pushed (popped ++ packet ∷ []) result half'
-      delivery-gives open accept.Did gives = accepted gives.1
-      delivery-gives open accept.Refused gives = accepted gives.1
-      delivery-gives open accept.Nothing gives = not-both (is_open rest.work.state.end.state) (opened rest open) gives.0
-      delivery-gives open (accept.Spent at) gives = (
+      delivery-gives opens accept.Did gives = accepted gives.1
+      delivery-gives opens accept.Refused gives = accepted gives.1
+      delivery-gives opens accept.Nothing gives = not-both (is_open rest.work.state.end.state) (opened rest opens) gives.0
+      delivery-gives opens (accept.Spent at) gives = (
         gives.2,
         record {
           in_hands = read packet ∷ [];
@@ -108,7 +108,7 @@ module _ (setting : Setting) where
           left = inr (read packet, refl, gives.0);
         },
       )
-      delivery-gives open accept.NoMemory gives = tt
+      delivery-gives opens accept.NoMemory gives = tt
 
     -- a half that is not open rests
     pub shut-rests : (rest : HasNoStep setting side pushed popped half) → is_open half.end.end.state ≡ false → is_open rest.work.state.end.state ≡ false

@@ -76,7 +76,7 @@ fn go_on(half: &mut Half<'_>) -> StepAnswer
 fn accept(half: &mut Half<'_>, packet: &Packet) -> AcceptAnswer
     ghost at: { Setting × EndSide }
     requires rests { (pushed : List OfPacket) × (popped : List OfPacket) × HasNoStep at.0 at.1 pushed popped half.old }
-    requires open { is_open half.old.end.end.state ≡ true }
+    requires opened { is_open half.old.end.end.state ≡ true }
     ensures { (pushed popped : List OfPacket) → HasNoStep at.0 at.1 pushed popped half.old → DeliveryGives at.0 at.1 pushed (popped ++ packet.now ∷ []) result half.new }
 {
     half.accept(packet)
@@ -93,7 +93,7 @@ fn deliver<R: Wait>(
     ghost at: { Setting × EndSide }
     requires pass { MayPush queue.now.queue pass.old }
     requires rests { (popped : List OfPacket) × HasNoStep at.0 at.1 (view_of pass.old).pushed popped half.old }
-    requires open { is_open half.old.end.end.state ≡ true }
+    requires opened { is_open half.old.end.end.state ≡ true }
     ensures pass { HasPushed queue.now.queue pass.old pass.new }
     ensures gives { (popped : List OfPacket) → HasNoStep at.0 at.1 (view_of pass.old).pushed popped half.old → TakeGives at.0 at.1 (view_of pass.new).pushed (popped ++ packet.now ∷ []) result half.new }
 {
