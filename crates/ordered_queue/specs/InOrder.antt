@@ -1,6 +1,5 @@
 -- The rule of a queue that is in order, and what its passes know of it.
 use Rattle.std.specs.Prelude.{◌≡◌, ℕ, Bool, true, false, List, [], ◌∷◌, ◌++◌}
-use Rattle.std.specs.List.{AllByRecursion}
 use mathlib.Core.Option.{some}
 use lib.ListN.{get_elem?}
 use Rattle.ordered_queue.specs.declared.view.PassView.{PassView}
@@ -41,14 +40,13 @@ module _ {T : Type 0} where
   PopsAt popper popped pass view = view.pops ≡ true → (pass ≡ popper) × (view.popped ≡ popped)
 
   -- What was popped and then what the queue holds is what was pushed. One pass at most may push, and knows all that was
-  -- pushed; and so with pops. Something is true of each value that the queue holds.
-  pub record IsInOrder (Fit : T → Type 0) (held : List T) (views : List (PassView T)) : Type 0 where
+  -- pushed; and so with pops.
+  pub record IsInOrder (held : List T) (views : List (PassView T)) : Type 0 where
     pub pusher : ℕ
     pub popper : ℕ
     pub pushed : List T
     pub popped : List T
     pub order : pushed ≡ popped ++ held
-    pub fit : AllByRecursion Fit held
     pub seen : (pass : ℕ) (view : PassView T) → get_elem? views pass ≡ some view → PushesAt pusher pushed pass view × PopsAt popper popped pass view
 
   -- a pass that may push and pop knows what the queue holds

@@ -6,4 +6,4 @@ mod queue;
 mod view;
 
 pub use queue::{OrderedQueue, QueuePass};
-pub use view::{Contents, PassView};
+pub use view::PassView;

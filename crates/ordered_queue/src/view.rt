@@ -1,11 +1,5 @@
 use crossbeam_queue::protocol::{Join, Lesson, Outcome, Protocol, Split};
 use std::collections::LinkedList;
-use std::marker::PhantomData;
-
-/// What is true of each value of a queue.
-pub trait Contents<T> {
-    ghost fit: { T → Type 0 };
-}
 
 /// What a pass knows: whether it may push and pop, and what was pushed and popped with it, the oldest
 /// first. No value of it is made.
@@ -17,14 +11,12 @@ pub struct PassView<T> {
 }
 
 /// The rule of a queue.
-pub struct InOrder<B> {
-    of: PhantomData<B>,
-}
+pub struct InOrder;
 
-impl<T, B: Contents<T>> Protocol<T, PassView<T>> for InOrder<B> {
+impl<T> Protocol<T, PassView<T>> for InOrder {
     ghost use Rattle.ordered_queue.specs.InOrder.{IsInOrder, first_view};
 
-    ghost holds = { IsInOrder B.fit };
+    ghost holds = { IsInOrder };
 
     ghost first = { first_view };
 }
@@ -61,19 +53,17 @@ impl<T> Outcome<T, PassView<T>> for Pushed {
     ghost then = { λ v x w. w ≡ with_pushed v x };
 }
 
-/// A value was popped, of which the same is true as of each; or the queue held nothing.
-pub struct Popped<B> {
-    of: PhantomData<B>,
-}
+/// A value was popped, or the queue held nothing.
+pub struct Popped;
 
-impl<T, B: Contents<T>> Outcome<T, PassView<T>> for Popped<B> {
+impl<T> Outcome<T, PassView<T>> for Popped {
     ghost use Rattle.std.specs.Prelude.{◌≡◌};
     ghost use Rattle.ordered_queue.specs.InOrder.{with_popped};
 
-    ghost then = { λ v x w. B.fit x × (w ≡ with_popped v x) };
+    ghost then = { λ v x w. w ≡ with_popped v x };
 }
 
-impl<T, B: Contents<T>> Lesson<T, PassView<T>> for Popped<B> {
+impl<T> Lesson<T, PassView<T>> for Popped {
     ghost use Rattle.ordered_queue.specs.InOrder.{Knows};
 
     ghost fact = { Knows };

@@ -18,7 +18,7 @@ use Rattle.channel_model.specs.Refusals.{DeliveryRefusal, packet_refusal}
 use Rattle.channel_model.specs.Steps.{provided, step}
 use Rattle.channel_model.proofs.StepParts.{EachPartKeeps, parts-keep}
 use Rattle.script_steps.specs.Choices.{Setting}
-use Rattle.relay_runs.specs.HalfRuns.{HalfRun, HalfState, StandsFor, acts, begins, gets}
+use Rattle.relay_runs.specs.HalfRuns.{HalfRun, HalfState, StandsFor, acts, begins, behind_packet, delivered_for, gets}
 use Rattle.relay_runs.specs.Laws.{MarksComeLast}
 
 -- An end that is not open stays so
@@ -39,7 +39,7 @@ first-ended (parts.refuses w is) h = h
 first-ended (parts.renames w is) h = h
 first-ended (parts.flushes opened) h = h
 first-ended (parts.sends row route vs name sent) h = h
-first-ended {e = e} (parts.answers by vs r row found may ok is) h = used-ended by e h
+first-ended {schema} {p} {e} (parts.answers by vs r row found may ok is) h = used-ended by e h
 first-ended (parts.closes opened none) h = refl
 first-ended (parts.dies opened) h = refl
 first-ended (parts.dies_silent ended alive) h = refl
@@ -113,7 +113,7 @@ told setting side _ (acts state own output run within is_own is) = by (told sett
     by (inr cut) = inr (record { before = cut.before; packet = cut.packet; came = cut.came; delivered = cut.delivered; ended = stays-ended setting.schema state.end [] own output is cut.ended })
 told setting side _ (gets state packet output run within rests opened fits is) = by (told setting side state run)
   where
-    by : IsTold state → _
+    by : IsTold state → IsTold (behind_packet state packet (delivered_for setting.schema state.end packet) output)
     by (inl same) = one-more setting.schema state packet output (packet_refusal setting.schema state.end packet) same is
     by (inr cut) = not-both (is_open state.end.state) opened cut.ended
 

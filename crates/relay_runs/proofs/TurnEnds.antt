@@ -25,9 +25,9 @@ module _ (setting : Setting) (side : Side) (state : RelayState) where
   opened = is_open (half_of side state).end.state
 
   -- nothing is left where a turn idles
-  idles-left : (own : Option Event) (open : Bool) (packet : Option Packet) → own_event setting side (half_of side state) ≡ own → opened ≡ open → next_packet side state ≡ packet
-      → relay_turn setting side state ≡ idles → (is_some own || open && is_some packet) ≡ false
-  idles-left (Some x) open packet own opens next is = absurd (led (is_within setting side (half_of side state)) _ (sym (ap (turn_by setting side state) own) ∙ is))
+  idles-left : (own : Option Event) (may : Bool) (packet : Option Packet) → own_event setting side (half_of side state) ≡ own → opened ≡ may → next_packet side state ≡ packet
+      → relay_turn setting side state ≡ idles → (is_some own || may && is_some packet) ≡ false
+  idles-left (Some x) may packet own opens next is = absurd (led (is_within setting side (half_of side state)) _ (sym (ap (turn_by setting side state) own) ∙ is))
   idles-left None false packet own opens next is = refl
   idles-left None true None own opens next is = refl
   idles-left None true (Some p) own opens next is =
@@ -38,9 +38,9 @@ module _ (setting : Setting) (side : Side) (state : RelayState) where
   idles-so is = idles-left (own_event setting side (half_of side state)) opened (next_packet side state) refl refl refl is
 
   -- and something where it exceeds the limit
-  exceeds-left : (own : Option Event) (open : Bool) (packet : Option Packet) → own_event setting side (half_of side state) ≡ own → opened ≡ open → next_packet side state ≡ packet
-      → relay_turn setting side state ≡ exceeds → ((is_some own || open && is_some packet) ≡ true) × (is_within setting side (half_of side state) ≡ false)
-  exceeds-left (Some x) open packet own opens next is = (refl, full (is_within setting side (half_of side state)) _ (sym (ap (turn_by setting side state) own) ∙ is))
+  exceeds-left : (own : Option Event) (may : Bool) (packet : Option Packet) → own_event setting side (half_of side state) ≡ own → opened ≡ may → next_packet side state ≡ packet
+      → relay_turn setting side state ≡ exceeds → ((is_some own || may && is_some packet) ≡ true) × (is_within setting side (half_of side state) ≡ false)
+  exceeds-left (Some x) may packet own opens next is = (refl, full (is_within setting side (half_of side state)) _ (sym (ap (turn_by setting side state) own) ∙ is))
   exceeds-left None false packet own opens next is =
       absurd (let e : idles ≡ exceeds = sym (ap (λ (b : Bool). if b then packet_turn setting side state (next_packet side state) else idles) opens) ∙ sym (ap (turn_by setting side state) own) ∙ is in let no : ⊥ = cc in no)
   exceeds-left None true None own opens next is =

@@ -5,7 +5,4 @@ pub mod Ends
 pub mod Seats
 pub mod HalfMeetings
 pub mod Together
-mod SentContainers
-mod SentEnds
-mod SharedScripts
 pub mod Sent

@@ -34,7 +34,7 @@ pub mark-accepted : (seen : EndView) → delivery_answer seen Broken ≡ deliver
 unfolding delivery_answer
 mark-accepted seen = ap (answer_to seen) (read-broken seen.schema Broken refl)
 
-mark-steps : (half : HalfView) (progress : Progress) (between : HalfView) → IsHalfDelivery half progress Broken between → IsHalfStep half progress (mark ∷ []) event.deliver between
+pub mark-steps : (half : HalfView) (progress : Progress) (between : HalfView) → IsHalfDelivery half progress Broken between → IsHalfStep half progress (mark ∷ []) event.deliver between
 mark-steps half progress between d =
     let same : d.carries ≡ mark = (let told = d.is_read in let known = read-broken half.end.schema Broken refl in cc) in
     subst (λ (p : Packet). IsHalfStep half progress (p ∷ []) event.deliver between) same d.steps

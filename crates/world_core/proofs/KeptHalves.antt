@@ -1,5 +1,6 @@
 -- What a half keeps that goes by itself, and what its calls make of it.
-use Rattle.std.proofs.Common.{◌≡◌, ℕ, ◌+◌, ◌*◌, ◌-◌, ◌<◌, ◌≤◌, nat_lt, Bool, true, false, not, List, [], ◌∷◌, ◌++◌, length, map, Option, Some, None, is_some, refl, sym, ap, subst, ◌∙◌, append_assoc, arith}
+use Rattle.std.proofs.Common.{◌≡◌, ℕ, ◌+◌, ◌*◌, ◌-◌, ◌<◌, ◌≤◌, nat_lt, ◌==◌, Bool, true, false, not, if◌then◌else◌, List, [], ◌∷◌, ◌++◌, length, map, Option, Some, None, is_some, refl, sym, ap, subst, ◌∙◌, append_assoc, arith}
+use Rattle.std.specs.Prelude.{MatchOption}
 use Rattle.std.specs.List.{AllByRecursion, AllZip}
 use Rattle.std.specs.Option.{option_map_or}
 use Rattle.std.proofs.lemmas.List.{append-nil, length-append, map-append}
@@ -8,6 +9,13 @@ use Rattle.ipdl_base.specs.declared.kinds.Side.{Side}
 use Rattle.ipdl_base.specs.declared.line.Line.{Line}
 use Rattle.ipdl_base.specs.declared.schema.Schema.{Schema}
 use Rattle.ipdl_base.specs.Sound.{IsSound}
+use Rattle.value_types.specs.declared.layout.TheConstants.{NEW}
+use Rattle.value_types.specs.Fits.{Fits}
+use Rattle.value_codec.proofs.Framed.{IsTold, begins_told}
+use Rattle.value_codec.specs.declared.decoding.Decoded.{Decoded}
+use Rattle.value_codec.specs.declared.decoding.Decoded.TheVariants as decoded
+use Rattle.value_codec.specs.Decoding.{FrameBegins, begins}
+use Rattle.value_codec.specs.Laws.{AreBytes}
 use Rattle.channel_model.specs.Bounds.{unsettled}
 use Rattle.channel_model.specs.Ends.{End}
 use Rattle.channel_model.specs.Ends as model
@@ -19,7 +27,8 @@ use Rattle.channel_model.specs.Refusals.{DeliveryRefusal, packet_refusal}
 use Rattle.channel_model.specs.Steps.{step}
 use Rattle.channel_model.proofs.Known.{all-append}
 use Rattle.end_parts.specs.declared.packet.Packet.{Packet}
-use Rattle.end_parts.specs.PacketReading.{carried, packet_read}
+use Rattle.end_parts.specs.declared.packet.Packet.TheVariants.{Bytes, Broken}
+use Rattle.end_parts.specs.PacketReading.{PacketContent, carried, content_decoded, faulty, packet_read}
 use Rattle.channel_core.specs.EndView.{EndView, IsFramed, packet_of, packets_of}
 use Rattle.script_runs.proofs.Changes.{end-apart}
 use Rattle.script_runs.specs.Allowed.{IsAllowed}
@@ -41,7 +50,7 @@ use Rattle.world_core.specs.HalfSteps.{IsHalfStep, IsOwnStep, MayGoOn, OwnGives,
 use Rattle.world_core.specs.HalfView.{HalfView, IsCountedBy, setting_of}
 use Rattle.world_core.specs.LinkView.{HoldsBytes}
 use Rattle.world_core.specs.Resolvers.{AreApart}
-use Rattle.world_core.specs.Relaying.{AcceptGives, DeliversFor, GoesApart, GoingGives, HasAccepted, HasActed, HasHandedOut, HasLineRoom, HasTakenOver, MayAccept, PutGives}
+use Rattle.world_core.specs.Relaying.{AcceptGives, DeliversFor, GoesApart, GoingGives, HasAccepted, HasActed, HasHandedOut, HasLineRoom, HasTakenOver, InEach, IsApart, PutGives, came_by, is_refused, own_progress}
 
 -- What is delivered of a packet that comes fits the schema, and is not refused
 
@@ -63,9 +72,23 @@ run-keeps setting side sound valid limit _ (gets state packet output run within 
     delivery-keeps setting side sound valid limit state.end state.lines state.delivered (run-keeps setting side sound valid limit state run) (delivered_for setting.schema state.end packet) output
     (given-fits setting.schema packet refusal fits) (given-accepted setting.schema state.end packet refusal refl) is (fewer (progress_of side state.lines).events setting.limit within)
 
-framed-fits : (schema : Schema) (packet : model.Packet) → IsFramed schema packet → FitsPacket schema packet
-framed-fits schema (model.message m) framed = framed.frame.fits
-framed-fits schema model.mark framed = tt
+-- what bytes carry fits the schema
+decoded-fits : (schema : Schema) (bytes : List ℕ) (size : ℕ) → AreBytes bytes → (d : Decoded) → begins NEW schema bytes ≡ d → FitsPacket schema (came_by (content_decoded size d))
+decoded-fits schema bytes size are (decoded.Frame m n) is =
+    let told : FrameBegins NEW schema bytes m n = subst (IsTold NEW schema bytes are) is (begins_told NEW schema bytes are) in
+    by (n == size) told.frame.fits
+  where
+    by : (b : Bool) → Fits schema m → FitsPacket schema (came_by (if b then carried (model.message m) else faulty n 10))
+    by true fits = fits
+    by false fits = tt
+decoded-fits schema bytes size are (decoded.Short n) is = tt
+decoded-fits schema bytes size are (decoded.Bad offset rule) is = tt
+decoded-fits schema bytes size are decoded.NoMemory is = tt
+
+pub content-fits : (schema : Schema) (packet : Packet) → HoldsBytes packet → FitsPacket schema (came_by (packet_read schema packet))
+unfolding packet_read
+content-fits schema (Bytes bytes) holds = decoded-fits schema bytes (length bytes) holds (begins NEW schema bytes) refl
+content-fits schema Broken holds = tt
 
 module _ (setting : Setting) (side : Side) (state : HalfState) (handed : List model.Packet) (half : HalfView) (goes : GoesApart setting side state handed half) where
   abbrev progress : Progress
@@ -91,6 +114,9 @@ module _ (setting : Setting) (side : Side) (state : HalfState) (handed : List mo
 
   pub side-is : half.end.end.side ≡ side
   side-is = ap (λ (e : End). e.side) goes.end ∙ state-side
+
+  pub progress-is : own_progress half ≡ progress
+  progress-is = ap (λ (s : Side). progress_of s half.history) side-is ∙ ap (progress_of side) goes.history
 
   -- What is known where it goes on
 
@@ -239,17 +265,21 @@ module _ (setting : Setting) (side : Side) (state : HalfState) (handed : List mo
   own-runs own output within is_own is =
       own-keeps setting side goes.sound goes.valid few-events state.end state.lines state.delivered keeps own output is_own is (fewer progress.events setting.limit within)
 
-  pub own-room : HasLineRoom half → (told : StepAnswer) (between : HalfView) → OwnGives half progress told between → length between.end.lines ≤ between.spare
+  -- where nothing changed there is no line to take over
+  same-room : (between : HalfView) → between ≡ half → length between.end.lines ≤ between.spare
+  same-room between same = subst (λ (v : HalfView). length v.end.lines ≤ v.spare) (sym same) (subst (λ (ls : List Line). length ls ≤ half.spare) (sym goes.no_lines) (omega arith))
+
+  own-room : HasLineRoom half → (told : StepAnswer) (between : HalfView) → OwnGives half progress told between → length between.end.lines ≤ between.spare
   own-room room answer.Did between h =
       room-for h.event [] between h.steps room state.delivered (own-runs h.event h.steps.output (sym within-is ∙ h.within) (sym next-is ∙ h.is_next) (made h.event [] between h.steps))
-  own-room room answer.Nothing between h = subst (λ (v : HalfView). length v.end.lines ≤ v.spare) (sym h.1) (subst (λ (ls : List Line). length ls ≤ half.spare) (sym goes.no_lines) (omega arith))
-  own-room room (answer.Spent at) between h = subst (λ (v : HalfView). length v.end.lines ≤ v.spare) (sym h.3) (subst (λ (ls : List Line). length ls ≤ half.spare) (sym goes.no_lines) (omega arith))
-  own-room room answer.NoMemory between h = subst (λ (v : HalfView). length v.end.lines ≤ v.spare) (sym h) (subst (λ (ls : List Line). length ls ≤ half.spare) (sym goes.no_lines) (omega arith))
+  own-room room answer.Nothing between h = same-room between h.1
+  own-room room (answer.Spent at) between h = same-room between h.3
+  own-room room answer.NoMemory between h = same-room between h
 
   same-over : (between half' : HalfView) → between ≡ half → HasTakenOver between half' → GoesApart setting side state handed half'
   same-over between half' same over = goes-over half' (subst (λ (v : HalfView). HasTakenOver v half') same over)
 
-  pub own-gives : (told : StepAnswer) (between half' : HalfView) → OwnGives half progress told between → HasTakenOver between half' → GoingGives setting side state handed told half'
+  own-gives : (told : StepAnswer) (between half' : HalfView) → OwnGives half progress told between → HasTakenOver between half' → GoingGives setting side state handed told half'
   own-gives answer.Did between half' h over =
       let is : step setting.schema state.end [] h.event ≡ Some h.steps.output = made h.event [] between h.steps in
       let within : is_within setting side state ≡ true = sym within-is ∙ h.within in
@@ -271,46 +301,67 @@ module _ (setting : Setting) (side : Side) (state : HalfState) (handed : List mo
   pub opened-is : is_open half.end.end.state ≡ is_open state.end.state
   opened-is = ap (λ (e : End). is_open e.state) goes.end
 
-  refusal-is : (came : model.Packet) → packet_refusal half.end.schema half.end.end came ≡ packet_refusal setting.schema state.end came
-  refusal-is came = ap (λ (schema : Schema). packet_refusal schema half.end.end came) schema-is ∙ ap (λ (e : End). packet_refusal setting.schema e came) goes.end
+  -- whether it is spent
+  pub full-is : not (nat_lt half.counts.events half.limit) ≡ true → is_within setting side state ≡ false
+  full-is full = sym within-is ∙ isnt (nat_lt half.counts.events half.limit) full
+    where
+      isnt : (b : Bool) → not b ≡ true → b ≡ false
+      isnt true h = cc
+      isnt false h = refl
 
-  module _ (came : model.Packet) (packet : Packet) (may : MayAccept setting side state came packet) where
-    pub reads : HoldsBytes packet → packet_read half.end.schema packet ≡ carried came
-    reads holds = ap (λ (schema : Schema). packet_read schema packet) schema-is ∙ framed-read setting.schema came packet goes.sound may.framed holds may.is
+  pub content-is : (packet : Packet) → packet_read half.end.schema packet ≡ packet_read setting.schema packet
+  content-is packet = ap (λ (schema : Schema). packet_read schema packet) schema-is
 
-    module _ (opened : is_open state.end.state ≡ true) (within : is_within setting side state ≡ true) where
-      abbrev given : model.Packet
-      given = delivered_for setting.schema state.end came
+  refused-is : (content : PacketContent) → is_refused half.end.schema half.end.end content ≡ is_refused setting.schema state.end content
+  refused-is content = ap (λ (schema : Schema). is_refused schema half.end.end content) schema-is ∙ ap (λ (e : End). is_refused setting.schema e content) goes.end
 
-      -- what is delivered, where the end refuses the packet and where it does not
-      accepted : packet_refusal setting.schema state.end came ≡ None → came ≡ given
-      accepted none = sym (ap (λ (r : Option DeliveryRefusal). option_map_or (λ (x : DeliveryRefusal). model.mark) r came) none)
+  given-as : (came : model.Packet) (r : Option DeliveryRefusal) → packet_refusal setting.schema state.end came ≡ r → delivered_for setting.schema state.end came ≡ option_map_or (λ (x : DeliveryRefusal). model.mark) r came
+  given-as came r is = ap (λ (x : Option DeliveryRefusal). option_map_or (λ (y : DeliveryRefusal). model.mark) x came) is
 
-      refused : (r : Option DeliveryRefusal) → packet_refusal setting.schema state.end came ≡ r → is_some r ≡ true → model.mark ≡ given
-      refused None is some = cc
-      refused (Some r) is some = sym (ap (λ (x : Option DeliveryRefusal). option_map_or (λ (y : DeliveryRefusal). model.mark) x came) is)
+  -- what is delivered, where the end refuses the packet and where it does not
+  accepted : (content : PacketContent) → is_refused setting.schema state.end content ≡ false → came_by content ≡ delivered_for setting.schema state.end (came_by content)
+  accepted (carried p) not_refused = by (packet_refusal setting.schema state.end p) refl not_refused
+    where
+      by : (r : Option DeliveryRefusal) → packet_refusal setting.schema state.end p ≡ r → is_some r ≡ false → p ≡ delivered_for setting.schema state.end p
+      by None is h = sym (given-as p None is)
+      by (Some r) is h = cc
+  accepted (faulty offset rule) not_refused = cc
 
-      steps-given : (put : model.Packet) (between : HalfView) → put ≡ given → IsHalfStep half progress (put ∷ []) event.deliver between → IsHalfStep half progress (given ∷ []) event.deliver between
-      steps-given put between same steps = subst (λ (p : model.Packet). IsHalfStep half progress (p ∷ []) event.deliver between) same steps
+  refused : (content : PacketContent) → is_refused setting.schema state.end content ≡ true → model.mark ≡ delivered_for setting.schema state.end (came_by content)
+  refused (carried p) is_so = by (packet_refusal setting.schema state.end p) refl is_so
+    where
+      by : (r : Option DeliveryRefusal) → packet_refusal setting.schema state.end p ≡ r → is_some r ≡ true → model.mark ≡ delivered_for setting.schema state.end p
+      by None is h = cc
+      by (Some r) is h = sym (given-as p (Some r) is)
+  refused (faulty offset rule) is_so = refl
 
-      given-keeps : (between : HalfView) (steps : IsHalfStep half progress (given ∷ []) event.deliver between) → KeepsEnd setting side steps.output.end (state.lines ++ steps.output.lines) (state.delivered ++ given ∷ [])
-      given-keeps between steps =
-          let refusal : Option DeliveryRefusal = packet_refusal setting.schema state.end came in
-          delivery-keeps setting side goes.sound goes.valid few-events state.end state.lines state.delivered keeps given steps.output
-          (given-fits setting.schema came refusal (framed-fits setting.schema came may.framed)) (given-accepted setting.schema state.end came refusal refl) (made event.deliver (given ∷ []) between steps)
-          (fewer progress.events setting.limit within)
+  module _ (content : PacketContent) (fits : FitsPacket setting.schema (came_by content)) (opened : is_open state.end.state ≡ true) (within : is_within setting side state ≡ true) where
+    abbrev came : model.Packet
+    came = came_by content
 
-      given-room : HasLineRoom half → (between : HalfView) → IsHalfStep half progress (given ∷ []) event.deliver between → length between.end.lines ≤ between.spare
-      given-room room between steps = room-for event.deliver (given ∷ []) between steps room (state.delivered ++ given ∷ []) (given-keeps between steps)
+    abbrev given : model.Packet
+    given = delivered_for setting.schema state.end came
 
-      pub accept-room : HasLineRoom half → (told : AcceptAnswer) (between : HalfView) → DeliversFor half progress came told between → length between.end.lines ≤ between.spare
-      accept-room room accept.Did between h = given-room room between (steps-given came between (accepted (sym (refusal-is came) ∙ h.0)) h.1)
-      accept-room room accept.Refused between h =
-          given-room room between (steps-given model.mark between (refused (packet_refusal setting.schema state.end came) refl (ap is_some (sym (refusal-is came)) ∙ h.0)) h.1)
-      accept-room room accept.Nothing between h = absurd h
-      accept-room room (accept.Spent at) between h = absurd h
-      accept-room room accept.NoMemory between h = subst (λ (v : HalfView). length v.end.lines ≤ v.spare) (sym h) (subst (λ (ls : List Line). length ls ≤ half.spare) (sym goes.no_lines) (omega arith))
+    steps-given : (put : model.Packet) (between : HalfView) → put ≡ given → IsHalfStep half progress (put ∷ []) event.deliver between → IsHalfStep half progress (given ∷ []) event.deliver between
+    steps-given put between same steps = subst (λ (p : model.Packet). IsHalfStep half progress (p ∷ []) event.deliver between) same steps
 
+    given-keeps : (between : HalfView) (steps : IsHalfStep half progress (given ∷ []) event.deliver between) → KeepsEnd setting side steps.output.end (state.lines ++ steps.output.lines) (state.delivered ++ given ∷ [])
+    given-keeps between steps =
+        let refusal : Option DeliveryRefusal = packet_refusal setting.schema state.end came in
+        delivery-keeps setting side goes.sound goes.valid few-events state.end state.lines state.delivered keeps given steps.output
+        (given-fits setting.schema came refusal fits) (given-accepted setting.schema state.end came refusal refl) (made event.deliver (given ∷ []) between steps) (fewer progress.events setting.limit within)
+
+    given-room : HasLineRoom half → (between : HalfView) → IsHalfStep half progress (given ∷ []) event.deliver between → length between.end.lines ≤ between.spare
+    given-room room between steps = room-for event.deliver (given ∷ []) between steps room (state.delivered ++ given ∷ []) (given-keeps between steps)
+
+    accept-room : HasLineRoom half → (told : AcceptAnswer) (between : HalfView) → DeliversFor half progress content told between → length between.end.lines ≤ between.spare
+    accept-room room accept.Did between h = given-room room between (steps-given came between (accepted content (sym (refused-is content) ∙ h.0)) h.1)
+    accept-room room accept.Refused between h = given-room room between (steps-given model.mark between (refused content (sym (refused-is content) ∙ h.0)) h.1)
+    accept-room room accept.Nothing between h = absurd h
+    accept-room room (accept.Spent at) between h = absurd h
+    accept-room room accept.NoMemory between h = same-room between h
+
+    module _ (rests : own_event setting side state ≡ None) where
       has-accepted : (between half' : HalfView) → IsHalfStep half progress (given ∷ []) event.deliver between → HasTakenOver between half' → HasAccepted setting side state handed came half'
       has-accepted between half' steps over =
           let is : step setting.schema state.end (given ∷ []) event.deliver ≡ Some steps.output = made event.deliver (given ∷ []) between steps in
@@ -321,16 +372,16 @@ module _ (setting : Setting) (side : Side) (state : HalfState) (handed : List mo
             is_step = is;
             goes =
                 goes-on event.deliver (given ∷ []) between steps half' over (state.came ++ came ∷ []) (state.delivered ++ given ∷ [])
-                (gets state came steps.output goes.runs within may.rests opened (framed-fits setting.schema came may.framed) is);
+                (gets state came steps.output goes.runs within rests opened fits is);
           }
 
-      pub accept-gives : (told : AcceptAnswer) (between half' : HalfView) → DeliversFor half progress came told between → HasTakenOver between half' → AcceptGives setting side state handed came told half'
+      accept-gives : (told : AcceptAnswer) (between half' : HalfView) → DeliversFor half progress content told between → HasTakenOver between half' → AcceptGives setting side state handed content told half'
       accept-gives accept.Did between half' h over =
-          let none : packet_refusal setting.schema state.end came ≡ None = sym (refusal-is came) ∙ h.0 in
-          (none, has-accepted between half' (steps-given came between (accepted none) h.1) over)
+          let is : is_refused setting.schema state.end content ≡ false = sym (refused-is content) ∙ h.0 in
+          (is, has-accepted between half' (steps-given came between (accepted content is) h.1) over)
       accept-gives accept.Refused between half' h over =
-          let some : is_some (packet_refusal setting.schema state.end came) ≡ true = ap is_some (sym (refusal-is came)) ∙ h.0 in
-          (some, has-accepted between half' (steps-given model.mark between (refused (packet_refusal setting.schema state.end came) refl some) h.1) over)
+          let is : is_refused setting.schema state.end content ≡ true = sym (refused-is content) ∙ h.0 in
+          (is, has-accepted between half' (steps-given model.mark between (refused content is) h.1) over)
       accept-gives accept.Nothing between half' h over = absurd h
       accept-gives (accept.Spent at) between half' h over = absurd h
       accept-gives accept.NoMemory between half' h over = same-over between half' h over
@@ -384,3 +435,91 @@ module _ (setting : Setting) (side : Side) (state : HalfState) (handed : List mo
     pub put-some : (packet : Packet) → half.end ≡ record half'.end { packets = packet ∷ half'.end.packets } → HasHandedOut setting side state handed packet half'
     put-some packet end =
         first-held packet half'.end.packets goes.held goes.sent (sym goes.packets ∙ ap (λ (v : EndView). v.packets) end) (sym (ap (λ (v : EndView). record v { packets = half'.end.packets }) end))
+
+    pub put-gives : (told : Option Packet) → MatchOption told ((half.end.packets ≡ []) × (half'.end ≡ half.end)) (λ packet. half.end ≡ record half'.end { packets = packet ∷ half'.end.packets }) → PutGives setting side state handed told half'
+    put-gives None h = put-none h.0 h.1
+    put-gives (Some packet) h = put-some packet h
+
+-- What the calls give, in each state
+
+pub step-may : (half : HalfView) → IsApart half → MayGoOn half (own_progress half)
+step-may half is = subst (MayGoOn half) (sym (progress-is is.setting is.side is.state is.handed half is.goes)) (may-go-on is.setting is.side is.state is.handed half is.goes)
+
+pub step-room : (half : HalfView) → IsApart half → HasLineRoom half → (told : StepAnswer) (between : HalfView) → OwnGives half (own_progress half) told between → length between.end.lines ≤ between.spare
+step-room half is room told between h =
+    own-room is.setting is.side is.state is.handed half is.goes room told between (subst (λ (p : Progress). OwnGives half p told between) (progress-is is.setting is.side is.state is.handed half is.goes) h)
+
+pub step-gives : (half : HalfView) (told : StepAnswer) (between half' : HalfView) → OwnGives half (own_progress half) told between → HasTakenOver between half' → InEach half (λ setting side state handed. GoingGives setting side state handed told half')
+step-gives half told between half' h over setting side state handed goes =
+    own-gives setting side state handed half goes told between half' (subst (λ (p : Progress). OwnGives half p told between) (progress-is setting side state handed half goes) h) over
+
+pub roomy-apart : (half half' : HalfView) → half' ≡ record half { spare = half'.spare } → IsApart half → IsApart half'
+roomy-apart half half' same is = record { setting = is.setting; side = is.side; state = is.state; handed = is.handed; goes = goes-roomy is.setting is.side is.state is.handed half is.goes half' same }
+
+pub roomy-each : (half half' : HalfView) → half' ≡ record half { spare = half'.spare } → InEach half (λ setting side state handed. GoesApart setting side state handed half')
+roomy-each half half' same setting side state handed goes = goes-roomy setting side state handed half goes half' same
+
+-- what holds in each state behind more room holds in each state
+pub roomy-gives : (Holds : Setting → Side → HalfState → List model.Packet → Type 0) (half half' : HalfView) → half' ≡ record half { spare = half'.spare } → InEach half' Holds → InEach half Holds
+roomy-gives Holds half half' same holds setting side state handed goes = holds setting side state handed (goes-roomy setting side state handed half goes half' same)
+
+pub apart-counted : (half : HalfView) → IsApart half → IsCountedBy half (own_progress half)
+apart-counted half is = subst (IsCountedBy half) (sym (progress-is is.setting is.side is.state is.handed half is.goes)) is.goes.counted
+
+pub apart-few : (half : HalfView) → IsApart half → half.end.end.delivered < 268435456
+apart-few half is = few-delivered is.setting is.side is.state is.handed half is.goes
+
+-- whether it has an own step
+pub apart-rests : (half : HalfView) → next_of half (own_progress half) ≡ None → InEach half (λ setting side state handed. own_event setting side state ≡ None)
+apart-rests half none setting side state handed goes =
+    sym (next-is setting side state handed half goes) ∙ ap (next_of half) (sym (progress-is setting side state handed half goes)) ∙ none
+
+pub rests-apart : (setting : Setting) (side : Side) (state : HalfState) (handed : List model.Packet) (half : HalfView) → GoesApart setting side state handed half → own_event setting side state ≡ None → next_of half (own_progress half) ≡ None
+rests-apart setting side state handed half goes none = ap (next_of half) (progress-is setting side state handed half goes) ∙ next-is setting side state handed half goes ∙ none
+
+module _ (half : HalfView) (packet : Packet) (holds : HoldsBytes packet) (opened : is_open half.end.end.state ≡ true) (within : nat_lt half.counts.events half.limit ≡ true) where
+  module _ (setting : Setting) (side : Side) (state : HalfState) (handed : List model.Packet) (goes : GoesApart setting side state handed half) where
+    abbrev content : PacketContent
+    content = packet_read setting.schema packet
+
+    content-fit : FitsPacket setting.schema (came_by content)
+    content-fit = content-fits setting.schema packet holds
+
+    opened-so : is_open state.end.state ≡ true
+    opened-so = sym (opened-is setting side state handed half goes) ∙ opened
+
+    within-so : is_within setting side state ≡ true
+    within-so = sym (within-is setting side state handed half goes) ∙ within
+
+    delivers-so : (told : AcceptAnswer) (between : HalfView) → DeliversFor half (own_progress half) (packet_read half.end.schema packet) told between → DeliversFor half (progress_of side state.lines) content told between
+    delivers-so told between h =
+        subst (λ (p : Progress). DeliversFor half p content told between) (progress-is setting side state handed half goes)
+        (subst (λ (c : PacketContent). DeliversFor half (own_progress half) c told between) (content-is setting side state handed half goes packet) h)
+
+  pub take-room : IsApart half → HasLineRoom half → (told : AcceptAnswer) (between : HalfView) → DeliversFor half (own_progress half) (packet_read half.end.schema packet) told between → length between.end.lines ≤ between.spare
+  take-room is room told between h =
+      accept-room is.setting is.side is.state is.handed half is.goes (content is.setting is.side is.state is.handed is.goes) (content-fit is.setting is.side is.state is.handed is.goes)
+      (opened-so is.setting is.side is.state is.handed is.goes) (within-so is.setting is.side is.state is.handed is.goes) room told between (delivers-so is.setting is.side is.state is.handed is.goes told between h)
+
+  pub take-gives : next_of half (own_progress half) ≡ None → (told : AcceptAnswer) (between half' : HalfView) → DeliversFor half (own_progress half) (packet_read half.end.schema packet) told between → HasTakenOver between half'
+      → InEach half (λ setting side state handed. AcceptGives setting side state handed (packet_read setting.schema packet) told half')
+  take-gives none told between half' h over setting side state handed goes =
+      accept-gives setting side state handed half goes (content setting side state handed goes) (content-fit setting side state handed goes) (opened-so setting side state handed goes) (within-so setting side state handed goes)
+      (apart-rests half none setting side state handed goes) told between half' (delivers-so setting side state handed goes told between h) over
+
+pub closed-gives : (half : HalfView) (content : Schema → PacketContent) → is_open half.end.end.state ≡ false → InEach half (λ setting side state handed. AcceptGives setting side state handed (content setting.schema) accept.Nothing half)
+closed-gives half content closed setting side state handed goes = (sym (opened-is setting side state handed half goes) ∙ closed, goes)
+
+pub spent-gives : (half : HalfView) (content : Schema → PacketContent) (at : Side) → is_open half.end.end.state ≡ true → not (nat_lt half.counts.events half.limit) ≡ true → at ≡ half.end.end.side
+    → InEach half (λ setting side state handed. AcceptGives setting side state handed (content setting.schema) (accept.Spent at) half)
+spent-gives half content at opened full is setting side state handed goes =
+    (sym (opened-is setting side state handed half goes) ∙ opened, (full-is setting side state handed half goes full, (is ∙ side-is setting side state handed half goes, goes)))
+
+pub put-gives-each : (half half' : HalfView) → half' ≡ record half { end = half'.end } → (told : Option Packet)
+    → MatchOption told ((half.end.packets ≡ []) × (half'.end ≡ half.end)) (λ packet. half.end ≡ record half'.end { packets = packet ∷ half'.end.packets }) → InEach half (λ setting side state handed. PutGives setting side state handed told half')
+put-gives-each half half' same told h setting side state handed goes = put-gives setting side state handed half goes half' same told h
+
+-- what is read of a packet that is that of what has a frame
+pub reads-framed : (half : HalfView) → IsApart half → (packet : Packet) → HoldsBytes packet → (carries : model.Packet) → IsFramed half.end.schema carries → packet ≡ packet_of half.end.schema carries → packet_read half.end.schema packet ≡ carried carries
+reads-framed half is packet holds carries framed same =
+    framed-read half.end.schema carries packet (subst IsSound (sym (schema-is is.setting is.side is.state is.handed half is.goes)) is.goes.sound) framed holds same

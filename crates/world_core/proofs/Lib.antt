@@ -24,7 +24,7 @@ pub mod Halves
 mod Meetings
 mod Apart
 mod KeptEnds
-mod KeptHalves
+pub mod KeptHalves
 mod RelayLoop
 mod FeedEnds
 mod FeedStates
@@ -34,3 +34,7 @@ mod Following
 mod Replaying
 mod TurnReplays
 mod PlainComparing
+mod SentContainers
+mod SentEnds
+mod SharedScripts
+pub mod SentHalves

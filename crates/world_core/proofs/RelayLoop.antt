@@ -5,26 +5,32 @@ use Rattle.std.proofs.lemmas.List.{append-nil}
 use Rattle.handler_script.specs.ScriptOf.{first_of}
 use Rattle.ipdl_base.specs.declared.kinds.Side.{Side}
 use Rattle.ipdl_base.specs.declared.kinds.Side.TheVariants as sides
+use Rattle.ipdl_base.specs.declared.schema.Schema.{Schema}
 use Rattle.channel_model.specs.Ends.{Packet}
 use Rattle.channel_model.specs.Events.{Event}
 use Rattle.channel_model.specs.Events as event
 use Rattle.channel_model.specs.Numbers.{other}
 use Rattle.channel_model.specs.Outputs.{Output, is_open}
 use Rattle.channel_model.specs.Steps.{step}
+use Rattle.end_parts.specs.declared.packet.Packet.{Packet as ChannelPacket}
+use Rattle.end_parts.specs.PacketReading.{PacketContent, carried, packet_read}
+use Rattle.channel_core.specs.EndView.{IsFramed, packet_of}
 use Rattle.script_steps.specs.Choices.{Setting}
 use Rattle.script_steps.specs.Progress.{progress_of}
 use Rattle.script_steps.specs.Turns.{RunEnding, at_limit, at_rest}
 use Rattle.relay_runs.proofs.TurnEnds.{turns-end}
-use Rattle.relay_runs.specs.HalfRuns.{HalfState, behind, behind_packet, delivered_for, is_within, own_event}
-use Rattle.relay_runs.specs.Relays.{ComeInOrder, IsRelay, RelayState, RelayTurn, RelayTurns, behind_next, behind_own, exceeds, goes_on, half_of, idles, leads, next_packet, packet_turn, passes, relay_turn, rests, stops, turn_by, with_half}
+use Rattle.relay_runs.specs.HalfRuns.{HalfState, behind, behind_packet, delivered_for, is_within, opening_half, own_event}
+use Rattle.relay_runs.specs.Relays.{ComeInOrder, IsRelay, RelayState, RelayTurn, RelayTurns, behind_next, behind_own, exceeds, goes_on, half_of, idles, leads, next_packet, opening_relay, packet_turn, passes, relay_turn, rests, stops, turn_by, with_half}
 use Rattle.world_core.proofs.KeptEnds.{fewer}
-use Rattle.world_core.proofs.KeptHalves.{step-grows}
+use Rattle.world_core.proofs.KeptHalves.{apart-rests, opened-is, rests-apart, schema-is, step-grows}
 use Rattle.world_core.specs.declared.answers.AcceptAnswer.{AcceptAnswer}
 use Rattle.world_core.specs.declared.answers.AcceptAnswer.TheVariants as accept
 use Rattle.world_core.specs.declared.answers.StepAnswer.{StepAnswer}
 use Rattle.world_core.specs.declared.answers.StepAnswer.TheVariants as answer
+use Rattle.world_core.specs.declared.answers.RunAnswer.TheVariants as run
+use Rattle.world_core.specs.HalfSteps.{next_of}
 use Rattle.world_core.specs.HalfView.{HalfView}
-use Rattle.world_core.specs.Relaying.{AcceptGives, GoApart, GoesApart, GoingGives, HasAccepted, HasActed, HasHandedOut, HasLed, HasTakenTurns, PutGives, RelayTurnGives, TurnsGive, turn_answer}
+use Rattle.world_core.specs.Relaying.{AcceptGives, AreFacing, BothApart, BothInEach, FacingEach, GoApart, GoesApart, GoingGives, HasAccepted, HasLed, HasTakenTurns, InEach, IsApart, PutGives, RelayTurnGives, SideTurnGives, TurnsGive, own_progress, turn_answer}
 
 -- Halves of a state
 
@@ -136,13 +142,70 @@ module _ (setting : Setting) (side : Side) (state : RelayState) (half facing : H
             ∙ ap (λ (found : Option Output). leads (with_half side (option_map_or (behind_packet mine came given) found mine) state)) h.is_step)
             h.within h.is_step refl h.goes faces
 
-        pub packet-turn : (told : AcceptAnswer) (half' : HalfView) → AcceptGives setting side mine theirs.came came told half' → RelayTurnGives setting side state (turn_answer told) half' facing'
+        pub packet-turn : (told : AcceptAnswer) (half' : HalfView) → AcceptGives setting side mine theirs.came (carried came) told half' → RelayTurnGives setting side state (turn_answer told) half' facing'
         packet-turn accept.Did half' h = accepted half' h.1
         packet-turn accept.Refused half' h = accepted half' h.1
         packet-turn accept.Nothing half' h = absurd (let e : true ≡ false = sym opened ∙ h.0 in let no : ⊥ = cc in no)
         packet-turn (accept.Spent at) half' h =
             (takes ∙ ap (λ (b : Bool). if b then leads (with_half side (behind_next setting mine came) state) else exceeds) h.1, (h.2, (h.3.history, faces.history)))
         packet-turn accept.NoMemory half' h = tt
+
+-- Turns in each state
+
+pub facing-goes : (half facing : HalfView) → AreFacing half facing → IsApart half
+facing-goes half facing is = record { setting = is.setting; side = is.side; state = half_of is.side is.state; handed = (half_of (other is.side) is.state).came; goes = is.apart.goes }
+
+-- a half that has no own step faces the other one still, and rests
+abbrev RestsSo : HalfView → HalfView → Type 0
+RestsSo half half' = InEach half (λ setting side state handed. GoingGives setting side state handed answer.Nothing half')
+
+rested-apart : (setting : Setting) (side : Side) (state : RelayState) (half half' facing : HalfView) → RestsSo half half' → GoApart setting side state half facing → GoApart setting side state half' facing
+rested-apart setting side state half half' facing rested apart =
+    record { goes = (rested setting side (half_of side state) (half_of (other side) state).came apart.goes).1; faces = apart.faces }
+
+pub rested-faces : (half half' facing : HalfView) → RestsSo half half' → AreFacing half facing → AreFacing half' facing
+rested-faces half half' facing rested is = record { setting = is.setting; side = is.side; state = is.state; apart = rested-apart is.setting is.side is.state half half' facing rested is.apart }
+
+pub rested-rests : (half half' facing : HalfView) → RestsSo half half' → AreFacing half facing → next_of half' (own_progress half') ≡ None
+rested-rests half half' facing rested is =
+    let h = rested is.setting is.side (half_of is.side is.state) (half_of (other is.side) is.state).came is.apart.goes in
+    rests-apart is.setting is.side (half_of is.side is.state) (half_of (other is.side) is.state).came half' h.1 h.0
+
+pub rested-each : (Holds : Setting → Side → RelayState → Type 0) (half half' facing : HalfView) → RestsSo half half' → FacingEach half' facing Holds → FacingEach half facing Holds
+rested-each Holds half half' facing rested holds setting side state apart = holds setting side state (rested-apart setting side state half half' facing rested apart)
+
+pub own-each : (half half' facing : HalfView) (told : StepAnswer) → (told ≡ answer.Nothing → ⊥) → InEach half (λ setting side state handed. GoingGives setting side state handed told half') → FacingEach half facing (λ setting side state. RelayTurnGives setting side state told half' facing)
+own-each half half' facing told isnt gives setting side state apart =
+    own-turn setting side state half facing apart told half' isnt (gives setting side (half_of side state) (half_of (other side) state).came apart.goes)
+
+module _ (half facing : HalfView) (rests : next_of half (own_progress half) ≡ None) where
+  none-own : (setting : Setting) (side : Side) (state : RelayState) → GoApart setting side state half facing → own_event setting side (half_of side state) ≡ None
+  none-own setting side state apart = apart-rests half rests setting side (half_of side state) (half_of (other side) state).came apart.goes
+
+  opens : (setting : Setting) (side : Side) (state : RelayState) (apart : GoApart setting side state half facing) (b : Bool) → is_open half.end.end.state ≡ b → is_open (half_of side state).end.state ≡ b
+  opens setting side state apart b is = sym (opened-is setting side (half_of side state) (half_of (other side) state).came half apart.goes) ∙ is
+
+  pub closed-each : is_open half.end.end.state ≡ false → FacingEach half facing (λ setting side state. RelayTurnGives setting side state answer.Nothing half facing)
+  closed-each closed setting side state apart = closed-turn setting side state half facing apart (none-own setting side state apart) (opens setting side state apart false closed)
+
+  pub empty-each : is_open half.end.end.state ≡ true → (facing' : HalfView) → InEach facing (λ setting side state handed. PutGives setting side state handed None facing') → FacingEach half facing (λ setting side state. RelayTurnGives setting side state answer.Nothing half facing')
+  empty-each opened facing' put setting side state apart =
+      empty-turn setting side state half facing apart (none-own setting side state apart) (opens setting side state apart true opened) facing'
+      (put setting (other side) (half_of (other side) state) (half_of side state).came apart.faces)
+
+  pub packet-each : is_open half.end.end.state ≡ true → (packet : ChannelPacket) (facing' : HalfView) → InEach facing (λ setting side state handed. PutGives setting side state handed (Some packet) facing')
+      → (told : AcceptAnswer) (half' : HalfView) → InEach half (λ setting side state handed. AcceptGives setting side state handed (packet_read setting.schema packet) told half')
+      → ((carries : Packet) → IsFramed half.end.schema carries → packet ≡ packet_of half.end.schema carries → packet_read half.end.schema packet ≡ carried carries)
+      → FacingEach half facing (λ setting side state. RelayTurnGives setting side state (turn_answer told) half' facing')
+  packet-each opened packet facing' put told half' accepts reads setting side state apart =
+      let p = put setting (other side) (half_of (other side) state) (half_of side state).came apart.faces in
+      let schema = schema-is setting side (half_of side state) (half_of (other side) state).came half apart.goes in
+      let read : packet_read setting.schema packet ≡ carried p.next =
+      subst (λ (s : Schema). packet_read s packet ≡ carried p.next) schema
+      (reads p.next (subst (λ (s : Schema). IsFramed s p.next) (sym schema) p.framed) (p.is ∙ ap (λ (s : Schema). packet_of s p.next) (sym schema))) in
+      packet-turn setting side state half facing apart (none-own setting side state apart) (opens setting side state apart true opened) p.next facing' p.goes told half'
+      (subst (λ (content : PacketContent). AcceptGives setting side (half_of side state) (half_of (other side) state).came content told half') read
+      (accepts setting side (half_of side state) (half_of (other side) state).came apart.goes))
 
 -- The loop
 
@@ -224,7 +287,7 @@ same-left setting state parent child parent' child' left some apart apart' =
     let d = events-are setting sides.Child state.child state.parent.came child' apart'.faces in
     omega (arith, some, a.0, a.1, b.0, b.1, c.0, c.1, d.0, d.1)
 
-pub parent-loop : (setting : Setting) (begun : RelayState) (left : ℕ) (parent child : HalfView) → 0 < left → (loop : LoopsSo setting begun sides.Parent left parent child) → (told : StepAnswer) (parent' child' : HalfView)
+parent-loop : (setting : Setting) (begun : RelayState) (left : ℕ) (parent child : HalfView) → 0 < left → (loop : LoopsSo setting begun sides.Parent left parent child) → (told : StepAnswer) (parent' child' : HalfView)
     → RelayTurnGives setting sides.Parent loop.now told parent' child' → LoopGives setting begun sides.Parent left parent child told parent' child'
 parent-loop setting begun left parent child some loop answer.Did parent' child' h =
     (leads-loop setting begun sides.Parent left parent child some loop h.next parent' child' h.leads_to h.apart, left-less setting sides.Parent loop.now parent child parent' child' left loop.so.apart h)
@@ -234,7 +297,7 @@ parent-loop setting begun left parent child some loop (answer.Spent at) parent' 
     subst (λ (s : Side). HasTakenTurns setting begun (at_limit s) parent' child') (sym h.1) (ends-loop setting begun sides.Parent left parent child some loop parent' child' h.0 h.2 h.3)
 parent-loop setting begun left parent child some loop answer.NoMemory parent' child' h = tt
 
-pub child-loop : (setting : Setting) (begun : RelayState) (left : ℕ) (parent child : HalfView) → 0 < left → (loop : LoopsSo setting begun sides.Child left parent child) → (told : StepAnswer) (parent' child' : HalfView)
+child-loop : (setting : Setting) (begun : RelayState) (left : ℕ) (parent child : HalfView) → 0 < left → (loop : LoopsSo setting begun sides.Child left parent child) → (told : StepAnswer) (parent' child' : HalfView)
     → RelayTurnGives setting sides.Child loop.now told child' parent' → LoopGives setting begun sides.Child left parent child told parent' child'
 child-loop setting begun left parent child some loop answer.Did parent' child' h =
     let less = left-less setting sides.Child loop.now child parent child' parent' left (turned-round setting sides.Parent loop.now parent child loop.so.apart) h in
@@ -245,6 +308,11 @@ child-loop setting begun left parent child some loop answer.Nothing parent' chil
 child-loop setting begun left parent child some loop (answer.Spent at) parent' child' h =
     subst (λ (s : Side). HasTakenTurns setting begun (at_limit s) parent' child') (sym h.1) (ends-loop setting begun sides.Child left parent child some loop parent' child' h.0 h.3 h.2)
 child-loop setting begun left parent child some loop answer.NoMemory parent' child' h = tt
+
+pub side-loop : (setting : Setting) (begun : RelayState) (side : Side) (left : ℕ) (parent child : HalfView) → 0 < left → (loop : LoopsSo setting begun side left parent child) → (told : StepAnswer) (parent' child' : HalfView)
+    → SideTurnGives setting side loop.now told parent' child' → LoopGives setting begun side left parent child told parent' child'
+side-loop setting begun sides.Parent left parent child some loop told parent' child' h = parent-loop setting begun left parent child some loop told parent' child' h
+side-loop setting begun sides.Child left parent child some loop told parent' child' h = child-loop setting begun left parent child some loop told parent' child' h
 
 -- at the end of the loop no turn is left
 pub loop-ends : (setting : Setting) (begun : RelayState) (side : Side) (left : ℕ) (parent child : HalfView) → left ≤ 0 → LoopsSo setting begun side left parent child → HasTakenTurns setting begun at_rest parent child
@@ -259,3 +327,44 @@ loop-ends setting begun side left parent child none loop =
       parent_lines = loop.so.apart.goes.history;
       child_lines = loop.so.apart.faces.history;
     }
+
+-- The same in each state from which both may go on
+
+abbrev pub LoopsInEach : HalfView → HalfView → Side → ℕ → HalfView → HalfView → Type 0
+LoopsInEach parent child side left parent' child' = BothInEach parent child (λ setting begun. LoopsSo setting begun side left parent' child')
+
+pub loops-begin : (parent child : HalfView) → LoopsInEach parent child sides.Parent 2 parent child
+loops-begin parent child setting begun apart = loop-begins setting begun parent child apart
+
+pub loops-apart : (begun_parent begun_child parent child : HalfView) (side : Side) (left : ℕ) → BothApart begun_parent begun_child → LoopsInEach begun_parent begun_child side left parent child → BothApart parent child
+loops-apart begun_parent begun_child parent child side left is loops =
+    let loop = loops is.setting is.state is.apart in
+    record { setting = is.setting; state = loop.now; apart = loop.so.apart }
+
+module _ (begun_parent begun_child parent child parent' child' : HalfView) (side : Side) (left : ℕ) (some : 0 < left) (loops : LoopsInEach begun_parent begun_child side left parent child) where
+  pub loops-on : (told : StepAnswer) → BothInEach parent child (λ setting state. SideTurnGives setting side state told parent' child') → BothInEach begun_parent begun_child (λ setting begun. LoopGives setting begun side left parent child told parent' child')
+  loops-on told turn setting begun apart =
+      let loop = loops setting begun apart in
+      side-loop setting begun side left parent child some loop told parent' child' (turn setting loop.now loop.so.apart)
+
+  pub loops-did : BothInEach parent child (λ setting state. SideTurnGives setting side state answer.Did parent' child') → LoopsInEach begun_parent begun_child (other side) 2 parent' child'
+  loops-did turn setting begun apart = (loops-on answer.Did turn setting begun apart).0
+
+  pub loops-less : BothApart begun_parent begun_child → BothInEach parent child (λ setting state. SideTurnGives setting side state answer.Did parent' child') → turns_left parent' child' 2 < turns_left parent child left
+  loops-less is turn = (loops-on answer.Did turn is.setting is.state is.apart).1
+
+  pub loops-idle : BothInEach parent child (λ setting state. SideTurnGives setting side state answer.Nothing parent' child') → LoopsInEach begun_parent begun_child (other side) (left - 1) parent' child'
+  loops-idle turn setting begun apart = (loops-on answer.Nothing turn setting begun apart).0
+
+  pub loops-fewer : BothApart begun_parent begun_child → BothInEach parent child (λ setting state. SideTurnGives setting side state answer.Nothing parent' child') → turns_left parent' child' (left - 1) < turns_left parent child left
+  loops-fewer is turn = (loops-on answer.Nothing turn is.setting is.state is.apart).1
+
+  pub loops-spent : (at : Side) → BothInEach parent child (λ setting state. SideTurnGives setting side state (answer.Spent at) parent' child') → BothInEach begun_parent begun_child (λ setting begun. TurnsGive setting begun (run.Spent at) parent' child')
+  loops-spent at turn setting begun apart = loops-on (answer.Spent at) turn setting begun apart
+
+pub loops-end : (begun_parent begun_child parent child : HalfView) (side : Side) (left : ℕ) → left ≤ 0 → LoopsInEach begun_parent begun_child side left parent child → BothInEach begun_parent begun_child (λ setting begun. TurnsGive setting begun run.Finished parent child)
+loops-end begun_parent begun_child parent child side left none loops setting begun apart = loop-ends setting begun side left parent child none (loops setting begun apart)
+
+-- the halves of a run that has just begun
+pub begins-apart : (setting : Setting) (parent child : HalfView) → GoesApart setting sides.Parent (opening_half setting sides.Parent) [] parent → GoesApart setting sides.Child (opening_half setting sides.Child) [] child → GoApart setting sides.Parent (opening_relay setting) parent child
+begins-apart setting parent child parent_goes child_goes = record { goes = parent_goes; faces = child_goes }

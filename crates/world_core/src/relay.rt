@@ -1,12 +1,7 @@
 //! Both ends of a run apart from one another (docs/relay.md).
 ghost use Rattle.std.specs.Prelude.{◌≡◌, None};
-ghost use Rattle.channel_model.specs.Numbers.{other};
-ghost use Rattle.ipdl_base.specs.declared.kinds.Side.{Side as EndSide};
-ghost use Rattle.ipdl_base.specs.declared.kinds.Side.TheVariants as sides;
-ghost use Rattle.relay_runs.specs.HalfRuns.{own_event};
-ghost use Rattle.relay_runs.specs.Relays.{RelayState, half_of};
-ghost use Rattle.script_steps.specs.Choices.{Setting};
-ghost use Rattle.world_core.specs.Relaying.{GoApart, IsRelayed, IsRelayedByTurns, RelayGives, RelayTurnGives, TurnsGive, turn_answer};
+ghost use Rattle.world_core.specs.HalfSteps.{next_of};
+ghost use Rattle.world_core.specs.Relaying.{AreFacing, BothApart, BothInEach, FacingEach, IsRelayed, IsRelayedByTurns, RelayGives, RelayTurnGives, SideTurnGives, TurnsGive, own_progress, turn_answer};
 ghost use Rattle.world_core.specs.WorldView.{WorldView, opening_of};
 ghost use Rattle.world_core.specs.declared.answers.RunAnswer.{RunAnswer as OfRunAnswer};
 ghost use Rattle.world_core.specs.declared.relay.Halves.{Halves as OfHalves};
@@ -59,33 +54,39 @@ impl Relay for OneThread {
 /// Turns of both halves, the parent first, until two in a row do nothing. In its turn a half does its
 /// own step, or else, while its end is open, accepts the packet that the other hands out next.
 pub fn take_turns(parent: &mut Half<'_>, child: &mut Half<'_>) -> RunAnswer
-    ghost at: { Setting × RelayState }
-    requires { GoApart at.0 sides.Parent at.1 parent.old child.old }
-    ensures { TurnsGive at.0 at.1 result parent.new child.new }
+    requires { BothApart parent.old child.old }
+    ensures { BothInEach parent.old child.old (λ setting state. TurnsGive setting state result parent.new child.new) }
 {
     let mut side = Side::Parent;
     let mut left = 2u32;
     while left > 0 {
-        let answer = match side {
-            Side::Parent => relay_turn(parent, child),
-            Side::Child => relay_turn(child, parent),
-        };
-        match answer {
+        let turn = side;
+        side = other(side);
+        match side_turn(parent, child, turn) {
             StepAnswer::Did => left = 2,
             StepAnswer::Nothing => left -= 1,
             StepAnswer::Spent(at) => return RunAnswer::Spent(at),
             StepAnswer::NoMemory => return RunAnswer::NoMemory,
         }
-        side = other(side);
     }
     RunAnswer::Finished
 }
 
+// A turn of a side.
+fn side_turn(parent: &mut Half<'_>, child: &mut Half<'_>, side: Side) -> StepAnswer
+    requires { BothApart parent.old child.old }
+    ensures { BothInEach parent.old child.old (λ setting state. SideTurnGives setting side state result parent.new child.new) }
+{
+    match side {
+        Side::Parent => relay_turn(parent, child),
+        Side::Child => relay_turn(child, parent),
+    }
+}
+
 // A turn of a half, which the other one faces.
 fn relay_turn(half: &mut Half<'_>, facing: &mut Half<'_>) -> StepAnswer
-    ghost at: { Setting × EndSide × RelayState }
-    requires { GoApart at.0 at.1 at.2 half.old facing.old }
-    ensures { RelayTurnGives at.0 at.1 at.2 result half.new facing.new }
+    requires { AreFacing half.old facing.old }
+    ensures { FacingEach half.old facing.old (λ setting side state. RelayTurnGives setting side state result half.new facing.new) }
 {
     match half.go_on() {
         StepAnswer::Nothing => receive(half, facing),
@@ -95,10 +96,9 @@ fn relay_turn(half: &mut Half<'_>, facing: &mut Half<'_>) -> StepAnswer
 
 // A half without an own step accepts what comes next, where it is open.
 fn receive(half: &mut Half<'_>, facing: &mut Half<'_>) -> StepAnswer
-    ghost at: { Setting × EndSide × RelayState }
-    requires apart { GoApart at.0 at.1 at.2 half.old facing.old }
-    requires rests { own_event at.0 at.1 (half_of at.1 at.2) ≡ None }
-    ensures { RelayTurnGives at.0 at.1 at.2 result half.new facing.new }
+    requires facing { AreFacing half.old facing.old }
+    requires rests { next_of half.old (own_progress half.old) ≡ None }
+    ensures { FacingEach half.old facing.old (λ setting side state. RelayTurnGives setting side state result half.new facing.new) }
 {
     if !half.is_open() {
         return StepAnswer::Nothing;

@@ -1,7 +1,9 @@
 //! What a half does by itself, apart from any link.
 ghost use Rattle.std.specs.Prelude.{◌≡◌, ◌<◌, ◌≤◌, [], None, length, map, nat_lt, true, OnOk};
+ghost use Rattle.channel_core.specs.EndView.{IsFramed, packet_of};
+ghost use Rattle.channel_model.specs.Ends as ends;
 ghost use Rattle.channel_model.specs.Outputs.{is_open};
-ghost use Rattle.end_parts.specs.PacketReading.{packet_read};
+ghost use Rattle.end_parts.specs.PacketReading.{carried, packet_read};
 ghost use Rattle.end_parts.specs.PlainLines.{plain_line};
 ghost use Rattle.script_steps.specs.Progress.{Progress};
 
@@ -51,12 +53,14 @@ impl<'s> Half<'s> {
     /// Has a packet delivered, where the half has no own step, or the mark of a death in place of one
     /// that its end refuses. `Nothing` comes exactly where the end is not open, else `Spent` exactly
     /// where it has as many events as it may have, and else `Refused` exactly where it refuses the
-    /// packet.
+    /// packet. A packet that a half hands out is read as what it was made of.
     pub fn accept(&mut self, packet: &Packet) -> AcceptAnswer
         requires apart { IsApart self.old }
         requires rests { next_of self.old (own_progress self.old) ≡ None }
-        ensures { InEach self.old (λ setting side state handed. AcceptGives setting side state handed (packet_read setting.schema packet.now) result self.new) }
+        ensures gives { InEach self.old (λ setting side state handed. AcceptGives setting side state handed (packet_read setting.schema packet.now) result self.new) }
+        ensures reads { (carries : ends.Packet) → IsFramed self.old.end.schema carries → packet.now ≡ packet_of self.old.end.schema carries → packet_read self.old.end.schema packet.now ≡ carried carries }
     {
+        holds_bytes(packet);
         if !self.is_open() {
             AcceptAnswer::Nothing
         } else if self.is_spent() {

@@ -1,5 +1,6 @@
 use denote.Param.Send.{sendable}
-use Rattle.thread_link.proofs.Sent.{exchange_sync, half_send, pass_send}
+use Rattle.thread_link.proofs.Sent.{exchange_sync, pass_send}
+use Rattle.world_core.proofs.SentHalves.{half_send}
 use Rattle.thread_tests.proofs.pairs.at_once.Goals as goal
 
 pub join_mut-first-requires-send-F : goal.join_mut-first-requires-send-F

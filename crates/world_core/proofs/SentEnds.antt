@@ -44,8 +44,8 @@ use Rattle.promise_table.specs.contracts.promise.Outcome as outcomes
 use Rattle.promise_table.specs.contracts.promise.Promise as promise_rows
 use Rattle.promise_table.specs.contracts.promises.Promises as promises
 use Rattle.promise_table.specs.contracts.table.Table as promise_tables
-use Rattle.thread_link.proofs.SentContainers.{containers}
-use Rattle.thread_link.proofs.SharedScripts.{schema_sync}
+use Rattle.world_core.proofs.SentContainers.{containers}
+use Rattle.world_core.proofs.SharedScripts.{schema_sync}
 
 ruleset given = (sendable, crosses, containers)
 

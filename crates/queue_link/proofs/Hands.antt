@@ -1,0 +1,115 @@
+-- What a step of a half does to what was pushed and popped for it.
+use Rattle.std.proofs.Common.{◌≡◌, ◌⊎◌, inl, inr, ⊎_elim, true, false, is_some, Bool, List, [], ◌∷◌, ◌++◌, map, Option, Some, None, refl, sym, ap, subst, ◌∙◌, append-nil}
+use Rattle.std.specs.List.{AllByRecursion}
+use Rattle.channel_core.specs.EndView.{packet_of, packets_of}
+use Rattle.channel_model.specs.Ends as model
+use Rattle.channel_model.specs.Events.{Event}
+use Rattle.channel_model.specs.Outputs.{Output, is_open}
+use Rattle.end_parts.specs.declared.packet.Packet.{Packet}
+use Rattle.end_parts.specs.PacketReading.{packet_read}
+use Rattle.ipdl_base.specs.declared.kinds.Side.{Side}
+use Rattle.relay_runs.specs.HalfRuns.{HalfState, behind, behind_packet, delivered_for, is_within, own_event}
+use Rattle.script_steps.specs.Choices.{Setting}
+use Rattle.world_core.specs.declared.answers.AcceptAnswer.{AcceptAnswer}
+use Rattle.world_core.specs.declared.answers.AcceptAnswer.TheVariants as accept
+use Rattle.world_core.specs.declared.answers.StepAnswer.{StepAnswer}
+use Rattle.world_core.specs.declared.answers.StepAnswer.TheVariants as answer
+use Rattle.world_core.specs.HalfView.{HalfView}
+use Rattle.world_core.specs.Relaying.{AcceptGives, GoesApart, GoingGives, HasAccepted, IsApart, PutGives, came_by}
+use Rattle.queue_link.specs.Work.{DeliveryGives, HandsOver, HasNoStep, HasTaken, IsAtWork, IsReadBack, IsSpent, OwnGives, Stands}
+
+all-snoc : {A : Type 0} (P : A → Type 0) (xs : List A) (x : A) → AllByRecursion P xs → P x → AllByRecursion P (xs ++ x ∷ [])
+all-snoc P [] x all is = (is, tt)
+all-snoc P (first ∷ rest) x all is = (all.0, all-snoc P rest x all.1 is)
+
+map-snoc : {A B : Type 0} (f : A → B) (xs : List A) (x : A) → map f (xs ++ x ∷ []) ≡ map f xs ++ f x ∷ []
+map-snoc f [] x = refl
+map-snoc f (first ∷ rest) x = ap (λ ys. f first ∷ ys) (map-snoc f rest x)
+
+module _ (setting : Setting) where
+  -- what comes by a packet
+  abbrev read : Packet → model.Packet
+  read packet = came_by (packet_read setting.schema packet)
+
+  -- one packet more
+  more-taken : (popped : List Packet) (taken : List model.Packet) (packet : Packet) → HasTaken setting popped taken → IsReadBack setting.schema packet → HasTaken setting (popped ++ packet ∷ []) (taken ++ read packet ∷ [])
+  more-taken popped taken packet has reads = record {
+    is = ap (λ (ps : List model.Packet). ps ++ read packet ∷ []) has.is ∙ sym (map-snoc read popped packet);
+    reads = all-snoc (IsReadBack setting.schema) popped packet has.reads reads;
+  }
+
+  module _ (side : Side) (pushed popped : List Packet) (half half' : HalfView) where
+    came : (work : IsAtWork setting side pushed popped half) → HasTaken setting popped work.state.came
+    came work = subst (λ (ps : List model.Packet). HasTaken setting popped ps) (append-nil work.state.came) work.pops
+
+    pub put-some : (h : HandsOver setting side pushed popped half) (packet : Packet) → PutGives setting side h.state h.handed (Some packet) half' → HandsOver setting side (pushed ++ packet ∷ []) popped half'
+    put-some h packet gives = record {
+      state = h.state;
+      handed = h.handed ++ gives.next ∷ [];
+      goes = gives.goes;
+      pushes = ap (λ (ps : List Packet). ps ++ packet ∷ []) h.pushes ∙ (ap (λ (p : Packet). packets_of setting.schema h.handed ++ p ∷ []) gives.is ∙ sym (map-snoc (packet_of setting.schema) h.handed gives.next));
+      pops = h.pops;
+    }
+
+    pub put-none : (h : HandsOver setting side pushed popped half) → PutGives setting side h.state h.handed None half' → IsAtWork setting side pushed popped half'
+    put-none h gives = record {
+      state = h.state;
+      goes = subst (λ (ps : List model.Packet). GoesApart setting side h.state ps half') (sym gives.0) gives.1;
+      pushes = h.pushes ∙ ap (packets_of setting.schema) (sym gives.0);
+      pops = subst (λ (ps : List model.Packet). HasTaken setting popped ps) (sym (append-nil h.state.came)) h.pops;
+    }
+
+    pub work-apart : IsAtWork setting side pushed popped half → IsApart half
+    work-apart work = record { setting = setting; side = side; state = work.state; handed = work.state.sent; goes = work.goes }
+
+    -- a half that stands so still, behind a call that changed nothing
+    pub still : (work : IsAtWork setting side pushed popped half) → GoesApart setting side work.state work.state.sent half' → IsAtWork setting side pushed popped half'
+    still work goes = record { state = work.state; goes = goes; pushes = work.pushes; pops = work.pops }
+
+    pub own-gives : (work : IsAtWork setting side pushed popped half) (result : StepAnswer) → GoingGives setting side work.state work.state.sent result half' → OwnGives setting side pushed popped result half'
+    own-gives work answer.Did gives = record { state = behind work.state gives.output; handed = work.state.sent; goes = gives.goes; pushes = work.pushes; pops = came work }
+    own-gives work answer.Nothing gives = record { work = still work gives.1; none = gives.0 }
+    own-gives work (answer.Spent at) gives = (gives.2, record { in_hands = []; stands = still work gives.3; full = gives.1; left = inl gives.0 })
+    own-gives work answer.NoMemory gives = tt
+
+    -- A delivery
+
+    opened : (rest : HasNoStep setting side pushed popped half) → is_open half.end.end.state ≡ true → is_open rest.work.state.end.state ≡ true
+    opened rest is = ap (λ (e : model.End). is_open e.state) (sym rest.work.goes.end) ∙ is
+
+    module _ (rest : HasNoStep setting side pushed popped half) (packet : Packet) (reads : IsReadBack setting.schema packet) where
+      taken : HasTaken setting (popped ++ packet ∷ []) (rest.work.state.came ++ read packet ∷ [])
+      taken = more-taken popped rest.work.state.came packet (came rest.work) reads
+
+      accepted : HasAccepted setting side rest.work.state rest.work.state.sent (read packet) half' → HandsOver setting side pushed (popped ++ packet ∷ []) half'
+      accepted has = record {
+        state = behind_packet rest.work.state (read packet) (delivered_for setting.schema rest.work.state.end (read packet)) has.output;
+        handed = rest.work.state.sent;
+        goes = has.goes;
+        pushes = rest.work.pushes;
+        pops = taken;
+      }
+
+      not-both : {A : Type 0} (b : Bool) → b ≡ true → b ≡ false → A
+      not-both b h k =
+          let e : true ≡ false = sym h ∙ k in
+          cc
+
+      pub delivery-gives : is_open half.end.end.state ≡ true → (result : AcceptAnswer) → AcceptGives setting side rest.work.state rest.work.state.sent (packet_read setting.schema packet) result half' → DeliveryGives setting side pushed (popped ++ packet ∷ []) result half'
+      delivery-gives opens accept.Did gives = accepted gives.1
+      delivery-gives opens accept.Refused gives = accepted gives.1
+      delivery-gives opens accept.Nothing gives = not-both (is_open rest.work.state.end.state) (opened rest opens) gives.0
+      delivery-gives opens (accept.Spent at) gives = (
+        gives.2,
+        record {
+          in_hands = read packet ∷ [];
+          stands = record { state = rest.work.state; goes = gives.3; pushes = rest.work.pushes; pops = taken };
+          full = gives.1;
+          left = inr (read packet, refl, gives.0);
+        },
+      )
+      delivery-gives opens accept.NoMemory gives = tt
+
+    -- a half that is not open rests
+    pub shut-rests : (rest : HasNoStep setting side pushed popped half) → is_open half.end.end.state ≡ false → is_open rest.work.state.end.state ≡ false
+    shut-rests rest is = ap (λ (e : model.End). is_open e.state) (sym rest.work.goes.end) ∙ is
