@@ -23,12 +23,15 @@ use Rattle.channel_model.specs.Events.{Event}
 use Rattle.channel_model.specs.Events as event
 use Rattle.channel_model.specs.Fitting.{FitsPacket, IsFitting}
 use Rattle.channel_model.specs.Outputs.{Output, is_open, line_at}
-use Rattle.channel_model.specs.Refusals.{DeliveryRefusal, packet_refusal}
+use Rattle.channel_model.specs.Refusals.{DeliveryRefusal, packet_refusal, wrong_direction, wrong_number, wrong_new_id, stray, wrong_actor}
 use Rattle.channel_model.specs.Steps.{step}
 use Rattle.channel_model.proofs.Known.{all-append}
 use Rattle.end_parts.specs.declared.packet.Packet.{Packet}
 use Rattle.end_parts.specs.declared.packet.Packet.TheVariants.{Bytes, Broken}
 use Rattle.end_parts.specs.PacketReading.{PacketContent, carried, content_decoded, faulty, packet_read}
+use Rattle.channel_core.specs.declared.answers.DeliverAnswer.{DeliverAnswer}
+use Rattle.channel_core.specs.declared.answers.DeliverAnswer.TheVariants as delivery
+use Rattle.channel_core.specs.Delivered.{answer_to, delivery_answer, told_refusal}
 use Rattle.channel_core.specs.EndView.{EndView, IsFramed, packet_of, packets_of}
 use Rattle.script_runs.proofs.Changes.{end-apart}
 use Rattle.script_runs.specs.Allowed.{IsAllowed}
@@ -38,7 +41,8 @@ use Rattle.script_steps.proofs.StepLines.{Prints, step-prints}
 use Rattle.script_steps.specs.Choices.{Setting}
 use Rattle.script_steps.specs.NextEvent.{next_event}
 use Rattle.script_steps.specs.Progress.{Progress, progress_of}
-use Rattle.relay_runs.specs.HalfRuns.{HalfRun, HalfState, acts, begins, gets, behind, behind_packet, delivered_for, is_within, own_event}
+use Rattle.relay_runs.specs.HalfRuns.{HalfRun, HalfState, behind, behind_packet, delivered_for, is_within, own_event}
+use Rattle.relay_runs.specs.HalfRuns as half_run
 use Rattle.world_core.proofs.Delivering.{framed-read}
 use Rattle.world_core.proofs.KeptEnds.{KeepsEnd, begins-kept, delivery-keeps, fewer, grown, kept, known, own-allowed, own-keeps, stands}
 use Rattle.world_core.proofs.Played.{own-progress}
@@ -46,11 +50,11 @@ use Rattle.world_core.specs.declared.answers.AcceptAnswer.{AcceptAnswer}
 use Rattle.world_core.specs.declared.answers.AcceptAnswer.TheVariants as accept
 use Rattle.world_core.specs.declared.answers.StepAnswer.{StepAnswer}
 use Rattle.world_core.specs.declared.answers.StepAnswer.TheVariants as answer
-use Rattle.world_core.specs.HalfSteps.{IsHalfStep, IsOwnStep, MayGoOn, OwnGives, next_of}
+use Rattle.world_core.specs.HalfSteps.{IsHalfDelivery, IsHalfStep, IsOwnStep, MayGoOn, OwnGives, next_of}
 use Rattle.world_core.specs.HalfView.{HalfView, IsCountedBy, setting_of}
 use Rattle.world_core.specs.LinkView.{HoldsBytes}
 use Rattle.world_core.specs.Resolvers.{AreApart}
-use Rattle.world_core.specs.Relaying.{AcceptGives, DeliversFor, GoesApart, GoingGives, HasAccepted, HasActed, HasHandedOut, HasLineRoom, HasTakenOver, InEach, IsApart, PutGives, came_by, is_refused, own_progress}
+use Rattle.world_core.specs.Relaying.{AcceptGives, ContentGives, DeliversFor, GoesApart, GoingGives, HasAccepted, HasActed, HasHandedOut, HasLineRoom, HasTakenOver, InEach, IsApart, PutGives, came_by, is_refused, own_progress}
 
 -- What is delivered of a packet that comes fits the schema, and is not refused
 
@@ -64,10 +68,10 @@ given-accepted schema e packet (Some r) is = refl
 
 -- a state of a half run keeps what an end does that goes on by itself
 pub run-keeps : (setting : Setting) (side : Side) → IsSound setting.schema → IsValid setting.schema setting.script → setting.limit < 268435456 → (state : HalfState) → HalfRun setting side state → KeepsEnd setting side state.end state.lines state.delivered
-run-keeps setting side sound valid limit _ begins = begins-kept setting side sound valid limit
-run-keeps setting side sound valid limit _ (acts state own output run within is_own is) =
+run-keeps setting side sound valid limit _ half_run.begins = begins-kept setting side sound valid limit
+run-keeps setting side sound valid limit _ (half_run.acts state own output run within is_own is) =
     own-keeps setting side sound valid limit state.end state.lines state.delivered (run-keeps setting side sound valid limit state run) own output is_own is (fewer (progress_of side state.lines).events setting.limit within)
-run-keeps setting side sound valid limit _ (gets state packet output run within rests opened fits is) =
+run-keeps setting side sound valid limit _ (half_run.gets state packet output run within rests opened fits is) =
     let refusal : Option DeliveryRefusal = packet_refusal setting.schema state.end packet in
     delivery-keeps setting side sound valid limit state.end state.lines state.delivered (run-keeps setting side sound valid limit state run) (delivered_for setting.schema state.end packet) output
     (given-fits setting.schema packet refusal fits) (given-accepted setting.schema state.end packet refusal refl) is (fewer (progress_of side state.lines).events setting.limit within)
@@ -290,7 +294,7 @@ module _ (setting : Setting) (side : Side) (state : HalfState) (handed : List mo
         within = within;
         is_own = own;
         is_step = is;
-        goes = goes-on h.event [] between h.steps half' over state.came state.delivered (acts state h.event h.steps.output goes.runs within own is);
+        goes = goes-on h.event [] between h.steps half' over state.came state.delivered (half_run.acts state h.event h.steps.output goes.runs within own is);
       }
   own-gives answer.Nothing between half' h over = (sym next-is ∙ h.0, same-over between half' h.1 over)
   own-gives (answer.Spent at) between half' h over = (ap is_some (sym next-is) ∙ h.0, (sym within-is ∙ h.1, (h.2 ∙ side-is, same-over between half' h.3 over)))
@@ -372,7 +376,7 @@ module _ (setting : Setting) (side : Side) (state : HalfState) (handed : List mo
             is_step = is;
             goes =
                 goes-on event.deliver (given ∷ []) between steps half' over (state.came ++ came ∷ []) (state.delivered ++ given ∷ [])
-                (gets state came steps.output goes.runs within rests opened fits is);
+                (half_run.gets state came steps.output goes.runs within rests opened fits is);
           }
 
       accept-gives : (told : AcceptAnswer) (between half' : HalfView) → DeliversFor half progress content told between → HasTakenOver between half' → AcceptGives setting side state handed content told half'
@@ -523,3 +527,42 @@ put-gives-each half half' same told h setting side state handed goes = put-gives
 pub reads-framed : (half : HalfView) → IsApart half → (packet : Packet) → HoldsBytes packet → (carries : model.Packet) → IsFramed half.end.schema carries → packet ≡ packet_of half.end.schema carries → packet_read half.end.schema packet ≡ carried carries
 reads-framed half is packet holds carries framed same =
     framed-read half.end.schema carries packet (subst IsSound (sym (schema-is is.setting is.side is.state is.handed half is.goes)) is.goes.sound) framed holds same
+
+-- A packet that is offered
+
+offered-as : (seen : EndView) (packet : Packet) → delivery_answer seen packet ≡ answer_to seen (packet_read seen.schema packet)
+unfolding delivery_answer
+offered-as seen packet = refl
+
+told-none : (r : Option DeliveryRefusal) → told_refusal r ≡ delivery.Done → is_some r ≡ false
+told-none None is = refl
+told-none (Some wrong_direction) is = cc
+told-none (Some wrong_number) is = cc
+told-none (Some wrong_new_id) is = cc
+told-none (Some (stray seq)) is = cc
+told-none (Some (wrong_actor id number)) is = cc
+
+told-some : (r : Option DeliveryRefusal) (a : DeliverAnswer) → (a ≡ delivery.Done → ⊥) → told_refusal r ≡ a → is_some r ≡ true
+told-some None a isnt is = absurd (isnt (sym is))
+told-some (Some r) a isnt is = refl
+
+taken-content : (seen : EndView) (content : PacketContent) → answer_to seen content ≡ delivery.Done → is_refused seen.schema seen.end content ≡ false
+taken-content seen (carried p) is = told-none (packet_refusal seen.schema seen.end p) is
+taken-content seen (faulty offset rule) is = cc
+
+left-content : (seen : EndView) (content : PacketContent) (a : DeliverAnswer) → (a ≡ delivery.Done → ⊥) → answer_to seen content ≡ a → is_refused seen.schema seen.end content ≡ true
+left-content seen (carried p) a isnt is = told-some (packet_refusal seen.schema seen.end p) a isnt is
+left-content seen (faulty offset rule) a isnt is = refl
+
+pub offered-refused : (seen : EndView) (packet : Packet) (a : DeliverAnswer) → (a ≡ delivery.Done → ⊥) → delivery_answer seen packet ≡ a → is_refused seen.schema seen.end (packet_read seen.schema packet) ≡ true
+offered-refused seen packet a isnt is = left-content seen (packet_read seen.schema packet) a isnt (sym (offered-as seen packet) ∙ is)
+
+pub offered-done : (half between : HalfView) (progress : Progress) (packet : Packet) → delivery_answer half.end packet ≡ delivery.Done → IsHalfDelivery half progress packet between → ContentGives half progress (packet_read half.end.schema packet) delivery.Done between
+offered-done half between progress packet is d = (
+  taken-content half.end (packet_read half.end.schema packet) (sym (offered-as half.end packet) ∙ is),
+  subst (λ (p : model.Packet). IsHalfStep half progress (p ∷ []) event.deliver between) (sym (ap came_by d.is_read)) d.steps,
+)
+
+-- a half with the end that it had is as it was
+pub same-end : (half : HalfView) (v : EndView) → v ≡ half.end → record half { end = v } ≡ half
+same-end half v same = ap (λ (w : EndView). record half { end = w }) same
