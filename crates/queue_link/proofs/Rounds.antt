@@ -42,7 +42,7 @@ module _ (setting : Setting) where
 
   module _ (parent parent' child : HalfView) (down down' up up' : PacketView) (pushes : OnlyPushed down down') (pops : OnlyPopped up up') where
     -- the child stands as it stood, behind a step of the parent
-    child-stays : IsAtWork setting sides.Child up.pushed down.popped child → IsAtWork setting sides.Child up'.pushed down'.popped child
+    pub child-stays : IsAtWork setting sides.Child up.pushed down.popped child → IsAtWork setting sides.Child up'.pushed down'.popped child
     child-stays work = at-work sides.Child child up.pushed up'.pushed down.popped down'.popped (ap (λ (v : PacketView). v.pushed) pops) (ap (λ (v : PacketView). v.popped) pushes) work
 
     -- a step of the parent that ends the run
