@@ -141,9 +141,9 @@ module _ (setting : Setting) where
         in
         relayed-at [] [] p.work c.work at_rest (
           nothing-left (is_some (own_event setting sides.Parent p.work.state)) (is_open p.work.state.end.state) (is_some (next_packet sides.Parent (relay [] [] p.work c.work))) (ap is_some p.none)
-          (⊎_elim inl (λ waits. inr (ap is_some (parent_none (waits may_up)))) p.no_packet),
+              (⊎_elim inl (λ waits. inr (ap is_some (parent_none (waits may_up)))) p.no_packet),
           nothing-left (is_some (own_event setting sides.Child c.work.state)) (is_open c.work.state.end.state) (is_some (next_packet sides.Child (relay [] [] p.work c.work))) (ap is_some c.none)
-          (⊎_elim inl (λ waits. inr (ap is_some (child_none (waits may_down)))) c.no_packet),
+              (⊎_elim inl (λ waits. inr (ap is_some (child_none (waits may_down)))) c.no_packet),
         )
 
     -- one side has something left to do, but as many events as the limit
@@ -155,9 +155,9 @@ module _ (setting : Setting) where
         let next : Bool = is_some (next_packet sides.Parent state) in
         relayed-at p.in_hands c.in_hands p.stands c.stands (at_limit sides.Parent) (
           ⊎_elim (own-left own opened next)
-          (λ left. packet-left own opened next left.2
-            (ap is_some (parent-next p.in_hands c.in_hands p.stands c.stands) ∙ ap (λ (ps : List model.Packet). is_some (first_of (ps ++ (to-parent p.in_hands c.in_hands p.stands c.stands).waiting))) left.1))
-          p.left,
+              (λ left. packet-left own opened next left.2
+              (ap is_some (parent-next p.in_hands c.in_hands p.stands c.stands) ∙ ap (λ (ps : List model.Packet). is_some (first_of (ps ++ (to-parent p.in_hands c.in_hands p.stands c.stands).waiting))) left.1))
+              p.left,
           p.full,
         )
 
@@ -169,9 +169,9 @@ module _ (setting : Setting) where
         let next : Bool = is_some (next_packet sides.Child state) in
         relayed-at p.in_hands c.in_hands p.stands c.stands (at_limit sides.Child) (
           ⊎_elim (own-left own opened next)
-          (λ left. packet-left own opened next left.2
-            (ap is_some (child-next p.in_hands c.in_hands p.stands c.stands) ∙ ap (λ (ps : List model.Packet). is_some (first_of (ps ++ (to-child p.in_hands c.in_hands p.stands c.stands).waiting))) left.1))
-          c.left,
+              (λ left. packet-left own opened next left.2
+              (ap is_some (child-next p.in_hands c.in_hands p.stands c.stands) ∙ ap (λ (ps : List model.Packet). is_some (first_of (ps ++ (to-child p.in_hands c.in_hands p.stands c.stands).waiting))) left.1))
+              c.left,
           c.full,
         )
 

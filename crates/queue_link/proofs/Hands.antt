@@ -1,7 +1,6 @@
 -- What a step of a half does to what was pushed and popped for it.
-use Rattle.std.proofs.Common.{◌≡◌, ◌⊎◌, inl, inr, ⊎_elim, true, false, not, is_some, Result, Ok, Err, MatchResult, OnOk, Bool, List, [], ◌∷◌, ◌++◌, map, Option, Some, None, refl, sym, ap, subst, ◌∙◌, append-nil}
+use Rattle.std.proofs.Common.{◌≡◌, ◌⊎◌, inl, inr, ⊎_elim, true, false, is_some, Result, Ok, Err, MatchResult, OnOk, Bool, List, [], ◌∷◌, ◌++◌, map, Option, Some, None, refl, sym, ap, subst, ◌∙◌, append-nil}
 use Rattle.std.specs.List.{AllByRecursion}
-use Rattle.std.proofs.lemmas.Bool.Decides.{nat_tests}
 use Rattle.channel_core.specs.EndView.{packet_of, packets_of}
 use Rattle.channel_model.specs.Ends as model
 use Rattle.channel_model.specs.Events.{Event}
@@ -112,11 +111,11 @@ module _ (setting : Setting) where
       delivery-gives opens accept.NoMemory gives = tt
 
     -- a half that is not open rests
-    pub shut-resting : (incoming : PacketView) → HasNoStep setting side pushed incoming.popped half → (b : Bool) → b ≡ is_open half.end.end.state → not b ≡ true → IsResting setting side pushed incoming half
+    pub shut-resting : (incoming : PacketView) → HasNoStep setting side pushed incoming.popped half → (b : Bool) → b ≡ is_open half.end.end.state → b ≡ false → IsResting setting side pushed incoming half
     shut-resting incoming rest b is shut = record {
       work = rest.work;
       none = rest.none;
-      no_packet = inl (ap (λ (e : model.End). is_open e.state) (sym rest.work.goes.end) ∙ (sym is ∙ grind nat_tests));
+      no_packet = inl (ap (λ (e : model.End). is_open e.state) (sym rest.work.goes.end) ∙ (sym is ∙ shut));
     }
 
   module _ (side : Side) (pushed : List Packet) (half : HalfView) where
@@ -127,7 +126,7 @@ module _ (setting : Setting) where
   -- What steps answer
 
   module _ (side : Side) (pushed popped : List Packet) (half' : HalfView) where
-    pub push-ended : (more : Bool) → not more ≡ true → PushGives setting side pushed popped more half' → IsAtWork setting side pushed popped half'
+    pub push-ended : (more : Bool) → more ≡ false → PushGives setting side pushed popped more half' → IsAtWork setting side pushed popped half'
     push-ended true is gives = cc
     push-ended false is gives = gives
 
