@@ -8,7 +8,7 @@ use Rattle.thread_link.specs.declared.pass.Pass.{Pass}
 use Rattle.thread_link.specs.Passes.{Belongs, seen}
 use Rattle.thread_link.specs.Runs.{RunsAtOnce}
 use Rattle.thread_link.specs.Work.{HasWorked, IsAtWork, MayWork}
-use Rattle.world_core.proofs.Halves.{split-own}
+use Rattle.world_core.proofs.SplitHalves.{split-own}
 use Rattle.world_core.specs.declared.answers.RunAnswer.{RunAnswer}
 use Rattle.world_core.specs.declared.answers.RunAnswer.TheVariants as run
 use Rattle.world_core.specs.HalfView.{HalfView, setting_of}

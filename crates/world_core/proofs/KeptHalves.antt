@@ -6,6 +6,7 @@ use Rattle.std.specs.Option.{option_map_or}
 use Rattle.std.proofs.lemmas.List.{append-nil, length-append, map-append}
 use Rattle.handler_script.specs.Valid.{IsValid}
 use Rattle.ipdl_base.specs.declared.kinds.Side.{Side}
+use Rattle.ipdl_base.specs.declared.kinds.Side.TheVariants as sides
 use Rattle.ipdl_base.specs.declared.line.Line.{Line}
 use Rattle.ipdl_base.specs.declared.schema.Schema.{Schema}
 use Rattle.ipdl_base.specs.Sound.{IsSound}
@@ -17,28 +18,33 @@ use Rattle.value_codec.specs.declared.decoding.Decoded.TheVariants as decoded
 use Rattle.value_codec.specs.Decoding.{FrameBegins, begins}
 use Rattle.value_codec.specs.Laws.{AreBytes}
 use Rattle.channel_model.specs.Bounds.{unsettled}
-use Rattle.channel_model.specs.Ends.{End}
+use Rattle.channel_model.specs.Ends.{End, end_of, opening, opening_end}
 use Rattle.channel_model.specs.Ends as model
 use Rattle.channel_model.specs.Events.{Event}
 use Rattle.channel_model.specs.Events as event
 use Rattle.channel_model.specs.Fitting.{FitsPacket, IsFitting}
 use Rattle.channel_model.specs.Outputs.{Output, is_open, line_at}
-use Rattle.channel_model.specs.Refusals.{DeliveryRefusal, packet_refusal}
+use Rattle.channel_model.specs.Refusals.{DeliveryRefusal, packet_refusal, wrong_direction, wrong_number, wrong_new_id, stray, wrong_actor}
+use Rattle.channel_model.specs.Runs.{RunState}
 use Rattle.channel_model.specs.Steps.{step}
 use Rattle.channel_model.proofs.Known.{all-append}
 use Rattle.end_parts.specs.declared.packet.Packet.{Packet}
 use Rattle.end_parts.specs.declared.packet.Packet.TheVariants.{Bytes, Broken}
 use Rattle.end_parts.specs.PacketReading.{PacketContent, carried, content_decoded, faulty, packet_read}
+use Rattle.channel_core.specs.declared.answers.DeliverAnswer.{DeliverAnswer}
+use Rattle.channel_core.specs.declared.answers.DeliverAnswer.TheVariants as delivery
+use Rattle.channel_core.specs.Delivered.{answer_to, delivery_answer, told_refusal}
 use Rattle.channel_core.specs.EndView.{EndView, IsFramed, packet_of, packets_of}
 use Rattle.script_runs.proofs.Changes.{end-apart}
 use Rattle.script_runs.specs.Allowed.{IsAllowed}
 use Rattle.script_runs.specs.Dispatches.{dispatches}
 use Rattle.script_runs.specs.Handlers.{IsHandlerOf}
 use Rattle.script_steps.proofs.StepLines.{Prints, step-prints}
-use Rattle.script_steps.specs.Choices.{Setting}
+use Rattle.script_steps.specs.Choices.{Setting, beginning_of}
 use Rattle.script_steps.specs.NextEvent.{next_event}
 use Rattle.script_steps.specs.Progress.{Progress, progress_of}
-use Rattle.relay_runs.specs.HalfRuns.{HalfRun, HalfState, acts, begins, gets, behind, behind_packet, delivered_for, is_within, own_event}
+use Rattle.relay_runs.specs.HalfRuns.{HalfRun, HalfState, behind, behind_packet, delivered_for, is_within, opening_half, own_event}
+use Rattle.relay_runs.specs.HalfRuns as half_run
 use Rattle.world_core.proofs.Delivering.{framed-read}
 use Rattle.world_core.proofs.KeptEnds.{KeepsEnd, begins-kept, delivery-keeps, fewer, grown, kept, known, own-allowed, own-keeps, stands}
 use Rattle.world_core.proofs.Played.{own-progress}
@@ -46,11 +52,13 @@ use Rattle.world_core.specs.declared.answers.AcceptAnswer.{AcceptAnswer}
 use Rattle.world_core.specs.declared.answers.AcceptAnswer.TheVariants as accept
 use Rattle.world_core.specs.declared.answers.StepAnswer.{StepAnswer}
 use Rattle.world_core.specs.declared.answers.StepAnswer.TheVariants as answer
-use Rattle.world_core.specs.HalfSteps.{IsHalfStep, IsOwnStep, MayGoOn, OwnGives, next_of}
+use Rattle.world_core.specs.HalfSteps.{IsHalfDelivery, IsHalfStep, IsOwnStep, MayGoOn, OwnGives, next_of}
 use Rattle.world_core.specs.HalfView.{HalfView, IsCountedBy, setting_of}
-use Rattle.world_core.specs.LinkView.{HoldsBytes}
+use Rattle.world_core.specs.LinkView.{HoldsBytes, LinkView}
+use Rattle.world_core.specs.WorldView.{WorldView, opening_of}
+use Rattle.world_core.specs.Worlds.{IsHalfOf, IsRun, most_events}
 use Rattle.world_core.specs.Resolvers.{AreApart}
-use Rattle.world_core.specs.Relaying.{AcceptGives, DeliversFor, GoesApart, GoingGives, HasAccepted, HasActed, HasHandedOut, HasLineRoom, HasTakenOver, InEach, IsApart, PutGives, came_by, is_refused, own_progress}
+use Rattle.world_core.specs.Relaying.{AcceptGives, ContentGives, DeliversFor, GoesApart, GoingGives, HasAccepted, HasActed, HasHandedOut, HasLineRoom, HasTakenOver, InEach, IsApart, PutGives, came_by, is_refused, own_progress}
 
 -- What is delivered of a packet that comes fits the schema, and is not refused
 
@@ -64,10 +72,10 @@ given-accepted schema e packet (Some r) is = refl
 
 -- a state of a half run keeps what an end does that goes on by itself
 pub run-keeps : (setting : Setting) (side : Side) → IsSound setting.schema → IsValid setting.schema setting.script → setting.limit < 268435456 → (state : HalfState) → HalfRun setting side state → KeepsEnd setting side state.end state.lines state.delivered
-run-keeps setting side sound valid limit _ begins = begins-kept setting side sound valid limit
-run-keeps setting side sound valid limit _ (acts state own output run within is_own is) =
+run-keeps setting side sound valid limit _ half_run.begins = begins-kept setting side sound valid limit
+run-keeps setting side sound valid limit _ (half_run.acts state own output run within is_own is) =
     own-keeps setting side sound valid limit state.end state.lines state.delivered (run-keeps setting side sound valid limit state run) own output is_own is (fewer (progress_of side state.lines).events setting.limit within)
-run-keeps setting side sound valid limit _ (gets state packet output run within rests opened fits is) =
+run-keeps setting side sound valid limit _ (half_run.gets state packet output run within rests opened fits is) =
     let refusal : Option DeliveryRefusal = packet_refusal setting.schema state.end packet in
     delivery-keeps setting side sound valid limit state.end state.lines state.delivered (run-keeps setting side sound valid limit state run) (delivered_for setting.schema state.end packet) output
     (given-fits setting.schema packet refusal fits) (given-accepted setting.schema state.end packet refusal refl) is (fewer (progress_of side state.lines).events setting.limit within)
@@ -290,10 +298,10 @@ module _ (setting : Setting) (side : Side) (state : HalfState) (handed : List mo
         within = within;
         is_own = own;
         is_step = is;
-        goes = goes-on h.event [] between h.steps half' over state.came state.delivered (acts state h.event h.steps.output goes.runs within own is);
+        goes = goes-on h.event [] between h.steps half' over state.came state.delivered (half_run.acts state h.event h.steps.output goes.runs within own is);
       }
   own-gives answer.Nothing between half' h over = (sym next-is ∙ h.0, same-over between half' h.1 over)
-  own-gives (answer.Spent at) between half' h over = (ap is_some (sym next-is) ∙ h.0, (sym within-is ∙ h.1, (h.2 ∙ side-is, same-over between half' h.3 over)))
+  own-gives (answer.Spent at) between half' h over = (ap is_some (sym next-is) ∙ h.0, sym within-is ∙ h.1, h.2 ∙ side-is, same-over between half' h.3 over)
   own-gives answer.NoMemory between half' h over = same-over between half' h over
 
   -- A packet that comes to it
@@ -372,7 +380,7 @@ module _ (setting : Setting) (side : Side) (state : HalfState) (handed : List mo
             is_step = is;
             goes =
                 goes-on event.deliver (given ∷ []) between steps half' over (state.came ++ came ∷ []) (state.delivered ++ given ∷ [])
-                (gets state came steps.output goes.runs within rests opened fits is);
+                (half_run.gets state came steps.output goes.runs within rests opened fits is);
           }
 
       accept-gives : (told : AcceptAnswer) (between half' : HalfView) → DeliversFor half progress content told between → HasTakenOver between half' → AcceptGives setting side state handed content told half'
@@ -507,13 +515,13 @@ module _ (half : HalfView) (packet : Packet) (holds : HoldsBytes packet) (opened
       accept-gives setting side state handed half goes (content setting side state handed goes) (content-fit setting side state handed goes) (opened-so setting side state handed goes) (within-so setting side state handed goes)
       (apart-rests half none setting side state handed goes) told between half' (delivers-so setting side state handed goes told between h) over
 
-pub closed-gives : (half : HalfView) (content : Schema → PacketContent) → is_open half.end.end.state ≡ false → InEach half (λ setting side state handed. AcceptGives setting side state handed (content setting.schema) accept.Nothing half)
-closed-gives half content closed setting side state handed goes = (sym (opened-is setting side state handed half goes) ∙ closed, goes)
+pub closed-gives : (half : HalfView) (reading : Schema → PacketContent) → is_open half.end.end.state ≡ false → InEach half (λ setting side state handed. AcceptGives setting side state handed (reading setting.schema) accept.Nothing half)
+closed-gives half reading closed setting side state handed goes = (sym (opened-is setting side state handed half goes) ∙ closed, goes)
 
-pub spent-gives : (half : HalfView) (content : Schema → PacketContent) (at : Side) → is_open half.end.end.state ≡ true → not (nat_lt half.counts.events half.limit) ≡ true → at ≡ half.end.end.side
-    → InEach half (λ setting side state handed. AcceptGives setting side state handed (content setting.schema) (accept.Spent at) half)
-spent-gives half content at opened full is setting side state handed goes =
-    (sym (opened-is setting side state handed half goes) ∙ opened, (full-is setting side state handed half goes full, (is ∙ side-is setting side state handed half goes, goes)))
+pub spent-gives : (half : HalfView) (reading : Schema → PacketContent) (at : Side) → is_open half.end.end.state ≡ true → not (nat_lt half.counts.events half.limit) ≡ true → at ≡ half.end.end.side
+    → InEach half (λ setting side state handed. AcceptGives setting side state handed (reading setting.schema) (accept.Spent at) half)
+spent-gives half reading at opened full is setting side state handed goes =
+    (sym (opened-is setting side state handed half goes) ∙ opened, full-is setting side state handed half goes full, is ∙ side-is setting side state handed half goes, goes)
 
 pub put-gives-each : (half half' : HalfView) → half' ≡ record half { end = half'.end } → (told : Option Packet)
     → MatchOption told ((half.end.packets ≡ []) × (half'.end ≡ half.end)) (λ packet. half.end ≡ record half'.end { packets = packet ∷ half'.end.packets }) → InEach half (λ setting side state handed. PutGives setting side state handed told half')
@@ -523,3 +531,76 @@ put-gives-each half half' same told h setting side state handed goes = put-gives
 pub reads-framed : (half : HalfView) → IsApart half → (packet : Packet) → HoldsBytes packet → (carries : model.Packet) → IsFramed half.end.schema carries → packet ≡ packet_of half.end.schema carries → packet_read half.end.schema packet ≡ carried carries
 reads-framed half is packet holds carries framed same =
     framed-read half.end.schema carries packet (subst IsSound (sym (schema-is is.setting is.side is.state is.handed half is.goes)) is.goes.sound) framed holds same
+
+-- A packet that is offered
+
+offered-as : (seen : EndView) (packet : Packet) → delivery_answer seen packet ≡ answer_to seen (packet_read seen.schema packet)
+unfolding delivery_answer
+offered-as seen packet = refl
+
+told-none : (r : Option DeliveryRefusal) → told_refusal r ≡ delivery.Done → is_some r ≡ false
+told-none None is = refl
+told-none (Some wrong_direction) is = cc
+told-none (Some wrong_number) is = cc
+told-none (Some wrong_new_id) is = cc
+told-none (Some (stray seq)) is = cc
+told-none (Some (wrong_actor id number)) is = cc
+
+told-some : (r : Option DeliveryRefusal) (a : DeliverAnswer) → (a ≡ delivery.Done → ⊥) → told_refusal r ≡ a → is_some r ≡ true
+told-some None a isnt is = absurd (isnt (sym is))
+told-some (Some r) a isnt is = refl
+
+taken-content : (seen : EndView) (content : PacketContent) → answer_to seen content ≡ delivery.Done → is_refused seen.schema seen.end content ≡ false
+taken-content seen (carried p) is = told-none (packet_refusal seen.schema seen.end p) is
+taken-content seen (faulty offset rule) is = cc
+
+left-content : (seen : EndView) (content : PacketContent) (a : DeliverAnswer) → (a ≡ delivery.Done → ⊥) → answer_to seen content ≡ a → is_refused seen.schema seen.end content ≡ true
+left-content seen (carried p) a isnt is = told-some (packet_refusal seen.schema seen.end p) a isnt is
+left-content seen (faulty offset rule) a isnt is = refl
+
+pub offered-refused : (seen : EndView) (packet : Packet) (a : DeliverAnswer) → (a ≡ delivery.Done → ⊥) → delivery_answer seen packet ≡ a → is_refused seen.schema seen.end (packet_read seen.schema packet) ≡ true
+offered-refused seen packet a isnt is = left-content seen (packet_read seen.schema packet) a isnt (sym (offered-as seen packet) ∙ is)
+
+pub offered-done : (half between : HalfView) (progress : Progress) (packet : Packet) → delivery_answer half.end packet ≡ delivery.Done → IsHalfDelivery half progress packet between → ContentGives half progress (packet_read half.end.schema packet) delivery.Done between
+offered-done half between progress packet is d = (
+  taken-content half.end (packet_read half.end.schema packet) (sym (offered-as half.end packet) ∙ is),
+  subst (λ (p : model.Packet). IsHalfStep half progress (p ∷ []) event.deliver between) (sym (ap came_by d.is_read)) d.steps,
+)
+
+-- a half with the end that it had is as it was
+pub same-end : (half : HalfView) (v : EndView) → v ≡ half.end → record half { end = v } ≡ half
+same-end half v same = ap (λ (w : EndView). record half { end = w }) same
+
+-- The halves of a run that has just begun
+
+opening-side : (top : ℕ) (side : Side) → end_of side (opening top) ≡ opening_end top side
+opening-side top sides.Parent = refl
+opening-side top sides.Child = refl
+
+begun-apart : (setting : Setting) (side : Side) (state : RunState) (half half' : HalfView) → IsSound setting.schema → IsValid setting.schema setting.script → setting.limit ≤ most_events → IsHalfOf setting state side half → state ≡ beginning_of setting
+    → half' ≡ record half { history = []; spare = half'.spare } → GoesApart setting side (opening_half setting side) [] half'
+begun-apart setting side state half half' sound valid small is begins same =
+    let counted : IsCountedBy half (progress_of side []) = subst (λ (s : RunState). IsCountedBy half (progress_of side s.lines)) begins is.counted in
+    subst (GoesApart setting side (opening_half setting side) []) (sym same)
+    (record {
+      sound = sound;
+      valid = valid;
+      small = small;
+      about = is.about;
+      runs = half_run.begins;
+      end = is.end ∙ ap (λ (s : RunState). end_of side s.world) begins ∙ opening-side setting.script.top side;
+      counted = record { counts = counted.counts; held = counted.held };
+      history = refl;
+      no_lines = is.no_lines;
+      held = [];
+      sent = refl;
+      packets = is.no_packets;
+      framed = tt;
+    })
+
+pub world-apart : (setting : Setting) (state : RunState) (side : Side) (link : LinkView) (half half' : HalfView) (view : WorldView) → IsRun setting state link → IsHalfOf setting state side half → record { setting = setting; state = state } ≡ view → view ≡ opening_of view.setting
+    → half' ≡ record half { history = []; spare = half'.spare } → GoesApart view.setting side (opening_half view.setting side) [] half'
+world-apart setting state side link half half' view run is seen opens same =
+    let told : setting ≡ view.setting = ap (λ (v : WorldView). v.setting) seen in
+    let begins : state ≡ beginning_of setting = ap (λ (v : WorldView). v.state) seen ∙ ap (λ (v : WorldView). v.state) opens ∙ ap beginning_of (sym told) in
+    subst (λ (s : Setting). GoesApart s side (opening_half s side) [] half') told (begun-apart setting side state half half' run.sound run.valid run.small is begins same)

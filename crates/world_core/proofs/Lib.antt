@@ -20,7 +20,7 @@ mod WorldTurns
 mod Standing
 mod SideChoices
 mod OwnRuns
-pub mod Halves
+pub mod SplitHalves
 mod Meetings
 mod Apart
 mod KeptEnds

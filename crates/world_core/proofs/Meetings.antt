@@ -21,7 +21,7 @@ use Rattle.script_steps.proofs.Counting.{lines_of-append}
 use Rattle.script_steps.specs.Choices.{Choice, Setting, may_deliver, played}
 use Rattle.script_steps.specs.Progress.{Progress, lines_of, progress_of}
 use Rattle.world_core.proofs.Chosen.{chosen-less, left_of, run-sides}
-use Rattle.world_core.proofs.Halves.{reached, stored-own}
+use Rattle.world_core.proofs.SplitHalves.{reached, stored-own}
 use Rattle.world_core.proofs.OwnRuns.{IsPlayedAgain, play-again}
 use Rattle.world_core.proofs.Played.{all-append, few-lines, few-packets, link-of, played-last}
 use Rattle.world_core.proofs.SideChoices.{RanAlone, one-alone}

@@ -1,5 +1,5 @@
 -- Turns of two halves that go apart, as a loop takes them.
-use Rattle.std.proofs.Common.{◌≡◌, ℕ, zero, suc, ◌+◌, ◌-◌, ◌*◌, ◌<◌, ◌≤◌, Bool, true, false, if◌then◌else◌, List, [], ◌∷◌, ◌++◌, drop, length, Option, Some, None, is_some, refl, sym, ap, subst, ◌∙◌, append_assoc, arith}
+use Rattle.std.proofs.Common.{◌≡◌, ℕ, zero, suc, ◌+◌, ◌-◌, ◌*◌, ◌<◌, ◌≤◌, Bool, true, false, if◌then◌else◌, List, [], ◌∷◌, ◌++◌, drop, length, map, Option, Some, None, is_some, refl, sym, ap, subst, ◌∙◌, append_assoc, arith}
 use Rattle.std.specs.Option.{option_map_or}
 use Rattle.std.proofs.lemmas.List.{append-nil}
 use Rattle.handler_script.specs.ScriptOf.{first_of}
@@ -27,10 +27,14 @@ use Rattle.world_core.specs.declared.answers.AcceptAnswer.{AcceptAnswer}
 use Rattle.world_core.specs.declared.answers.AcceptAnswer.TheVariants as accept
 use Rattle.world_core.specs.declared.answers.StepAnswer.{StepAnswer}
 use Rattle.world_core.specs.declared.answers.StepAnswer.TheVariants as answer
+use Rattle.world_core.specs.declared.answers.RunAnswer.{RunAnswer}
 use Rattle.world_core.specs.declared.answers.RunAnswer.TheVariants as run
+use Rattle.world_core.specs.declared.relay.Halves.{Halves}
+use Rattle.world_core.specs.WorldView.{WorldView}
+use Rattle.end_parts.specs.PlainLines.{plain_line}
 use Rattle.world_core.specs.HalfSteps.{next_of}
 use Rattle.world_core.specs.HalfView.{HalfView}
-use Rattle.world_core.specs.Relaying.{AcceptGives, AreFacing, BothApart, BothInEach, FacingEach, GoApart, GoesApart, GoingGives, HasAccepted, HasLed, HasTakenTurns, InEach, IsApart, PutGives, RelayTurnGives, SideTurnGives, TurnsGive, own_progress, turn_answer}
+use Rattle.world_core.specs.Relaying.{AcceptGives, AreFacing, BothApart, BothInEach, FacingEach, GoApart, GoesApart, GoingGives, HasAccepted, HasLed, HasTakenTurns, InEach, IsApart, IsRelayed, IsRelayedByTurns, PutGives, RelayGives, RelayTurnGives, SideTurnGives, TurnsGive, own_progress, turn_answer}
 
 -- Halves of a state
 
@@ -106,7 +110,7 @@ module _ (setting : Setting) (side : Side) (state : RelayState) (half facing : H
   own-turn answer.Did half' isnt h =
       has-led (behind mine h.output) h.own [] h.output half' facing (own-leads h.own h.output h.is_own h.within h.is_step) h.within h.is_step refl h.goes apart.faces
   own-turn answer.Nothing half' isnt h = absurd (isnt refl)
-  own-turn (answer.Spent at) half' isnt h = (own-exceeds (own_event setting side mine) refl h.0 h.1, (h.2, (h.3.history, apart.faces.history)))
+  own-turn (answer.Spent at) half' isnt h = (own-exceeds (own_event setting side mine) refl h.0 h.1, h.2, h.3.history, apart.faces.history)
   own-turn answer.NoMemory half' isnt h = tt
 
   -- A packet
@@ -147,7 +151,7 @@ module _ (setting : Setting) (side : Side) (state : RelayState) (half facing : H
         packet-turn accept.Refused half' h = accepted half' h.1
         packet-turn accept.Nothing half' h = absurd (let e : true ≡ false = sym opened ∙ h.0 in let no : ⊥ = cc in no)
         packet-turn (accept.Spent at) half' h =
-            (takes ∙ ap (λ (b : Bool). if b then leads (with_half side (behind_next setting mine came) state) else exceeds) h.1, (h.2, (h.3.history, faces.history)))
+            (takes ∙ ap (λ (b : Bool). if b then leads (with_half side (behind_next setting mine came) state) else exceeds) h.1, h.2, h.3.history, faces.history)
         packet-turn accept.NoMemory half' h = tt
 
 -- Turns in each state
@@ -368,3 +372,22 @@ loops-end begun_parent begun_child parent child side left none loops setting beg
 -- the halves of a run that has just begun
 pub begins-apart : (setting : Setting) (parent child : HalfView) → GoesApart setting sides.Parent (opening_half setting sides.Parent) [] parent → GoesApart setting sides.Child (opening_half setting sides.Child) [] child → GoApart setting sides.Parent (opening_relay setting) parent child
 begins-apart setting parent child parent_goes child_goes = record { goes = parent_goes; faces = child_goes }
+
+-- What a relay in turns gives
+
+pub relayed-by-turns : (setting : Setting) (halves : Halves) (told : RunAnswer) (parent child : HalfView) → map plain_line halves.parent.lines ≡ parent.history → map plain_line halves.child.lines ≡ child.history → TurnsGive setting (opening_relay setting) told parent child
+    → IsRelayedByTurns setting halves told
+relayed-by-turns setting halves run.Finished parent child p c h = record { last = h.last; turns = h.turns; parent_lines = sym (p ∙ h.parent_lines); child_lines = sym (c ∙ h.child_lines) }
+relayed-by-turns setting halves (run.Spent side) parent child p c h = record { last = h.last; turns = h.turns; parent_lines = sym (p ∙ h.parent_lines); child_lines = sym (c ∙ h.child_lines) }
+relayed-by-turns setting halves run.NoMemory parent child p c h = tt
+
+pub turns-relayed : (setting : Setting) (halves : Halves) (told : RunAnswer) (parent child : HalfView) → map plain_line halves.parent.lines ≡ parent.history → map plain_line halves.child.lines ≡ child.history → TurnsGive setting (opening_relay setting) told parent child
+    → IsRelayed setting halves told
+turns-relayed setting halves run.Finished parent child p c h = record { state = h.last; relay = h.relay; parent_lines = sym (p ∙ h.parent_lines); child_lines = sym (c ∙ h.child_lines); ends = h.ends }
+turns-relayed setting halves (run.Spent side) parent child p c h = record { state = h.last; relay = h.relay; parent_lines = sym (p ∙ h.parent_lines); child_lines = sym (c ∙ h.child_lines); ends = h.ends }
+turns-relayed setting halves run.NoMemory parent child p c h = tt
+
+pub gives-unless : (Gives : WorldView → Halves → RunAnswer → Type 0) (before : WorldView) (halves : Halves) (told : RunAnswer) → Gives before halves told → RelayGives Gives before halves told
+gives-unless Gives before halves run.Finished h = h
+gives-unless Gives before halves (run.Spent side) h = h
+gives-unless Gives before halves run.NoMemory h = tt

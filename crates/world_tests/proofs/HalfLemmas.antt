@@ -7,7 +7,7 @@ use Rattle.ipdl_base.specs.declared.line.What.{What}
 use Rattle.script_steps.proofs.Counting.{lines_of-append}
 use Rattle.script_steps.specs.Choices.{IsCaseHistory, Setting}
 use Rattle.script_steps.specs.Progress.{lines_of}
-use Rattle.world_core.proofs.Halves.{stored-own}
+use Rattle.world_core.proofs.SplitHalves.{stored-own}
 use Rattle.world_core.specs.HalfView.{HalfView, setting_of}
 use Rattle.world_core.specs.Halves.{FitsBehind, HalvesFitBehindMore, HasMet, IsHome, IsSplit}
 use Rattle.world_core.specs.LinkView.{LinkView}

@@ -2,7 +2,7 @@ use Rattle.std.proofs.Common.{◌∙◌}
 use Rattle.thread_link.proofs.HalfMeetings.{grows-on}
 use Rattle.thread_link.proofs.Together.{GoesOn, goes-on, runs-at-once}
 use Rattle.thread_link.proofs.workers.run_at_once.Goals as goal
-use Rattle.world_core.proofs.Halves.{split-own}
+use Rattle.world_core.proofs.SplitHalves.{split-own}
 use Rattle.world_core.specs.HalfView.{setting_of}
 
 pub work_apart-link-requires : goal.work_apart-link-requires

@@ -1,4 +1,4 @@
-use Rattle.world_core.proofs.Halves.{split-own}
+use Rattle.world_core.proofs.SplitHalves.{split-own}
 use Rattle.world_core.specs.HalfView.{setting_of}
 use Rattle.thread_tests.proofs.pairs.run_apart.Goals as goal
 

@@ -1,4 +1,4 @@
-use Rattle.world_core.proofs.Halves as law
+use Rattle.world_core.proofs.SplitHalves as law
 use Rattle.world_core.proofs.laws.halves_fit_behind_more.Goals as goal
 
 pub returns : goal.returns

@@ -6,10 +6,10 @@ pub go_on-requires : goal.go_on-requires
 go_on-requires c = facing-goes c.args.half.now c.args.facing.now c.requires
 
 pub receive-requires : goal.receive-requires
-receive-requires c = (
-  rested-faces c.args.half.now c.go_on.new.self c.args.facing.now c.in-Nothing.ensures c.requires,
-  rested-rests c.args.half.now c.go_on.new.self c.args.facing.now c.in-Nothing.ensures c.requires,
-)
+receive-requires c = record {
+  facing = rested-faces c.args.half.now c.go_on.new.self c.args.facing.now c.in-Nothing.ensures c.requires;
+  rests = rested-rests c.args.half.now c.go_on.new.self c.args.facing.now c.in-Nothing.ensures c.requires;
+}
 
 pub returns-in-Nothing : goal.returns-in-Nothing
 returns-in-Nothing c =

@@ -1,5 +1,5 @@
 use Rattle.world_core.specs.HalfView.{setting_of}
-use Rattle.world_core.proofs.Halves.{split-own}
+use Rattle.world_core.proofs.SplitHalves.{split-own}
 use Rattle.world_tests.proofs.halves.go_apart.Goals as goal
 
 pub join-requires : goal.join-requires

@@ -6,7 +6,7 @@ pub returns-in-Err : goal.returns-in-Err
 returns-in-Err c = roomy-each c.args.self.now c.make_room.new.self c.make_room.ensures.same
 
 pub step_on-requires : goal.step_on-requires
-step_on-requires c = (roomy-apart c.args.self.now c.make_room.new.self c.make_room.ensures.same c.requires, c.in-Ok.ensures)
+step_on-requires c = record { apart = roomy-apart c.args.self.now c.make_room.new.self c.make_room.ensures.same c.requires; room = c.in-Ok.ensures.room }
 
 pub returns-in-Ok : goal.returns-in-Ok
 returns-in-Ok c =

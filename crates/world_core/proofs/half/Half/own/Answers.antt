@@ -1,4 +1,4 @@
-use Rattle.world_core.proofs.Halves.{may-go-on-behind, own-fits}
+use Rattle.world_core.proofs.SplitHalves.{may-go-on-behind, own-fits}
 use Rattle.world_core.proofs.half.Half.own.Goals as goal
 
 pub own_step-requires : goal.own_step-requires

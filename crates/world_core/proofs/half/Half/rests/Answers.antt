@@ -1,5 +1,5 @@
 use Rattle.std.proofs.Common.{◌∙◌, is_some, sym}
-use Rattle.world_core.proofs.Halves.{rests-so, some-is-next}
+use Rattle.world_core.proofs.SplitHalves.{rests-so, some-is-next}
 use Rattle.world_core.proofs.half.Half.rests.Goals as goal
 use Rattle.world_core.specs.HalfSteps.{next_of}
 
