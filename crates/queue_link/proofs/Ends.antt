@@ -30,11 +30,11 @@ record IsFront (schema : Schema) (sent taken : List model.Packet) (held : List P
   is : sent ≡ taken ++ waiting
   held_is : held ≡ packets_of schema waiting
 
-head-of : Packet → List Packet → Packet
+abbrev head-of : Packet → List Packet → Packet
 head-of p [] = p
 head-of p (first ∷ rest) = first
 
-rest-of : List Packet → List Packet
+abbrev rest-of : List Packet → List Packet
 rest-of [] = []
 rest-of (first ∷ rest) = rest
 
@@ -93,7 +93,7 @@ module _ (setting : Setting) where
   module _ (parent child : HalfView) (down up : PacketView) (down_order : IsOrdered down) (up_order : IsOrdered up) where
     module _ (parent_hands child_hands : List model.Packet) (p : Stands setting sides.Parent down.pushed up.popped parent parent_hands) (c : Stands setting sides.Child up.pushed down.popped child child_hands) where
       -- the relay whose ends stand so
-      relay : RelayState
+      abbrev relay : RelayState
       relay = record { parent = p.state; child = c.state }
 
       to-parent : IsFront setting.schema c.state.sent (p.state.came ++ parent_hands) up_order.0
@@ -102,20 +102,26 @@ module _ (setting : Setting) where
       to-child : IsFront setting.schema p.state.sent (c.state.came ++ child_hands) down_order.0
       to-child = taken-front sides.Child sides.Parent up.pushed down.popped down.pushed up.popped child parent child_hands parent_hands c p down_order.0 down_order.1
 
+      parent-order : c.state.sent ≡ p.state.came ++ (parent_hands ++ to-parent.waiting)
+      parent-order = to-parent.is ∙ append_assoc p.state.came parent_hands to-parent.waiting
+
+      child-order : p.state.sent ≡ c.state.came ++ (child_hands ++ to-child.waiting)
+      child-order = to-child.is ∙ append_assoc c.state.came child_hands to-child.waiting
+
       is-relay : IsRelay setting relay
       is-relay = record {
         parent_runs = p.goes.runs;
         child_runs = c.goes.runs;
-        to_parent = (parent_hands ++ to-parent.waiting, to-parent.is ∙ append_assoc p.state.came parent_hands to-parent.waiting);
-        to_child = (child_hands ++ to-child.waiting, to-child.is ∙ append_assoc c.state.came child_hands to-child.waiting);
+        to_parent = (parent_hands ++ to-parent.waiting, parent-order);
+        to_child = (child_hands ++ to-child.waiting, child-order);
       }
 
       -- what comes to the parent next is the first in its hands, or else of what waits; and so with the child
       parent-next : next_packet sides.Parent relay ≡ first_of (parent_hands ++ to-parent.waiting)
-      parent-next = ap first_of (ap (drop (length p.state.came)) is-relay.to_parent.1 ∙ drop-front p.state.came (parent_hands ++ to-parent.waiting))
+      parent-next = ap first_of (ap (drop (length p.state.came)) parent-order ∙ drop-front p.state.came (parent_hands ++ to-parent.waiting))
 
       child-next : next_packet sides.Child relay ≡ first_of (child_hands ++ to-child.waiting)
-      child-next = ap first_of (ap (drop (length c.state.came)) is-relay.to_child.1 ∙ drop-front c.state.came (child_hands ++ to-child.waiting))
+      child-next = ap first_of (ap (drop (length c.state.came)) child-order ∙ drop-front c.state.came (child_hands ++ to-child.waiting))
 
       -- such lines, where it ends so
       relayed-at : (ending : RunEnding) → EndsAs setting relay ending → Relayed setting parent.history child.history ending
@@ -135,9 +141,9 @@ module _ (setting : Setting) where
         in
         relayed-at [] [] p.work c.work at_rest (
           nothing-left (is_some (own_event setting sides.Parent p.work.state)) (is_open p.work.state.end.state) (is_some (next_packet sides.Parent (relay [] [] p.work c.work))) (ap is_some p.none)
-          (⊎_elim inl (λ waits. inr (ap is_some (parent_none (waits may_up)))) p.no_packet),
+              (⊎_elim inl (λ waits. inr (ap is_some (parent_none (waits may_up)))) p.no_packet),
           nothing-left (is_some (own_event setting sides.Child c.work.state)) (is_open c.work.state.end.state) (is_some (next_packet sides.Child (relay [] [] p.work c.work))) (ap is_some c.none)
-          (⊎_elim inl (λ waits. inr (ap is_some (child_none (waits may_down)))) c.no_packet),
+              (⊎_elim inl (λ waits. inr (ap is_some (child_none (waits may_down)))) c.no_packet),
         )
 
     -- one side has something left to do, but as many events as the limit
@@ -149,9 +155,9 @@ module _ (setting : Setting) where
         let next : Bool = is_some (next_packet sides.Parent state) in
         relayed-at p.in_hands c.in_hands p.stands c.stands (at_limit sides.Parent) (
           ⊎_elim (own-left own opened next)
-          (λ left. packet-left own opened next left.2
-            (ap is_some (parent-next p.in_hands c.in_hands p.stands c.stands) ∙ ap (λ (ps : List model.Packet). is_some (first_of (ps ++ (to-parent p.in_hands c.in_hands p.stands c.stands).waiting))) left.1))
-          p.left,
+              (λ left. packet-left own opened next left.2
+              (ap is_some (parent-next p.in_hands c.in_hands p.stands c.stands) ∙ ap (λ (ps : List model.Packet). is_some (first_of (ps ++ (to-parent p.in_hands c.in_hands p.stands c.stands).waiting))) left.1))
+              p.left,
           p.full,
         )
 
@@ -163,9 +169,9 @@ module _ (setting : Setting) where
         let next : Bool = is_some (next_packet sides.Child state) in
         relayed-at p.in_hands c.in_hands p.stands c.stands (at_limit sides.Child) (
           ⊎_elim (own-left own opened next)
-          (λ left. packet-left own opened next left.2
-            (ap is_some (child-next p.in_hands c.in_hands p.stands c.stands) ∙ ap (λ (ps : List model.Packet). is_some (first_of (ps ++ (to-child p.in_hands c.in_hands p.stands c.stands).waiting))) left.1))
-          c.left,
+              (λ left. packet-left own opened next left.2
+              (ap is_some (child-next p.in_hands c.in_hands p.stands c.stands) ∙ ap (λ (ps : List model.Packet). is_some (first_of (ps ++ (to-child p.in_hands c.in_hands p.stands c.stands).waiting))) left.1))
+              c.left,
           c.full,
         )
 

@@ -1,5 +1,5 @@
 -- What a step of a half does to what was pushed and popped for it.
-use Rattle.std.proofs.Common.{◌≡◌, ◌⊎◌, inl, inr, ⊎_elim, true, false, is_some, Bool, List, [], ◌∷◌, ◌++◌, map, Option, Some, None, refl, sym, ap, subst, ◌∙◌, append-nil}
+use Rattle.std.proofs.Common.{◌≡◌, ◌⊎◌, inl, inr, ⊎_elim, true, false, is_some, Result, Ok, Err, MatchResult, OnOk, Bool, List, [], ◌∷◌, ◌++◌, map, Option, Some, None, refl, sym, ap, subst, ◌∙◌, append-nil}
 use Rattle.std.specs.List.{AllByRecursion}
 use Rattle.channel_core.specs.EndView.{packet_of, packets_of}
 use Rattle.channel_model.specs.Ends as model
@@ -15,8 +15,8 @@ use Rattle.world_core.specs.declared.answers.AcceptAnswer.TheVariants as accept
 use Rattle.world_core.specs.declared.answers.StepAnswer.{StepAnswer}
 use Rattle.world_core.specs.declared.answers.StepAnswer.TheVariants as answer
 use Rattle.world_core.specs.HalfView.{HalfView}
-use Rattle.world_core.specs.Relaying.{AcceptGives, GoesApart, GoingGives, HasAccepted, IsApart, PutGives, came_by}
-use Rattle.queue_link.specs.Work.{DeliveryGives, HandsOver, HasNoStep, HasTaken, IsAtWork, IsReadBack, IsSpent, OwnGives, Stands}
+use Rattle.world_core.specs.Relaying.{AcceptGives, GoesApart, GoingGives, HasAccepted, IsApart, PutGives, came_by, turn_answer}
+use Rattle.queue_link.specs.Work.{DeliveryGives, HandsOver, HasNoStep, HasTaken, IsAtWork, IsReadBack, IsResting, IsSpent, OwnGives, PacketView, PushGives, Stands, StepGives, TakeGives}
 
 all-snoc : {A : Type 0} (P : A → Type 0) (xs : List A) (x : A) → AllByRecursion P xs → P x → AllByRecursion P (xs ++ x ∷ [])
 all-snoc P [] x all is = (is, tt)
@@ -63,7 +63,7 @@ module _ (setting : Setting) where
     work-apart work = record { setting = setting; side = side; state = work.state; handed = work.state.sent; goes = work.goes }
 
     -- a half that stands so still, behind a call that changed nothing
-    pub still : (work : IsAtWork setting side pushed popped half) → GoesApart setting side work.state work.state.sent half' → IsAtWork setting side pushed popped half'
+    abbrev still : (work : IsAtWork setting side pushed popped half) → GoesApart setting side work.state work.state.sent half' → IsAtWork setting side pushed popped half'
     still work goes = record { state = work.state; goes = goes; pushes = work.pushes; pops = work.pops }
 
     pub own-gives : (work : IsAtWork setting side pushed popped half) (result : StepAnswer) → GoingGives setting side work.state work.state.sent result half' → OwnGives setting side pushed popped result half'
@@ -95,7 +95,7 @@ module _ (setting : Setting) where
           let e : true ≡ false = sym h ∙ k in
           cc
 
-      pub delivery-gives : is_open half.end.end.state ≡ true → (result : AcceptAnswer) → AcceptGives setting side rest.work.state rest.work.state.sent (packet_read setting.schema packet) result half' → DeliveryGives setting side pushed (popped ++ packet ∷ []) result half'
+      pub delivery-gives : is_open half.end.end.state ≡ true → (told : AcceptAnswer) → AcceptGives setting side rest.work.state rest.work.state.sent (packet_read setting.schema packet) told half' → DeliveryGives setting side pushed (popped ++ packet ∷ []) (turn_answer told) half'
       delivery-gives opens accept.Did gives = accepted gives.1
       delivery-gives opens accept.Refused gives = accepted gives.1
       delivery-gives opens accept.Nothing gives = not-both (is_open rest.work.state.end.state) (opened rest opens) gives.0
@@ -111,5 +111,48 @@ module _ (setting : Setting) where
       delivery-gives opens accept.NoMemory gives = tt
 
     -- a half that is not open rests
-    pub shut-rests : (rest : HasNoStep setting side pushed popped half) → is_open half.end.end.state ≡ false → is_open rest.work.state.end.state ≡ false
-    shut-rests rest is = ap (λ (e : model.End). is_open e.state) (sym rest.work.goes.end) ∙ is
+    pub shut-resting : (incoming : PacketView) → HasNoStep setting side pushed incoming.popped half → (b : Bool) → b ≡ is_open half.end.end.state → b ≡ false → IsResting setting side pushed incoming half
+    shut-resting incoming rest b is shut = record {
+      work = rest.work;
+      none = rest.none;
+      no_packet = inl (ap (λ (e : model.End). is_open e.state) (sym rest.work.goes.end) ∙ (sym is ∙ shut));
+    }
+
+  module _ (side : Side) (pushed : List Packet) (half : HalfView) where
+    -- and so does one for which nothing waits
+    pub empty-resting : (incoming incoming' : PacketView) → incoming' ≡ incoming → (incoming.pushes ≡ true → incoming.pushed ≡ incoming.popped) → HasNoStep setting side pushed incoming.popped half → IsResting setting side pushed incoming' half
+    empty-resting incoming incoming' same empty rest = subst (λ (v : PacketView). IsResting setting side pushed v half) (sym same) (record { work = rest.work; none = rest.none; no_packet = inr empty })
+
+  -- What steps answer
+
+  module _ (side : Side) (pushed popped : List Packet) (half' : HalfView) where
+    pub push-ended : (more : Bool) → more ≡ false → PushGives setting side pushed popped more half' → IsAtWork setting side pushed popped half'
+    push-ended true is gives = cc
+    push-ended false is gives = gives
+
+    pub did-hand : (told : StepAnswer) → told ≡ answer.Did → DeliveryGives setting side pushed popped told half' → HandsOver setting side pushed popped half'
+    did-hand told is gives = subst (λ (t : StepAnswer). DeliveryGives setting side pushed popped t half') is gives
+
+    pub done-take : {A E : Type 0} (r : Result A E) (told : StepAnswer) → MatchResult r (λ _. told ≡ answer.Did) (λ _. told ≡ answer.NoMemory) → OnOk r (IsAtWork setting side pushed popped half') → TakeGives setting side pushed popped told half'
+    done-take (Ok x) told is work = subst (λ (t : StepAnswer). TakeGives setting side pushed popped t half') (sym is) work
+    done-take (Err e) told is work = subst (λ (t : StepAnswer). TakeGives setting side pushed popped t half') (sym is) tt
+
+    pub other-take : (told : StepAnswer) → ¬ (told ≡ answer.Did) → DeliveryGives setting side pushed popped told half' → TakeGives setting side pushed popped told half'
+    other-take answer.Did apart gives = absurd (apart refl)
+    other-take answer.Nothing apart gives = gives
+    other-take (answer.Spent at) apart gives = gives
+    other-take answer.NoMemory apart gives = tt
+
+  module _ (side : Side) (out incoming out' incoming' : PacketView) (half' : HalfView) where
+    pub take-step : (told : StepAnswer) → TakeGives setting side out'.pushed incoming'.popped told half' → StepGives setting side out incoming told out' incoming' half'
+    take-step answer.Did gives = gives
+    take-step answer.Nothing gives = absurd gives
+    take-step (answer.Spent at) gives = gives
+    take-step answer.NoMemory gives = tt
+
+  module _ (side : Side) (out incoming : PacketView) (half' : HalfView) where
+    pub own-step : (told : StepAnswer) → ¬ (told ≡ answer.Did) → ¬ (told ≡ answer.Nothing) → OwnGives setting side out.pushed incoming.popped told half' → StepGives setting side out incoming told out incoming half'
+    own-step answer.Did apart other gives = absurd (apart refl)
+    own-step answer.Nothing apart other gives = absurd (other refl)
+    own-step (answer.Spent at) apart other gives = gives
+    own-step answer.NoMemory apart other gives = tt

@@ -4,6 +4,7 @@ use Rattle.channel_model.specs.Ends as model
 use Rattle.end_parts.specs.declared.packet.Packet.{Packet}
 use Rattle.ipdl_base.specs.declared.kinds.Side.{Side}
 use Rattle.ipdl_base.specs.declared.kinds.Side.TheVariants as sides
+use Rattle.ordered_queue.specs.InOrder.{whole}
 use Rattle.script_steps.specs.Choices.{Setting}
 use Rattle.world_core.specs.declared.answers.RunAnswer.{RunAnswer}
 use Rattle.world_core.specs.declared.answers.RunAnswer.TheVariants as run
@@ -42,7 +43,7 @@ module _ (setting : Setting) where
 
   module _ (parent parent' child : HalfView) (down down' up up' : PacketView) (pushes : OnlyPushed down down') (pops : OnlyPopped up up') where
     -- the child stands as it stood, behind a step of the parent
-    child-stays : IsAtWork setting sides.Child up.pushed down.popped child → IsAtWork setting sides.Child up'.pushed down'.popped child
+    pub child-stays : IsAtWork setting sides.Child up.pushed down.popped child → IsAtWork setting sides.Child up'.pushed down'.popped child
     child-stays work = at-work sides.Child child up.pushed up'.pushed down.popped down'.popped (ap (λ (v : PacketView). v.pushed) pops) (ap (λ (v : PacketView). v.popped) pushes) work
 
     -- a step of the parent that ends the run
@@ -102,3 +103,15 @@ module _ (setting : Setting) where
     both-worked (run.Spent at) run.Finished p c = subst (λ (s : Side). OneIsSpent setting down up s parent child) (sym p.0) (p.1, work-somehow sides.Child child up.pushed down.popped c)
     both-worked (run.Spent at) (run.Spent other) p c = subst (λ (s : Side). OneIsSpent setting down up s parent child) (sym p.0) (p.1, spent-somehow sides.Child child up.pushed down.popped c.1)
     both-worked (run.Spent at) run.NoMemory p c = tt
+
+  -- the same, where the passes were joined behind the work
+  module _ (parent child : HalfView) (of_parent of_child : Setting) (same : of_parent ≡ setting) (same' : of_child ≡ setting) where
+    pub worked-so : (down up pushing_down popping_down pushing_up popping_up : PacketView) → down ≡ whole pushing_down popping_down → up ≡ whole pushing_up popping_up → (first second : RunAnswer)
+        → WorkEnds of_parent sides.Parent pushing_down.pushed popping_up.popped first parent → WorkEnds of_child sides.Child pushing_up.pushed popping_down.popped second child → (told : RunAnswer) → told ≡ of_both first second → BothWorked setting down up told parent child
+    worked-so down up pushing_down popping_down pushing_up popping_up is_down is_up first second p c told is =
+        subst (λ (t : RunAnswer). BothWorked setting down up t parent child) (sym is)
+        (subst (λ (v : PacketView). BothWorked setting v up (of_both first second) parent child) (sym is_down)
+        (subst (λ (v : PacketView). BothWorked setting (whole pushing_down popping_down) v (of_both first second) parent child) (sym is_up)
+        (both-worked parent child (whole pushing_down popping_down) (whole pushing_up popping_up) first second
+        (subst (λ (s : Setting). WorkEnds s sides.Parent pushing_down.pushed popping_up.popped first parent) same p)
+        (subst (λ (s : Setting). WorkEnds s sides.Child pushing_up.pushed popping_down.popped second child) same' c))))

@@ -14,8 +14,6 @@ use Rattle.relay_runs.specs.HalfRuns.{HalfState, is_within, own_event}
 use Rattle.relay_runs.specs.Relays.{Relayed}
 use Rattle.script_steps.specs.Choices.{Setting}
 use Rattle.script_steps.specs.Turns.{at_limit, at_rest}
-use Rattle.world_core.specs.declared.answers.AcceptAnswer.{AcceptAnswer}
-use Rattle.world_core.specs.declared.answers.AcceptAnswer.TheVariants as accept
 use Rattle.world_core.specs.declared.answers.RunAnswer.{RunAnswer}
 use Rattle.world_core.specs.declared.answers.RunAnswer.TheVariants as run
 use Rattle.world_core.specs.declared.answers.StepAnswer.{StepAnswer}
@@ -85,12 +83,11 @@ OwnGives setting side pushed popped (answer.Spent at) half' = (at ≡ side) × I
 OwnGives setting side pushed popped answer.NoMemory half' = Unit {0}
 
 -- a packet was delivered that was popped, or the mark in its place; or the half is spent; or memory ran out
-abbrev pub DeliveryGives : Setting → Side → List Packet → List Packet → AcceptAnswer → HalfView → Type 0
-DeliveryGives setting side pushed popped accept.Did half' = HandsOver setting side pushed popped half'
-DeliveryGives setting side pushed popped accept.Refused half' = HandsOver setting side pushed popped half'
-DeliveryGives setting side pushed popped accept.Nothing half' = ⊥
-DeliveryGives setting side pushed popped (accept.Spent at) half' = (at ≡ side) × IsSpent setting side pushed popped half'
-DeliveryGives setting side pushed popped accept.NoMemory half' = Unit {0}
+abbrev pub DeliveryGives : Setting → Side → List Packet → List Packet → StepAnswer → HalfView → Type 0
+DeliveryGives setting side pushed popped answer.Did half' = HandsOver setting side pushed popped half'
+DeliveryGives setting side pushed popped answer.Nothing half' = ⊥
+DeliveryGives setting side pushed popped (answer.Spent at) half' = (at ≡ side) × IsSpent setting side pushed popped half'
+DeliveryGives setting side pushed popped answer.NoMemory half' = Unit {0}
 
 -- the same, where what was sent by it was pushed
 abbrev pub TakeGives : Setting → Side → List Packet → List Packet → StepAnswer → HalfView → Type 0

@@ -1,11 +1,13 @@
 //! One step of a side: what its half does, and what is pushed and popped for it.
-ghost use Rattle.std.specs.Prelude.{◌≡◌, ◌++◌, ◌∷◌, [], true, List, IfOk, OnOk};
+ghost use Rattle.std.specs.Prelude.{◌≡◌, ◌++◌, ◌∷◌, [], true, List, IfOk, MatchResult, OnOk};
 ghost use Rattle.channel_model.specs.Outputs.{is_open};
 ghost use Rattle.end_parts.specs.declared.packet.Packet.{Packet as OfPacket};
 ghost use Rattle.ipdl_base.specs.declared.kinds.Side.{Side as EndSide};
 ghost use Rattle.ordered_queue.specs.Passes.{HasPopped, HasPushed, MayPop, MayPush, view_of};
 ghost use Rattle.queue_link.specs.Work.{DeliveryGives, HandsOver, HasNoStep, IsAtWork, OwnGives, PushGives, StepGives, TakeGives};
 ghost use Rattle.script_steps.specs.Choices.{Setting};
+ghost use Rattle.world_core.specs.declared.answers.StepAnswer.TheVariants as answer;
+ghost use Rattle.world_core.specs.Relaying.{turn_answer};
 
 use crate::packets::{PacketPass, PacketQueue};
 use channel_core::Packet;
@@ -55,8 +57,10 @@ fn hand_over<R: Wait>(
     unreachable!()
 }
 
-// What a step is that was done, where there was memory for what it sent.
-fn done(handed_over: Result<(), AllocError>) -> StepAnswer {
+// What a step answers that was done, where there was memory for what it sent.
+fn done(handed_over: Result<(), AllocError>) -> StepAnswer
+    ensures { MatchResult handed_over (λ _. result ≡ answer.Did) (λ _. result ≡ answer.NoMemory) }
+{
     match handed_over {
         Ok(()) => StepAnswer::Did,
         Err(AllocError) => StepAnswer::NoMemory,
@@ -72,17 +76,29 @@ fn go_on(half: &mut Half<'_>) -> StepAnswer
     half.go_on()
 }
 
+// What a step answers, by what a half answers to a packet.
+fn turn_answer(answer: AcceptAnswer) -> StepAnswer
+    ensures { result ≡ turn_answer answer }
+{
+    match answer {
+        AcceptAnswer::Did | AcceptAnswer::Refused => StepAnswer::Did,
+        AcceptAnswer::Nothing => StepAnswer::Nothing,
+        AcceptAnswer::Spent(side) => StepAnswer::Spent(side),
+        AcceptAnswer::NoMemory => StepAnswer::NoMemory,
+    }
+}
+
 // A delivery to an open half that has no own step, of a packet that was popped for it.
-fn accept(half: &mut Half<'_>, packet: &Packet) -> AcceptAnswer
+fn accept(half: &mut Half<'_>, packet: &Packet) -> StepAnswer
     ghost at: { Setting × EndSide }
     requires rests { (pushed : List OfPacket) × (popped : List OfPacket) × HasNoStep at.0 at.1 pushed popped half.old }
     requires opened { is_open half.old.end.end.state ≡ true }
     ensures { (pushed popped : List OfPacket) → HasNoStep at.0 at.1 pushed popped half.old → DeliveryGives at.0 at.1 pushed (popped ++ packet.now ∷ []) result half.new }
 {
-    half.accept(packet)
+    turn_answer(half.accept(packet))
 }
 
-// The delivery of a packet to an open half that has no own step.
+// The same, with what the half sends by it pushed.
 fn deliver<R: Wait>(
     rt: &R,
     queue: &PacketQueue,
@@ -98,10 +114,8 @@ fn deliver<R: Wait>(
     ensures gives { (popped : List OfPacket) → HasNoStep at.0 at.1 (view_of pass.old).pushed popped half.old → TakeGives at.0 at.1 (view_of pass.new).pushed (popped ++ packet.now ∷ []) result half.new }
 {
     match accept(half, packet) {
-        AcceptAnswer::Did | AcceptAnswer::Refused => done(hand_over(rt, queue, pass, half)),
-        AcceptAnswer::Spent(side) => StepAnswer::Spent(side),
-        AcceptAnswer::Nothing => unreachable!(),
-        AcceptAnswer::NoMemory => StepAnswer::NoMemory,
+        StepAnswer::Did => done(hand_over(rt, queue, pass, half)),
+        answer => answer,
     }
 }
 

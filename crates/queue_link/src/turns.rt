@@ -1,8 +1,8 @@
 //! Both halves on one thread, in turn, over their queues.
 ghost use Rattle.std.specs.Prelude.{◌≡◌, true};
 ghost use Rattle.ipdl_base.specs.declared.kinds.Side.TheVariants as sides;
-ghost use Rattle.ordered_queue.specs.Passes.{MayBoth, view_of};
-ghost use Rattle.queue_link.specs.Work.{AreAtWork, BothEnd, RoundGives, is_over, of_round};
+ghost use Rattle.ordered_queue.specs.Passes.{HasPopped, HasPushed, MayBoth, view_of};
+ghost use Rattle.queue_link.specs.Work.{AreAtWork, BothEnd, IsAtWork, RoundGives, StepGives, is_over, of_round};
 ghost use Rattle.script_steps.specs.Choices.{Setting};
 
 use crate::packets::{PacketPass, PacketQueue};
@@ -30,6 +30,46 @@ fn of_round(first: StepAnswer, second: StepAnswer) -> StepAnswer
     }
 }
 
+// A step of the parent.
+fn parent_step<R: Wait>(
+    rt: &R,
+    down: &PacketQueue,
+    up: &PacketQueue,
+    to_child: &mut PacketPass,
+    to_parent: &mut PacketPass,
+    parent: &mut Half<'_>,
+) -> StepAnswer
+    ghost at: { Setting }
+    requires to_child { MayBoth down.now.queue to_child.old }
+    requires to_parent { MayBoth up.now.queue to_parent.old }
+    requires work { IsAtWork at sides.Parent (view_of to_child.old).pushed (view_of to_parent.old).popped parent.old }
+    ensures to_child { HasPushed down.now.queue to_child.old to_child.new }
+    ensures to_parent { HasPopped up.now.queue to_parent.old to_parent.new }
+    ensures gives { StepGives at sides.Parent (view_of to_child.old) (view_of to_parent.old) result (view_of to_child.new) (view_of to_parent.new) parent.new }
+{
+    step(rt, down, up, to_child, to_parent, parent)
+}
+
+// A step of the child.
+fn child_step<R: Wait>(
+    rt: &R,
+    down: &PacketQueue,
+    up: &PacketQueue,
+    to_child: &mut PacketPass,
+    to_parent: &mut PacketPass,
+    child: &mut Half<'_>,
+) -> StepAnswer
+    ghost at: { Setting }
+    requires to_child { MayBoth down.now.queue to_child.old }
+    requires to_parent { MayBoth up.now.queue to_parent.old }
+    requires work { IsAtWork at sides.Child (view_of to_parent.old).pushed (view_of to_child.old).popped child.old }
+    ensures to_child { HasPopped down.now.queue to_child.old to_child.new }
+    ensures to_parent { HasPushed up.now.queue to_parent.old to_parent.new }
+    ensures gives { StepGives at sides.Child (view_of to_parent.old) (view_of to_child.old) result (view_of to_parent.new) (view_of to_child.new) child.new }
+{
+    step(rt, up, down, to_parent, to_child, child)
+}
+
 // A step of each side, the parent's first. `Nothing` comes where neither has anything to do.
 fn round<R: Wait>(
     rt: &R,
@@ -48,11 +88,11 @@ fn round<R: Wait>(
     ensures to_parent { MayBoth up.now.queue to_parent.new }
     ensures gives { RoundGives at (view_of to_child.new) (view_of to_parent.new) result parent.new child.new }
 {
-    let first = step(rt, down, up, to_child, to_parent, parent);
+    let first = parent_step(rt, down, up, to_child, to_parent, parent);
     if is_over(first) {
         return first;
     }
-    let second = step(rt, up, down, to_parent, to_child, child);
+    let second = child_step(rt, down, up, to_child, to_parent, child);
     of_round(first, second)
 }
 

@@ -4,7 +4,7 @@ ghost use Rattle.world_core.specs.Relaying.{IsRelayed};
 ghost use Rattle.world_core.specs.WorldView.{opening_of};
 
 use crate::workers::run_apart;
-use gates::Gate;
+use gates::{Gate, Open};
 use std::alloc::Global;
 use std::sync::Wait;
 use std::thread::Threads;
@@ -22,7 +22,7 @@ impl<'r, R: Threads + Wait + Sync + AllocGlobal, G: Gate + Sync> TwoQueues<'r, R
     /// The relay whose sides pass a gate before each own step, while both go on at once. It takes no
     /// memory.
     pub fn new(rt: &'r R, gate: G) -> TwoQueues<'r, R, G>
-        ensures { IsSync R.row × IsSync G.row }
+        ensures { IsSync R.row }
     {
         TwoQueues { rt, gate }
     }
@@ -33,12 +33,20 @@ impl<'r, R: Threads + Wait + Sync + AllocGlobal, G: Gate + Sync> TwoQueues<'r, R
     {
         &self.gate
     }
+
+    /// Runs a world by whatever gate: as `run_queues` does with the open one.
+    pub fn run_with<'s>(&mut self, world: World<'s>) -> (Halves, RunAnswer)
+        requires { world ≡ opening_of world.setting }
+        ensures { IsRelayed world.entry.setting result.0 result.1 }
+    {
+        run_world(self.rt, self.rt.alloc(), &self.gate, world)
+    }
 }
 
-impl<'r, R: Threads + Wait + Sync + AllocGlobal, G: Gate + Sync> Relay for TwoQueues<'r, R, G> {
+impl<'r, R: Threads + Wait + Sync + AllocGlobal> Relay for TwoQueues<'r, R, Open> {
     ghost Gives = { λ _ before halves answer. IsRelayed before.setting halves answer };
 
-    ghost ready = { λ _. IsSync R.row × IsSync G.row };
+    ghost ready = { λ _. IsSync R.row };
 
     fn run_queues<'s>(&mut self, world: World<'s>) -> (Halves, RunAnswer) {
         run_world(self.rt, self.rt.alloc(), &self.gate, world)

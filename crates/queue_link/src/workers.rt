@@ -115,11 +115,33 @@ fn work_both<'b, 'c, R: Threads + Wait + Sync, G: Gate + Sync>(
         &mut || -> RunAnswer
             requires { (MayPush down.now.queue pushing_down.now) × (MayPop up.now.queue popping_up.now) × IsAtWork (setting_of parent.now) sides.Parent (view_of pushing_down.now).pushed (view_of popping_up.now).popped parent.now }
             ensures { (HasPushed down.entry.now.queue pushing_down.entry.now pushing_down.exit.now) × (HasPopped up.entry.now.queue popping_up.entry.now popping_up.exit.now) × WorkEnds (setting_of parent.entry.now) sides.Parent (view_of pushing_down.exit.now).pushed (view_of popping_up.exit.now).popped result parent.exit.now }
-        { work(rt, gate, Side::Parent, down, up, pushing_down, popping_up, parent) },
+        {
+            work(
+                rt,
+                gate,
+                Side::Parent,
+                down,
+                up,
+                pushing_down,
+                popping_up,
+                parent,
+            )
+        },
         &mut || -> RunAnswer
             requires { (MayPush up.now.queue pushing_up.now) × (MayPop down.now.queue popping_down.now) × IsAtWork (setting_of child.now) sides.Child (view_of pushing_up.now).pushed (view_of popping_down.now).popped child.now }
             ensures { (HasPushed up.entry.now.queue pushing_up.entry.now pushing_up.exit.now) × (HasPopped down.entry.now.queue popping_down.entry.now popping_down.exit.now) × WorkEnds (setting_of child.entry.now) sides.Child (view_of pushing_up.exit.now).pushed (view_of popping_down.exit.now).popped result child.exit.now }
-        { work(rt, gate, Side::Child, up, down, pushing_up, popping_down, child) },
+        {
+            work(
+                rt,
+                gate,
+                Side::Child,
+                up,
+                down,
+                pushing_up,
+                popping_down,
+                child,
+            )
+        },
     );
     (first, second)
 }
@@ -215,8 +237,26 @@ fn run_over<R: Threads + Wait + Sync, G: Gate + Sync>(
 {
     let (down, mut to_child) = down;
     let (up, mut to_parent) = up;
-    let worked = work_at_once(rt, gate, &down, &up, &mut to_child, &mut to_parent, parent, child);
-    let answer = end_in_turn(rt, &down, &up, &mut to_child, &mut to_parent, parent, child, worked);
+    let worked = work_at_once(
+        rt,
+        gate,
+        &down,
+        &up,
+        &mut to_child,
+        &mut to_parent,
+        parent,
+        child,
+    );
+    let answer = end_in_turn(
+        rt,
+        &down,
+        &up,
+        &mut to_child,
+        &mut to_parent,
+        parent,
+        child,
+        worked,
+    );
     see_order(rt, &down, &mut to_child);
     see_order(rt, &up, &mut to_parent);
     answer

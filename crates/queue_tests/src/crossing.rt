@@ -63,7 +63,7 @@ fn crossed<R: Threads + Wait + Sync + AllocGlobal>(
     };
     let world = World::open(rt.alloc(), schema, script, None, 10_000)?;
     let mut relay = TwoQueues::new(rt, gate);
-    let (halves, answer) = relay.run_queues(world);
+    let (halves, answer) = relay.run_with(world);
     let text = printed(rt.alloc(), schema, &halves, answer);
     let gate = relay.gate();
     let missed = gate.missed.load(Ordering::SeqCst);

@@ -1,8 +1,7 @@
-use Rattle.ipdl_base.specs.declared.kinds.Side.TheVariants as sides
 use Rattle.queue_link.proofs.turns.round.Given as goal
 
-abbrev pub ghost-step : goal.ghost-step
-ghost-step g a = (g.at, sides.Parent)
+abbrev pub ghost-parent_step : goal.ghost-parent_step
+ghost-parent_step g a = g.at
 
-abbrev pub ghost-step-2 : goal.ghost-step-2
-ghost-step-2 g a = (g.at, sides.Child)
+abbrev pub ghost-child_step : goal.ghost-child_step
+ghost-child_step g a = g.at
