@@ -1,4 +1,4 @@
-use Rattle.std.proofs.Common.{◌≡◌, List, ℕ, suc, refl, subst, sym, arith}
+use Rattle.std.proofs.Common.{◌≡◌, List, ℕ, refl, subst, sym}
 use Rattle.std.specs.Prelude.{Option, None, Some, Err, IfOk}
 use Rattle.ipdl_base.specs.Outside.{IsRead}
 use Rattle.ipdl_base.specs.declared.files.ReadAnswer.TheVariants.{Bytes, Absent, Larger}
