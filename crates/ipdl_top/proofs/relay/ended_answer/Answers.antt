@@ -13,5 +13,5 @@ returns-in-Spent c =
 
 pub returns-in-Finished : goal.returns-in-Finished
 returns-in-Finished c =
-    IfOk-weaker c.with_ending-in-Finished.result _ _
-    (λ answer is. subst (λ (ended : RunAnswer). IsTextAnswer c.args.text.items ended answer) (sym c.in-Finished.is) (ended_so c.args.text.items _ at_rest answer refl is)) c.with_ending-in-Finished.ensures
+    IfOk-weaker c.with_ending.result _ _
+    (λ answer is. subst (λ (ended : RunAnswer). IsTextAnswer c.args.text.items ended answer) (sym c.in-Finished.is) (ended_so c.args.text.items _ at_rest answer refl is)) c.with_ending.ensures
