@@ -21,7 +21,8 @@ use world_core::{Driver, Relay};
 pub fn answer_is_determined<D: Driver, Q: Relay>(driver: &D, relay: &Q)
     ensures { OneAnswer (D.Gives driver.now) (Q.Gives relay.now) }
 {
-    let _ = (driver, relay);
+    let _ = driver;
+    let _ = relay;
     one_answer();
     one_tree();
     one_command();

@@ -17,9 +17,10 @@ returns-in-Ok-write_answer-clause-no_command g c = λ none.
 pub returns-in-Ok-write_answer-clause-usage_text : goal.returns-in-Ok-write_answer-clause-usage_text
 returns-in-Ok-write_answer-clause-usage_text g c = λ usage.
     let Gives = g.D.Driver.Gives c.args.driver.now in
+    let Relays = g.Q.Relay.Gives c.args.relay.now in
     let words = map string_bytes c.args.words.now in
     let is : c.in-Ok.answer ≡ usage_answer =
-    for_any (g.F.Files.told c.args.files.now) _ _ (λ files h. of_no_command Gives files words c.in-Ok.answer (no_command_of Gives files words c.in-Ok.answer usage h) h) c.in-Ok.ensures.answer
+    for_any (g.F.Files.told c.args.files.now) _ _ (λ files h. of_no_command Gives Relays files words c.in-Ok.answer (no_command_of Gives Relays files words c.in-Ok.answer usage h) h) c.in-Ok.ensures.answer
     in
     subst
     (λ (a : CommandAnswer). WritesAll a (record { old = g.O.Sink.written c.args.out.now; new = g.O.Sink.written c.write_answer.new.out }) (record { old = g.E.Sink.written c.args.err.now; new = g.E.Sink.written c.write_answer.new.err }))

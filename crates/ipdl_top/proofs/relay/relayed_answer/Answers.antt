@@ -3,8 +3,8 @@ use Rattle.ipdl_top.specs.RelaySteps.{relay_course}
 use Rattle.ipdl_top.proofs.Relays.{opens-itself, says_relayed}
 use Rattle.ipdl_top.proofs.relay.relayed_answer.Goals as goal
 
-pub run_queues-requires-clause-opening : goal.run_queues-requires-clause-opening
-run_queues-requires-clause-opening g c = opens-itself c.in_ok-world.world _ c.in_ok-world.ensures.opened
+pub run_queues-halves-requires-clause-opening : goal.run_queues-halves-requires-clause-opening
+run_queues-halves-requires-clause-opening g c = opens-itself c.in_ok-world.world _ c.in_ok-world.ensures.opened
 
 pub returns : goal.returns
 returns g c =
