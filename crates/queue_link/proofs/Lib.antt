@@ -1,3 +1,0 @@
-mod Hands
-mod Rounds
-mod Ends
