@@ -4,7 +4,6 @@ use denote.Param.Send.{IsSend, IsSync, sendable}
 use Rattle.std.proofs.Crossing.{crosses}
 use Rattle.std.specs.contracts.alloc.Global as heap
 use Rattle.std.specs.contracts.impls.GlobalAllocator.TheImpl.{ghosts}
-use Rattle.std.specs.contracts.option.Option as options
 use Rattle.atomic_blocks.proofs.web.Seat.TheSendSync as seat
 use Rattle.atomic_blocks.specs.contracts.web.Seat as seats
 use Rattle.atomic_blocks.proofs.web.Web.TheSendSync as web
@@ -19,14 +18,14 @@ use Rattle.ordered_queue.specs.contracts.queue.OrderedQueue as queues
 pub packet_send : IsSend packets.the_row
 packet_send = search (sendable, crosses, packet.the_send) depth 20
 
-pub queue_sync : IsSync (queues.the_field packets.the_row).row
-queue_sync = search (sendable, crosses, queue.the_sync, chained.the_sync, web.the_sync, ends.the_send, ends.the_sync, link.the_send, link.the_sync, packet_send) depth 20
+pub packet_field_send : IsSend packets.the_field.row
+packet_field_send = search (sendable, crosses, packet.the_send) depth 20
 
-pub pass_send : (V : RattleType) → IsSend (seats.the_row (options.the_row packets.the_row) V heap.the_row ghosts)
-pass_send V = search (sendable, crosses, seat.the_send, packet_send) depth 20
+pub queue_sync : (T : RattleType) → IsSend T → IsSync (queues.the_field T).row
+queue_sync T s = search (sendable, crosses, queue.the_sync, chained.the_sync, web.the_sync, ends.the_send, ends.the_sync, link.the_send, link.the_sync) depth 20
 
-pub pass_field_send : (V : RattleType) → IsSend (seats.the_field (options.the_row packets.the_row) V heap.the_row ghosts).row
-pass_field_send V = search (sendable, crosses, seat.the_send, packet_send, pass_send) depth 20
+pub pass_send : (S V : RattleType) → IsSend S → IsSend (seats.the_row S V heap.the_row ghosts)
+pass_send S V s = search (sendable, crosses, seat.the_send) depth 20
 
-pub queue_row_sync : IsSync (queues.the_row packets.the_row)
-queue_row_sync = search (sendable, crosses, queue_sync) depth 20
+pub pass_field_send : (S V : RattleType) → IsSend S → IsSend (seats.the_field S V heap.the_row ghosts).row
+pass_field_send S V s = search (sendable, crosses, seat.the_send) depth 20
