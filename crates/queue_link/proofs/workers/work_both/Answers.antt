@@ -1,9 +1,10 @@
-use denote.Param.Send.{sendable}
-use Rattle.std.proofs.Crossing.{crosses}
-use Rattle.end_parts.proofs.packet.Packet.TheSendSync as packet
-use Rattle.ordered_queue.proofs.queue.OrderedQueue.TheSendSync as queue
+use denote.Param.Send.{IsSend, arg_send, param_send, sendable}
+use denote.RattleType.{RattleType}
 use Rattle.queue_link.proofs.workers.work_both.Goals as goal
-use Rattle.world_core.proofs.SentHalves.{half_send}
+use Rattle.queue_link.proofs.workers.work_both.Lts as lts
 
 pub join_mut-first-requires-send-F : goal.join_mut-first-requires-send-F
-join_mut-first-requires-send-F g c κs within = search (sendable, crosses, packet.the_send, queue.the_sync, half_send) depth 20
+join_mut-first-requires-send-F g c κs within =
+    let row : RattleType = lts.arg-0-1 g.row.R g.row.G g.R.laws g.G.laws g.R.Threads-dict g.R.Wait-dict g.G.Gate-dict κs in
+    let wrong : row ≡ lts.nothing = refl in
+    tt
