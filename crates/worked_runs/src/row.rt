@@ -1,3 +1,5 @@
+ghost use Rattle.std.specs.Prelude.{◌≡◌, IfSome};
+
 /// A row: its name, the file of its protocol, how it is run, its script, and what it prints.
 #[derive(Clone, Copy)]
 pub struct Row<'a> {
@@ -24,7 +26,9 @@ pub fn row_of(text: &str) -> Option<Row<'_>> {
 }
 
 /// The row of a table with this name.
-pub fn row_named<'a>(table: &'a str, name: &str) -> Option<Row<'a>> {
+pub fn row_named<'a>(table: &'a str, name: &str) -> Option<Row<'a>>
+    ensures { IfSome result (λ row. row.name.now ≡ name.now) }
+{
     for text in table.split("====\n") {
         let row = row_of(text)?;
         if row.name == name {
