@@ -16,16 +16,10 @@ use Rattle.command_words.specs.RunOptions.{IsDeath, IsLimit}
 use Rattle.command_words.proofs.OneCourse.{one_death, one_limit}
 use Rattle.command_words.proofs.Lookups.{some_none}
 use Rattle.command_words.proofs.Compiled.{Text, found_value, found_words, list_ne, no_letter, one_path, path_ne, same_value, same_words, some_list}
-use Rattle.command_words.proofs.RunFound.{die_ne, limit_ne, same_first, same_second}
+use Rattle.command_words.proofs.RunFound.{die_ne, limit_letter, limit_ne, same_first, same_second, schedule_letter}
 
 list_letter : (l : ℕ) → Some 115 ≡ Some l → (l < 128) × (l ≢ 45) × (by_letter (path_option ∷ limit_option ∷ die_option ∷ []) l ≡ None)
 list_letter l e = let is : 115 ≡ l = same_Some 115 l e in (omega arith, λ f. absurd (omega arith), refl)
-
-path_letter : (l : ℕ) → None ≡ Some l → (l < 128) × (l ≢ 45) × (by_letter (limit_option ∷ die_option ∷ []) l ≡ None)
-path_letter l e = absurd (some_none l (sym e))
-
-limit_letter : (l : ℕ) → None ≡ Some l → (l < 128) × (l ≢ 45) × (by_letter (die_option ∷ []) l ≡ None)
-limit_letter l e = absurd (some_none l (sym e))
 
 -- the options can be told apart
 pub relay_table : IsTable relay_options
@@ -35,7 +29,7 @@ relay_table = (
   refl,
   refl,
   list_letter,
-  (λ e. cc, refl, refl, refl, path_letter, (λ e. cc, refl, refl, refl, limit_letter, (λ e. cc, refl, refl, refl, no_letter, tt))),
+  (λ e. cc, refl, refl, refl, schedule_letter, (λ e. cc, refl, refl, refl, limit_letter, (λ e. cc, refl, refl, refl, no_letter, tt))),
 )
 
 -- what is found makes the command

@@ -26,10 +26,10 @@ list_letter l e = let is : 115 ≡ l = same_Some 115 l e in (omega arith, λ f. 
 path_letter : (l : ℕ) → None ≡ Some l → (l < 128) × (l ≢ 45) × (by_letter (schedule_option ∷ limit_option ∷ die_option ∷ []) l ≡ None)
 path_letter l e = absurd (some_none l (sym e))
 
-schedule_letter : (l : ℕ) → None ≡ Some l → (l < 128) × (l ≢ 45) × (by_letter (limit_option ∷ die_option ∷ []) l ≡ None)
+pub schedule_letter : (l : ℕ) → None ≡ Some l → (l < 128) × (l ≢ 45) × (by_letter (limit_option ∷ die_option ∷ []) l ≡ None)
 schedule_letter l e = absurd (some_none l (sym e))
 
-limit_letter : (l : ℕ) → None ≡ Some l → (l < 128) × (l ≢ 45) × (by_letter (die_option ∷ []) l ≡ None)
+pub limit_letter : (l : ℕ) → None ≡ Some l → (l < 128) × (l ≢ 45) × (by_letter (die_option ∷ []) l ≡ None)
 limit_letter l e = absurd (some_none l (sym e))
 
 -- the options can be told apart

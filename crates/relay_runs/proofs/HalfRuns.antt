@@ -1,5 +1,5 @@
 -- In a half run a mark that stands for a packet is the last that is delivered.
-use Rattle.std.proofs.Common.{◌≡◌, ◌⊎◌, inl, inr, ℕ, Bool, true, false, List, [], ◌∷◌, ◌++◌, Option, Some, None, refl, sym, ap, subst, ◌∙◌}
+use Rattle.std.proofs.Common.{◌≡◌, ◌⊎◌, inl, inr, Bool, true, false, List, [], ◌∷◌, ◌++◌, Option, Some, None, refl, sym, ap, subst, ◌∙◌}
 use Rattle.std.specs.Option.{option_map_or}
 use Rattle.std.proofs.lemmas.Option.{same_Some}
 use Rattle.ipdl_base.specs.declared.kinds.Side.{Side}
@@ -16,7 +16,7 @@ use Rattle.channel_model.specs.Parts.{DeliveryPart, FirstPart, LaterPart, end_be
 use Rattle.channel_model.specs.Phases.{Phase}
 use Rattle.channel_model.specs.Refusals.{DeliveryRefusal, packet_refusal}
 use Rattle.channel_model.specs.Steps.{provided, step}
-use Rattle.channel_model.proofs.StepParts.{EachPartKeeps, parts-keep}
+use Rattle.channel_model.proofs.StepParts.{parts-keep}
 use Rattle.script_steps.specs.Choices.{Setting}
 use Rattle.relay_runs.specs.HalfRuns.{HalfRun, HalfState, StandsFor, acts, begins, behind_packet, delivered_for, gets}
 use Rattle.relay_runs.specs.Laws.{MarksComeLast}

@@ -1,5 +1,5 @@
 -- Turns end where a relay ends: at rest neither side has anything left to do, and at the limit the side of the last turn has.
-use Rattle.std.proofs.Common.{◌≡◌, ℕ, zero, suc, ◌≤◌, Bool, true, false, ◌&&◌, ◌||◌, if◌then◌else◌, Option, Some, None, is_some, refl, sym, ap, subst, ◌∙◌, arith}
+use Rattle.std.proofs.Common.{◌≡◌, ℕ, ◌≤◌, Bool, true, false, ◌&&◌, ◌||◌, if◌then◌else◌, Option, Some, None, is_some, refl, sym, ap, subst, ◌∙◌, arith}
 use Rattle.ipdl_base.specs.declared.kinds.Side.{Side}
 use Rattle.ipdl_base.specs.declared.kinds.Side.TheVariants as sides
 use Rattle.channel_model.specs.Ends.{Packet}
@@ -9,7 +9,7 @@ use Rattle.channel_model.specs.Outputs.{is_open}
 use Rattle.script_steps.specs.Choices.{Setting}
 use Rattle.script_steps.specs.Turns.{RunEnding, at_limit, at_rest}
 use Rattle.relay_runs.specs.HalfRuns.{is_within, own_event}
-use Rattle.relay_runs.specs.Relays.{EndsAs, RelayState, RelayTurn, RelayTurns, exceeds, goes_on, half_of, has_left, idles, leads, next_packet, packet_turn, passes, relay_turn, rests, stops, turn_by}
+use Rattle.relay_runs.specs.Relays.{EndsAs, RelayState, RelayTurns, exceeds, goes_on, half_of, has_left, idles, leads, next_packet, packet_turn, passes, relay_turn, rests, stops, turn_by}
 
 -- what a side may do at the limit leads nowhere, and within it somewhere
 led : (b : Bool) (next : RelayState) → (if b then leads next else exceeds) ≡ idles → ⊥

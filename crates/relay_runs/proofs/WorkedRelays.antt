@@ -1,5 +1,5 @@
 -- Worked relays in turns: each gives exactly these lines of the parent and of the child, and ends so.
-use Rattle.std.specs.Prelude.{◌≡◌, ℕ, ℤ, pos, negsuc, true, false, List, [], ◌∷◌, Option, Some, None, codes, option_map, refl}
+use Rattle.std.specs.Prelude.{◌≡◌, ℤ, pos, negsuc, true, false, List, [], ◌∷◌, Option, Some, None, codes, option_map, refl}
 use Rattle.ipdl_base.specs.declared.builtin.Builtin.TheVariants as word
 use Rattle.ipdl_base.specs.declared.kinds.Compress.TheVariants as compress
 use Rattle.ipdl_base.specs.declared.kinds.Destroy.TheVariants as destroy
@@ -18,7 +18,6 @@ use Rattle.ipdl_base.specs.declared.value.Values.{Values, First'}
 use Rattle.ipdl_base.specs.declared.value.Values.TheVariants.{Nothing}
 use Rattle.ipdl_base.specs.Plain.{one_box}
 use Rattle.handler_script.specs.declared.action.Action.TheVariants as action
-use Rattle.handler_script.specs.declared.script.Script.{Script}
 use Rattle.handler_script.specs.declared.term.Term.TheVariants as term
 use Rattle.handler_script.specs.declared.term.Terms.{First' as Given}
 use Rattle.handler_script.specs.declared.term.Terms.{Terms}

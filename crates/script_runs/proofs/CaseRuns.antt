@@ -41,7 +41,7 @@ pub record IsCase (setting : Setting) (state : RunState) : Type 0 where
   pub plays : played setting choices (beginning_of setting) ≡ Some state
 
 -- one more choice
-played-last : (setting : Setting) (front : List Choice) (choice : Choice) (from state next : RunState) → played setting front from ≡ Some state → chosen setting choice state ≡ Some next → played setting (front ++ choice ∷ []) from ≡ Some next
+pub played-last : (setting : Setting) (front : List Choice) (choice : Choice) (from state next : RunState) → played setting front from ≡ Some state → chosen setting choice state ≡ Some next → played setting (front ++ choice ∷ []) from ≡ Some next
 played-last setting [] choice from state next h k =
     let same : from ≡ state = cc in
     subst (λ (s : RunState). played setting (choice ∷ []) s ≡ Some next) (sym same) (ap (option_and_then (played setting [])) k)

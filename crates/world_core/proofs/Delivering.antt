@@ -68,7 +68,7 @@ drop-first : (schema : Schema) (ps : List model.Packet) → drop 1 (packets_of s
 drop-first schema [] = refl
 drop-first schema (p ∷ ps) = refl
 
-first-some : (schema : Schema) (ps : List model.Packet) → is_some (first_of (packets_of schema ps)) ≡ is_some (first_packet ps)
+pub first-some : (schema : Schema) (ps : List model.Packet) → is_some (first_of (packets_of schema ps)) ≡ is_some (first_packet ps)
 first-some schema [] = refl
 first-some schema (p ∷ ps) = refl
 

@@ -5,6 +5,7 @@ use Rattle.std.proofs.lemmas.List.{append-nil, length-take-le}
 use Rattle.ipdl_base.specs.declared.line.Line.{Line}
 use Rattle.ipdl_base.specs.declared.schema.Schema.{Schema}
 use Rattle.ipdl_base.specs.Lines.{is_effect}
+use Rattle.channel_laws.proofs.Outlines.{cons-head, cons-tail}
 use Rattle.channel_model.specs.Runs.{RunState}
 use Rattle.script_runs.specs.Endings.{EndsAs, ending_line}
 use Rattle.script_runs.specs.Replays.{ArePrinted, Follows, IsStuck, choices_told, printed_lines, told_then}
@@ -24,9 +25,6 @@ use Rattle.world_core.proofs.Trying.{IsTried}
 
 -- Lists that begin alike
 
-pub heads : {A : Type 0} (x y : A) (xs ys : List A) → x ∷ xs ≡ y ∷ ys → (x ≡ y) × (xs ≡ ys)
-heads x y xs ys h = (cc, cc)
-
 -- two lists do not begin alike, or one of them is empty
 abbrev pub BeginApart : List (List ℕ) → List (List ℕ) → Type 0
 BeginApart [] others = Unit {0}
@@ -37,10 +35,10 @@ common-most : (front rest others behind : List (List ℕ)) (more : ℕ) → Begi
 common-most [] [] others behind more apart there is = there
 common-most [] (r ∷ rest) others behind zero apart there is = omega arith
 common-most [] (r ∷ rest) [] behind (suc more) apart there is = cc
-common-most [] (r ∷ rest) (o ∷ others) behind (suc more) apart there is = absurd (apart (sym (heads o r others (take more rest ++ behind) is).0))
+common-most [] (r ∷ rest) (o ∷ others) behind (suc more) apart there is = absurd (apart (sym (cons-head is)))
 common-most (x ∷ front) rest others behind zero apart there is = omega arith
 common-most (x ∷ front) rest others behind (suc more) apart there is =
-    let h = common-most front rest others behind more apart (omega (arith, there)) (heads x x (front ++ others) (take more (front ++ rest) ++ behind) is).1 in
+    let h = common-most front rest others behind more apart (omega (arith, there)) (cons-tail is) in
     omega (arith, h)
 
 common-ends : (front rest others : List (List ℕ)) (e : List ℕ) (more : ℕ) → BeginApart rest others → (others ≡ [] → (behind : List (List ℕ)) → rest ≡ e ∷ behind → ⊥) → take more (front ++ rest) ≡ (front ++ others) ++ e ∷ [] → ⊥
@@ -49,11 +47,11 @@ common-ends [] [] [] e (suc more) apart none is = cc
 common-ends [] [] (o ∷ others) e zero apart none is = cc
 common-ends [] [] (o ∷ others) e (suc more) apart none is = cc
 common-ends [] (r ∷ rest) [] e zero apart none is = cc
-common-ends [] (r ∷ rest) [] e (suc more) apart none is = none refl rest (ap (λ l. l ∷ rest) (heads r e (take more rest) [] is).0)
+common-ends [] (r ∷ rest) [] e (suc more) apart none is = none refl rest (ap (λ l. l ∷ rest) (cons-head is))
 common-ends [] (r ∷ rest) (o ∷ others) e zero apart none is = cc
-common-ends [] (r ∷ rest) (o ∷ others) e (suc more) apart none is = apart (heads r o (take more rest) (others ++ e ∷ []) is).0
+common-ends [] (r ∷ rest) (o ∷ others) e (suc more) apart none is = apart (cons-head is)
 common-ends (x ∷ front) rest others e zero apart none is = cc
-common-ends (x ∷ front) rest others e (suc more) apart none is = common-ends front rest others e more apart none (heads x x (take more (front ++ rest)) ((front ++ others) ++ e ∷ []) is).1
+common-ends (x ∷ front) rest others e (suc more) apart none is = common-ends front rest others e more apart none (cons-tail is)
 
 -- How far lines and what a run prints go together
 

@@ -52,13 +52,13 @@ use Rattle.world_core.specs.declared.answers.AcceptAnswer.{AcceptAnswer}
 use Rattle.world_core.specs.declared.answers.AcceptAnswer.TheVariants as accept
 use Rattle.world_core.specs.declared.answers.StepAnswer.{StepAnswer}
 use Rattle.world_core.specs.declared.answers.StepAnswer.TheVariants as answer
-use Rattle.world_core.specs.HalfSteps.{IsHalfDelivery, IsHalfStep, IsOwnStep, MayGoOn, OwnGives, next_of}
+use Rattle.world_core.specs.HalfSteps.{IsHalfDelivery, IsHalfStep, MayGoOn, OwnGives, next_of}
 use Rattle.world_core.specs.HalfView.{HalfView, IsCountedBy, setting_of}
 use Rattle.world_core.specs.LinkView.{HoldsBytes, LinkView}
 use Rattle.world_core.specs.WorldView.{WorldView, opening_of}
 use Rattle.world_core.specs.Worlds.{IsHalfOf, IsRun, most_events}
 use Rattle.world_core.specs.Resolvers.{AreApart}
-use Rattle.world_core.specs.Relaying.{AcceptGives, ContentGives, DeliversFor, GoesApart, GoingGives, HasAccepted, HasActed, HasHandedOut, HasLineRoom, HasTakenOver, InEach, IsApart, PutGives, came_by, is_refused, own_progress}
+use Rattle.world_core.specs.Relaying.{AcceptGives, ContentGives, DeliversFor, GoesApart, GoingGives, HasAccepted, HasHandedOut, HasLineRoom, HasTakenOver, InEach, IsApart, PutGives, came_by, is_refused, own_progress}
 
 -- What is delivered of a packet that comes fits the schema, and is not refused
 

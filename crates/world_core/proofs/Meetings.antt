@@ -1,5 +1,5 @@
 -- A half that meets the link: what it has stored is appended, and then deliveries are made to its side.
-use Rattle.std.proofs.Common.{◌≡◌, ℕ, suc, ◌+◌, ◌≤◌, nat_lt, Bool, true, false, ◌&&◌, is_some, List, [], ◌∷◌, ◌++◌, length, Some, refl, sym, ap, subst, ◌∙◌, append_assoc, arith, length-append}
+use Rattle.std.proofs.Common.{◌≡◌, ℕ, suc, ◌+◌, ◌≤◌, nat_lt, Bool, true, false, ◌&&◌, is_some, List, [], ◌++◌, length, Some, refl, sym, ap, subst, ◌∙◌, append_assoc, arith, length-append}
 use Rattle.std.specs.List.{AllByRecursion}
 use Rattle.std.proofs.lemmas.List.{append-nil, length-map, map-append, replicate_more}
 use Rattle.handler_script.specs.ScriptOf.{first_of}
@@ -7,23 +7,23 @@ use Rattle.ipdl_base.specs.declared.kinds.Side.{Side}
 use Rattle.ipdl_base.specs.declared.kinds.Side.TheVariants as sides
 use Rattle.ipdl_base.specs.declared.line.Line.{Line}
 use Rattle.ipdl_base.specs.declared.line.What.{What}
-use Rattle.ipdl_base.specs.declared.schema.Schema.{Schema}
 use Rattle.channel_model.specs.Ends.{End, end_of, link_to}
 use Rattle.channel_model.specs.Ends as model
 use Rattle.channel_model.specs.Numbers.{other}
 use Rattle.channel_model.specs.Outputs.{is_open}
 use Rattle.channel_model.specs.Runs.{RunState}
-use Rattle.channel_model.specs.Steps.{first_packet}
 use Rattle.channel_core.specs.EndView.{IsFramed, packet_of, packets_of}
 use Rattle.end_parts.specs.declared.packet.Packet.{Packet}
+use Rattle.script_runs.proofs.CaseRuns.{played-last}
 use Rattle.script_steps.proofs.Choosing.{case_worlds_are_one}
 use Rattle.script_steps.proofs.Counting.{lines_of-append}
 use Rattle.script_steps.specs.Choices.{Choice, Setting, may_deliver, played}
 use Rattle.script_steps.specs.Progress.{Progress, lines_of, progress_of}
 use Rattle.world_core.proofs.Chosen.{chosen-less, left_of, run-sides}
+use Rattle.world_core.proofs.Delivering.{first-some}
 use Rattle.world_core.proofs.SplitHalves.{reached, stored-own}
 use Rattle.world_core.proofs.OwnRuns.{IsPlayedAgain, play-again}
-use Rattle.world_core.proofs.Played.{all-append, few-lines, few-packets, link-of, played-last}
+use Rattle.world_core.proofs.Played.{all-append, few-lines, few-packets, link-of}
 use Rattle.world_core.proofs.SideChoices.{RanAlone, one-alone}
 use Rattle.world_core.proofs.Standing.{side-at, within-at}
 use Rattle.world_core.proofs.Turning.{stands-come}
@@ -235,16 +235,12 @@ module _ (setting : Setting) (side : Side) (half : HalfView) (link : LinkView) (
 
 -- Deliveries, one after another
 
-first-is : (schema : Schema) (ps : List model.Packet) → is_some (first_of (packets_of schema ps)) ≡ is_some (first_packet ps)
-first-is schema [] = refl
-first-is schema (p ∷ ps) = refl
-
 -- a packet waits for a half where its side may have one delivered
 waits-is : (at : WorldView) (side : Side) (half : HalfView) (link : LinkView) → StandsIn at side half link → is_waited_for side half link ≡ may_deliver side at.state.world
 waits-is at side half link stands =
     ap (λ (end : End). is_open end.state && is_some (first_of (packets_to side link))) stands.half_is.end
     ∙ ap (λ (ps : List Packet). is_open (end_of side at.state.world).state && is_some (first_of ps)) (link-of at.setting at.state link stands.run side).packets
-    ∙ ap (λ (b : Bool). is_open (end_of side at.state.world).state && b) (first-is at.setting.schema (link_to side at.state.world))
+    ∙ ap (λ (b : Bool). is_open (end_of side at.state.world).state && b) (first-some at.setting.schema (link_to side at.state.world))
 
 -- Since a link was this one, deliveries to a side were made, and its half stands on the link.
 pub record DeliversSo (setting : Setting) (side : Side) (begun now : LinkView) (half : HalfView) : Type 0 where

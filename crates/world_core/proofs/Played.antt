@@ -10,9 +10,9 @@ use Rattle.ipdl_base.specs.declared.line.What.{What}
 use Rattle.ipdl_base.specs.Lines.{same_side}
 use Rattle.ipdl_base.specs.Sound.{IsSound}
 use Rattle.ipdl_base.specs.declared.schema.Schema.{Schema}
-use Rattle.channel_model.specs.Ends.{End, World, end_of, link_to}
+use Rattle.channel_model.specs.Ends.{end_of, link_to}
 use Rattle.channel_model.specs.Ends as model
-use Rattle.channel_model.specs.Events.{Event, Move}
+use Rattle.channel_model.specs.Events.{Event}
 use Rattle.channel_model.specs.Events as e
 use Rattle.channel_model.specs.Numbers.{other}
 use Rattle.channel_model.specs.Outputs.{Output, line_at}
@@ -20,10 +20,10 @@ use Rattle.channel_model.specs.Runs.{RunState, after_event, passed_by, world_aft
 use Rattle.channel_model.specs.Steps.{step}
 use Rattle.channel_core.specs.EndView.{EndView, IsFramed, packet_of, packets_of}
 use Rattle.end_parts.specs.declared.packet.Packet.{Packet}
+use Rattle.script_runs.proofs.CaseRuns.{played-last}
 use Rattle.script_runs.proofs.Room.{cases_have_room}
 use Rattle.script_steps.proofs.Choosing.{side-of}
 use Rattle.script_steps.proofs.Counting.{lines_of-own, progress-append}
-use Rattle.script_steps.proofs.Playing.{PlaysOn, plays_on}
 use Rattle.script_steps.proofs.StepLines.{Prints, step-prints}
 use Rattle.script_steps.specs.Choices.{Choice, Setting, behind_event, beginning_of, chosen, event_by, is_doable, is_within, played}
 use Rattle.script_steps.specs.Turns.{led_to}
@@ -40,15 +40,6 @@ use Rattle.world_core.specs.Worlds.{IsHalfOf, IsLinkOf, IsRun, room_of}
 -- the run behind an event of a side
 abbrev pub run_behind : Side → RunState → Event → Output → RunState
 run_behind side state event output = record { world = world_after (record { side = side; event = event }) output state.world; lines = state.lines ++ output.lines }
-
--- one choice more
-pub played-last : (setting : Setting) (front : List Choice) (choice : Choice) (from state next : RunState) → played setting front from ≡ Some state → chosen setting choice state ≡ Some next → played setting (front ++ choice ∷ []) from ≡ Some next
-played-last setting [] choice from state next h k =
-    let same : from ≡ state = cc in
-    subst (λ (s : RunState). played setting (choice ∷ []) s ≡ Some next) (sym same) (ap (option_and_then (played setting [])) k)
-played-last setting (first ∷ front) choice from state next h k =
-    let p : PlaysOn setting first front from state = plays_on setting first front from state h in
-    ap (option_and_then (played setting (front ++ choice ∷ []))) p.first ∙ played-last setting front choice p.next state next p.rest k
 
 -- Lines of both sides
 

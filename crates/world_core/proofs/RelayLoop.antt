@@ -1,5 +1,5 @@
 -- Turns of two halves that go apart, as a loop takes them.
-use Rattle.std.proofs.Common.{◌≡◌, ℕ, zero, suc, ◌+◌, ◌-◌, ◌*◌, ◌<◌, ◌≤◌, Bool, true, false, if◌then◌else◌, List, [], ◌∷◌, ◌++◌, drop, length, map, Option, Some, None, is_some, refl, sym, ap, subst, ◌∙◌, append_assoc, arith}
+use Rattle.std.proofs.Common.{◌≡◌, ℕ, suc, ◌+◌, ◌-◌, ◌*◌, ◌<◌, ◌≤◌, Bool, true, false, if◌then◌else◌, List, [], ◌∷◌, ◌++◌, drop, length, map, Option, Some, None, is_some, refl, sym, ap, subst, ◌∙◌, append_assoc, arith}
 use Rattle.std.specs.Option.{option_map_or}
 use Rattle.std.proofs.lemmas.List.{append-nil}
 use Rattle.handler_script.specs.ScriptOf.{first_of}
@@ -20,7 +20,7 @@ use Rattle.script_steps.specs.Progress.{progress_of}
 use Rattle.script_steps.specs.Turns.{RunEnding, at_limit, at_rest}
 use Rattle.relay_runs.proofs.TurnEnds.{turns-end}
 use Rattle.relay_runs.specs.HalfRuns.{HalfState, behind, behind_packet, delivered_for, is_within, opening_half, own_event}
-use Rattle.relay_runs.specs.Relays.{ComeInOrder, IsRelay, RelayState, RelayTurn, RelayTurns, behind_next, behind_own, exceeds, goes_on, half_of, idles, leads, next_packet, opening_relay, packet_turn, passes, relay_turn, rests, stops, turn_by, with_half}
+use Rattle.relay_runs.specs.Relays.{ComeInOrder, IsRelay, RelayState, RelayTurns, behind_next, behind_own, exceeds, goes_on, half_of, idles, leads, next_packet, opening_relay, packet_turn, passes, relay_turn, rests, stops, turn_by, with_half}
 use Rattle.world_core.proofs.KeptEnds.{fewer}
 use Rattle.world_core.proofs.KeptHalves.{apart-rests, opened-is, rests-apart, schema-is, step-grows}
 use Rattle.world_core.specs.declared.answers.AcceptAnswer.{AcceptAnswer}

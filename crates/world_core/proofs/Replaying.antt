@@ -5,6 +5,7 @@ use Rattle.ipdl_base.specs.declared.kinds.Side.{Side}
 use Rattle.ipdl_base.specs.declared.kinds.Side.TheVariants as sides
 use Rattle.ipdl_base.specs.declared.line.Line.{Line}
 use Rattle.ipdl_base.specs.declared.schema.Schema.{Schema}
+use Rattle.channel_laws.proofs.Outlines.{cons-head}
 use Rattle.channel_model.specs.Ends.{end_of, link_to}
 use Rattle.channel_model.specs.Outputs.{line_at}
 use Rattle.channel_model.specs.Runs.{RunState}
@@ -32,7 +33,7 @@ use Rattle.world_core.specs.Replayed.{IsReplayed}
 use Rattle.world_core.specs.Turns.{IsChosen}
 use Rattle.world_core.specs.WorldView.{WorldView}
 use Rattle.world_core.specs.Worlds.{IsCase}
-use Rattle.world_core.proofs.Following.{BeginApart, HaveCommon, LeadsOn, all-follows, effect-apart, effect-leads, heads, printed-behind, says-apart, says-longer, says-short, stuck-follows, told-none, tried-leads}
+use Rattle.world_core.proofs.Following.{BeginApart, HaveCommon, LeadsOn, all-follows, effect-apart, effect-leads, printed-behind, says-apart, says-longer, says-short, stuck-follows, told-none, tried-leads}
 use Rattle.world_core.proofs.Trying.{IsTried}
 
 -- What lines tell
@@ -105,7 +106,7 @@ module _ (w : WorldView) (c : Comparison) (case : IsCase w) (passed : HasPassed 
         printed_are = printed-behind w.setting w.state l.last l.added l.behind;
         apart = effect-apart w.setting.schema w.state.lines l.added line rest told l.begins;
         no_end = λ e ends none behind same.
-            let k : true ≡ false = sym effect ∙ ap is_effect_text (heads line (ending_line e) rest behind same).0 ∙ ending-is_event e in
+            let k : true ≡ false = sym effect ∙ ap is_effect_text (cons-head same) ∙ ending-is_event e in
             cc;
       } in
       replayed-left (line ∷ rest) (replay.Apart c.lines) is
@@ -123,7 +124,7 @@ module _ (w : WorldView) (c : Comparison) (case : IsCase w) (passed : HasPassed 
         printed_are = sym (append-nil printed);
         apart = tt;
         no_end = λ e ends nil behind same.
-            let k : Some choice ≡ None = sym told ∙ ap choice_told (heads line (ending_line e) rest behind same).0 ∙ ending-tells e in
+            let k : Some choice ≡ None = sym told ∙ ap choice_told (cons-head same) ∙ ending-tells e in
             cc;
       } in
       replayed-left (line ∷ rest) (replay.Apart c.lines) is

@@ -15,6 +15,7 @@ use Rattle.channel_model.specs.Outputs.{Output, line_at}
 use Rattle.channel_model.specs.Runs.{RunState}
 use Rattle.channel_core.specs.EndView.{EndView, IsFramed, packet_of, packets_of}
 use Rattle.end_parts.specs.declared.packet.Packet.{Packet}
+use Rattle.script_runs.proofs.CaseRuns.{played-last}
 use Rattle.script_runs.proofs.Growth.{plays-behind}
 use Rattle.script_steps.proofs.Choosing.{choices_are_read, side-of}
 use Rattle.script_steps.proofs.Counting.{progress-append}
@@ -25,7 +26,7 @@ use Rattle.script_steps.specs.Laws.{GoesOn}
 use Rattle.script_steps.specs.Progress.{Progress, after_lines, lines_of, progress_of}
 use Rattle.world_core.proofs.Chosen.{run-sides}
 use Rattle.world_core.proofs.OwnRuns.{IsPlayedAgain, play-again}
-use Rattle.world_core.proofs.Played.{all-append, chosen-is, ends-own, own-progress, played-last, puts, run_behind}
+use Rattle.world_core.proofs.Played.{all-append, chosen-is, ends-own, own-progress, puts, run_behind}
 use Rattle.world_core.proofs.SideChoices.{RanAlone, all-alone, all-same, others-choose}
 use Rattle.world_core.proofs.Standing.{has-at, may-go-on-at, own-within, schema-at, step-at}
 use Rattle.world_core.specs.declared.answers.StepAnswer.{StepAnswer}
