@@ -18,7 +18,7 @@ use std::rt::{Env, Files};
 use std::sync::Wait;
 use std::thread::Threads;
 use thread_link::{Open, TwoThreads};
-use world_core::OneThread;
+use queue_link::TwoQueues;
 
 /// The words of the command, which stand behind the program's name; an error is want of memory.
 fn command_words<R: Env + AllocGlobal>(rt: &R) -> Result<Vec<String>, AllocError> {
@@ -46,7 +46,7 @@ fn run<R: Files + Env + Threads + Wait + Sync + AllocGlobal, O: Write + Drop, E:
     let mut out = RealSink::new(out);
     let mut err = RealSink::new(err);
     let mut driver = TwoThreads::new(rt, Open);
-    let mut relay = OneThread::new(Vec::new(rt.alloc()));
+    let mut relay = TwoQueues::new(rt, Open);
     exit_code_of(
         rt.alloc(),
         words.as_slice(),

@@ -1,0 +1,84 @@
+ghost use Rattle.std.specs.Prelude.{◌≡◌, ◌++◌, List, length, true, IfOk, IfNone, IfSome, MatchResult};
+ghost use Rattle.crossbeam_queue.specs.SegTies.{IsSegPassOf};
+ghost use Rattle.ordered_queue.specs.Passes.{MayBoth, MayPop, MayPush, view_of};
+ghost use Rattle.ordered_queue.specs.InOrder.{first_view, popping_part, pushing_part, whole, with_popped, with_pushed};
+
+use crate::view::{InOrder, Parting, PassView, Popped, Pushed, Reunion};
+use crossbeam_queue::{RuledSegQueue, SegPass};
+use std::alloc::{AllocError, Global};
+use std::sync::Wait;
+
+/// The right to push to a queue, or to pop from it, or both. It has no bytes.
+pub type QueuePass<T> = SegPass<T, PassView<T>>;
+
+/// A queue in order.
+pub struct OrderedQueue<T> {
+    queue: RuledSegQueue<T, PassView<T>, InOrder>,
+}
+
+impl<T: Drop> OrderedQueue<T> {
+    /// An empty queue, with a pass that may push and pop. The only error is want of memory.
+    pub fn new(alloc: Global) -> Result<(OrderedQueue<T>, QueuePass<T>), AllocError>
+        ensures { IfOk result (λ made. IsSegPassOf made.0.queue made.1 × (view_of made.1 ≡ first_view)) }
+    {
+        let (queue, pass) = RuledSegQueue::with_rule(alloc)?;
+        Ok((OrderedQueue { queue }, pass))
+    }
+
+    /// Makes two passes of one: the old one may push, the new one may pop.
+    pub fn part(&self, pass: &mut QueuePass<T>) -> QueuePass<T>
+        requires { MayBoth self.now.queue pass.old }
+        ensures old { IsSegPassOf self.now.queue pass.new × (view_of pass.new ≡ pushing_part (view_of pass.old)) }
+        ensures new { IsSegPassOf self.now.queue result × (view_of result ≡ popping_part (view_of pass.old)) }
+    {
+        self.queue.another::<Parting>(pass)
+    }
+
+    /// Makes one pass of one that may push and another that may pop.
+    pub fn join(&self, pass: &mut QueuePass<T>, other: QueuePass<T>)
+        requires pass { MayPush self.now.queue pass.old }
+        requires other { MayPop self.now.queue other }
+        ensures { IsSegPassOf self.now.queue pass.new × (view_of pass.new ≡ whole (view_of pass.old) (view_of other)) }
+    {
+        self.queue.absorb::<Reunion>(pass, other);
+    }
+
+    /// Pushes a value. The only error is want of memory, where nothing is pushed.
+    pub fn push<R: Wait>(&self, rt: &R, pass: &mut QueuePass<T>, value: T) -> Result<(), AllocError>
+        requires { MayPush self.now.queue pass.old }
+        ensures pass { IsSegPassOf self.now.queue pass.new }
+        ensures pushed { MatchResult result (λ _. view_of pass.new ≡ with_pushed (view_of pass.old) value) (λ _. view_of pass.new ≡ view_of pass.old) }
+    {
+        match self.queue.push_as::<Pushed, R>(rt, pass, value) {
+            Ok(()) => Ok(()),
+            Err(_) => Err(AllocError),
+        }
+    }
+
+    /// Pops the oldest value, or answers that the queue held none at one moment of the call.
+    pub fn pop<R: Wait>(&self, rt: &R, pass: &mut QueuePass<T>) -> Option<T>
+        requires { MayPop self.now.queue pass.old }
+        ensures pass { IsSegPassOf self.now.queue pass.new }
+        ensures some { IfSome result (λ value. view_of pass.new ≡ with_popped (view_of pass.old) value) }
+        ensures none { IfNone result (view_of pass.new ≡ view_of pass.old) }
+        ensures empty { IfNone result ((view_of pass.old).pushes ≡ true → (view_of pass.old).pushed ≡ (view_of pass.old).popped) }
+    {
+        self.queue.pop_as::<Popped, R>(rt, pass)
+    }
+
+    /// How many values the queue held at one moment of the call.
+    pub fn len<R: Wait>(&self, rt: &R, pass: &mut QueuePass<T>) -> usize
+        requires { MayBoth self.now.queue pass.old }
+        ensures pass { IsSegPassOf self.now.queue pass.new × (view_of pass.new ≡ view_of pass.old) }
+        ensures held { (held : List T) × (length held ≡ result) × ((view_of pass.old).pushed ≡ (view_of pass.old).popped ++ held) }
+    {
+        self.queue.len_as::<Popped, R>(rt, pass)
+    }
+}
+
+impl<T: Drop> Drop for OrderedQueue<T> {
+    fn drop(self) {
+        let OrderedQueue { queue } = self;
+        queue.destroy();
+    }
+}

@@ -1,0 +1,12 @@
+//! Both ends of a run at once, each on a thread of its own, whose only meeting are two queues
+//! (docs/relay.md).
+#![tactic(auto)]
+
+mod packets;
+mod steps;
+mod turns;
+mod two_queues;
+mod workers;
+
+pub use gates::{Gate, Open};
+pub use two_queues::TwoQueues;

@@ -1,0 +1,172 @@
+//! One step of a side: what its half does, and what is pushed and popped for it.
+ghost use Rattle.std.specs.Prelude.{◌≡◌, ◌++◌, ◌∷◌, [], true, List, IfOk, MatchResult, OnOk};
+ghost use Rattle.channel_model.specs.Outputs.{is_open};
+ghost use Rattle.end_parts.specs.declared.packet.Packet.{Packet as OfPacket};
+ghost use Rattle.ipdl_base.specs.declared.kinds.Side.{Side as EndSide};
+ghost use Rattle.ordered_queue.specs.Passes.{HasPopped, HasPushed, MayPop, MayPush, view_of};
+ghost use Rattle.queue_link.specs.Work.{DeliveryGives, HandsOver, HasNoStep, IsAtWork, OwnGives, PushGives, StepGives, TakeGives};
+ghost use Rattle.script_steps.specs.Choices.{Setting};
+ghost use Rattle.world_core.specs.declared.answers.StepAnswer.TheVariants as answer;
+ghost use Rattle.world_core.specs.Relaying.{turn_answer};
+
+use crate::packets::{PacketPass, PacketQueue};
+use channel_core::Packet;
+use std::alloc::AllocError;
+use std::sync::Wait;
+use world_core::{AcceptAnswer, Half, StepAnswer};
+
+// Pushes the next packet that the half has not handed out, and says whether there was one. The only
+// error is want of memory.
+fn push_next<R: Wait>(
+    rt: &R,
+    queue: &PacketQueue,
+    pass: &mut PacketPass,
+    half: &mut Half<'_>,
+) -> Result<bool, AllocError>
+    ghost at: { Setting × EndSide }
+    requires pass { MayPush queue.now.queue pass.old }
+    requires hands { (popped : List OfPacket) × HandsOver at.0 at.1 (view_of pass.old).pushed popped half.old }
+    ensures pass { HasPushed queue.now.queue pass.old pass.new }
+    ensures hands { (popped : List OfPacket) → HandsOver at.0 at.1 (view_of pass.old).pushed popped half.old → IfOk result (λ more. PushGives at.0 at.1 (view_of pass.new).pushed popped more half.new) }
+{
+    let Some(packet) = half.put() else {
+        return Ok(false);
+    };
+    queue.push(rt, pass, packet)?;
+    Ok(true)
+}
+
+// Pushes all packets that the half has not handed out. The only error is want of memory.
+fn hand_over<R: Wait>(
+    rt: &R,
+    queue: &PacketQueue,
+    pass: &mut PacketPass,
+    half: &mut Half<'_>,
+) -> Result<(), AllocError>
+    ghost at: { Setting × EndSide }
+    requires pass { MayPush queue.now.queue pass.old }
+    requires hands { (popped : List OfPacket) × HandsOver at.0 at.1 (view_of pass.old).pushed popped half.old }
+    ensures pass { HasPushed queue.now.queue pass.old pass.new }
+    ensures work { (popped : List OfPacket) → HandsOver at.0 at.1 (view_of pass.old).pushed popped half.old → OnOk result (IsAtWork at.0 at.1 (view_of pass.new).pushed popped half.new) }
+{
+    for _ in rt.forever() {
+        if !push_next(rt, queue, pass, half)? {
+            return Ok(());
+        }
+    }
+    unreachable!()
+}
+
+// What a step answers that was done, where there was memory for what it sent.
+fn done(handed_over: Result<(), AllocError>) -> StepAnswer
+    ensures { MatchResult handed_over (λ _. result ≡ answer.Did) (λ _. result ≡ answer.NoMemory) }
+{
+    match handed_over {
+        Ok(()) => StepAnswer::Did,
+        Err(AllocError) => StepAnswer::NoMemory,
+    }
+}
+
+// An own step of the half.
+fn go_on(half: &mut Half<'_>) -> StepAnswer
+    ghost at: { Setting × EndSide }
+    requires { (pushed : List OfPacket) × (popped : List OfPacket) × IsAtWork at.0 at.1 pushed popped half.old }
+    ensures { (pushed popped : List OfPacket) → IsAtWork at.0 at.1 pushed popped half.old → OwnGives at.0 at.1 pushed popped result half.new }
+{
+    half.go_on()
+}
+
+// What a step answers, by what a half answers to a packet.
+fn turn_answer(answer: AcceptAnswer) -> StepAnswer
+    ensures { result ≡ turn_answer answer }
+{
+    match answer {
+        AcceptAnswer::Did | AcceptAnswer::Refused => StepAnswer::Did,
+        AcceptAnswer::Nothing => StepAnswer::Nothing,
+        AcceptAnswer::Spent(side) => StepAnswer::Spent(side),
+        AcceptAnswer::NoMemory => StepAnswer::NoMemory,
+    }
+}
+
+// A delivery to an open half that has no own step, of a packet that was popped for it.
+fn accept(half: &mut Half<'_>, packet: &Packet) -> StepAnswer
+    ghost at: { Setting × EndSide }
+    requires rests { (pushed : List OfPacket) × (popped : List OfPacket) × HasNoStep at.0 at.1 pushed popped half.old }
+    requires opened { is_open half.old.end.end.state ≡ true }
+    ensures { (pushed popped : List OfPacket) → HasNoStep at.0 at.1 pushed popped half.old → DeliveryGives at.0 at.1 pushed (popped ++ packet.now ∷ []) result half.new }
+{
+    turn_answer(half.accept(packet))
+}
+
+// The same, with what the half sends by it pushed.
+fn deliver<R: Wait>(
+    rt: &R,
+    queue: &PacketQueue,
+    pass: &mut PacketPass,
+    half: &mut Half<'_>,
+    packet: &Packet,
+) -> StepAnswer
+    ghost at: { Setting × EndSide }
+    requires pass { MayPush queue.now.queue pass.old }
+    requires rests { (popped : List OfPacket) × HasNoStep at.0 at.1 (view_of pass.old).pushed popped half.old }
+    requires opened { is_open half.old.end.end.state ≡ true }
+    ensures pass { HasPushed queue.now.queue pass.old pass.new }
+    ensures gives { (popped : List OfPacket) → HasNoStep at.0 at.1 (view_of pass.old).pushed popped half.old → TakeGives at.0 at.1 (view_of pass.new).pushed (popped ++ packet.now ∷ []) result half.new }
+{
+    match accept(half, packet) {
+        StepAnswer::Did => done(hand_over(rt, queue, pass, half)),
+        answer => answer,
+    }
+}
+
+// The delivery of the next packet to a half that has no own step.
+fn take<R: Wait>(
+    rt: &R,
+    out: &PacketQueue,
+    incoming: &PacketQueue,
+    pushing: &mut PacketPass,
+    popping: &mut PacketPass,
+    half: &mut Half<'_>,
+) -> StepAnswer
+    ghost at: { Setting × EndSide }
+    requires pushing { MayPush out.now.queue pushing.old }
+    requires popping { MayPop incoming.now.queue popping.old }
+    requires rests { HasNoStep at.0 at.1 (view_of pushing.old).pushed (view_of popping.old).popped half.old }
+    ensures pushing { HasPushed out.now.queue pushing.old pushing.new }
+    ensures popping { HasPopped incoming.now.queue popping.old popping.new }
+    ensures gives { StepGives at.0 at.1 (view_of pushing.old) (view_of popping.old) result (view_of pushing.new) (view_of popping.new) half.new }
+{
+    if !half.is_open() {
+        return StepAnswer::Nothing;
+    }
+    match incoming.pop(rt, popping) {
+        None => StepAnswer::Nothing,
+        Some(packet) => deliver(rt, out, pushing, half, &packet),
+    }
+}
+
+/// One step of a half: its own, or else, while its end is open, the delivery of the packet that comes
+/// next. What it sends by it is pushed. `Nothing` comes where it has neither, and `Spent` where it has
+/// one but as many events as it may have.
+pub fn step<R: Wait>(
+    rt: &R,
+    out: &PacketQueue,
+    incoming: &PacketQueue,
+    pushing: &mut PacketPass,
+    popping: &mut PacketPass,
+    half: &mut Half<'_>,
+) -> StepAnswer
+    ghost at: { Setting × EndSide }
+    requires pushing { MayPush out.now.queue pushing.old }
+    requires popping { MayPop incoming.now.queue popping.old }
+    requires work { IsAtWork at.0 at.1 (view_of pushing.old).pushed (view_of popping.old).popped half.old }
+    ensures pushing { HasPushed out.now.queue pushing.old pushing.new }
+    ensures popping { HasPopped incoming.now.queue popping.old popping.new }
+    ensures gives { StepGives at.0 at.1 (view_of pushing.old) (view_of popping.old) result (view_of pushing.new) (view_of popping.new) half.new }
+{
+    match go_on(half) {
+        StepAnswer::Did => done(hand_over(rt, out, pushing, half)),
+        StepAnswer::Nothing => take(rt, out, incoming, pushing, popping, half),
+        answer => answer,
+    }
+}

@@ -1,0 +1,73 @@
+ghost use Rattle.std.specs.Prelude.{◌≡◌};
+ghost use Rattle.std.specs.Thread.{IsSync};
+ghost use Rattle.world_core.specs.Relaying.{IsRelayed};
+ghost use Rattle.world_core.specs.WorldView.{opening_of};
+
+use crate::workers::run_apart;
+use gates::{Gate, Open};
+use std::alloc::Global;
+use std::sync::Wait;
+use std::thread::Threads;
+use world_core::{Halves, Relay, RunAnswer, World};
+
+/// Each side of a run on a thread of its own, with a queue to the other one (docs/relay.md). A run may
+/// wait, and what is promised of it holds where it returns.
+#[derive(Drop)]
+pub struct TwoQueues<'r, R: Threads + Wait + Sync + AllocGlobal, G: Gate + Sync> {
+    rt: &'r R,
+    gate: G,
+}
+
+impl<'r, R: Threads + Wait + Sync + AllocGlobal, G: Gate + Sync> TwoQueues<'r, R, G> {
+    /// The relay whose sides pass a gate before each own step, while both go on at once. It takes no
+    /// memory.
+    pub fn new(rt: &'r R, gate: G) -> TwoQueues<'r, R, G>
+        ensures { IsSync R.row }
+    {
+        TwoQueues { rt, gate }
+    }
+
+    /// The gate. It takes no memory.
+    pub fn gate(&self) -> &G
+        ensures { result.now ≡ self.now.gate }
+    {
+        &self.gate
+    }
+
+    /// Runs a world by whatever gate: as `run_queues` does with the open one.
+    pub fn run_with<'s>(&mut self, world: World<'s>) -> (Halves, RunAnswer)
+        requires { world ≡ opening_of world.setting }
+        ensures { IsRelayed world.entry.setting result.0 result.1 }
+    {
+        run_world(self.rt, self.rt.alloc(), &self.gate, world)
+    }
+}
+
+impl<'r, R: Threads + Wait + Sync + AllocGlobal> Relay for TwoQueues<'r, R, Open> {
+    ghost Gives = { λ _ before halves answer. IsRelayed before.setting halves answer };
+
+    ghost ready = { λ _. IsSync R.row };
+
+    fn run_queues<'s>(&mut self, world: World<'s>) -> (Halves, RunAnswer) {
+        run_world(self.rt, self.rt.alloc(), &self.gate, world)
+    }
+}
+
+// The run of a world over two queues.
+fn run_world<'s, R: Threads + Wait + Sync, G: Gate + Sync>(
+    rt: &R,
+    alloc: Global,
+    gate: &G,
+    world: World<'s>,
+) -> (Halves, RunAnswer)
+    requires opening { world ≡ opening_of world.setting }
+    ensures { IsRelayed world.entry.setting result.0 result.1 }
+{
+    let (mut parent, mut child) = world.into_halves();
+    let answer = run_apart(rt, alloc, gate, &mut parent, &mut child);
+    let halves = Halves {
+        parent: parent.into_lines(),
+        child: child.into_lines(),
+    };
+    (halves, answer)
+}
