@@ -4,6 +4,7 @@ use Rattle.atomic_blocks.specs.declared.web.Seat.{Seat}
 use Rattle.crossbeam_queue.specs.declared.seg_queue.Going.{Going}
 use Rattle.crossbeam_queue.specs.SegTies.{IsSegPassOf, SegId}
 use Rattle.ordered_queue.specs.declared.view.PassView.{PassView}
+use Rattle.ordered_queue.specs.InOrder.{popping_part, pushing_part, whole}
 
 -- a pass of a queue of such values, under such an allocator
 abbrev pub PassOf : Type 0 → Type 0 → Type 0
@@ -30,3 +31,11 @@ module _ {T A : Type 0} where
 
   abbrev pub HasPopped : SegId A → PassOf T A → PassOf T A → Type 0
   HasPopped queue before after = IsSegPassOf queue after × (view_of after ≡ record (view_of before) { popped = (view_of after).popped })
+
+  -- two passes were made of one: the first may push, the second may pop
+  abbrev pub IsParted : SegId A → PassView T → PassOf T A → PassOf T A → Type 0
+  IsParted queue view pushing popping = (IsSegPassOf queue pushing × (view_of pushing ≡ pushing_part view)) × (IsSegPassOf queue popping × (view_of popping ≡ popping_part view))
+
+  -- one pass was made of one that may push and of one that may pop
+  abbrev pub IsWhole : SegId A → PassOf T A → PassOf T A → PassOf T A → Type 0
+  IsWhole queue pushing popping pass = IsSegPassOf queue pass × (view_of pass ≡ whole (view_of pushing) (view_of popping))

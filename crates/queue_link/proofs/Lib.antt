@@ -1,3 +1,4 @@
 mod Hands
 mod Rounds
 mod Ends
+mod Sent

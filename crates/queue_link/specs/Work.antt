@@ -10,6 +10,7 @@ use Rattle.end_parts.specs.declared.packet.Packet.{Packet}
 use Rattle.end_parts.specs.PacketReading.{carried, packet_read}
 use Rattle.ipdl_base.specs.declared.schema.Schema.{Schema}
 use Rattle.ordered_queue.specs.declared.view.PassView.{PassView}
+use Rattle.ordered_queue.specs.Passes.{HasPopped, HasPushed, MayPop, MayPush, view_of}
 use Rattle.relay_runs.specs.HalfRuns.{HalfState, is_within, own_event}
 use Rattle.relay_runs.specs.Relays.{Relayed}
 use Rattle.script_steps.specs.Choices.{Setting}
@@ -18,8 +19,10 @@ use Rattle.world_core.specs.declared.answers.RunAnswer.{RunAnswer}
 use Rattle.world_core.specs.declared.answers.RunAnswer.TheVariants as run
 use Rattle.world_core.specs.declared.answers.StepAnswer.{StepAnswer}
 use Rattle.world_core.specs.declared.answers.StepAnswer.TheVariants as answer
-use Rattle.world_core.specs.HalfView.{HalfView}
+use Rattle.world_core.specs.HalfView.{HalfView, setting_of}
 use Rattle.world_core.specs.Relaying.{GoesApart, came_by}
+use Rattle.queue_link.specs.declared.packets.Queues.{Queues}
+use Rattle.queue_link.specs.declared.packets.SidePasses.{SidePasses}
 
 abbrev pub PacketView : Type 0
 PacketView = PassView Packet
@@ -108,6 +111,18 @@ abbrev pub WorkEnds : Setting → Side → List Packet → List Packet → RunAn
 WorkEnds setting side pushed popped run.Finished half' = IsAtWork setting side pushed popped half'
 WorkEnds setting side pushed popped (run.Spent at) half' = (at ≡ side) × IsSpent setting side pushed popped half'
 WorkEnds setting side pushed popped run.NoMemory half' = Unit {0}
+
+-- A half is at work with the passes of its side.
+abbrev pub MayWork : Queues → Side → SidePasses → HalfView → Type 0
+MayWork queues sides.Parent passes half = MayPush queues.down.queue passes.pushing × (MayPop queues.up.queue passes.popping) × IsAtWork (setting_of half) sides.Parent (view_of passes.pushing).pushed (view_of passes.popping).popped half
+MayWork queues sides.Child passes half = MayPush queues.up.queue passes.pushing × (MayPop queues.down.queue passes.popping) × IsAtWork (setting_of half) sides.Child (view_of passes.pushing).pushed (view_of passes.popping).popped half
+
+-- its work has ended, of such a run
+abbrev pub HasWorked : Queues → Side → SidePasses → SidePasses → Setting → RunAnswer → HalfView → Type 0
+HasWorked queues sides.Parent before after setting ended half' =
+    HasPushed queues.down.queue before.pushing after.pushing × (HasPopped queues.up.queue before.popping after.popping) × WorkEnds setting sides.Parent (view_of after.pushing).pushed (view_of after.popping).popped ended half'
+HasWorked queues sides.Child before after setting ended half' =
+    HasPushed queues.up.queue before.pushing after.pushing × (HasPopped queues.down.queue before.popping after.popping) × WorkEnds setting sides.Child (view_of after.pushing).pushed (view_of after.popping).popped ended half'
 
 -- A half stands in some way.
 pub record StandsSomehow (setting : Setting) (side : Side) (pushed popped : List Packet) (half : HalfView) : Type 0 where

@@ -1,4 +1,4 @@
-//! The queues of packets between both ends.
+//! The queues of packets between both ends, and the passes of those who push to them and pop from them.
 use channel_core::Packet;
 use ordered_queue::{OrderedQueue, QueuePass};
 
@@ -7,3 +7,17 @@ pub type PacketQueue = OrderedQueue<Packet>;
 
 /// The right to push to such a queue, or to pop from it, or both.
 pub type PacketPass = QueuePass<Packet>;
+
+/// Both queues of a run.
+#[derive(Drop)]
+pub struct Queues {
+    pub(crate) down: PacketQueue,
+    pub(crate) up: PacketQueue,
+}
+
+/// The passes of one side: it pushes to the queue to the other one, and pops from the queue to itself.
+#[derive(Drop)]
+pub struct SidePasses {
+    pub(crate) pushing: PacketPass,
+    pub(crate) popping: PacketPass,
+}

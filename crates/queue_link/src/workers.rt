@@ -4,14 +4,14 @@ ghost use Rattle.crossbeam_queue.specs.SegTies.{IsSegPassOf};
 ghost use Rattle.ipdl_base.specs.declared.kinds.Side.{Side as EndSide};
 ghost use Rattle.ipdl_base.specs.declared.kinds.Side.TheVariants as sides;
 ghost use Rattle.ordered_queue.specs.InOrder.{first_view};
-ghost use Rattle.ordered_queue.specs.Passes.{HasPopped, HasPushed, MayBoth, MayPop, MayPush, view_of};
-ghost use Rattle.queue_link.specs.Work.{BothEnd, BothWorked, EndsRelay, IsAtWork, IsOrdered, WorkEnds, of_both};
+ghost use Rattle.ordered_queue.specs.Passes.{HasPopped, HasPushed, IsParted, IsWhole, MayBoth, MayPop, MayPush, view_of};
+ghost use Rattle.queue_link.specs.Work.{BothEnd, BothWorked, EndsRelay, HasWorked, IsAtWork, IsOrdered, MayWork, WorkEnds, of_both};
 ghost use Rattle.relay_runs.specs.HalfRuns.{opening_half};
 ghost use Rattle.script_steps.specs.Choices.{Setting};
 ghost use Rattle.world_core.specs.HalfView.{setting_of};
 ghost use Rattle.world_core.specs.Relaying.{GoesApart};
 
-use crate::packets::{PacketPass, PacketQueue};
+use crate::packets::{PacketPass, PacketQueue, Queues, SidePasses};
 use crate::steps::step;
 use crate::turns::take_turns;
 use gates::Gate;
@@ -56,25 +56,50 @@ fn work_on<R: Wait, G: Gate>(
     unreachable!()
 }
 
-// The same, of the run that the half is about.
-fn work<R: Wait, G: Gate>(
+// The work of the parent, of the run that its half is about.
+fn work_of_parent<R: Wait, G: Gate>(
     rt: &R,
     gate: &G,
-    side: Side,
-    out: &PacketQueue,
-    incoming: &PacketQueue,
-    pushing: &mut PacketPass,
-    popping: &mut PacketPass,
+    queues: &Queues,
+    passes: &mut SidePasses,
     half: &mut Half<'_>,
 ) -> RunAnswer
-    requires pushing { MayPush out.now.queue pushing.old }
-    requires popping { MayPop incoming.now.queue popping.old }
-    requires work { IsAtWork (setting_of half.old) side (view_of pushing.old).pushed (view_of popping.old).popped half.old }
-    ensures pushing { HasPushed out.now.queue pushing.old pushing.new }
-    ensures popping { HasPopped incoming.now.queue popping.old popping.new }
-    ensures ends { WorkEnds (setting_of half.old) side (view_of pushing.new).pushed (view_of popping.new).popped result half.new }
+    requires { MayWork queues.now sides.Parent passes.old half.old }
+    ensures { HasWorked queues.now sides.Parent passes.old passes.new (setting_of half.old) result half.new }
 {
-    work_on(rt, gate, side, out, incoming, pushing, popping, half)
+    work_on(
+        rt,
+        gate,
+        Side::Parent,
+        &queues.down,
+        &queues.up,
+        &mut passes.pushing,
+        &mut passes.popping,
+        half,
+    )
+}
+
+// The work of the child, of the run that its half is about.
+fn work_of_child<R: Wait, G: Gate>(
+    rt: &R,
+    gate: &G,
+    queues: &Queues,
+    passes: &mut SidePasses,
+    half: &mut Half<'_>,
+) -> RunAnswer
+    requires { MayWork queues.now sides.Child passes.old half.old }
+    ensures { HasWorked queues.now sides.Child passes.old passes.new (setting_of half.old) result half.new }
+{
+    work_on(
+        rt,
+        gate,
+        Side::Child,
+        &queues.up,
+        &queues.down,
+        &mut passes.pushing,
+        &mut passes.popping,
+        half,
+    )
 }
 
 // What the work of both sides comes to, by that of each.
@@ -92,97 +117,111 @@ fn of_both(first: RunAnswer, second: RunAnswer) -> RunAnswer
 fn work_both<'b, 'c, R: Threads + Wait + Sync, G: Gate + Sync>(
     rt: &R,
     gate: &G,
-    down: &PacketQueue,
-    up: &PacketQueue,
-    pushing_down: &mut PacketPass,
-    popping_up: &mut PacketPass,
-    pushing_up: &mut PacketPass,
-    popping_down: &mut PacketPass,
+    queues: &Queues,
+    of_parent: &mut SidePasses,
+    of_child: &mut SidePasses,
     parent: &mut Half<'b>,
     child: &mut Half<'c>,
 ) -> (RunAnswer, RunAnswer)
-    requires down { MayPush down.now.queue pushing_down.old × (MayPop down.now.queue popping_down.old) }
-    requires up { MayPush up.now.queue pushing_up.old × (MayPop up.now.queue popping_up.old) }
-    requires parent { IsAtWork (setting_of parent.old) sides.Parent (view_of pushing_down.old).pushed (view_of popping_up.old).popped parent.old }
-    requires child { IsAtWork (setting_of child.old) sides.Child (view_of pushing_up.old).pushed (view_of popping_down.old).popped child.old }
-    ensures down { (HasPushed down.now.queue pushing_down.old pushing_down.new) × HasPopped down.now.queue popping_down.old popping_down.new }
-    ensures up { (HasPushed up.now.queue pushing_up.old pushing_up.new) × HasPopped up.now.queue popping_up.old popping_up.new }
-    ensures parent { WorkEnds (setting_of parent.old) sides.Parent (view_of pushing_down.new).pushed (view_of popping_up.new).popped result.0 parent.new }
-    ensures child { WorkEnds (setting_of child.old) sides.Child (view_of pushing_up.new).pushed (view_of popping_down.new).popped result.1 child.new }
+    requires parent { MayWork queues.now sides.Parent of_parent.old parent.old }
+    requires child { MayWork queues.now sides.Child of_child.old child.old }
+    ensures parent { HasWorked queues.now sides.Parent of_parent.old of_parent.new (setting_of parent.old) result.0 parent.new }
+    ensures child { HasWorked queues.now sides.Child of_child.old of_child.new (setting_of child.old) result.1 child.new }
 {
     let (first, second) = join_mut(
         rt,
         &mut || -> RunAnswer
-            requires { (MayPush down.now.queue pushing_down.now) × (MayPop up.now.queue popping_up.now) × IsAtWork (setting_of parent.now) sides.Parent (view_of pushing_down.now).pushed (view_of popping_up.now).popped parent.now }
-            ensures { (HasPushed down.entry.now.queue pushing_down.entry.now pushing_down.exit.now) × (HasPopped up.entry.now.queue popping_up.entry.now popping_up.exit.now) × WorkEnds (setting_of parent.entry.now) sides.Parent (view_of pushing_down.exit.now).pushed (view_of popping_up.exit.now).popped result parent.exit.now }
-        {
-            work(
-                rt,
-                gate,
-                Side::Parent,
-                down,
-                up,
-                pushing_down,
-                popping_up,
-                parent,
-            )
-        },
+            requires { MayWork queues.now sides.Parent of_parent.now parent.now }
+            ensures { HasWorked queues.entry.now sides.Parent of_parent.entry.now of_parent.exit.now (setting_of parent.entry.now) result parent.exit.now }
+        { work_of_parent(rt, gate, queues, of_parent, parent) },
         &mut || -> RunAnswer
-            requires { (MayPush up.now.queue pushing_up.now) × (MayPop down.now.queue popping_down.now) × IsAtWork (setting_of child.now) sides.Child (view_of pushing_up.now).pushed (view_of popping_down.now).popped child.now }
-            ensures { (HasPushed up.entry.now.queue pushing_up.entry.now pushing_up.exit.now) × (HasPopped down.entry.now.queue popping_down.entry.now popping_down.exit.now) × WorkEnds (setting_of child.entry.now) sides.Child (view_of pushing_up.exit.now).pushed (view_of popping_down.exit.now).popped result child.exit.now }
-        {
-            work(
-                rt,
-                gate,
-                Side::Child,
-                up,
-                down,
-                pushing_up,
-                popping_down,
-                child,
-            )
-        },
+            requires { MayWork queues.now sides.Child of_child.now child.now }
+            ensures { HasWorked queues.entry.now sides.Child of_child.entry.now of_child.exit.now (setting_of child.entry.now) result child.exit.now }
+        { work_of_child(rt, gate, queues, of_child, child) },
     );
     (first, second)
+}
+
+// The passes of both sides, made of one for each queue that may push and pop: the parent's and the
+// child's.
+fn side_passes(
+    queues: &Queues,
+    mut to_child: PacketPass,
+    mut to_parent: PacketPass,
+) -> (SidePasses, SidePasses)
+    requires to_child { MayBoth queues.now.down.queue to_child }
+    requires to_parent { MayBoth queues.now.up.queue to_parent }
+    ensures down { IsParted queues.now.down.queue (view_of to_child.entry) result.0.pushing result.1.popping }
+    ensures up { IsParted queues.now.up.queue (view_of to_parent.entry) result.1.pushing result.0.popping }
+{
+    let from_parent = queues.down.part(&mut to_child);
+    let from_child = queues.up.part(&mut to_parent);
+    let of_parent = SidePasses {
+        pushing: to_child,
+        popping: from_child,
+    };
+    let of_child = SidePasses {
+        pushing: to_parent,
+        popping: from_parent,
+    };
+    (of_parent, of_child)
+}
+
+// One pass for each queue again, made of those of both sides: down to the child, and up to the parent.
+fn queue_passes(
+    queues: &Queues,
+    of_parent: SidePasses,
+    of_child: SidePasses,
+) -> (PacketPass, PacketPass)
+    requires down { MayPush queues.now.down.queue of_parent.pushing × (MayPop queues.now.down.queue of_child.popping) }
+    requires up { MayPush queues.now.up.queue of_child.pushing × (MayPop queues.now.up.queue of_parent.popping) }
+    ensures down { IsWhole queues.now.down.queue of_parent.entry.pushing of_child.entry.popping result.0 }
+    ensures up { IsWhole queues.now.up.queue of_child.entry.pushing of_parent.entry.popping result.1 }
+{
+    let SidePasses {
+        pushing: mut to_child,
+        popping: from_child,
+    } = of_parent;
+    let SidePasses {
+        pushing: mut to_parent,
+        popping: from_parent,
+    } = of_child;
+    queues.down.join(&mut to_child, from_parent);
+    queues.up.join(&mut to_parent, from_child);
+    (to_child, to_parent)
 }
 
 // The work of both halves as they begin, at once, over new queues whose passes come back whole.
 fn work_at_once<R: Threads + Wait + Sync, G: Gate + Sync>(
     rt: &R,
     gate: &G,
-    down: &PacketQueue,
-    up: &PacketQueue,
-    to_child: &mut PacketPass,
-    to_parent: &mut PacketPass,
+    queues: &Queues,
+    to_child: PacketPass,
+    to_parent: PacketPass,
     parent: &mut Half<'_>,
     child: &mut Half<'_>,
-) -> RunAnswer
+) -> (PacketPass, PacketPass, RunAnswer)
     ghost at: { Setting }
-    requires to_child { IsSegPassOf down.now.queue to_child.old × (view_of to_child.old ≡ first_view) }
-    requires to_parent { IsSegPassOf up.now.queue to_parent.old × (view_of to_parent.old ≡ first_view) }
+    requires to_child { IsSegPassOf queues.now.down.queue to_child × (view_of to_child ≡ first_view) }
+    requires to_parent { IsSegPassOf queues.now.up.queue to_parent × (view_of to_parent ≡ first_view) }
     requires parent { GoesApart at sides.Parent (opening_half at sides.Parent) [] parent.old }
     requires child { GoesApart at sides.Child (opening_half at sides.Child) [] child.old }
-    ensures to_child { MayBoth down.now.queue to_child.new }
-    ensures to_parent { MayBoth up.now.queue to_parent.new }
-    ensures worked { BothWorked at (view_of to_child.new) (view_of to_parent.new) result parent.new child.new }
+    ensures to_child { MayBoth queues.now.down.queue result.0 }
+    ensures to_parent { MayBoth queues.now.up.queue result.1 }
+    ensures worked { BothWorked at (view_of result.0) (view_of result.1) result.2 parent.new child.new }
 {
-    let mut popping_down = down.part(to_child);
-    let mut popping_up = up.part(to_parent);
+    let (mut of_parent, mut of_child) = side_passes(queues, to_child, to_parent);
     let (first, second) = work_both(
         rt,
         gate,
-        down,
-        up,
-        to_child,
-        &mut popping_up,
-        to_parent,
-        &mut popping_down,
+        queues,
+        &mut of_parent,
+        &mut of_child,
         parent,
         child,
     );
-    down.join(to_child, popping_down);
-    up.join(to_parent, popping_up);
-    of_both(first, second)
+    let (to_child, to_parent) = queue_passes(queues, of_parent, of_child);
+    (to_child, to_parent, of_both(first, second))
 }
 
 // Steps of both in turn, where both worked to their ends and neither is spent.
@@ -235,30 +274,23 @@ fn run_over<R: Threads + Wait + Sync, G: Gate + Sync>(
     requires child { GoesApart at sides.Child (opening_half at sides.Child) [] child.old }
     ensures { EndsRelay at result parent.new child.new }
 {
-    let (down, mut to_child) = down;
-    let (up, mut to_parent) = up;
-    let worked = work_at_once(
-        rt,
-        gate,
-        &down,
-        &up,
-        &mut to_child,
-        &mut to_parent,
-        parent,
-        child,
-    );
+    let (down, to_child) = down;
+    let (up, to_parent) = up;
+    let queues = Queues { down, up };
+    let (mut to_child, mut to_parent, worked) =
+        work_at_once(rt, gate, &queues, to_child, to_parent, parent, child);
     let answer = end_in_turn(
         rt,
-        &down,
-        &up,
+        &queues.down,
+        &queues.up,
         &mut to_child,
         &mut to_parent,
         parent,
         child,
         worked,
     );
-    see_order(rt, &down, &mut to_child);
-    see_order(rt, &up, &mut to_parent);
+    see_order(rt, &queues.down, &mut to_child);
+    see_order(rt, &queues.up, &mut to_parent);
     answer
 }
 

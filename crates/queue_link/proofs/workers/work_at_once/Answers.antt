@@ -1,6 +1,3 @@
-use Rattle.std.proofs.Common.{◌≡◌, sym, ap, subst, ◌∙◌, List}
-use Rattle.end_parts.specs.declared.packet.Packet.{Packet}
-use Rattle.ipdl_base.specs.declared.kinds.Side.TheVariants as sides
 use Rattle.ordered_queue.specs.Passes.{view_of}
 use Rattle.queue_link.proofs.Rounds.{worked-so}
 use Rattle.queue_link.proofs.workers.work_at_once.Goals as goal
@@ -9,5 +6,9 @@ use Rattle.world_core.specs.HalfView.{setting_of}
 pub returns-clause-worked : goal.returns-clause-worked
 returns-clause-worked g c =
     let worked = c.work_both-first in
-    worked-so g.at worked.new.parent worked.new.child (setting_of c.args.parent.now) (setting_of c.args.child.now) c.requires.1.1.1.1.1.1.0.about c.requires.1.1.1.1.1.1.1.about (view_of c.join.new.pass) (view_of c.join-2.new.pass) (view_of worked.new.pushing_down) (view_of worked.new.popping_down)
-    (view_of worked.new.pushing_up) (view_of worked.new.popping_up) c.join.ensures.1 c.join-2.ensures.1 worked.result.0 worked.result.1 worked.ensures.parent worked.ensures.child c.of_both.result c.of_both.ensures
+    let passes = c.queue_passes-to_child in
+    let of_parent = worked.new.of_parent in
+    let of_child = worked.new.of_child in
+    worked-so g.at worked.new.parent worked.new.child (setting_of c.args.parent.now) (setting_of c.args.child.now) c.requires.parent.about c.requires.child.about
+    (view_of passes.result.0) (view_of passes.result.1) (view_of of_parent.pushing) (view_of of_child.popping) (view_of of_child.pushing) (view_of of_parent.popping) passes.ensures.down.1 passes.ensures.up.1
+    worked.result.0 worked.result.1 worked.ensures.parent.2 worked.ensures.child.2 c.of_both.result c.of_both.ensures
