@@ -162,7 +162,7 @@ module _ (w : WorldView) (c : Comparison) (case : IsCase w) (passed : HasPassed 
           lines_are = refl;
           printed_are = sym (append-nil printed);
           apart = tt;
-          no_end = λ e ends nil more same. none (e, (heads line (ending_line e) (text_lines behind) more same).0, ends);
+          no_end = λ e ends nil more same. none (e, cons-head same, ends);
         } in
         replayed-left (line ∷ text_lines behind) (replay.Apart c.lines) first
         (record { last = w.state; follows = follows-here; says = says-apart w.setting (printed ++ line ∷ text_lines behind) w.state c.lines common line (text_lines behind) refl })
