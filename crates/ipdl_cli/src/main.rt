@@ -10,6 +10,7 @@ mod real;
 use crate::edge::{behind_name, exit_code_of};
 use crate::real::{RealFiles, RealSink};
 use ipdl_top::Status;
+use queue_link::TwoQueues;
 use std::alloc::AllocError;
 use std::env;
 use std::io::{ErrorKind, Write};
@@ -18,7 +19,6 @@ use std::rt::{Env, Files};
 use std::sync::Wait;
 use std::thread::Threads;
 use thread_link::{Open, TwoThreads};
-use queue_link::TwoQueues;
 
 /// The words of the command, which stand behind the program's name; an error is want of memory.
 fn command_words<R: Env + AllocGlobal>(rt: &R) -> Result<Vec<String>, AllocError> {

@@ -1,12 +1,10 @@
 -- How both stand at the end of a run is a relay: what came to each is a front of what the other has sent.
-use Rattle.std.proofs.Common.{◌≡◌, ◌⊎◌, inl, inr, ⊎_elim, ℕ, zero, suc, Bool, true, false, ◌&&◌, ◌||◌, is_some, List, [], ◌∷◌, ◌++◌, drop, length, map, Option, Some, None, refl, sym, ap, subst, ◌∙◌, append-nil, append_assoc, arith}
+use Rattle.std.proofs.Common.{◌≡◌, ◌⊎◌, inl, inr, ⊎_elim, Bool, true, false, ◌&&◌, ◌||◌, is_some, List, [], ◌∷◌, ◌++◌, drop, length, map, None, refl, sym, ap, subst, ◌∙◌, append-nil, append_assoc}
 use Rattle.std.proofs.lemmas.List.{append_cancel_left}
 use Rattle.std.specs.List.{AllByRecursion}
 use Rattle.handler_script.specs.ScriptOf.{first_of}
 use Rattle.channel_core.specs.EndView.{IsFramed, packet_of, packets_of}
 use Rattle.channel_model.specs.Ends as model
-use Rattle.channel_model.specs.Events.{Event}
-use Rattle.channel_model.specs.Numbers.{other}
 use Rattle.channel_model.specs.Outputs.{is_open}
 use Rattle.end_parts.specs.declared.packet.Packet.{Packet}
 use Rattle.end_parts.specs.declared.packet.Packet.TheVariants.{Broken}
@@ -14,15 +12,15 @@ use Rattle.end_parts.specs.PacketReading.{packet_read}
 use Rattle.ipdl_base.specs.declared.kinds.Side.{Side}
 use Rattle.ipdl_base.specs.declared.kinds.Side.TheVariants as sides
 use Rattle.ipdl_base.specs.declared.schema.Schema.{Schema}
-use Rattle.relay_runs.specs.HalfRuns.{HalfState, is_within, own_event}
-use Rattle.relay_runs.specs.Relays.{ComeInOrder, EndsAs, IsRelay, RelayState, Relayed, has_left, next_packet}
+use Rattle.relay_runs.specs.HalfRuns.{own_event}
+use Rattle.relay_runs.specs.Relays.{EndsAs, IsRelay, RelayState, Relayed, next_packet}
 use Rattle.script_steps.specs.Choices.{Setting}
 use Rattle.script_steps.specs.Turns.{RunEnding, at_limit, at_rest}
 use Rattle.world_core.specs.declared.answers.RunAnswer.{RunAnswer}
 use Rattle.world_core.specs.declared.answers.RunAnswer.TheVariants as run
 use Rattle.world_core.specs.HalfView.{HalfView}
 use Rattle.world_core.specs.Relaying.{came_by}
-use Rattle.queue_link.specs.Work.{BothEnd, EndsRelay, HasTaken, IsAtWork, IsReadBack, IsOrdered, IsResting, IsSpent, OneIsSpent, PacketView, Stands, StandsSomehow}
+use Rattle.queue_link.specs.Work.{BothEnd, EndsRelay, IsReadBack, IsOrdered, IsResting, IsSpent, PacketView, Stands, StandsSomehow}
 
 -- What is left of packets behind those that were taken.
 record IsFront (schema : Schema) (sent taken : List model.Packet) (held : List Packet) : Type 0 where

@@ -1,14 +1,13 @@
 -- What a step of a half does to what was pushed and popped for it.
-use Rattle.std.proofs.Common.{◌≡◌, ◌⊎◌, inl, inr, ⊎_elim, true, false, is_some, Result, Ok, Err, MatchResult, OnOk, Bool, List, [], ◌∷◌, ◌++◌, map, Option, Some, None, refl, sym, ap, subst, ◌∙◌, append-nil}
+use Rattle.std.proofs.Common.{◌≡◌, inl, inr, true, false, Result, Ok, Err, MatchResult, OnOk, Bool, List, [], ◌∷◌, ◌++◌, map, Some, None, refl, sym, ap, subst, ◌∙◌, append-nil}
 use Rattle.std.specs.List.{AllByRecursion}
 use Rattle.channel_core.specs.EndView.{packet_of, packets_of}
 use Rattle.channel_model.specs.Ends as model
-use Rattle.channel_model.specs.Events.{Event}
-use Rattle.channel_model.specs.Outputs.{Output, is_open}
+use Rattle.channel_model.specs.Outputs.{is_open}
 use Rattle.end_parts.specs.declared.packet.Packet.{Packet}
 use Rattle.end_parts.specs.PacketReading.{packet_read}
 use Rattle.ipdl_base.specs.declared.kinds.Side.{Side}
-use Rattle.relay_runs.specs.HalfRuns.{HalfState, behind, behind_packet, delivered_for, is_within, own_event}
+use Rattle.relay_runs.specs.HalfRuns.{behind, behind_packet, delivered_for}
 use Rattle.script_steps.specs.Choices.{Setting}
 use Rattle.world_core.specs.declared.answers.AcceptAnswer.{AcceptAnswer}
 use Rattle.world_core.specs.declared.answers.AcceptAnswer.TheVariants as accept
@@ -16,7 +15,7 @@ use Rattle.world_core.specs.declared.answers.StepAnswer.{StepAnswer}
 use Rattle.world_core.specs.declared.answers.StepAnswer.TheVariants as answer
 use Rattle.world_core.specs.HalfView.{HalfView}
 use Rattle.world_core.specs.Relaying.{AcceptGives, GoesApart, GoingGives, HasAccepted, IsApart, PutGives, came_by, turn_answer}
-use Rattle.queue_link.specs.Work.{DeliveryGives, HandsOver, HasNoStep, HasTaken, IsAtWork, IsReadBack, IsResting, IsSpent, OwnGives, PacketView, PushGives, Stands, StepGives, TakeGives}
+use Rattle.queue_link.specs.Work.{DeliveryGives, HandsOver, HasNoStep, HasTaken, IsAtWork, IsReadBack, IsResting, OwnGives, PacketView, PushGives, StepGives, TakeGives}
 
 all-snoc : {A : Type 0} (P : A → Type 0) (xs : List A) (x : A) → AllByRecursion P xs → P x → AllByRecursion P (xs ++ x ∷ [])
 all-snoc P [] x all is = (is, tt)

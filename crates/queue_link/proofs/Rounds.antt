@@ -1,6 +1,5 @@
 -- What steps of both sides make of how both stand.
-use Rattle.std.proofs.Common.{◌≡◌, inl, Bool, true, false, List, [], ◌++◌, refl, sym, ap, subst, ◌∙◌}
-use Rattle.channel_model.specs.Ends as model
+use Rattle.std.proofs.Common.{◌≡◌, true, false, List, [], refl, sym, ap, subst}
 use Rattle.end_parts.specs.declared.packet.Packet.{Packet}
 use Rattle.ipdl_base.specs.declared.kinds.Side.{Side}
 use Rattle.ipdl_base.specs.declared.kinds.Side.TheVariants as sides
@@ -11,7 +10,7 @@ use Rattle.world_core.specs.declared.answers.RunAnswer.TheVariants as run
 use Rattle.world_core.specs.declared.answers.StepAnswer.{StepAnswer}
 use Rattle.world_core.specs.declared.answers.StepAnswer.TheVariants as answer
 use Rattle.world_core.specs.HalfView.{HalfView}
-use Rattle.queue_link.specs.Work.{AreAtWork, BothEnd, BothWorked, IsAtWork, IsResting, IsSpent, OneIsSpent, PacketView, RoundGives, Stands, StandsSomehow, StepGives, WorkEnds, is_over, of_both, of_round}
+use Rattle.queue_link.specs.Work.{BothWorked, IsAtWork, IsResting, IsSpent, OneIsSpent, PacketView, RoundGives, StandsSomehow, StepGives, WorkEnds, is_over, of_both, of_round}
 
 -- nothing but what was pushed, or what was popped, is another
 abbrev pub OnlyPushed : PacketView → PacketView → Type 0

@@ -151,8 +151,8 @@ fn side_passes(
 ) -> (SidePasses, SidePasses)
     requires to_child { MayBoth queues.now.down.queue to_child }
     requires to_parent { MayBoth queues.now.up.queue to_parent }
-    ensures down { IsParted queues.now.down.queue (view_of to_child.entry) result.0.pushing result.1.popping }
-    ensures up { IsParted queues.now.up.queue (view_of to_parent.entry) result.1.pushing result.0.popping }
+    ensures down { IsParted queues.now.down.queue (view_of to_child) result.0.pushing result.1.popping }
+    ensures up { IsParted queues.now.up.queue (view_of to_parent) result.1.pushing result.0.popping }
 {
     let from_parent = queues.down.part(&mut to_child);
     let from_child = queues.up.part(&mut to_parent);
@@ -175,8 +175,8 @@ fn queue_passes(
 ) -> (PacketPass, PacketPass)
     requires down { MayPush queues.now.down.queue of_parent.pushing × (MayPop queues.now.down.queue of_child.popping) }
     requires up { MayPush queues.now.up.queue of_child.pushing × (MayPop queues.now.up.queue of_parent.popping) }
-    ensures down { IsWhole queues.now.down.queue of_parent.entry.pushing of_child.entry.popping result.0 }
-    ensures up { IsWhole queues.now.up.queue of_child.entry.pushing of_parent.entry.popping result.1 }
+    ensures down { IsWhole queues.now.down.queue of_parent.pushing of_child.popping result.0 }
+    ensures up { IsWhole queues.now.up.queue of_child.pushing of_parent.popping result.1 }
 {
     let SidePasses {
         pushing: mut to_child,
@@ -277,8 +277,9 @@ fn run_over<R: Threads + Wait + Sync, G: Gate + Sync>(
     let (down, to_child) = down;
     let (up, to_parent) = up;
     let queues = Queues { down, up };
-    let (mut to_child, mut to_parent, worked) =
-        work_at_once(rt, gate, &queues, to_child, to_parent, parent, child);
+    let (mut to_child, mut to_parent, worked) = work_at_once(
+        rt, gate, &queues, to_child, to_parent, parent, child,
+    );
     let answer = end_in_turn(
         rt,
         &queues.down,

@@ -6,12 +6,12 @@ use super::printouts::{is_relay_of_race, printed};
 use handler_script::Script;
 use history_of_text::schema_of;
 use ipdl_base::{Schema, Side};
+use queue_link::{Gate, TwoQueues};
 use std::alloc::Global;
 use std::sync::Wait;
 use std::sync::atomic::{AtomicU64, Ordering};
 use std::test::Fail;
 use std::thread::{Threads, yield_now};
-use queue_link::{Gate, TwoQueues};
 use world_core::{Relay, World};
 
 /// The most turns that a side waits for the other one.

@@ -1,5 +1,4 @@
-use Rattle.std.proofs.Common.{[], ◌∷◌, ◌++◌, ◌≡◌, sym, ap, ◌∙◌, subst}
-use Rattle.end_parts.specs.PacketReading.{carried, packet_read}
+use Rattle.std.proofs.Common.{[], ◌∷◌, ◌++◌, ◌≡◌, sym, ap, subst}
 use Rattle.ipdl_base.specs.declared.schema.Schema.{Schema}
 use Rattle.queue_link.specs.Work.{DeliveryGives, IsReadBack}
 use Rattle.queue_link.proofs.Hands.{delivery-gives}

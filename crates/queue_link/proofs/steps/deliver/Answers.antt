@@ -1,4 +1,4 @@
-use Rattle.std.proofs.Common.{rules, ◌≡◌, [], ◌∷◌, ◌++◌}
+use Rattle.std.proofs.Common.{rules, [], ◌∷◌, ◌++◌}
 use Rattle.ordered_queue.specs.Passes.{view_of}
 use Rattle.queue_link.proofs.Hands.{did-hand, done-take, other-take}
 use Rattle.queue_link.proofs.steps.deliver.Goals as goal

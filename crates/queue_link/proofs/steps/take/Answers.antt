@@ -1,4 +1,4 @@
-use Rattle.std.proofs.Common.{◌≡◌, List, [], ◌∷◌, ◌++◌, refl, sym, ap, subst}
+use Rattle.std.proofs.Common.{List, refl, sym, ap, subst}
 use Rattle.end_parts.specs.declared.packet.Packet.{Packet}
 use Rattle.ordered_queue.specs.Passes.{view_of}
 use Rattle.queue_link.specs.Work.{PacketView, TakeGives}

@@ -9,6 +9,6 @@ returns-clause-worked g c =
     let passes = c.queue_passes-to_child in
     let of_parent = worked.new.of_parent in
     let of_child = worked.new.of_child in
-    worked-so g.at worked.new.parent worked.new.child (setting_of c.args.parent.now) (setting_of c.args.child.now) c.requires.parent.about c.requires.child.about
+    worked-so g.at worked.new.parent worked.new.child (setting_of c.args.parent.now) (setting_of c.args.child.now) c.requires.1.1.1.1.1.1.0.about c.requires.1.1.1.1.1.1.1.about
     (view_of passes.result.0) (view_of passes.result.1) (view_of of_parent.pushing) (view_of of_child.popping) (view_of of_child.pushing) (view_of of_parent.popping) passes.ensures.down.1 passes.ensures.up.1
     worked.result.0 worked.result.1 worked.ensures.parent.2 worked.ensures.child.2 c.of_both.result c.of_both.ensures
