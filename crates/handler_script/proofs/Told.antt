@@ -13,7 +13,7 @@ use Rattle.handler_script.specs.Blocks.{opens, closes, answers, BlockContext, st
 use Rattle.handler_script.specs.Broken.{IsInside, BlockBreaks, InsideBreaks}
 use Rattle.handler_script.specs.Knowing.{place_after, place_of, told_by, told_of, KnowsBlock}
 use Rattle.handler_script.specs.Messages.{named}
-use Rattle.handler_script.proofs.Standing.{place_more, place_opened, place_kept, at_place, in_block}
+use Rattle.handler_script.proofs.Standing.{place_more, place_opened, place_closed, place_kept, at_place, in_block}
 
 abbrev Told : Type 0
 Told = Option BlockContext × Bool
@@ -60,6 +60,9 @@ open_inside schema before block knows =
 pub knows_opened : (schema : Schema) (before : List Statement) (s : Statement) (block : OpenBlock) → opens s ≡ true → told_of block ≡ (standing_of schema s, false) → KnowsBlock schema (before ++ s ∷ []) (Some block)
 knows_opened schema before s block e told =
     ap (λ (t : Told). Some t) told ∙ sym (ap (λ (p : Option Place). option_map (told_by schema) p) (place_more before s ∙ place_opened (place_of before) s e))
+
+pub knows_closed : (schema : Schema) (before : List Statement) (s : Statement) → opens s ≡ false → closes s ≡ true → KnowsBlock schema (before ++ s ∷ []) None
+knows_closed schema before s o e = sym (ap (λ (p : Option Place). option_map (told_by schema) p) (place_more before s ∙ place_closed (place_of before) s o e))
 
 grown : (schema : Schema) (s : Statement) (place : Option Place) → option_map (told_by schema) (option_map (λ p. (p.0, p.1 ++ s ∷ [])) place) ≡ option_map (λ t. (t.0, t.1 || answers s)) (option_map (told_by schema) place)
 grown schema s None = refl

@@ -1,6 +1,6 @@
 -- What a statement does that breaks no rule can be done.
 use Rattle.std.proofs.Common.{◌≡◌, ℕ, suc, ◌+◌, ◌*◌, ◌/◌, ◌%◌, ◌<◌, ◌≤◌, Bool, true, false, not, ◌||◌, List, [], ◌∷◌, length, Option, Some, None, ◌⊎◌, inl, inr, refl, sym, ap, ◌∙◌, subst, arith}
-use Rattle.std.specs.Prelude.{IsTrue, IfSome, IsSome, IsSomeAnd, unwrap_or, option_and_then, is_some, slice_get}
+use Rattle.std.specs.Prelude.{IsTrue, IfSome, IsSome, IsNone, IsSomeAnd, unwrap_or, option_and_then, is_some, slice_get}
 use Rattle.std.specs.List.{find}
 use Rattle.std.specs.Option.{option_map, option_map_or}
 use Rattle.std.specs.Str.{bytes_eq}
@@ -30,7 +30,7 @@ use Rattle.handler_script.specs.Valid.{MayName, IsSendable, IsValidAction, EachT
 use Rattle.handler_script.proofs.Names.{IsNamed, ValuesNames, Names}
 use Rattle.handler_script.proofs.TermFit.{is_true, may_name, each_value_fits}
 
-some_of : {X : Type 0} (o : Option X) → ¬ (o ≡ None) → (x : X) × (o ≡ Some x)
+some_of : {X : Type 0} (o : Option X) → ¬ IsNone o → (x : X) × (o ≡ Some x)
 some_of None h = absurd (h refl)
 some_of (Some x) h = (x, refl)
 
@@ -122,24 +122,24 @@ call_valid schema sound b w c m e values direction carried quiet named names =
     let done = sendable schema sound b c.message c.values m e sent carries fits known.1 names in
     record { who = who_valid b w (λ t. values (inl t)) known.0 named; sendable = done.0; found = done.1 }
 
-is_there : {X : Type 0} (o : Option X) → ¬ (o ≡ None) → IsSome o
+is_there : {X : Type 0} (o : Option X) → ¬ IsNone o → IsSome o
 is_there None h = absurd (h refl)
 is_there (Some x) h = refl
 
 -- values that answer, where there are types for them
-answer_valid : (schema : Schema) (b : BlockContext) (o : Option (List ParamRow)) (vs : WrittenValues) → ¬ (o ≡ None) → ¬ AreUnfit schema (given_in b) o vs → any_mentions (is_unknown b) vs ≡ false → ValuesNames vs
+answer_valid : (schema : Schema) (b : BlockContext) (o : Option (List ParamRow)) (vs : WrittenValues) → ¬ IsNone o → ¬ AreUnfit schema (given_in b) o vs → any_mentions (is_unknown b) vs ≡ false → ValuesNames vs
     → IsSomeAnd o (λ returns. EachTermFits schema b returns (terms_of schema (unwrap_or o []) vs))
 answer_valid schema b None vs there values quiet names = absurd (there refl)
 answer_valid schema b (Some types) vs there values quiet names = each_value_fits schema b types vs values quiet names
 
 -- a message that answers with a kept resolver
-kept_valid : (schema : Schema) (sound : IsSound schema) (name : MessageName) (m : MessageRow) → message_named schema name ≡ Some m → ¬ IsSomeAnd (message_named schema name) (λ row. resolves row ≡ None)
-    → (m.number ≡ number_of schema name) × (message_of schema (number_of schema name) ≡ Some m) × (¬ (resolves m ≡ None))
+kept_valid : (schema : Schema) (sound : IsSound schema) (name : MessageName) (m : MessageRow) → message_named schema name ≡ Some m → ¬ IsSomeAnd (message_named schema name) (λ row. IsNone (resolves row))
+    → (m.number ≡ number_of schema name) × (message_of schema (number_of schema name) ≡ Some m) × (¬ IsNone (resolves m))
 kept_valid schema sound name m e placed =
     let found = message_numbered schema sound name m e in
     let P : Option MessageRow → Type 0 = λ o. (m.number ≡ option_map_or (λ message. message.number) o 0) × (message_of schema (option_map_or (λ message. message.number) o 0) ≡ Some m) in
     let both = subst P (sym e) (refl, found) in
-    (both.0, both.1, λ none. placed (some_in (λ row. resolves row ≡ None) (message_named schema name) m e none))
+    (both.0, both.1, λ none. placed (some_in (λ row. IsNone (resolves row)) (message_named schema name) m e none))
 
 -- only one is spoken of
 who_quiet : (b : Bool) → (b || false) ≡ false → b ≡ false

@@ -1,5 +1,5 @@
 -- The rules of a script, where a text breaks them, and the report.
-use Rattle.std.specs.Prelude.{◌≡◌, ◌≢◌, ℕ, ◌+◌, ◌⊎◌, Bool, true, false, not, IsTrue, List, [], take, drop, slice_get, Option, Some, None, IsSome, IsSomeAnd, is_some, option_and_then}
+use Rattle.std.specs.Prelude.{◌≡◌, ◌≢◌, ℕ, ◌+◌, ◌⊎◌, Bool, true, false, not, IsTrue, List, [], take, drop, slice_get, Option, Some, None, IsSome, IsNone, IsSomeAnd, is_some, option_and_then}
 use Rattle.std.specs.List.{list_any}
 use Rattle.std.specs.Option.{option_map, option_map_or}
 use Rattle.ipdl_base.specs.declared.finding.Finding.{Finding}
@@ -51,7 +51,7 @@ BreaksBlocks before s after =
 
 -- UNKNOWN_MESSAGE: the statement names a message, and it is not there
 abbrev pub NamesNone : Option MessageRow → Statement → Type 0
-NamesNone message s = IsSome (message_of s) × (message ≡ None)
+NamesNone message s = IsSome (message_of s) × IsNone message
 
 -- the message that a statement sends
 abbrev pub sent : Option MessageRow → Statement → Option MessageRow
@@ -125,10 +125,10 @@ is_unknown b _ = false
 -- A statement stands in a block that does not allow its kind, or not there: below others of which one answered or none did, and above these.
 abbrev pub IsMisplaced : Option MessageRow → Bool → BlockContext → Statement → List Statement → Type 0
 IsMisplaced message answered b (forms.New n w c) below = IsSomeAnd message (λ m. is_constructor m.kind ≡ false)
-IsMisplaced message answered b (forms.Return vs) below = (option_and_then replies (handled_in b) ≡ None) ⊎ IsFollowed below
-IsMisplaced message answered b (forms.ResolveKept n c) below = IsSomeAnd message (λ m. resolves m ≡ None)
-IsMisplaced message answered b (forms.RejectKept n name) below = IsSomeAnd message (λ m. resolves m ≡ None)
-IsMisplaced message answered b s below = IsTrue (answers s) × ((option_and_then resolves (handled_in b) ≡ None) ⊎ IsTrue answered)
+IsMisplaced message answered b (forms.Return vs) below = IsNone (option_and_then replies (handled_in b)) ⊎ IsFollowed below
+IsMisplaced message answered b (forms.ResolveKept n c) below = IsSomeAnd message (λ m. IsNone (resolves m))
+IsMisplaced message answered b (forms.RejectKept n name) below = IsSomeAnd message (λ m. IsNone (resolves m))
+IsMisplaced message answered b s below = IsTrue (answers s) × (IsNone (option_and_then resolves (handled_in b)) ⊎ IsTrue answered)
 
 -- NOT_ALLOWED_HERE: the statement speaks of one who is not known in its block, or is misplaced there
 abbrev pub IsNotAllowed : Option MessageRow → Bool → BlockContext → Statement → List Statement → Type 0

@@ -37,7 +37,8 @@ fn action_of(
     statement: &Statement,
     message: Option<&MessageRow>,
 ) -> Result<Option<Action>, AllocError>
-    ensures { IfOk result (λ a. option_map plain_action a ≡ script_of.action_by (option_map (λ m. m.now) message.entry) (terms.terms_of schema.now types.now) statement.now) }
+    ensures { IfOk result (λ a. option_map plain_action a
+        ≡ script_of.action_by (option_map (λ m. m.now) message.entry) (terms.terms_of schema.now types.now) statement.now) }
 {
     let number = request_of(message);
     let action = match statement {
@@ -111,7 +112,8 @@ fn actions_in(
     lines: &[LineReading],
 ) -> Result<Actions, AllocError>
     requires { IsTableOf schema.now messages.now }
-    ensures { IfOk result (λ actions. map plain_action actions ≡ filter_map (script_of.action_of schema.now (standing_in context.entry)) (script_of.inside lines.now)) }
+    ensures { IfOk result (λ actions. map plain_action actions
+        ≡ filter_map (script_of.action_of schema.now (standing_in context.entry)) (script_of.inside lines.now)) }
 {
     let mut actions = Vec::new(alloc);
     for line in lines {
@@ -142,7 +144,8 @@ fn reply_in(
     context: Context<'_>,
     lines: &[LineReading],
 ) -> Result<Option<Terms>, AllocError>
-    ensures { IfOk result (λ reply. option_map plain_terms reply ≡ script_of.first_of (filter_map (script_of.reply_of schema.now (standing_in context.entry)) (script_of.inside lines.now))) }
+    ensures { IfOk result (λ reply. option_map plain_terms reply
+        ≡ script_of.first_of (filter_map (script_of.reply_of schema.now (standing_in context.entry)) (script_of.inside lines.now))) }
 {
     for line in lines {
         if let Some(statement) = said(line) {

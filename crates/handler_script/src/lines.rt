@@ -125,22 +125,24 @@ impl<'a> OpenBlock<'a> {
         statement: &Statement,
         opened: Option<Context<'a>>,
     ) -> Option<OpenBlock<'a>>
-        ensures { (schema : SchemaType) (before : List StatementType) → KnowsBlock schema before block.entry → option_map standing_in opened.entry ≡ blocks.standing_of schema statement.now → KnowsBlock schema (before ++ statement.now ∷ []) result }
+        ensures { (schema : SchemaType) (before : List StatementType) → KnowsBlock schema before block.entry
+            → option_map standing_in opened.entry ≡ blocks.standing_of schema statement.now
+            → KnowsBlock schema (before ++ statement.now ∷ []) result }
     {
-        match statement {
-            Statement::Main(_) | Statement::On(_, _) => Some(OpenBlock {
+        if opens(statement) {
+            return Some(OpenBlock {
                 context: opened,
                 answered: false,
-            }),
-            Statement::End => None,
-            _ => match block {
-                Some(block) => Some(OpenBlock {
-                    context: block.context,
-                    answered: block.answered || answers(statement),
-                }),
-                None => None,
-            },
+            });
         }
+        if closes(statement) {
+            return None;
+        }
+        let block = block?;
+        Some(OpenBlock {
+            context: block.context,
+            answered: block.answered || answers(statement),
+        })
     }
 }
 
@@ -163,7 +165,9 @@ impl<'a> BlockProgress<'a> {
 
     /// What is known behind one more statement, which opens this block if it opens one.
     pub fn behind(self, statement: &Statement, opened: Option<Context<'a>>) -> BlockProgress<'a>
-        ensures { (schema : SchemaType) (before : List StatementType) → Knows schema before self.entry → option_map standing_in opened.entry ≡ blocks.standing_of schema statement.now → Knows schema (before ++ statement.now ∷ []) result }
+        ensures { (schema : SchemaType) (before : List StatementType) → Knows schema before self.entry
+            → option_map standing_in opened.entry ≡ blocks.standing_of schema statement.now
+            → Knows schema (before ++ statement.now ∷ []) result }
     {
         BlockProgress {
             block: OpenBlock::behind(self.block, statement, opened),

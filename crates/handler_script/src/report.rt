@@ -75,7 +75,9 @@ fn add_in_block(
     place: Place,
     found: &mut Vec<Finding>,
 ) -> Result<(), AllocError>
-    ensures { OnOk result (Gains (λ f. (place ≡ f.place) × broken.BlockBreaks schema.now f.rule (option_map (λ m. m.now) message.entry) answered (standing_in context.entry) statement.now (statements after.now)) found.old.items found.new.items) }
+    ensures { OnOk result (Gains (λ f. (place ≡ f.place)
+        × broken.BlockBreaks schema.now f.rule (option_map (λ m. m.now) message.entry) answered (standing_in context.entry) statement.now (statements after.now))
+        found.old.items found.new.items) }
 {
     let sent = sent(statement, message);
     let direction = is_missent(context, sent);
@@ -100,7 +102,8 @@ fn add_inside(
     place: Place,
     found: &mut Vec<Finding>,
 ) -> Result<(), AllocError>
-    ensures { OnOk result ((before : List StatementType) → KnowsBlock schema.now before block.entry → option_map (λ m. m.now) message.entry ≡ named schema.now statement.now
+    ensures { OnOk result ((before : List StatementType) → KnowsBlock schema.now before block.entry
+        → option_map (λ m. m.now) message.entry ≡ named schema.now statement.now
         → Gains (λ f. (place ≡ f.place) × broken.InsideBreaks schema.now f.rule before statement.now (statements after.now)) found.old.items found.new.items) }
 {
     if let Some(block) = block {
@@ -130,7 +133,8 @@ fn add_named(
     place: Place,
     found: &mut Vec<Finding>,
 ) -> Result<(), AllocError>
-    ensures { OnOk result ((before : List StatementType) → KnowsBlock schema.now before block.entry → option_map (λ m. m.now) message.entry ≡ named schema.now statement.now
+    ensures { OnOk result ((before : List StatementType) → KnowsBlock schema.now before block.entry
+        → option_map (λ m. m.now) message.entry ≡ named schema.now statement.now
         → Gains (λ f. (place ≡ f.place) × broken.MessageBreaks schema.now f.rule before statement.now (statements after.now)) found.old.items found.new.items) }
 {
     if names_none(statement, message) {
@@ -154,8 +158,10 @@ fn add_statement<'a>(
 ) -> Result<BlockProgress<'a>, AllocError>
     requires { IsTableOf schema.now messages.now }
     ensures gains { OnOk result ((before : List StatementType) → Knows schema.now before reached.entry
-        → Gains (λ f. (place ≡ f.place) × broken.StatementBreaks schema.now f.rule before statement.now (statements after.now)) found.old.items found.new.items) }
-    ensures knows { IfOk result (λ behind. (before : List StatementType) → Knows schema.now before reached.entry → Knows schema.now (before ++ statement.now ∷ []) behind) }
+        → Gains (λ f. (place ≡ f.place) × broken.StatementBreaks schema.now f.rule before statement.now (statements after.now))
+        found.old.items found.new.items) }
+    ensures knows { IfOk result (λ behind. (before : List StatementType) → Knows schema.now before reached.entry
+        → Knows schema.now (before ++ statement.now ∷ []) behind) }
 {
     let message = messages.message_of(statement);
     let blocks = breaks_blocks(reached, statement, after);
@@ -185,7 +191,8 @@ fn add_line<'a>(
     requires { IsTableOf schema.now messages.now }
     ensures gains { OnOk result ((before : List StatementType) → Knows schema.now before reached.entry
         → Gains (λ f. (place ≡ f.place) × broken.LineBreaks schema.now f.rule before reading.now (statements after.now)) found.old.items found.new.items) }
-    ensures knows { IfOk result (λ behind. (before : List StatementType) → Knows schema.now before reached.entry → Knows schema.now (before ++ listed (said reading.now)) behind) }
+    ensures knows { IfOk result (λ behind. (before : List StatementType) → Knows schema.now before reached.entry
+        → Knows schema.now (before ++ listed (said reading.now)) behind) }
 {
     match reading {
         LineReading::Silent => Ok(reached),

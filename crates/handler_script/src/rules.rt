@@ -1,4 +1,4 @@
-ghost use Rattle.std.specs.Prelude.{◌≡◌, ◌↔◌, false, IsTrue, IsSomeAnd, List, None, option_and_then, option_map};
+ghost use Rattle.std.specs.Prelude.{◌≡◌, ◌↔◌, false, IsTrue, IsNone, IsSomeAnd, List, option_and_then, option_map};
 ghost use Rattle.ipdl_base.specs.declared.schema.Schema.{Schema as SchemaType};
 ghost use Rattle.script_reader.specs.declared.statement.Statement.{Statement as StatementType};
 ghost use Rattle.handler_script.specs.Blocks as blocks;
@@ -134,7 +134,7 @@ pub fn values_break(
 
 /// Whether a message is there, and is not answered by a resolver.
 fn is_unresolved(message: Option<&MessageRow>) -> bool
-    ensures { IsTrue result ↔ IsSomeAnd (option_map (λ m. m.now) message.entry) (λ m. messages.resolves m ≡ None) }
+    ensures { IsTrue result ↔ IsSomeAnd (option_map (λ m. m.now) message.entry) (λ m. IsNone (messages.resolves m)) }
 {
     match message {
         Some(message) => resolves(message).is_none(),
@@ -160,7 +160,8 @@ fn is_misplaced(
     message: Option<&MessageRow>,
     after: &[LineReading],
 ) -> bool
-    ensures { IsTrue result ↔ broken.IsMisplaced (option_map (λ m. m.now) message.entry) answered (standing_in context.entry) statement.now (blocks.statements after.now) }
+    ensures { IsTrue result
+        ↔ broken.IsMisplaced (option_map (λ m. m.now) message.entry) answered (standing_in context.entry) statement.now (blocks.statements after.now) }
 {
     match statement {
         Statement::New(_, _, _) => is_other_constructor(message),
@@ -178,7 +179,8 @@ pub fn is_not_allowed(
     message: Option<&MessageRow>,
     after: &[LineReading],
 ) -> bool
-    ensures { IsTrue result ↔ broken.IsNotAllowed (option_map (λ m. m.now) message.entry) answered (standing_in context.entry) statement.now (blocks.statements after.now) }
+    ensures { IsTrue result
+        ↔ broken.IsNotAllowed (option_map (λ m. m.now) message.entry) answered (standing_in context.entry) statement.now (blocks.statements after.now) }
 {
     speaks_of(statement, ValueQuery::Unknown(context))
         || is_misplaced(context, answered, statement, message, after)
@@ -186,7 +188,8 @@ pub fn is_not_allowed(
 
 /// Whether a statement is a second main of its side.
 fn is_second_main(reached: BlockProgress<'_>, statement: &Statement) -> bool
-    ensures { (schema : SchemaType) (before : List StatementType) → Knows schema before reached.entry → IsTrue result ↔ broken.IsSecondMain before statement.now }
+    ensures { (schema : SchemaType) (before : List StatementType) → Knows schema before reached.entry
+        → IsTrue result ↔ broken.IsSecondMain before statement.now }
 {
     match statement {
         Statement::Main(side) => reached.has_main(*side),
@@ -200,7 +203,8 @@ pub fn breaks_blocks(
     statement: &Statement,
     after: &[LineReading],
 ) -> bool
-    ensures { (schema : SchemaType) (before : List StatementType) → Knows schema before reached.entry → IsTrue result ↔ broken.BreaksBlocks before statement.now (blocks.statements after.now) }
+    ensures { (schema : SchemaType) (before : List StatementType) → Knows schema before reached.entry
+        → IsTrue result ↔ broken.BreaksBlocks before statement.now (blocks.statements after.now) }
 {
     let is_outside = reached.block.is_none();
     if opens(statement) {

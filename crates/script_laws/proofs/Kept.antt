@@ -1,6 +1,6 @@
 -- Lines break the rules that their plain forms break, and have the same blocks.
 use Rattle.std.proofs.Common.{◌≡◌, ℕ, ◌+◌, Bool, true, false, not, ◌&&◌, ◌||◌, List, [], ◌∷◌, ◌++◌, map, take, drop, fold, Option, Some, None, ◌⊎◌, inl, inr, refl, sym, ap, ◌∙◌, subst}
-use Rattle.std.specs.Prelude.{◌↔◌, IsTrue, IsSomeAnd, if◌then◌else◌, option_and_then, slice_get}
+use Rattle.std.specs.Prelude.{◌↔◌, IsTrue, IsNone, IsSomeAnd, if◌then◌else◌, option_and_then, slice_get}
 use Rattle.std.specs.List.{list_any, filter_map, cons_option}
 use Rattle.std.specs.Option.{option_map, option_map_or}
 use Rattle.std.proofs.Math.Path.{transport, transport⁻¹}
@@ -133,7 +133,7 @@ blocks_again before s after (inr (opened, inr (inl second))) = inr (sym (opens_a
 blocks_again before s after (inr (opened, inr (inr none))) = inr (sym (opens_alike s) ∙ opened, inr (inr (sym (some_alike closes closes_alike after) ∙ none)))
 
 misplaced_alike : (message : Option MessageRow) (answered : Bool) (b : BlockContext) (s : Statement) (below : List Statement) → IsMisplaced message answered b (plain_statement s) (plain_all below) ≡ IsMisplaced message answered b s below
-misplaced_alike message answered b (forms.Return vs) below = λ i. (option_and_then replies (handled_in b) ≡ None) ⊎ followed_alike below i
+misplaced_alike message answered b (forms.Return vs) below = λ i. IsNone (option_and_then replies (handled_in b)) ⊎ followed_alike below i
 misplaced_alike message answered b s below = refl
 
 breaks_alike : (schema : Schema) (r : Rule) (message : Option MessageRow) (answered : Bool) (b : BlockContext) (s : Statement) (below : List Statement)
