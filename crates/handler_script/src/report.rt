@@ -232,7 +232,8 @@ fn add_lines(
     for (i, reading) in readings.iter().enumerate() {
         let place = line_place(i as u32 + 1);
         let after = lines_behind(readings, i);
-        reached = add_line(schema, messages, reached, reading, after, place, found)?;
+        let behind = add_line(schema, messages, reached, reading, after, place, found)?;
+        reached = behind;
     }
     Ok(())
 }

@@ -206,10 +206,14 @@ pub fn breaks_blocks(
     ensures { (schema : SchemaType) (before : List StatementType) → Knows schema before reached.entry
         → IsTrue result ↔ broken.BreaksBlocks before statement.now (blocks.statements after.now) }
 {
-    let is_outside = reached.block.is_none();
-    if opens(statement) {
-        !is_outside || is_second_main(reached, statement) || !is_closed(after)
-    } else {
-        is_outside
+    if !opens(statement) {
+        return reached.block.is_none();
     }
+    if reached.block.is_some() {
+        return true;
+    }
+    if is_second_main(reached, statement) {
+        return true;
+    }
+    !is_closed(after)
 }
