@@ -15,7 +15,7 @@ loop-index-preserved-in_ok-insert c =
     let i : ℕ = c.loop-index.index - 1 in
     let x : ProtocolRow = c.index-rows-index.result in
     let next : i + 1 ≡ c.loop-index.index = omega arith in
-    λ name. found_more (option_and_then (row_at name.message)) (option_and_then (message_in name.message)) (λ p. short_name p.name) c.loop-index.protocols _ c.short_name.result _ x (drop i rows) (drop (i + 1) rows) name.protocol
+    λ name. found_more (option_and_then (row_at name.message)) (option_and_then (message_in name.message)) (λ p. short_name p.name) c.loop-index.protocols c.insert.new.self c.short_name.result _ x (drop i rows) (drop (i + 1) rows) name.protocol
     (drop_item rows i x (omega (arith, ap length c.as_slice-rows.ensures)) (c.index-rows-index.is ∙ ap (λ (ps : List ProtocolRow). get_or ps i x) c.as_slice-rows.ensures)) (c.short_name.ensures ∙ ap short_name c.as_slice-in-loop-index.ensures)
     (c.in_ok-messages.ensures name.message ∙ ap (find (λ m. bytes_eq m.name name.message)) c.as_slice.ensures) c.in_ok-insert.ensures.updates.0
     (c.loop-index.invariant name ∙ ap (λ (n : ℕ). option_and_then (message_in name.message) (find (λ p. bytes_eq (short_name p.name) name.protocol) (drop n rows))) (sym next))
@@ -26,7 +26,7 @@ loop-index-preserved c =
     let i : ℕ = c.loop-index.index - 1 in
     let x : ProtocolRow = c.index-rows-index.result in
     let next : i + 1 ≡ c.loop-index.index = omega arith in
-    λ name. found_more (option_and_then (row_at name.message)) (option_and_then (message_in name.message)) (λ p. short_name p.name) c.loop-index.protocols _ c.short_name.result _ x (drop i rows) (drop (i + 1) rows) name.protocol
+    λ name. found_more (option_and_then (row_at name.message)) (option_and_then (message_in name.message)) (λ p. short_name p.name) c.loop-index.protocols c.insert.new.self c.short_name.result _ x (drop i rows) (drop (i + 1) rows) name.protocol
     (drop_item rows i x (omega (arith, ap length c.as_slice-rows.ensures)) (c.index-rows-index.is ∙ ap (λ (ps : List ProtocolRow). get_or ps i x) c.as_slice-rows.ensures)) (c.short_name.ensures ∙ ap short_name c.as_slice-in-loop-index.ensures)
     (c.in_ok-messages.ensures name.message ∙ ap (find (λ m. bytes_eq m.name name.message)) c.as_slice.ensures) c.in_ok-insert.ensures.updates.0
     (c.loop-index.invariant name ∙ ap (λ (n : ℕ). option_and_then (message_in name.message) (find (λ p. bytes_eq (short_name p.name) name.protocol) (drop n rows))) (sym next))
