@@ -34,8 +34,7 @@ ToldBreaks schema r s after told = IsSomeAnd told.0 (λ b. BlockBreaks schema r 
 told_inside : (schema : Schema) (r : Rule) (before : List Statement) (s : Statement) (after : List Statement) (block : Option OpenBlock) → KnowsBlock schema before block → IsSomeAnd (option_map told_of block) (ToldBreaks schema r s after) ↔ InsideBreaks schema r before s after
 told_inside schema r before s after block knows =
     let Holds : Statement → List Statement → Type 0 = λ first above. IsSomeAnd (standing_of schema first) (λ b. BlockBreaks schema r (named schema s) (list_any answers above) b s after) in
-    let P : Option Told → Type 0 = λ o. IsSomeAnd o (ToldBreaks schema r s after) in
-    (
+    let P : Option Told → Type 0 = λ o. IsSomeAnd o (ToldBreaks schema r s after) in (
       (λ h. in_block before Holds ((mapped_back (told_by schema) (ToldBreaks schema r s after) (place_of before)).0 (subst P knows h))),
       (λ h. subst P (sym knows) ((mapped_back (told_by schema) (ToldBreaks schema r s after) (place_of before)).1 (at_place before Holds h))),
     )
@@ -72,8 +71,7 @@ some_unit (Some x) = ((λ h. tt), (λ h. refl))
 -- it stands in a block where one is open
 pub open_inside : (schema : Schema) (before : List Statement) (block : Option OpenBlock) → KnowsBlock schema before block → IsTrue (is_some block) ↔ IsInside before
 open_inside schema before block knows =
-    let same : is_some block ≡ is_some (place_of before) = sym (some_told told_of block) ∙ (ap (λ (o : Option Told). is_some o) knows ∙ some_told (told_by schema) (place_of before)) in
-    (
+    let same : is_some block ≡ is_some (place_of before) = sym (some_told told_of block) ∙ (ap (λ (o : Option Told). is_some o) knows ∙ some_told (told_by schema) (place_of before)) in (
       (λ h. in_block before (λ first above. Unit {0}) ((some_unit (place_of before)).0 (sym same ∙ h))),
       (λ h. same ∙ (some_unit (place_of before)).1 (at_place before (λ first above. Unit {0}) h)),
     )

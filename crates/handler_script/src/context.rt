@@ -17,10 +17,7 @@ pub enum Context<'a> {
 }
 
 /// The block that a statement opens, if it names this message.
-pub fn context_of<'a>(
-    statement: &Statement,
-    message: Option<&'a MessageRow>,
-) -> Option<Context<'a>>
+pub fn context_of<'a>(statement: &Statement, message: Option<&'a MessageRow>) -> Option<Context<'a>>
     ensures { option_map standing_in result ≡ blocks.standing_by (option_map (λ m. m.now) message.entry) statement.now }
 {
     match statement {

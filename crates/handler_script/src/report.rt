@@ -197,9 +197,7 @@ fn add_line<'a>(
     match reading {
         LineReading::Silent => Ok(reached),
         LineReading::Statement(statement) => {
-            let behind = add_statement(
-                schema, messages, reached, statement, after, place, found,
-            )?;
+            let behind = add_statement(schema, messages, reached, statement, after, place, found)?;
             Ok(behind)
         }
         LineReading::NoStatement => {

@@ -21,10 +21,7 @@ pub struct MessageTable<'s> {
 }
 
 /// The messages by their names; of those of one name, the first.
-fn by_names<'s>(
-    alloc: Global,
-    messages: &'s [MessageRow],
-) -> Result<MessageNames<'s>, AllocError>
+fn by_names<'s>(alloc: Global, messages: &'s [MessageRow]) -> Result<MessageNames<'s>, AllocError>
     ensures { IfOk result (λ names. (name : List ℕ) → row_at name names ≡ find (λ m. bytes_eq m.name name) messages.now) }
 {
     let mut names = IndexMap::new(alloc);

@@ -6,8 +6,7 @@ use Rattle.handler_script.proofs.rules.breaks_blocks.Goals as goal
 pub returns-then-not-opens : goal.returns-then-not-opens
 returns-then-not-opens c schema before k =
     let inside = open_inside schema before c.args.reached.block k.block in
-    let shut = sym c.opens.ensures ∙ c.if-not-opens.true in
-    (
+    let shut = sym c.opens.ensures ∙ c.if-not-opens.true in (
       (λ h. inl (shut, λ i. true≢false (sym (inside.1 i) ∙ (c.is_none.ensures ∙ not_from_true _ h)))),
       (λ h. elim h [
         | inl outside ↦ not-false _ (sym c.is_none.ensures ∙ false_from_ne_true _ (λ i. outside.1 (inside.0 i)))
@@ -26,8 +25,7 @@ returns-then-is_second_main c schema before k = ((λ h. inr (sym c.opens.ensures
 pub returns : goal.returns
 returns c schema before k =
     let inside = open_inside schema before c.args.reached.block k.block in
-    let opening = sym c.opens.ensures ∙ c.if-not-opens.false in
-    (
+    let opening = sym c.opens.ensures ∙ c.if-not-opens.false in (
       (λ h. inr (opening, inr (inr (sym c.is_closed.ensures ∙ not-true _ h)))),
       (λ h. elim h [
         | inl outside ↦ absurd (true≢false (sym opening ∙ outside.0))
