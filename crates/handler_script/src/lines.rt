@@ -153,6 +153,16 @@ impl<'a> BlockProgress<'a> {
     ghost use Rattle.handler_script.specs.Contexts.{standing_in};
     ghost use Rattle.handler_script.specs.Knowing.{Knows};
 
+    /// Whether a main of the side stood among the lines.
+    pub fn has_main(self, side: Side) -> bool
+        ensures { (schema : SchemaType) (before : List StatementType) → Knows schema before self.entry → result ≡ list_any (broken.is_main side) before }
+    {
+        match side {
+            Side::Parent => self.parent,
+            Side::Child => self.child,
+        }
+    }
+
     /// What is known behind one more statement, which opens this block if it opens one.
     pub fn behind(self, statement: &Statement, opened: Option<Context<'a>>) -> BlockProgress<'a>
         ensures { (schema : SchemaType) (before : List StatementType) → Knows schema before self.entry

@@ -12,7 +12,7 @@ use crate::fits::{each_fits, is_actor, param_at};
 use crate::lines::{BlockProgress, answers, is_closed, is_followed, opens};
 use crate::mentions::{ValueQuery, any_mentions, message_of, speaks_of, values_of, who_of};
 use crate::messages::{is_constructor, replies, resolves, sends};
-use ipdl_base::{MessageRow, ParamRow, Schema, Side};
+use ipdl_base::{MessageRow, ParamRow, Schema};
 use script_reader::{LineReading, Statement, Who, WrittenValues};
 
 /// Whether a statement names a message, and it is not there.
@@ -192,8 +192,7 @@ fn is_second_main(reached: BlockProgress<'_>, statement: &Statement) -> bool
         → IsTrue result ↔ broken.IsSecondMain before statement.now }
 {
     match statement {
-        Statement::Main(Side::Parent) => reached.parent,
-        Statement::Main(Side::Child) => reached.child,
+        Statement::Main(side) => reached.has_main(*side),
         _ => false,
     }
 }
