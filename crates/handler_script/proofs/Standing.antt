@@ -22,12 +22,6 @@ place_opened place (forms.Main side) e = refl
 place_opened place (forms.On side name) e = refl
 place_opened place s e = absurd (true≢false (sym e))
 
-pub place_closed : (place : Option Place) (s : Statement) → opens s ≡ false → closes s ≡ true → place_after place s ≡ None
-place_closed place (forms.Main side) o e = absurd (true≢false o)
-place_closed place (forms.On side name) o e = absurd (true≢false o)
-place_closed place forms.End o e = refl
-place_closed place s o e = absurd (true≢false (sym e))
-
 pub place_kept : (place : Option Place) (s : Statement) → closes s ≡ false → place_after place s ≡ option_map (λ p. (p.0, p.1 ++ s ∷ [])) place
 place_kept place (forms.Main side) e = absurd (true≢false e)
 place_kept place (forms.On side name) e = absurd (true≢false e)

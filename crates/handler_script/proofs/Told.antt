@@ -1,27 +1,22 @@
 -- What is known of the block that is open tells what a statement in it breaks.
-use Rattle.std.proofs.Common.{◌≡◌, Bool, true, false, ◌||◌, List, [], ◌∷◌, ◌++◌, Option, Some, None, refl, sym, ap, ◌∙◌, subst}
+use Rattle.std.proofs.Common.{◌≡◌, Bool, List, Option, Some, None, refl, sym, ap, ◌∙◌, subst}
 use Rattle.std.specs.Prelude.{◌↔◌, IsTrue, IsSomeAnd, is_some}
 use Rattle.std.specs.List.{list_any}
 use Rattle.std.specs.Option.{option_map}
-use Rattle.std.proofs.Math.Bool.{or-false}
-use Rattle.std.proofs.lemmas.List.Folds.{list_any-append}
 use Rattle.ipdl_base.specs.declared.finding.Rule.{Rule}
 use Rattle.ipdl_base.specs.declared.schema.Schema.{Schema}
 use Rattle.script_reader.specs.declared.statement.Statement.{Statement}
 use Rattle.handler_script.specs.declared.context.Context.{Context}
 use Rattle.handler_script.specs.declared.lines.OpenBlock.{OpenBlock}
-use Rattle.handler_script.specs.Blocks.{opens, closes, answers, BlockContext, standing_of}
+use Rattle.handler_script.specs.Blocks.{answers, BlockContext, standing_of}
 use Rattle.handler_script.specs.Broken.{IsInside, BlockBreaks, InsideBreaks}
 use Rattle.handler_script.specs.Contexts.{standing_in}
-use Rattle.handler_script.specs.Knowing.{place_after, place_of, told_by, told_of, KnowsBlock}
+use Rattle.handler_script.specs.Knowing.{place_of, told_by, told_of, KnowsBlock}
 use Rattle.handler_script.specs.Messages.{named}
-use Rattle.handler_script.proofs.Standing.{place_more, place_opened, place_closed, place_kept, at_place, in_block}
+use Rattle.handler_script.proofs.Standing.{at_place, in_block}
 
 abbrev Told : Type 0
 Told = Option BlockContext × Bool
-
-abbrev Place : Type 0
-Place = Statement × List Statement
 
 mapped_back : {X Y : Type 0} (f : X → Y) (P : Y → Type 0) (o : Option X) → IsSomeAnd (option_map f o) P ↔ IsSomeAnd o (λ x. P (f x))
 mapped_back f P None = ((λ h. h), (λ h. h))
@@ -75,21 +70,3 @@ open_inside schema before block knows =
       (λ h. in_block before (λ first above. Unit {0}) ((some_unit (place_of before)).0 (sym same ∙ h))),
       (λ h. same ∙ (some_unit (place_of before)).1 (at_place before (λ first above. Unit {0}) h)),
     )
-
--- What is known behind one more statement, which opens a block, or closes nothing
-
-pub knows_opened : (schema : Schema) (before : List Statement) (s : Statement) (block : OpenBlock) → opens s ≡ true → told_of block ≡ (standing_of schema s, false) → KnowsBlock schema (before ++ s ∷ []) (Some block)
-knows_opened schema before s block e told =
-    ap (λ (t : Told). Some t) told ∙ sym (ap (λ (p : Option Place). option_map (told_by schema) p) (place_more before s ∙ place_opened (place_of before) s e))
-
-pub knows_closed : (schema : Schema) (before : List Statement) (s : Statement) → opens s ≡ false → closes s ≡ true → KnowsBlock schema (before ++ s ∷ []) None
-knows_closed schema before s o e = sym (ap (λ (p : Option Place). option_map (told_by schema) p) (place_more before s ∙ place_closed (place_of before) s o e))
-
-grown : (schema : Schema) (s : Statement) (place : Option Place) → option_map (told_by schema) (option_map (λ p. (p.0, p.1 ++ s ∷ [])) place) ≡ option_map (λ t. (t.0, t.1 || answers s)) (option_map (told_by schema) place)
-grown schema s None = refl
-grown schema s (Some p) = ap (λ (b : Bool). Some (standing_of schema p.0, b)) (list_any-append answers p.1 (s ∷ []) ∙ ap (λ (b : Bool). list_any answers p.1 || b) (or-false (answers s)))
-
-pub knows_more : (schema : Schema) (before : List Statement) (s : Statement) (block later : Option OpenBlock) → closes s ≡ false → KnowsBlock schema before block → option_map told_of later ≡ option_map (λ t. (t.0, t.1 || answers s)) (option_map told_of block) → KnowsBlock schema (before ++ s ∷ []) later
-knows_more schema before s block later e knows told =
-    told ∙ (ap (λ (o : Option Told). option_map (λ t. (t.0, t.1 || answers s)) o) knows
-    ∙ sym (ap (λ (p : Option Place). option_map (told_by schema) p) (place_more before s ∙ place_kept (place_of before) s e) ∙ grown schema s (place_of before)))
