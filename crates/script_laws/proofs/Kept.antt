@@ -148,7 +148,7 @@ breaks_alike schema r message answered b s below =
     ⊎ (((r ≡ rule.NOT_ALLOWED_HERE) × IsNotAllowed message answered b s below)
     ⊎ ((r ≡ rule.UNCARRIED_TYPE) × IsUnsent (sent message s)))))
 
-InBlock : Schema → Rule → Statement → List Statement → Statement → List Statement → Type 0
+abbrev InBlock : Schema → Rule → Statement → List Statement → Statement → List Statement → Type 0
 InBlock schema r s below first above = IsSomeAnd (standing_of schema first) (λ b. BlockBreaks schema r (named schema s) (list_any answers above) b s below)
 
 in_block_alike : (schema : Schema) (r : Rule) (s : Statement) (below : List Statement) (first : Statement) (above : List Statement)
