@@ -1,8 +1,9 @@
 -- What the steps of the command that audits a text make.
 use Rattle.std.specs.Prelude.{ℕ, List, Option}
+use Rattle.ipdl_base.specs.Outside.{HasAtMost, IsHeldWithin}
 use Rattle.transcript_reader.specs.Compared.{most_text_bytes}
 use Rattle.ipdl_top.specs.declared.transcript_audit.AuditFiles.{AuditFiles}
-use Rattle.ipdl_top.specs.Steps.{IsHeld, IsHeldWithin, IsSmall, HasAtMost}
+use Rattle.ipdl_top.specs.Steps.{IsHeld, IsSmall}
 
 -- what the script and the text were found to be
 pub record AreHeld (script text : Option (List ℕ)) (held : AuditFiles) : Type 0 where

@@ -1,4 +1,5 @@
-ghost use Rattle.std.specs.Prelude.{◌≡◌, ◌≤◌, ◌∷◌, ◌++◌, [], ℕ, IfOk, List, Option, codes, map, option_map, string_bytes};
+ghost use Rattle.std.specs.Prelude.{◌≡◌, ◌≤◌, ◌∷◌, ◌++◌, [], ℕ, Err, IfOk, List, Option, codes, map, string_bytes};
+ghost use Rattle.std.specs.Option.{option_copied};
 ghost use Rattle.std.specs.Fmt.{decimal};
 ghost use Rattle.end_parts.specs.PlainLines.{plain_line};
 ghost use Rattle.history.specs.Text.{numbered};
@@ -17,11 +18,11 @@ ghost use Rattle.ipdl_top.specs.FileViews.{ForMap};
 ghost use Rattle.ipdl_top.specs.Steps.{HasTop, IsHeld, IsSmall, IsSoundChecked, IsToldOf};
 ghost use Rattle.ipdl_top.specs.Waits.{IsTop};
 
-use crate::answer::{CommandAnswer, Failure};
+use crate::answer::CommandAnswer;
 use crate::checked::CheckResult;
 use crate::compile::{checked, leave};
 use crate::frames::unread_answer;
-use crate::held::{HeldFile, read_held};
+use crate::held::read_file;
 use crate::run::spent_line;
 use crate::scripts::{ScriptCheck, script_checked};
 use crate::status::Status;
@@ -29,7 +30,7 @@ use feed_laws::feeds_obey_alone;
 use frame_list::{FrameListFault, fault_text};
 use handler_script::Script;
 use history::push_numbered;
-use ipdl_base::{Files, Items, Rule, Schema, Side};
+use ipdl_base::{Failure, FileBytes, Files, Items, MOST_BYTES, Rule, Schema, Side};
 use law_statements::{decides_fallen, decides_readable, laws_want_readable_lines};
 use std::alloc::{AllocError, Global};
 use std::slice::from_ref;
@@ -51,8 +52,8 @@ pub struct FeedRequest<'w> {
 /// The files that a feed goes by, beside those of its program.
 #[derive(Drop)]
 struct FeedFiles {
-    script: HeldFile,
-    frames: HeldFile,
+    script: FileBytes,
+    frames: FileBytes,
 }
 
 /// The line of a fault: the name of the file, the place, and a word with a number.
@@ -190,7 +191,7 @@ fn frames_answer(
     schema: &Schema,
     script: &Script,
     wanted: &FeedRequest<'_>,
-    frames: &HeldFile,
+    frames: &FileBytes,
 ) -> Result<CommandAnswer, AllocError>
     requires sound { IsSound schema.now }
     requires valid { IsValid schema.now script.now }
@@ -198,9 +199,9 @@ fn frames_answer(
     ensures { IfOk result (λ answer. (bytes : Option (List ℕ)) → IsHeld bytes frames.now → SaysFedOf (feed_course wanted.now) wanted.now.frames.now bytes schema.now script.now answer) }
 {
     match frames {
-        HeldFile::Absent => unread_answer(alloc, wanted.frames, ":0: absent\n"),
-        HeldFile::Larger => unread_answer(alloc, wanted.frames, ":0: larger\n"),
-        HeldFile::Bytes(bytes) => bytes_answer(alloc, schema, script, wanted, bytes.as_slice()),
+        FileBytes::Absent => unread_answer(alloc, wanted.frames, ":0: absent\n"),
+        FileBytes::Larger => unread_answer(alloc, wanted.frames, ":0: larger\n"),
+        FileBytes::Bytes(bytes) => bytes_answer(alloc, schema, script, wanted, bytes.as_slice()),
     }
 }
 
@@ -219,7 +220,9 @@ fn held_answer(
     ensures { IfOk result (λ answer. (script bytes : Option (List ℕ)) → AreHeld script bytes held.now → SaysFeed (feed_course wanted.now) wanted.now.script.now script wanted.now.frames.now bytes file.now schema.now answer) }
 {
     match script_checked(alloc, schema, file, wanted.script, &held.script)? {
-        ScriptCheck::Broken(answer) => Ok(answer),
+        ScriptCheck::Broken(report) => {
+            CommandAnswer::of_report(alloc, Status::BadScript, &report)
+        }
         ScriptCheck::Valid(script) => {
             frames_answer(alloc, schema, &script, wanted, &held.frames)
         }
@@ -241,7 +244,7 @@ fn checked_answer(
     ensures { IfOk result (λ answer. (script bytes : Option (List ℕ)) → AreHeld script bytes held.now → IsToldOf (SaysFeed (feed_course wanted.now) wanted.now.script.now script wanted.now.frames.now bytes file.now) checked answer) }
 {
     match checked {
-        CheckResult::Report(report) => Ok(report),
+        CheckResult::Broken(report) => CommandAnswer::of_report(alloc, Status::Broken, &report),
         CheckResult::Clean(schema) => {
             let answer = held_answer(alloc, &schema, file, wanted, held);
             leave(schema);
@@ -260,8 +263,8 @@ fn read_files<F: Files>(
     ensures small { IfOk result AreSmall }
     ensures read_fault { result ≡ Err Failure.ReadFault → Rose (F.faults files.old) (F.faults files.new) }
 {
-    let script = read_held(alloc, files, wanted.script)?;
-    let frames = read_held(alloc, files, wanted.frames)?;
+    let script = read_file(alloc, files, wanted.script, MOST_BYTES)?;
+    let frames = read_file(alloc, files, wanted.frames, MOST_BYTES)?;
     Ok(FeedFiles { script, frames })
 }
 
@@ -290,7 +293,7 @@ fn answer_with<F: Files>(
 pub fn feed<F: Files>(
     alloc: Global,
     files: &mut F,
-    list: &Option<String>,
+    list: Option<&str>,
     path: &[String],
     file: &String,
     wanted: &FeedRequest<'_>,
@@ -299,7 +302,7 @@ pub fn feed<F: Files>(
     requires ending { (front : List ℕ) × (string_bytes file.now ≡ front ++ codes ".ipdl") }
     requires limit { wanted.now.limit ≤ most_events }
     ensures answer { ForMap (F.told files.old) (λ seen. IfOk result
-        (IsCompilation (SaysFeed (feed_course wanted.now) wanted.now.script.now (seen.script wanted.now.script.now) wanted.now.frames.now (seen.input wanted.now.frames.now) (string_bytes file.now)) (given_by seen.files (map string_bytes path.now) (string_bytes file.now ∷ [])) seen.list (option_map string_bytes list.now))) }
+        (IsCompilation (SaysFeed (feed_course wanted.now) wanted.now.script.now (seen.script wanted.now.script.now) wanted.now.frames.now (seen.input wanted.now.frames.now) (string_bytes file.now)) (given_by seen.files (map string_bytes path.now) (string_bytes file.now ∷ [])) seen.list (option_copied list.entry))) }
     ensures read_fault { result ≡ Err Failure.ReadFault → Rose (F.faults files.old) (F.faults files.new) }
 {
     match checked(alloc, files, list, path, from_ref(file)) {

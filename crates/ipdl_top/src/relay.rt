@@ -1,4 +1,5 @@
-ghost use Rattle.std.specs.Prelude.{◌≡◌, ◌≤◌, ◌∷◌, ◌++◌, [], ℕ, IfOk, List, Option, codes, map, option_map, string_bytes};
+ghost use Rattle.std.specs.Prelude.{◌≡◌, ◌≤◌, ◌∷◌, ◌++◌, [], ℕ, Err, IfOk, List, Option, codes, map, string_bytes};
+ghost use Rattle.std.specs.Option.{option_copied};
 ghost use Rattle.handler_script.specs.Valid.{IsValid};
 ghost use Rattle.include_graph.specs.Keys.{AreFileWords};
 ghost use Rattle.include_graph.specs.Load as load;
@@ -13,16 +14,16 @@ ghost use Rattle.ipdl_top.specs.Steps.{HasTop, IsHeld, IsSmall, IsSoundChecked, 
 ghost use Rattle.ipdl_top.specs.Waits.{IsTop};
 ghost use Rattle.history.specs.Text.{transcript_text};
 
-use crate::answer::{CommandAnswer, Failure};
+use crate::answer::CommandAnswer;
 use crate::checked::CheckResult;
 use crate::compile::{checked, leave};
-use crate::held::{HeldFile, read_held};
+use crate::held::read_file;
 use crate::run::{spent_line, with_ending};
 use crate::scripts::{ScriptCheck, script_checked};
 use crate::status::Status;
 use handler_script::Script;
 use history::{History, history_text};
-use ipdl_base::{Files, Schema};
+use ipdl_base::{Failure, FileBytes, Files, MOST_BYTES, Schema};
 use law_statements::{decides_fallen, decides_readable, laws_want_readable_lines};
 use line_laws::texts_see_no_box;
 use relay_laws::relays_obey_alone;
@@ -121,7 +122,7 @@ fn held_answer<Q: Relay>(
     schema: &Schema,
     file: &str,
     wanted: &RelayRequest<'_>,
-    held: &HeldFile,
+    held: &FileBytes,
     relay: &mut Q,
 ) -> Result<CommandAnswer, AllocError>
     requires small { IsSmall held.now }
@@ -132,7 +133,9 @@ fn held_answer<Q: Relay>(
     ensures { IfOk result (λ answer. (text : Option (List ℕ)) → IsHeld text held.now → SaysRelay (Q.Gives relay.old) (relay_course wanted.now) wanted.now.script.now text file.now schema.now answer) }
 {
     match script_checked(alloc, schema, file, wanted.script, held)? {
-        ScriptCheck::Broken(answer) => Ok(answer),
+        ScriptCheck::Broken(report) => {
+            CommandAnswer::of_report(alloc, Status::BadScript, &report)
+        }
         ScriptCheck::Valid(script) => relayed_answer(alloc, schema, &script, wanted, relay),
     }
 }
@@ -143,7 +146,7 @@ fn checked_answer<Q: Relay>(
     checked: CheckResult,
     file: &str,
     wanted: &RelayRequest<'_>,
-    held: &HeldFile,
+    held: &FileBytes,
     relay: &mut Q,
 ) -> Result<CommandAnswer, AllocError>
     requires small { IsSmall held.now }
@@ -154,7 +157,7 @@ fn checked_answer<Q: Relay>(
     ensures { IfOk result (λ answer. (text : Option (List ℕ)) → IsHeld text held.now → IsToldOf (SaysRelay (Q.Gives relay.old) (relay_course wanted.now) wanted.now.script.now text file.now) checked answer) }
 {
     match checked {
-        CheckResult::Report(report) => Ok(report),
+        CheckResult::Broken(report) => CommandAnswer::of_report(alloc, Status::Broken, &report),
         CheckResult::Clean(schema) => {
             let answer = held_answer(alloc, &schema, file, wanted, held, relay);
             leave(schema);
@@ -179,7 +182,7 @@ fn answer_with<F: Files, Q: Relay>(
     ensures answer { load.ForMap (F.told files.old) (λ map'. IfOk result (IsToldOf (SaysRelay (Q.Gives relay.old) (relay_course wanted.now) wanted.now.script.now (map' wanted.now.script.now) file.now) checked)) }
     ensures read_fault { result ≡ Err Failure.ReadFault → Rose (F.faults files.old) (F.faults files.new) }
 {
-    let held = read_held(alloc, files, wanted.script)?;
+    let held = read_file(alloc, files, wanted.script, MOST_BYTES)?;
     Ok(checked_answer(alloc, checked, file, wanted, &held, relay)?)
 }
 
@@ -189,7 +192,7 @@ fn answer_with<F: Files, Q: Relay>(
 pub fn relay_script<F: Files, Q: Relay>(
     alloc: Global,
     files: &mut F,
-    list: &Option<String>,
+    list: Option<&str>,
     path: &[String],
     file: &String,
     wanted: &RelayRequest<'_>,
@@ -200,7 +203,7 @@ pub fn relay_script<F: Files, Q: Relay>(
     requires limit { wanted.now.limit ≤ most_events }
     requires ready { Q.ready relay.old }
     ensures answer { ForMap (F.told files.old) (λ seen. IfOk result
-        (IsCompilation (SaysRelay (Q.Gives relay.old) (relay_course wanted.now) wanted.now.script.now (seen.script wanted.now.script.now) (string_bytes file.now)) (given_by seen.files (map string_bytes path.now) (string_bytes file.now ∷ [])) seen.list (option_map string_bytes list.now))) }
+        (IsCompilation (SaysRelay (Q.Gives relay.old) (relay_course wanted.now) wanted.now.script.now (seen.script wanted.now.script.now) (string_bytes file.now)) (given_by seen.files (map string_bytes path.now) (string_bytes file.now ∷ [])) seen.list (option_copied list.entry))) }
     ensures read_fault { result ≡ Err Failure.ReadFault → Rose (F.faults files.old) (F.faults files.new) }
 {
     match checked(alloc, files, list, path, from_ref(file)) {

@@ -1,5 +1,6 @@
 ghost use Rattle.std.specs.Prelude.{◌≡◌, false, ℕ, ◌+◌, ◌≤◌, ◌⊎◌, ◌&&◌, List, [], ◌∷◌, ◌++◌, length, Ok, Err, IfOk, IfErr, OnOk};
 ghost use Rattle.std.specs.List.{Contains};
+ghost use Rattle.ipdl_base.specs.declared.files.TheConstants.{MOST_BYTES};
 ghost use Rattle.sync_list.specs.declared.list.ListFault.TheVariants.{NoMemory};
 ghost use Rattle.sync_list.specs.declared.list.ListFault.{ListFault};
 ghost use Rattle.sync_list.specs.declared.list.Section.{Section};
@@ -137,7 +138,7 @@ impl<'a> ListReader<'a> {
 
 /// The sync list that a text spells, or the first line that is not of the format.
 fn read_lines(alloc: Global, text: &[u8]) -> Result<SyncList, ListFault>
-    requires { length text.now ≤ 1048576 }
+    requires { length text.now ≤ MOST_BYTES }
     ensures list { IfOk result (IsListOf text.now) }
     ensures fault { IfErr result (λ fault. (fault ≡ NoMemory) ⊎ IsFault text.now fault) }
 {
@@ -153,7 +154,7 @@ fn read_lines(alloc: Global, text: &[u8]) -> Result<SyncList, ListFault>
 /// The sync list that a text spells (docs/sync_list.md). `Line` gives the first line that is not of
 /// the format. Takes time in proportion to the text.
 pub fn read_list(alloc: Global, text: &[u8]) -> Result<SyncList, ListFault>
-    requires { length text.now ≤ 1048576 }
+    requires { length text.now ≤ MOST_BYTES }
     ensures list { IfOk result (IsListOf text.now) }
     ensures fault { IfErr result (λ fault. (fault ≡ NoMemory) ⊎ IsFault text.now fault) }
 
