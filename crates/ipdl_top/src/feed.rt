@@ -27,10 +27,10 @@ use crate::run::spent_line;
 use crate::scripts::{ScriptCheck, script_checked};
 use crate::status::Status;
 use feed_laws::feeds_obey_alone;
-use frame_list::{FrameListFault, fault_text};
+use frame_list::{FrameListFault, fault_text, frame_rule};
 use handler_script::Script;
 use history::push_numbered;
-use ipdl_base::{Failure, FileBytes, Files, Items, MOST_BYTES, Rule, Schema, Side};
+use ipdl_base::{Failure, FileBytes, Files, Items, MOST_BYTES, Schema, Side};
 use law_statements::{decides_fallen, decides_readable, laws_want_readable_lines};
 use std::alloc::{AllocError, Global};
 use std::slice::from_ref;
@@ -90,11 +90,8 @@ fn kept_line(alloc: Global, name: &str, fault: FeedFault) -> Result<Vec<u8>, All
             fault_text(alloc, name.as_bytes(), &FrameListFault::Short(at, missing))
         }
         FeedFault::Bad(at, number) => {
-            let rule = Rule {
-                letter: b'F',
-                number,
-            };
-            fault_text(alloc, name.as_bytes(), &FrameListFault::Broken(at, rule))
+            let fault = FrameListFault::Broken(at, frame_rule(number));
+            fault_text(alloc, name.as_bytes(), &fault)
         }
         FeedFault::Stray(at, number) => numbered_line(alloc, name, at, b": stray ", number),
         FeedFault::WrongActor(at, id) => wrong_actor_line(alloc, name, at, id),
