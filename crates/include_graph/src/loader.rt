@@ -59,7 +59,8 @@ fn report(
 /// What the files that are reached make.
 fn result_of(alloc: Global, gathered: FileSet) -> Result<LoadResult, AllocError>
     requires { (given : LoadInput) × IsGathered given gathered.words gathered.keys.keys gathered.files.items }
-    ensures answer { IfOk result (λ made. (given : LoadInput) → IsGathered given gathered.words gathered.keys.keys gathered.files.items → IsAnswer given made) }
+    ensures answer { IfOk result (λ made. (given : LoadInput) → IsGathered given gathered.words gathered.keys.keys gathered.files.items
+        → IsAnswer given made) }
     ensures good { IfOk result IsGood }
 {
     words_hold();

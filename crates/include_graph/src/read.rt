@@ -82,7 +82,8 @@ fn read_on_path<F: Files>(
 ) -> Result<SourceFile, Failure>
     requires word { IsFileWord key.now }
     requires utf8 { IsUtf8 key.now }
-    ensures source { IfOk result (λ source. ForMap (F.told files.old) (λ files'. IsSource number key.now files' (name_on_path files' (map string_bytes path.now) key.now) source)) }
+    ensures source { IfOk result (λ source. ForMap (F.told files.old)
+        (λ files'. IsSource number key.now files' (name_on_path files' (map string_bytes path.now) key.now) source)) }
     ensures told { F.told files.new ≡ F.told files.old }
     ensures count { F.faults files.old ≤ F.faults files.new }
     ensures read_fault { result ≡ Err Failure.ReadFault → Rose (F.faults files.old) (F.faults files.new) }
@@ -120,7 +121,8 @@ pub fn read_key<F: Files>(
 ) -> Result<SourceFile, Failure>
     requires word { IsFileWord key.now }
     requires utf8 { option_copied word ≡ None → IsUtf8 key.now }
-    ensures source { IfOk result (λ source. ForMap (F.told files.old) (λ files'. IsSource number key.now files' (option_or (option_copied word.entry) (name_on_path files' (map string_bytes path.now) key.now)) source)) }
+    ensures source { IfOk result (λ source. ForMap (F.told files.old)
+        (λ files'. IsSource number key.now files' (option_or (option_copied word.entry) (name_on_path files' (map string_bytes path.now) key.now)) source)) }
     ensures told { F.told files.new ≡ F.told files.old }
     ensures count { F.faults files.old ≤ F.faults files.new }
     ensures read_fault { result ≡ Err Failure.ReadFault → Rose (F.faults files.old) (F.faults files.new) }

@@ -127,7 +127,8 @@ fn walk<F: Files>(
 ) -> Result<Vec<ReachedFile>, Failure>
     requires words { AreFileWords (map string_bytes words.now) }
     requires keys { HasWords (map string_bytes words.now) keys.old.keys (map (λ first. first.now) firsts.now) }
-    ensures read { IfOk result (λ reached. ForMap (F.told files.old) (λ files'. AreRead (record { files = files'; words = map string_bytes words.now; path = map string_bytes path.now }) keys.new.keys reached.items)) }
+    ensures read { IfOk result (λ reached. ForMap (F.told files.old) (λ files'. AreRead
+        (record { files = files'; words = map string_bytes words.now; path = map string_bytes path.now }) keys.new.keys reached.items)) }
     ensures told { F.told files.new ≡ F.told files.old }
     ensures count { F.faults files.old ≤ F.faults files.new }
     ensures read_fault { result ≡ Err Failure.ReadFault → Rose (F.faults files.old) (F.faults files.new) }
@@ -163,7 +164,8 @@ pub fn gather<F: Files>(
     path: &[String],
 ) -> Result<FileSet, Failure>
     requires { AreFileWords (map string_bytes words.now) }
-    ensures gathered { IfOk result (λ g. ForMap (F.told files.old) (λ files'. IsGathered (record { files = files'; words = map string_bytes words.now; path = map string_bytes path.now }) g.words g.keys.keys g.files.items)) }
+    ensures gathered { IfOk result (λ g. ForMap (F.told files.old) (λ files'. IsGathered
+        (record { files = files'; words = map string_bytes words.now; path = map string_bytes path.now }) g.words g.keys.keys g.files.items)) }
     ensures told { F.told files.new ≡ F.told files.old }
     ensures count { F.faults files.old ≤ F.faults files.new }
     ensures read_fault { result ≡ Err Failure.ReadFault → Rose (F.faults files.old) (F.faults files.new) }

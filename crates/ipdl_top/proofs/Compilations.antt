@@ -26,7 +26,7 @@ use Rattle.ipdl_top.specs.declared.checked.CheckResult.{CheckResult}
 use Rattle.ipdl_top.specs.declared.checked.CheckResult.TheVariants.{Broken, Clean}
 use Rattle.ipdl_top.specs.CommandAnswer.{IsCompilation, IsFileReport, IsRuleReport, report_answer}
 use Rattle.ipdl_top.specs.Lists.{IsListFault, IsFaultOfList, AreSections, list_names}
-use Rattle.ipdl_top.specs.Steps.{IsChecked, IsFilesReport, IsListed, IsListedChecked, IsLoadedChecked, IsRuleChecked, IsToldOf, Reports, answer_of, file_count, names_of}
+use Rattle.ipdl_top.specs.Steps.{IsChecked, IsFilesReport, IsListed, IsListedChecked, IsLoadedChecked, IsRuleChecked, IsToldOf, Reports, answer_of_report, file_count, names_of}
 
 -- Lists
 
@@ -86,7 +86,7 @@ names_called given (entry ∷ program) h =
 -- Answers
 
 -- the report on the program of the reach, where the list breaks a rule
-of_broken : (given : LoadInput) (lists : FileMap) (word : Option (List ℕ)) (program : List Entry) (finding : Finding) (report : Report) → IsProgramOf given program → IsFaultOfList lists word (length program) finding → Reports (λ f. f ≡ finding) (names_of program) word report → IsFileReport given lists word (answer_of report)
+of_broken : (given : LoadInput) (lists : FileMap) (word : Option (List ℕ)) (program : List Entry) (finding : Finding) (report : Report) → IsProgramOf given program → IsFaultOfList lists word (length program) finding → Reports (λ f. f ≡ finding) (names_of program) word report → IsFileReport given lists word (answer_of_report report)
 of_broken given lists word program finding report p broken r =
     let keys = keys_of program in
     let long : length keys ≡ length program = length-map program (λ (e : Entry). e.key) in
@@ -158,7 +158,7 @@ some_of [] report some to = absurd (some refl)
 some_of (f ∷ findings) report some to = some_element report f (to f (zero, omega arith, refl))
 
 -- the report on the files of the reach, where they break rules
-of_files : (given : LoadInput) (lists : FileMap) (word : Option (List ℕ)) (files : Report) (listed : SyncListFile) (report : Report) → IsReportOf given files.findings files.names → IsListed lists word (length files.names) listed → IsFilesReport files listed word report → IsFileReport given lists word (answer_of report)
+of_files : (given : LoadInput) (lists : FileMap) (word : Option (List ℕ)) (files : Report) (listed : SyncListFile) (report : Report) → IsReportOf given files.findings files.names → IsListed lists word (length files.names) listed → IsFilesReport files listed word report → IsFileReport given lists word (answer_of_report report)
 of_files given lists word files listed report r is h =
     let long : length files.names ≡ length r.keys = ap length r.called ∙ length-map r.keys (text_of given) in
     let behind : IsListed lists word (length r.keys) listed = subst (λ n. IsListed lists word n listed) long is in

@@ -1,5 +1,5 @@
 -- What the steps of a compilation make.
-use Rattle.std.specs.Prelude.{◌≡◌, ◌≢◌, ℕ, ◌⊎◌, List, [], ◌++◌, length, map, Option, Some, None}
+use Rattle.std.specs.Prelude.{◌≡◌, ◌≢◌, ℕ, ◌⊎◌, List, [], ◌∷◌, ◌++◌, length, map, Option, Some, None}
 use Rattle.std.specs.List.{Contains}
 use Rattle.ipdl_base.specs.declared.files.FileBytes.{FileBytes}
 use Rattle.ipdl_base.specs.declared.files.TheConstants.{MOST_BYTES}
@@ -21,7 +21,10 @@ use Rattle.ipdl_top.specs.declared.list.SyncListFile.TheVariants as list
 use Rattle.ipdl_top.specs.declared.checked.CheckResult.{CheckResult}
 use Rattle.ipdl_top.specs.declared.checked.CheckResult.TheVariants.{Broken, Clean}
 use Rattle.ipdl_top.specs.declared.status.Status.TheVariants as status
-use Rattle.ipdl_top.specs.CommandAnswer.{BreaksRules, IsFileReport, IsRuleReport, IsSchemaRead}
+use Rattle.ipdl_top.specs.declared.frames.FramesRequest.{FramesRequest}
+use Rattle.ipdl_top.specs.CommandAnswer.{BreaksRules, IsCompilation, IsFileReport, IsRuleReport, IsSchemaRead, given_by}
+use Rattle.ipdl_top.specs.FileViews.{FileViews}
+use Rattle.ipdl_top.specs.Frames.{SaysFrames}
 use Rattle.ipdl_top.specs.Report.{broken_answer}
 use Rattle.ipdl_top.specs.Waits.{IsTop}
 use Rattle.ipdl_top.specs.Lists.{AreSections, IsFaultOfList, IsListFault, SpellsList, list_names}
@@ -98,18 +101,18 @@ IsLoadedChecked (load.Broken files) listed word (Broken report) = IsFilesReport 
 IsLoadedChecked (load.Broken files) listed word (Clean schema) = ⊥
 
 -- the answer that files or their program break rules
-abbrev pub answer_of : Report → CommandAnswer
-answer_of report = broken_answer status.Broken report
+abbrev pub answer_of_report : Report → CommandAnswer
+answer_of_report report = broken_answer status.Broken report
 
 -- what was found of the files of a command: a report on them or on their program, or the sound schema of a program that
 -- breaks no rule
 abbrev pub IsChecked : LoadInput → FileMap → Option (List ℕ) → CheckResult → Type 0
-IsChecked given lists word (Broken report) = IsFileReport given lists word (answer_of report) ⊎ IsRuleReport given lists word (answer_of report)
+IsChecked given lists word (Broken report) = IsFileReport given lists word (answer_of_report report) ⊎ IsRuleReport given lists word (answer_of_report report)
 IsChecked given lists word (Clean schema) = IsSchemaRead given lists word schema × IsSound schema
 
 -- an answer by what was found: the report, or what is said of the schema
 abbrev pub IsToldOf : (Schema → CommandAnswer → Type 0) → CheckResult → CommandAnswer → Type 0
-IsToldOf Says (Broken report) answer = answer ≡ answer_of report
+IsToldOf Says (Broken report) answer = answer ≡ answer_of_report report
 IsToldOf Says (Clean schema) answer = Says schema answer
 
 -- a schema that was found is sound
@@ -121,3 +124,13 @@ IsSoundChecked (Clean schema) = IsSound schema
 abbrev pub HasTop : List ℕ → CheckResult → Type 0
 HasTop file (Broken report) = Unit {0}
 HasTop file (Clean schema) = (top : ℕ) × IsTop file schema top
+
+-- One command on one file
+
+-- what a request says of a file of frames of which this is held
+abbrev pub frames_says : FramesRequest → Option (List ℕ) → Schema → CommandAnswer → Type 0
+frames_says wanted file = SaysFrames wanted.name.now wanted.convert file
+
+-- the answer of a command on the file of this name, by what is seen of the files, the path and the list
+abbrev pub IsFileAnswer : (Schema → CommandAnswer → Type 0) → FileViews → List (List ℕ) → List ℕ → Option (List ℕ) → CommandAnswer → Type 0
+IsFileAnswer Says seen path file word answer = IsCompilation Says (given_by seen.files path (file ∷ [])) seen.list word answer

@@ -10,12 +10,11 @@ ghost use Rattle.ipdl_base.specs.Outside.{Rose};
 ghost use Rattle.ipdl_base.specs.Sound.{IsSound};
 ghost use Rattle.value_codec.specs.Laws.{AreBytes};
 ghost use Rattle.world_core.specs.Worlds.{most_events};
-ghost use Rattle.ipdl_top.specs.CommandAnswer.{IsCompilation, given_by};
 ghost use Rattle.ipdl_top.specs.Feed as told;
-ghost use Rattle.ipdl_top.specs.Feed.{SaysFed, SaysFedOf, SaysFeed, feed_answer, feed_ending, feed_status, kept_text};
-ghost use Rattle.ipdl_top.specs.FeedSteps.{AreHeld, AreSmall, feed_course};
+ghost use Rattle.ipdl_top.specs.Feed.{SaysFed, SaysFedOf, feed_answer, feed_ending, feed_status, kept_text};
+ghost use Rattle.ipdl_top.specs.FeedSteps.{AreHeld, AreSmall, feed_course, feed_says};
 ghost use Rattle.ipdl_top.specs.FileViews.{ForMap};
-ghost use Rattle.ipdl_top.specs.Steps.{HasTop, IsHeld, IsSmall, IsSoundChecked, IsToldOf};
+ghost use Rattle.ipdl_top.specs.Steps.{HasTop, IsFileAnswer, IsHeld, IsSmall, IsSoundChecked, IsToldOf};
 ghost use Rattle.ipdl_top.specs.Waits.{IsTop};
 
 use crate::answer::CommandAnswer;
@@ -193,7 +192,8 @@ fn frames_answer(
     requires sound { IsSound schema.now }
     requires valid { IsValid schema.now script.now }
     requires limit { wanted.now.limit ≤ most_events }
-    ensures { IfOk result (λ answer. (bytes : Option (List ℕ)) → IsHeld bytes frames.now → SaysFedOf (feed_course wanted.now) wanted.now.frames.now bytes schema.now script.now answer) }
+    ensures { IfOk result (λ answer. (bytes : Option (List ℕ)) → IsHeld bytes frames.now
+        → SaysFedOf (feed_course wanted.now) wanted.now.frames.now bytes schema.now script.now answer) }
 {
     match frames {
         FileBytes::Absent => unread_answer(alloc, wanted.frames, ":0: absent\n"),
@@ -214,7 +214,8 @@ fn held_answer(
     requires sound { IsSound schema.now }
     requires top { (top : ℕ) × IsTop file.now schema.now top }
     requires limit { wanted.now.limit ≤ most_events }
-    ensures { IfOk result (λ answer. (script bytes : Option (List ℕ)) → AreHeld script bytes held.now → SaysFeed (feed_course wanted.now) wanted.now.script.now script wanted.now.frames.now bytes file.now schema.now answer) }
+    ensures { IfOk result (λ answer. (script bytes : Option (List ℕ)) → AreHeld script bytes held.now
+        → feed_says wanted.now script bytes file.now schema.now answer) }
 {
     match script_checked(alloc, schema, file, wanted.script, &held.script)? {
         ScriptCheck::Broken(report) => {
@@ -238,7 +239,8 @@ fn checked_answer(
     requires sound { IsSoundChecked checked }
     requires top { HasTop file.now checked }
     requires limit { wanted.now.limit ≤ most_events }
-    ensures { IfOk result (λ answer. (script bytes : Option (List ℕ)) → AreHeld script bytes held.now → IsToldOf (SaysFeed (feed_course wanted.now) wanted.now.script.now script wanted.now.frames.now bytes file.now) checked answer) }
+    ensures { IfOk result (λ answer. (script bytes : Option (List ℕ)) → AreHeld script bytes held.now
+        → IsToldOf (feed_says wanted.now script bytes file.now) checked answer) }
 {
     match checked {
         CheckResult::Broken(report) => CommandAnswer::of_report(alloc, Status::Broken, &report),
@@ -277,7 +279,7 @@ fn answer_with<F: Files>(
     requires top { HasTop file.now checked }
     requires limit { wanted.now.limit ≤ most_events }
     ensures answer { ForMap (F.told files.old) (λ seen. IfOk result
-        (IsToldOf (SaysFeed (feed_course wanted.now) wanted.now.script.now (seen.script wanted.now.script.now) wanted.now.frames.now (seen.input wanted.now.frames.now) file.now) checked)) }
+        (IsToldOf (feed_says wanted.now (seen.script wanted.now.script.now) (seen.input wanted.now.frames.now) file.now) checked)) }
     ensures read_fault { result ≡ Err Failure.ReadFault → Rose (F.faults files.old) (F.faults files.new) }
 {
     let held = read_files(alloc, files, wanted)?;
@@ -299,7 +301,8 @@ pub fn feed<F: Files>(
     requires ending { (front : List ℕ) × (string_bytes file.now ≡ front ++ codes ".ipdl") }
     requires limit { wanted.now.limit ≤ most_events }
     ensures answer { ForMap (F.told files.old) (λ seen. IfOk result
-        (IsCompilation (SaysFeed (feed_course wanted.now) wanted.now.script.now (seen.script wanted.now.script.now) wanted.now.frames.now (seen.input wanted.now.frames.now) (string_bytes file.now)) (given_by seen.files (map string_bytes path.now) (string_bytes file.now ∷ [])) seen.list (option_copied list.entry))) }
+        (IsFileAnswer (feed_says wanted.now (seen.script wanted.now.script.now) (seen.input wanted.now.frames.now) (string_bytes file.now))
+            seen (map string_bytes path.now) (string_bytes file.now) (option_copied list.entry))) }
     ensures read_fault { result ≡ Err Failure.ReadFault → Rose (F.faults files.old) (F.faults files.new) }
 {
     match checked(alloc, files, list, path, from_ref(file)) {

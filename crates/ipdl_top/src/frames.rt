@@ -5,10 +5,9 @@ ghost use Rattle.ipdl_base.specs.Sound.{IsSound};
 ghost use Rattle.include_graph.specs.Keys.{AreFileWords};
 ghost use Rattle.include_graph.specs.Load as load;
 ghost use Rattle.frame_list.specs.FramesTold.{Tells};
-ghost use Rattle.ipdl_top.specs.CommandAnswer.{IsCompilation, given_by};
-ghost use Rattle.ipdl_top.specs.Frames.{SaysBytes, SaysFrames, bad_frames_answer, frames_answer, frames_out};
+ghost use Rattle.ipdl_top.specs.Frames.{SaysBytes, bad_frames_answer, frames_answer, frames_out};
 ghost use Rattle.ipdl_top.specs.FileViews.{ForMap};
-ghost use Rattle.ipdl_top.specs.Steps.{IsHeld, IsSoundChecked, IsToldOf};
+ghost use Rattle.ipdl_top.specs.Steps.{IsFileAnswer, IsHeld, IsSoundChecked, IsToldOf, frames_says};
 
 use crate::answer::CommandAnswer;
 use crate::checked::CheckResult;
@@ -98,7 +97,7 @@ fn held_answer(
     held: &FileBytes,
 ) -> Result<CommandAnswer, AllocError>
     requires { IsSound schema.now }
-    ensures { IfOk result (λ answer. (file : Option (List ℕ)) → IsHeld file held.now → SaysFrames wanted.now.name.now wanted.now.convert file schema.now answer) }
+    ensures { IfOk result (λ answer. (file : Option (List ℕ)) → IsHeld file held.now → frames_says wanted.now file schema.now answer) }
 {
     match held {
         FileBytes::Absent => unread_answer(alloc, wanted.name, ":0: absent\n"),
@@ -115,7 +114,7 @@ fn checked_answer(
     held: &FileBytes,
 ) -> Result<CommandAnswer, AllocError>
     requires { IsSoundChecked checked }
-    ensures { IfOk result (λ answer. (file : Option (List ℕ)) → IsHeld file held.now → IsToldOf (SaysFrames wanted.now.name.now wanted.now.convert file) checked answer) }
+    ensures { IfOk result (λ answer. (file : Option (List ℕ)) → IsHeld file held.now → IsToldOf (frames_says wanted.now file) checked answer) }
 {
     match checked {
         CheckResult::Broken(report) => CommandAnswer::of_report(alloc, Status::Broken, &report),
@@ -131,7 +130,7 @@ fn answer_with<F: Files>(
     wanted: &FramesRequest<'_>,
 ) -> Result<CommandAnswer, Failure>
     requires { IsSoundChecked checked }
-    ensures answer { load.ForMap (F.told files.old) (λ frames. IfOk result (IsToldOf (SaysFrames wanted.now.name.now wanted.now.convert (frames wanted.now.name.now)) checked)) }
+    ensures answer { load.ForMap (F.told files.old) (λ frames. IfOk result (IsToldOf (frames_says wanted.now (frames wanted.now.name.now)) checked)) }
     ensures read_fault { result ≡ Err Failure.ReadFault → Rose (F.faults files.old) (F.faults files.new) }
 {
     let held = read_file(alloc, files, wanted.name, MOST_BYTES)?;
@@ -150,7 +149,8 @@ pub fn frames<F: Files>(
 ) -> Result<CommandAnswer, Failure>
     requires { AreFileWords (string_bytes file.now ∷ []) }
     ensures answer { ForMap (F.told files.old) (λ seen. IfOk result
-        (IsCompilation (SaysFrames wanted.now.name.now wanted.now.convert (seen.input wanted.now.name.now)) (given_by seen.files (map string_bytes path.now) (string_bytes file.now ∷ [])) seen.list (option_copied list.entry))) }
+        (IsFileAnswer (frames_says wanted.now (seen.input wanted.now.name.now))
+            seen (map string_bytes path.now) (string_bytes file.now) (option_copied list.entry))) }
     ensures read_fault { result ≡ Err Failure.ReadFault → Rose (F.faults files.old) (F.faults files.new) }
 {
     match checked(alloc, files, list, path, from_ref(file)) {

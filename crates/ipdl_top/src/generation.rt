@@ -91,7 +91,8 @@ fn case_answer<D: Driver>(
 ) -> Result<CommandAnswer, Failure>
     requires files { files_of files.old.case ≡ case_files rounds actors }
     requires ready { D.ready driver.old }
-    ensures answer { IfOk result (IsCompilation (SaysGen (D.Gives driver.old) rounds actors) (given_by (case_files rounds actors) case_path (holder_name ∷ [])) (case_files rounds actors) None) }
+    ensures answer { IfOk result (IsCompilation (SaysGen (D.Gives driver.old) rounds actors)
+        (given_by (case_files rounds actors) case_path (holder_name ∷ [])) (case_files rounds actors) None) }
     ensures memory { IsOkUnless result Failure.NoMemory }
 {
     let path = path_of(alloc)?;
@@ -127,7 +128,8 @@ pub fn generation<D: Driver>(
     requires some_actors { 1 ≤ actors }
     requires actors { actors ≤ 100 }
     requires ready { D.ready driver.old }
-    ensures answer { IfOk result (IsCompilation (SaysGen (D.Gives driver.old) rounds actors) (given_by (case_files rounds actors) case_path (holder_name ∷ [])) (case_files rounds actors) None) }
+    ensures answer { IfOk result (IsCompilation (SaysGen (D.Gives driver.old) rounds actors)
+        (given_by (case_files rounds actors) case_path (holder_name ∷ [])) (case_files rounds actors) None) }
     ensures memory { IsOkUnless result Failure.NoMemory }
 {
     let mut files = case_of(alloc, rounds, actors)?;

@@ -6,11 +6,10 @@ ghost use Rattle.include_graph.specs.Load as load;
 ghost use Rattle.ipdl_base.specs.Outside.{Rose};
 ghost use Rattle.ipdl_base.specs.Sound.{IsSound};
 ghost use Rattle.world_core.specs.Worlds.{most_events};
-ghost use Rattle.ipdl_top.specs.CommandAnswer.{IsCompilation, given_by};
 ghost use Rattle.ipdl_top.specs.FileViews.{ForMap};
-ghost use Rattle.ipdl_top.specs.Relay.{SaysRelay, SaysRelayed, half_lines, halves_text};
-ghost use Rattle.ipdl_top.specs.RelaySteps.{IsTextAnswer, relay_course};
-ghost use Rattle.ipdl_top.specs.Steps.{HasTop, IsHeld, IsSmall, IsSoundChecked, IsToldOf};
+ghost use Rattle.ipdl_top.specs.Relay.{SaysRelayed, half_lines, halves_text};
+ghost use Rattle.ipdl_top.specs.RelaySteps.{IsTextAnswer, relay_course, relay_says};
+ghost use Rattle.ipdl_top.specs.Steps.{HasTop, IsFileAnswer, IsHeld, IsSmall, IsSoundChecked, IsToldOf};
 ghost use Rattle.ipdl_top.specs.Waits.{IsTop};
 ghost use Rattle.history.specs.Text.{transcript_text};
 
@@ -130,7 +129,8 @@ fn held_answer<Q: Relay>(
     requires top { (top : ℕ) × IsTop file.now schema.now top }
     requires limit { wanted.now.limit ≤ most_events }
     requires ready { Q.ready relay.old }
-    ensures { IfOk result (λ answer. (text : Option (List ℕ)) → IsHeld text held.now → SaysRelay (Q.Gives relay.old) (relay_course wanted.now) wanted.now.script.now text file.now schema.now answer) }
+    ensures { IfOk result (λ answer. (text : Option (List ℕ)) → IsHeld text held.now
+        → relay_says (Q.Gives relay.old) wanted.now text file.now schema.now answer) }
 {
     match script_checked(alloc, schema, file, wanted.script, held)? {
         ScriptCheck::Broken(report) => {
@@ -154,7 +154,8 @@ fn checked_answer<Q: Relay>(
     requires top { HasTop file.now checked }
     requires limit { wanted.now.limit ≤ most_events }
     requires ready { Q.ready relay.old }
-    ensures { IfOk result (λ answer. (text : Option (List ℕ)) → IsHeld text held.now → IsToldOf (SaysRelay (Q.Gives relay.old) (relay_course wanted.now) wanted.now.script.now text file.now) checked answer) }
+    ensures { IfOk result (λ answer. (text : Option (List ℕ)) → IsHeld text held.now
+        → IsToldOf (relay_says (Q.Gives relay.old) wanted.now text file.now) checked answer) }
 {
     match checked {
         CheckResult::Broken(report) => CommandAnswer::of_report(alloc, Status::Broken, &report),
@@ -179,7 +180,7 @@ fn answer_with<F: Files, Q: Relay>(
     requires top { HasTop file.now checked }
     requires limit { wanted.now.limit ≤ most_events }
     requires ready { Q.ready relay.old }
-    ensures answer { load.ForMap (F.told files.old) (λ map'. IfOk result (IsToldOf (SaysRelay (Q.Gives relay.old) (relay_course wanted.now) wanted.now.script.now (map' wanted.now.script.now) file.now) checked)) }
+    ensures answer { load.ForMap (F.told files.old) (λ map'. IfOk result (IsToldOf (relay_says (Q.Gives relay.old) wanted.now (map' wanted.now.script.now) file.now) checked)) }
     ensures read_fault { result ≡ Err Failure.ReadFault → Rose (F.faults files.old) (F.faults files.new) }
 {
     let held = read_file(alloc, files, wanted.script, MOST_BYTES)?;
@@ -203,7 +204,8 @@ pub fn relay_script<F: Files, Q: Relay>(
     requires limit { wanted.now.limit ≤ most_events }
     requires ready { Q.ready relay.old }
     ensures answer { ForMap (F.told files.old) (λ seen. IfOk result
-        (IsCompilation (SaysRelay (Q.Gives relay.old) (relay_course wanted.now) wanted.now.script.now (seen.script wanted.now.script.now) (string_bytes file.now)) (given_by seen.files (map string_bytes path.now) (string_bytes file.now ∷ [])) seen.list (option_copied list.entry))) }
+        (IsFileAnswer (relay_says (Q.Gives relay.old) wanted.now (seen.script wanted.now.script.now) (string_bytes file.now))
+            seen (map string_bytes path.now) (string_bytes file.now) (option_copied list.entry))) }
     ensures read_fault { result ≡ Err Failure.ReadFault → Rose (F.faults files.old) (F.faults files.new) }
 {
     match checked(alloc, files, list, path, from_ref(file)) {

@@ -12,11 +12,10 @@ ghost use Rattle.script_steps.specs.Turns.{at_limit};
 ghost use Rattle.world_core.specs.Turns.{StandsAs};
 ghost use Rattle.world_core.specs.WorldView.{WorldView};
 ghost use Rattle.world_core.specs.Worlds.{IsCase, IsLawful, most_events};
-ghost use Rattle.ipdl_top.specs.CommandAnswer.{IsCompilation, given_by};
 ghost use Rattle.ipdl_top.specs.FileViews.{ForMap};
-ghost use Rattle.ipdl_top.specs.Run.{SaysHistory, SaysRun, rendered};
-ghost use Rattle.ipdl_top.specs.RunSteps.{IsMadeUnless, IsPrinted, course_of};
-ghost use Rattle.ipdl_top.specs.Steps.{HasTop, IsHeld, IsSmall, IsSoundChecked, IsToldOf};
+ghost use Rattle.ipdl_top.specs.Run.{SaysHistory, rendered};
+ghost use Rattle.ipdl_top.specs.RunSteps.{IsMadeUnless, IsPrinted, course_of, run_says};
+ghost use Rattle.ipdl_top.specs.Steps.{HasTop, IsFileAnswer, IsHeld, IsSmall, IsSoundChecked, IsToldOf};
 ghost use Rattle.ipdl_top.specs.Waits.{IsTop};
 
 use crate::answer::CommandAnswer;
@@ -108,7 +107,8 @@ fn ended_answer(
     text: Vec<u8>,
     ending: RunAnswer,
 ) -> Result<CommandAnswer, AllocError>
-    ensures { IfOk result (λ answer. (shown : Shown) (schema : Schema) (lines : List Line) → text.items ≡ rendered shown schema lines → IsPrinted shown schema lines ending answer) }
+    ensures { IfOk result (λ answer. (shown : Shown) (schema : Schema) (lines : List Line) → text.items ≡ rendered shown schema lines
+        → IsPrinted shown schema lines ending answer) }
 {
     match ending {
         RunAnswer::Finished => with_ending(alloc, Status::Done, text, b"finished\n"),
@@ -178,7 +178,8 @@ fn held_answer<D: Driver>(
     requires top { (top : ℕ) × IsTop file.now schema.now top }
     requires limit { wanted.now.limit ≤ most_events }
     requires ready { D.ready driver.old }
-    ensures { IfOk result (λ answer. (text : Option (List ℕ)) → IsHeld text held.now → SaysRun (D.Gives driver.old) wanted.now.rendering (course_of wanted.now) wanted.now.script.now text file.now schema.now answer) }
+    ensures { IfOk result (λ answer. (text : Option (List ℕ)) → IsHeld text held.now
+        → run_says (D.Gives driver.old) wanted.now text file.now schema.now answer) }
 {
     match script_checked(alloc, schema, file, wanted.script, held)? {
         ScriptCheck::Broken(report) => {
@@ -202,7 +203,8 @@ fn checked_answer<D: Driver>(
     requires top { HasTop file.now checked }
     requires limit { wanted.now.limit ≤ most_events }
     requires ready { D.ready driver.old }
-    ensures { IfOk result (λ answer. (text : Option (List ℕ)) → IsHeld text held.now → IsToldOf (SaysRun (D.Gives driver.old) wanted.now.rendering (course_of wanted.now) wanted.now.script.now text file.now) checked answer) }
+    ensures { IfOk result (λ answer. (text : Option (List ℕ)) → IsHeld text held.now
+        → IsToldOf (run_says (D.Gives driver.old) wanted.now text file.now) checked answer) }
 {
     match checked {
         CheckResult::Broken(report) => CommandAnswer::of_report(alloc, Status::Broken, &report),
@@ -227,7 +229,7 @@ fn answer_with<F: Files, D: Driver>(
     requires top { HasTop file.now checked }
     requires limit { wanted.now.limit ≤ most_events }
     requires ready { D.ready driver.old }
-    ensures answer { load.ForMap (F.told files.old) (λ map'. IfOk result (IsToldOf (SaysRun (D.Gives driver.old) wanted.now.rendering (course_of wanted.now) wanted.now.script.now (map' wanted.now.script.now) file.now) checked)) }
+    ensures answer { load.ForMap (F.told files.old) (λ map'. IfOk result (IsToldOf (run_says (D.Gives driver.old) wanted.now (map' wanted.now.script.now) file.now) checked)) }
     ensures read_fault { result ≡ Err Failure.ReadFault → Rose (F.faults files.old) (F.faults files.new) }
 {
     let held = read_file(alloc, files, wanted.script, MOST_BYTES)?;
@@ -251,7 +253,8 @@ pub fn run<F: Files, D: Driver>(
     requires limit { wanted.now.limit ≤ most_events }
     requires ready { D.ready driver.old }
     ensures answer { ForMap (F.told files.old) (λ seen. IfOk result
-        (IsCompilation (SaysRun (D.Gives driver.old) wanted.now.rendering (course_of wanted.now) wanted.now.script.now (seen.script wanted.now.script.now) (string_bytes file.now)) (given_by seen.files (map string_bytes path.now) (string_bytes file.now ∷ [])) seen.list (option_copied list.entry))) }
+        (IsFileAnswer (run_says (D.Gives driver.old) wanted.now (seen.script wanted.now.script.now) (string_bytes file.now))
+            seen (map string_bytes path.now) (string_bytes file.now) (option_copied list.entry))) }
     ensures read_fault { result ≡ Err Failure.ReadFault → Rose (F.faults files.old) (F.faults files.new) }
 {
     match checked(alloc, files, list, path, from_ref(file)) {

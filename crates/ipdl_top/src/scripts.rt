@@ -105,7 +105,8 @@ pub fn script_checked(
     requires small { IsSmall held.now }
     requires sound { IsSound schema.now }
     requires top { (top : ℕ) × IsTop file.now schema.now top }
-    ensures found { IfOk result (λ checked. (text : Option (List ℕ)) → IsHeld text held.now → IsScriptChecked name.now text file.now schema.now checked) }
+    ensures found { IfOk result (λ checked. (text : Option (List ℕ)) → IsHeld text held.now
+        → IsScriptChecked name.now text file.now schema.now checked) }
     ensures valid { IfOk result (IsValidChecked schema.now) }
 {
     let Some(top) = top_of(schema, file) else {

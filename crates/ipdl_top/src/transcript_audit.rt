@@ -7,11 +7,10 @@ ghost use Rattle.ipdl_base.specs.Sound.{IsSound};
 ghost use Rattle.transcript_reader.specs.Compared.{most_text_bytes};
 ghost use Rattle.world_core.specs.Worlds.{most_events};
 ghost use Rattle.ipdl_top.specs.Audit as told;
-ghost use Rattle.ipdl_top.specs.Audit.{SaysAudit, SaysAudited, SaysAuditedOf, audit_answer, bad_line_answer, bad_transcript_answer};
-ghost use Rattle.ipdl_top.specs.AuditSteps.{AreHeld, AreSmall};
-ghost use Rattle.ipdl_top.specs.CommandAnswer.{IsCompilation, given_by};
+ghost use Rattle.ipdl_top.specs.Audit.{SaysAudited, SaysAuditedOf, audit_answer, bad_line_answer, bad_transcript_answer};
+ghost use Rattle.ipdl_top.specs.AuditSteps.{AreHeld, AreSmall, audit_says};
 ghost use Rattle.ipdl_top.specs.FileViews.{ForMap};
-ghost use Rattle.ipdl_top.specs.Steps.{HasTop, IsSoundChecked, IsToldOf};
+ghost use Rattle.ipdl_top.specs.Steps.{HasTop, IsFileAnswer, IsSoundChecked, IsToldOf};
 ghost use Rattle.ipdl_top.specs.Waits.{IsTop};
 
 use crate::answer::CommandAnswer;
@@ -120,7 +119,8 @@ fn text_answer(
     requires sound { IsSound schema.now }
     requires valid { IsValid schema.now script.now }
     requires limit { wanted.now.limit ≤ most_events }
-    ensures { IfOk result (λ answer. (bytes : Option (List ℕ)) → IsHeldWithin most_text_bytes bytes text.now → SaysAuditedOf wanted.now.limit wanted.now.transcript.now bytes schema.now script.now answer) }
+    ensures { IfOk result (λ answer. (bytes : Option (List ℕ)) → IsHeldWithin most_text_bytes bytes text.now
+        → SaysAuditedOf wanted.now.limit wanted.now.transcript.now bytes schema.now script.now answer) }
 {
     match text {
         FileBytes::Absent => bad_answer(alloc, wanted.transcript, ":0: absent\n"),
@@ -141,7 +141,8 @@ fn held_answer(
     requires sound { IsSound schema.now }
     requires top { (top : ℕ) × IsTop file.now schema.now top }
     requires limit { wanted.now.limit ≤ most_events }
-    ensures { IfOk result (λ answer. (script text : Option (List ℕ)) → AreHeld script text held.now → SaysAudit wanted.now.limit wanted.now.script.now script wanted.now.transcript.now text file.now schema.now answer) }
+    ensures { IfOk result (λ answer. (script text : Option (List ℕ)) → AreHeld script text held.now
+        → audit_says wanted.now script text file.now schema.now answer) }
 {
     match script_checked(alloc, schema, file, wanted.script, &held.script)? {
         ScriptCheck::Broken(report) => {
@@ -163,7 +164,8 @@ fn checked_answer(
     requires sound { IsSoundChecked checked }
     requires top { HasTop file.now checked }
     requires limit { wanted.now.limit ≤ most_events }
-    ensures { IfOk result (λ answer. (script text : Option (List ℕ)) → AreHeld script text held.now → IsToldOf (SaysAudit wanted.now.limit wanted.now.script.now script wanted.now.transcript.now text file.now) checked answer) }
+    ensures { IfOk result (λ answer. (script text : Option (List ℕ)) → AreHeld script text held.now
+        → IsToldOf (audit_says wanted.now script text file.now) checked answer) }
 {
     match checked {
         CheckResult::Broken(report) => CommandAnswer::of_report(alloc, Status::Broken, &report),
@@ -202,7 +204,7 @@ fn answer_with<F: Files>(
     requires top { HasTop file.now checked }
     requires limit { wanted.now.limit ≤ most_events }
     ensures answer { ForMap (F.told files.old) (λ seen. IfOk result
-        (IsToldOf (SaysAudit wanted.now.limit wanted.now.script.now (seen.script wanted.now.script.now) wanted.now.transcript.now (seen.input wanted.now.transcript.now) file.now) checked)) }
+        (IsToldOf (audit_says wanted.now (seen.script wanted.now.script.now) (seen.input wanted.now.transcript.now) file.now) checked)) }
     ensures read_fault { result ≡ Err Failure.ReadFault → Rose (F.faults files.old) (F.faults files.new) }
 {
     let held = read_files(alloc, files, wanted)?;
@@ -224,7 +226,7 @@ pub fn audit_transcript<F: Files>(
     requires ending { (front : List ℕ) × (string_bytes file.now ≡ front ++ codes ".ipdl") }
     requires limit { wanted.now.limit ≤ most_events }
     ensures answer { ForMap (F.told files.old) (λ seen. IfOk result
-        (IsCompilation (SaysAudit wanted.now.limit wanted.now.script.now (seen.script wanted.now.script.now) wanted.now.transcript.now (seen.input wanted.now.transcript.now) (string_bytes file.now)) (given_by seen.files (map string_bytes path.now) (string_bytes file.now ∷ [])) seen.list (option_copied list.entry))) }
+        (IsFileAnswer (audit_says wanted.now (seen.script wanted.now.script.now) (seen.input wanted.now.transcript.now) (string_bytes file.now)) seen (map string_bytes path.now) (string_bytes file.now) (option_copied list.entry))) }
     ensures read_fault { result ≡ Err Failure.ReadFault → Rose (F.faults files.old) (F.faults files.new) }
 {
     match checked(alloc, files, list, path, from_ref(file)) {

@@ -100,7 +100,8 @@ impl<'a> ListReader<'a> {
     /// Takes a line with a value of the word, or one that goes on with it; it is filled if the value
     /// has a byte there that is not blank.
     fn take_value(&mut self, word: &'a [u8], filled: bool)
-        ensures { (forms : List LineForm) (form : LineForm) → HasRead forms self.old → IsValueOf word.now filled form → HasRead (forms ++ form ∷ []) self.new }
+        ensures { (forms : List LineForm) (form : LineForm) → HasRead forms self.old → IsValueOf word.now filled form
+            → HasRead (forms ++ form ∷ []) self.new }
     {
         mark_last(&mut self.sections, describes(word, filled));
         self.unfinished = Some(word);
@@ -109,7 +110,8 @@ impl<'a> ListReader<'a> {
     /// Reads the next line, which has this number.
     fn read(&mut self, alloc: Global, line: &'a [u8], number: u32) -> Result<(), ListFault>
         ensures ok { OnOk result ((forms : List LineForm) → HasRead forms self.old → length forms + 1 ≡ number → ReadsLine forms line.now self.new) }
-        ensures err { IfErr result (λ fault. (fault ≡ NoMemory) ⊎ ((fault ≡ ListFault.Line number) × ((forms : List LineForm) → HasRead forms self.old → IsBad forms line.now))) }
+        ensures err { IfErr result (λ fault. (fault ≡ NoMemory) ⊎ ((fault ≡ ListFault.Line number) × ((forms : List LineForm)
+            → HasRead forms self.old → IsBad forms line.now))) }
     {
         match line_of(line) {
             ListLine::Blank | ListLine::Comment => {
