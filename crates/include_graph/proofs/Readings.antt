@@ -1,6 +1,6 @@
 -- What comes of a key, by what its names have.
-use Rattle.std.proofs.Common.{◌≡◌, ◌≢◌, ℕ, cond, List, [], ◌∷◌, ◌++◌, refl, sym, ◌∙◌, ap, subst, map, is_some, true≢false}
-use Rattle.std.specs.Prelude.{Option, Some, None, IfSome, find}
+use Rattle.std.proofs.Common.{◌≡◌, ◌≢◌, IsErrAnd, ℕ, cond, List, [], ◌∷◌, ◌++◌, refl, sym, ◌∙◌, ap, subst, map, is_some, true≢false}
+use Rattle.std.specs.Prelude.{Err, IfOk, IfSome, None, Ok, Option, Result, Some, find}
 use Rattle.std.specs.List.{Contains}
 use Rattle.std.specs.Option.{option_or}
 use Rattle.std.proofs.lemmas.List.{map-append}
@@ -24,6 +24,16 @@ use Rattle.include_graph.proofs.Places.{in_tail, in_none}
 pub for_map : (told : Option FileMap) {P Q : FileMap → Type 0} → ((files : FileMap) → P files → Q files) → ForMap told P → ForMap told Q
 for_map None to p = (p.0, to p.0 p.1)
 for_map (Some files) to p = to files p
+
+-- what holds of every map
+pub for_all : (told : Option FileMap) (P : FileMap → Type 0) → ((files : FileMap) → P files) → ForMap told P
+for_all None P every = ((λ _. None), every (λ _. None))
+for_all (Some files) P every = every files
+
+-- an error is no result that has to be anything
+pub none_ok : {T E : Type 0} (r : Result T E) (P : E → Type 0) (Q : T → Type 0) → IsErrAnd r P → IfOk r Q
+none_ok (Ok x) P Q h = absurd h
+none_ok (Err e) P Q h = tt
 
 pub for_some : (told : Option FileMap) {P : FileMap → Type 0} → ForMap told P → (files : FileMap) × P files
 for_some None p = p

@@ -10,7 +10,7 @@ use Rattle.include_graph.specs.Load as load
 use Rattle.ipdl_top.specs.declared.list.SyncListFile.{SyncListFile}
 use Rattle.ipdl_top.specs.declared.list.SyncListFile.TheVariants.{Sections, Broken}
 use Rattle.ipdl_top.specs.Steps.{IsFound, IsListed}
-use Rattle.ipdl_top.proofs.Maps.{for_all}
+use Rattle.include_graph.proofs.Readings.{for_all}
 
 -- what was read of a name is what some map has of it, and what the map has that is told
 pub read_so : (told : Option FileMap) (most : ℕ) (name : List ℕ) (result : Result FileBytes Failure) → IfOk result (HasAtMost most) → IfOk result (λ found. IfSome told (λ map. IsHeldWithin most (map name) found))

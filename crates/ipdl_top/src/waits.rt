@@ -105,7 +105,9 @@ fn checked_answer(alloc: Global, checked: CheckResult, file: &str) -> Result<Com
     ensures memory { IsOkUnless result Failure.NoMemory }
 {
     match checked {
-        CheckResult::Broken(report) => CommandAnswer::of_report(alloc, Status::Broken, &report),
+        CheckResult::Broken(report) => {
+            Ok(CommandAnswer::of_report(alloc, Status::Broken, &report)?)
+        }
         CheckResult::Clean(schema) => Ok(waits_answer(alloc, &schema, file)?),
     }
 }

@@ -6,7 +6,8 @@ use Rattle.ipdl_top.specs.CommandAnswer.{given_by}
 use Rattle.ipdl_top.specs.FileViews.{FileViews}
 use Rattle.ipdl_top.specs.Steps.{IsChecked, IsListed}
 use Rattle.ipdl_top.proofs.Compilations.{of_loaded}
-use Rattle.ipdl_top.proofs.Maps.{for_all_seen, for_both, none_ok}
+use Rattle.include_graph.proofs.Readings.{none_ok}
+use Rattle.ipdl_top.proofs.Maps.{for_all_seen, for_both}
 use Rattle.ipdl_top.proofs.compile.checked.Goals as goal
 
 pub returns-clause-found : goal.returns-clause-found

@@ -2,7 +2,8 @@ use Rattle.ipdl_base.specs.Outside.{FileMap}
 use Rattle.ipdl_top.specs.FeedSteps.{AreHeld}
 use Rattle.ipdl_top.specs.FileViews.{FileViews}
 use Rattle.ipdl_top.specs.Steps.{IsHeld}
-use Rattle.ipdl_top.proofs.Maps.{for_all_seen, for_script, none_ok}
+use Rattle.include_graph.proofs.Readings.{none_ok}
+use Rattle.ipdl_top.proofs.Maps.{for_all_seen, for_script}
 use Rattle.ipdl_top.proofs.feed.read_files.Goals as goal
 
 pub returns-clause-held : goal.returns-clause-held

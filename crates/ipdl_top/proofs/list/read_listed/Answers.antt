@@ -5,7 +5,8 @@ use Rattle.ipdl_base.specs.Outside.{FileMap}
 use Rattle.ipdl_top.specs.declared.list.SyncListFile.TheVariants.{Sections}
 use Rattle.ipdl_top.specs.Steps.{IsHeld, IsListed}
 use Rattle.ipdl_top.proofs.Found.{listed_so}
-use Rattle.ipdl_top.proofs.Maps.{for_all, for_each}
+use Rattle.include_graph.proofs.Readings.{for_all}
+use Rattle.ipdl_top.proofs.Maps.{for_each}
 use Rattle.ipdl_top.proofs.list.read_listed.Goals as goal
 
 pub returns-in-None-clause-listed : goal.returns-in-None-clause-listed

@@ -3,7 +3,8 @@ use Rattle.transcript_reader.specs.Compared.{most_text_bytes}
 use Rattle.ipdl_top.specs.AuditSteps.{AreHeld}
 use Rattle.ipdl_top.specs.FileViews.{FileViews}
 use Rattle.ipdl_top.specs.Steps.{IsHeld}
-use Rattle.ipdl_top.proofs.Maps.{for_all_seen, for_script, none_ok}
+use Rattle.include_graph.proofs.Readings.{none_ok}
+use Rattle.ipdl_top.proofs.Maps.{for_all_seen, for_script}
 use Rattle.ipdl_top.proofs.transcript_audit.read_files.Goals as goal
 
 pub returns-clause-held : goal.returns-clause-held
