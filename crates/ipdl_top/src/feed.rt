@@ -302,7 +302,7 @@ pub fn feed<F: Files>(
     requires limit { wanted.now.limit ≤ most_events }
     ensures answer { ForMap (F.told files.old) (λ seen. IfOk result
         (IsFileAnswer (feed_says wanted.now (seen.script wanted.now.script.now) (seen.input wanted.now.frames.now) (string_bytes file.now))
-            seen (map string_bytes path.now) (string_bytes file.now) (option_copied list.entry))) }
+        seen (map string_bytes path.now) (string_bytes file.now) (option_copied list.entry))) }
     ensures read_fault { result ≡ Err Failure.ReadFault → Rose (F.faults files.old) (F.faults files.new) }
 {
     match checked(alloc, files, list, path, from_ref(file)) {

@@ -150,7 +150,7 @@ pub fn frames<F: Files>(
     requires { AreFileWords (string_bytes file.now ∷ []) }
     ensures answer { ForMap (F.told files.old) (λ seen. IfOk result
         (IsFileAnswer (frames_says wanted.now (seen.input wanted.now.name.now))
-            seen (map string_bytes path.now) (string_bytes file.now) (option_copied list.entry))) }
+        seen (map string_bytes path.now) (string_bytes file.now) (option_copied list.entry))) }
     ensures read_fault { result ≡ Err Failure.ReadFault → Rose (F.faults files.old) (F.faults files.new) }
 {
     match checked(alloc, files, list, path, from_ref(file)) {

@@ -47,7 +47,13 @@ fn answer_to<F: Files, D: Driver, Q: Relay>(
                 path,
                 files: names,
             },
-        ) => compile(alloc, files, list.as_deref(), path.as_slice(), names.as_slice()),
+        ) => compile(
+            alloc,
+            files,
+            list.as_deref(),
+            path.as_slice(),
+            names.as_slice(),
+        ),
         Ok(
             Command::Frames {
                 list,
@@ -61,7 +67,14 @@ fn answer_to<F: Files, D: Driver, Q: Relay>(
                 name: name.as_str(),
                 convert,
             };
-            frames(alloc, files, list.as_deref(), path.as_slice(), &file, &wanted)
+            frames(
+                alloc,
+                files,
+                list.as_deref(),
+                path.as_slice(),
+                &file,
+                &wanted,
+            )
         }
         Ok(Command::Waits { list, path, file }) => {
             waits(alloc, files, list.as_deref(), path.as_slice(), &file)
@@ -84,7 +97,15 @@ fn answer_to<F: Files, D: Driver, Q: Relay>(
                 death,
                 rendering: Rendering::Transcript,
             };
-            run(alloc, files, list.as_deref(), path.as_slice(), &file, &wanted, driver)
+            run(
+                alloc,
+                files,
+                list.as_deref(),
+                path.as_slice(),
+                &file,
+                &wanted,
+                driver,
+            )
         }
         Ok(Command::Gen { rounds, actors }) => generation(alloc, rounds, actors, driver),
         Ok(
@@ -104,7 +125,14 @@ fn answer_to<F: Files, D: Driver, Q: Relay>(
                 side,
                 limit,
             };
-            feed(alloc, files, list.as_deref(), path.as_slice(), &file, &wanted)
+            feed(
+                alloc,
+                files,
+                list.as_deref(),
+                path.as_slice(),
+                &file,
+                &wanted,
+            )
         }
         Ok(
             Command::Audit {
@@ -121,7 +149,14 @@ fn answer_to<F: Files, D: Driver, Q: Relay>(
                 transcript: transcript.as_str(),
                 limit,
             };
-            audit_transcript(alloc, files, list.as_deref(), path.as_slice(), &file, &wanted)
+            audit_transcript(
+                alloc,
+                files,
+                list.as_deref(),
+                path.as_slice(),
+                &file,
+                &wanted,
+            )
         }
         Ok(
             Command::Relay {
@@ -138,7 +173,15 @@ fn answer_to<F: Files, D: Driver, Q: Relay>(
                 limit,
                 death,
             };
-            relay_script(alloc, files, list.as_deref(), path.as_slice(), &file, &wanted, relay)
+            relay_script(
+                alloc,
+                files,
+                list.as_deref(),
+                path.as_slice(),
+                &file,
+                &wanted,
+                relay,
+            )
         }
         Err(WordsFault::Usage) => CommandAnswer::of_no_command(alloc),
         Err(WordsFault::NoMemory) => Err(Failure::NoMemory),

@@ -254,7 +254,7 @@ pub fn run<F: Files, D: Driver>(
     requires ready { D.ready driver.old }
     ensures answer { ForMap (F.told files.old) (λ seen. IfOk result
         (IsFileAnswer (run_says (D.Gives driver.old) wanted.now (seen.script wanted.now.script.now) (string_bytes file.now))
-            seen (map string_bytes path.now) (string_bytes file.now) (option_copied list.entry))) }
+        seen (map string_bytes path.now) (string_bytes file.now) (option_copied list.entry))) }
     ensures read_fault { result ≡ Err Failure.ReadFault → Rose (F.faults files.old) (F.faults files.new) }
 {
     match checked(alloc, files, list, path, from_ref(file)) {

@@ -6,7 +6,9 @@ ghost use Rattle.ipdl_top.specs.Waits.{IsTop};
 
 use crate::waits::top_of;
 use handler_script::{Script, ScriptFault, read_script};
-use ipdl_base::{FileBytes, Finding, Findings, Items, MOST_BYTES, Name, Place, Report, Rule, Schema};
+use ipdl_base::{
+    FileBytes, Finding, Findings, Items, MOST_BYTES, Name, Place, Report, Rule, Schema,
+};
 use std::alloc::{AllocError, Global};
 
 /// The script as a whole.
@@ -26,11 +28,7 @@ pub enum ScriptCheck {
 }
 
 /// A script of this name breaks these rules.
-fn broken_script(
-    alloc: Global,
-    name: &str,
-    findings: Findings,
-) -> Result<ScriptCheck, AllocError>
+fn broken_script(alloc: Global, name: &str, findings: Findings) -> Result<ScriptCheck, AllocError>
     ensures { IfOk result (λ checked. checked ≡ ScriptCheck.Broken (record { findings = findings; names = name.now ∷ [] })) }
 {
     let mut names = Vec::new(alloc);

@@ -14,7 +14,7 @@ use crate::checked::CheckResult;
 use crate::compile::checked;
 use crate::status::Status;
 use history::push_message;
-use ipdl_base::{Failure, Files, key_of, PROTOCOL_ENDING, ProtocolRow, Schema, short_name, Side};
+use ipdl_base::{Failure, Files, PROTOCOL_ENDING, ProtocolRow, Schema, Side, key_of, short_name};
 use std::alloc::{AllocError, Global};
 use std::slice::from_ref;
 use wait_report::{Pair, pairs};
