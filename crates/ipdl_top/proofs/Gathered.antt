@@ -1,5 +1,5 @@
 -- How the findings of all rules are put together.
-use Rattle.std.proofs.Common.{◌≡◌, ◌⊎◌, List, [], ◌∷◌, ◌++◌, Option, inl, inr, ap, subst, arith}
+use Rattle.std.proofs.Common.{◌≡◌, ◌≢◌, ◌<◌, ◌⊎◌, List, [], ◌∷◌, ◌++◌, Option, inl, inr, ap, length, refl, subst, sym, arith}
 use Rattle.std.specs.Prelude.{◌↔◌}
 use Rattle.std.specs.List.{Contains}
 use Rattle.std.proofs.lemmas.List.Elements.{Contains-append_left, Contains-append_right, Contains-append_cases}
@@ -41,17 +41,25 @@ of_three P Q S a b c one two three f =
       λ h. all.1 (elim h [ inl x ↦ inl (inl x) | inr y ↦ elim y [ inl z ↦ inl (inr z) | inr z ↦ inr z ] ]),
     )
 
--- nothing is broken where the report is empty
-pub nothing : {Breaks : Finding → Type 0} (report : List Finding) → report ≡ [] → IsReport Breaks report → (f : Finding) → ¬ Breaks f
-nothing report none r f b =
-    let at : Contains [] f = subst (λ (fs : List Finding). Contains fs f) none ((r.exact f).1 b) in
+-- nothing is broken where nothing is found
+pub nothing : {Breaks : Finding → Type 0} (found : List Finding) → found ≡ [] → Has found Breaks → (f : Finding) → ¬ Breaks f
+nothing found none has f b =
+    let at : Contains [] f = subst (λ (fs : List Finding). Contains fs f) none ((has f).1 b) in
+    let no : ⊥ = omega (arith, at.1) in
+    no
+
+-- the report of what is found is not empty, where something is
+pub some_reported : (found report : List Finding) → 0 < length found → IsReport (Contains found) report → report ≢ []
+some_reported [] report some r none = absurd (omega arith)
+some_reported (f ∷ found) report some r none =
+    let at : Contains [] f = subst (λ (fs : List Finding). Contains fs f) none ((r.exact f).1 (0, some, refl)) in
     let no : ⊥ = omega (arith, at.1) in
     no
 
 -- such a program is clean
-pub clean_of : (program : List Entry) (sections : Option (List Section)) (report : List Finding) → IsProgram program → BearTheirNames program → report ≡ [] → IsReport (BreaksRules program sections) report → IsClean program
-clean_of program sections report whole named none r =
-    let clean : (f : Finding) → ¬ BreaksRules program sections f = nothing report none r in
+pub clean_of : (program : List Entry) (sections : Option (List Section)) (found : List Finding) → IsProgram program → BearTheirNames program → found ≡ [] → Has found (BreaksRules program sections) → IsClean program
+clean_of program sections found whole named none has =
+    let clean : (f : Finding) → ¬ BreaksRules program sections f = nothing found none has in
     record {
       is_program = whole;
       named = named;
@@ -73,3 +81,10 @@ with_broken findings finding f = (
 -- a list with sections adds none
 pub without : (findings : List Finding) (listed : SyncListFile) (sections : Option (List Section)) → listed ≡ Sections sections → Has findings (λ f. Contains findings f ⊎ (listed ≡ Broken f))
 without findings listed sections is f = (λ h. inl h, λ h. elim h [ inl x ↦ x | inr e ↦ absurd (let no : ⊥ = cc in no) ])
+
+-- one finding
+pub of_one : (finding : Finding) → Has (finding ∷ []) (λ f. f ≡ finding)
+of_one finding f = (
+  λ h. elim (Contains-push_cases [] finding f h) [ inl none ↦ absurd (omega (arith, none.1)) | inr e ↦ sym e ],
+  λ e. subst (λ (g : Finding). Contains (finding ∷ []) g) (sym e) (Contains-push [] finding),
+)

@@ -7,7 +7,7 @@ ghost use Rattle.ipdl_base.specs.Sound.{IsSound};
 ghost use Rattle.ipdl_syntax.specs.Programs.{IsProgram, BearTheirNames};
 
 use actor_tables::schema;
-use include_graph::{are_file_words, load};
+use include_graph::{LoadResult, are_file_words, load};
 use ipdl_base::{MemoryFiles, Schema};
 use ipdl_syntax::Program;
 use name_table::Names;
@@ -26,7 +26,10 @@ fn program(alloc: Global, mut files: MemoryFiles, word: &str) -> Result<Program,
     if !are_file_words(words.as_slice()) {
         return Err("no words of files".into());
     }
-    Ok(load(alloc, &mut files, words.as_slice(), path.as_slice())?)
+    match load(alloc, &mut files, words.as_slice(), path.as_slice())? {
+        LoadResult::Whole(program) => Ok(program),
+        LoadResult::Broken(_) => Err("a program that breaks rules on files".into()),
+    }
 }
 
 /// The schema of a program that breaks no rule.
