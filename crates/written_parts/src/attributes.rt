@@ -25,10 +25,7 @@ pub struct AttributeList<'p> {
 }
 
 /// Adds the lists of parameters or returns.
-fn add_params<'p>(
-    params: &'p [Param],
-    lists: &mut Vec<AttributeList<'p>>,
-) -> Result<(), AllocError>
+fn add_params<'p>(params: &'p [Param], lists: &mut Vec<AttributeList<'p>>) -> Result<(), AllocError>
     ensures { OnOk result (Appends told (lists_of_params params.now) lists.old.items lists.new.items) }
 {
     for param in params {
