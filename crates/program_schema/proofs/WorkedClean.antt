@@ -130,7 +130,7 @@ none_bad place bearer (inr unlisted) = none_any _ unlisted
 no_attribute : (place : Place) → ¬ IsBadAttribute program place
 no_attribute place broken = elim (any_parts (IsBadIn place) (borne_by bearer.Protocol []) (borne_by bearer.Message [] ∷ []) broken) [
   | inl of_protocol ↦ none_bad place bearer.Protocol of_protocol
-  | inr more ↦ none_bad place bearer.Message (one_any (IsBadIn place) (borne_by bearer.Message []) more)
+  | inr of_message ↦ none_bad place bearer.Message (one_any (IsBadIn place) (borne_by bearer.Message []) of_message)
 ]
 
 no_types : (f : Finding) → ¬ types.BrokenAt program f
