@@ -1,5 +1,5 @@
 -- A program that breaks no rule, of one protocol with one message; so its schema would be sound.
-use Rattle.std.proofs.Common.{◌≡◌, ◌≢◌, ◌∙◌, ◌⊎◌, inl, inr, ℕ, zero, suc, true, false, leb, List, [], ◌∷◌, map, length, Some, None, slice_get, codes, refl, sym, ap, subst, arith}
+use Rattle.std.proofs.Common.{◌≡◌, ◌≢◌, ◌∙◌, ◌⊎◌, inl, inr, ℕ, zero, suc, true, false, leb, List, [], ◌∷◌, length, Some, None, slice_get, codes, refl, sym, ap, subst, arith}
 use Rattle.std.specs.List.{Any}
 use Rattle.std.proofs.lemmas.Bool.{true≢false}
 use Rattle.ipdl_base.specs.declared.finding.Finding.{Finding}

@@ -1,6 +1,6 @@
 -- Where a type may stand in the trees of a program: what holds of a type that is written holds of one in such a place, and the
 -- other way round.
-use Rattle.std.proofs.Common.{◌≡◌, ℕ, ◌+◌, Bool, List, [], ◌∷◌, ◌++◌, Option, Some, None, ◌⊎◌, inl, inr, subst, unwrap_or, arith}
+use Rattle.std.proofs.Common.{◌≡◌, ℕ, ◌+◌, Bool, List, [], ◌++◌, Option, Some, None, ◌⊎◌, inl, inr, subst, unwrap_or, arith}
 use Rattle.std.specs.Prelude.{IsSomeAnd}
 use Rattle.std.specs.List.{Any, enumerate_from, flat_map}
 use Rattle.ipdl_base.specs.declared.finding.Place.{Place}
@@ -15,7 +15,7 @@ use Rattle.ipdl_syntax.specs.declared.tree.UnionDecl.{UnionDecl}
 use Rattle.ipdl_syntax.specs.declared.tree.Unit.{Unit as FileUnit}
 use Rattle.findings.specs.Gains.{AtSome}
 use Rattle.findings.proofs.Elements.{any_left}
-use Rattle.written_parts.specs.Types.{TypeInFile, types_inside, types_within, types_of_params, types_of_components, types_of_message, types_of_protocol, types_of_unit, written_types}
+use Rattle.written_parts.specs.Types.{TypeInFile, types_inside, types_within, types_of_params, types_of_components, types_of_message, types_of_protocol, types_of_unit}
 use Rattle.type_rules.specs.Written.{OfType, SomeType}
 use Rattle.type_rules.proofs.Lists.{any_nothing, any_first, any_rest, any_parts, any_either, any_right, any_like, any_joined, any_apart, any_numbered, any_with_number}
 

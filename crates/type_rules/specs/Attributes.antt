@@ -5,7 +5,7 @@ use Rattle.ipdl_base.specs.declared.finding.Place.{Place}
 use Rattle.ipdl_syntax.specs.declared.program.Entry.{Entry}
 use Rattle.ipdl_syntax.specs.declared.tree.Attribute.{Attribute}
 use Rattle.findings.specs.Repeats.{IsRepeatedAt}
-use Rattle.written_parts.specs.Attributes.{AttributesOf, attribute_lists}
+use Rattle.written_parts.specs.Attributes.{attribute_lists}
 use Rattle.written_parts.specs.declared.attributes.Bearer.{Bearer}
 use Rattle.written_parts.specs.declared.attributes.Bearer.TheVariants.{Protocol, Message}
 
