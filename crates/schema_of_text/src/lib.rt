@@ -40,7 +40,8 @@ fn clean_schema(alloc: Global, program: &Program) -> Result<Schema, Fail>
     let mut found = Vec::new(alloc);
     add_of_types(alloc, program, &names, &mut found)?;
     add_of_protocols(alloc, program, &names, &mut found)?;
-    if !sort_findings(found).is_empty() {
+    let report = sort_findings(found);
+    if !report.is_empty() {
         return Err("a program that breaks rules".into());
     }
     Ok(schema(alloc, program, &names)?)

@@ -17,7 +17,7 @@ pub schema-requires-clause-clean : goal.schema-requires-clause-clean
 schema-requires-clause-clean c =
     let types = c.in_ok-add_of_types.ensures in
     let protocols = c.in_ok-add_of_protocols.ensures in
-    let none = none_found c.sort_findings.result c.sort_findings.ensures (sym c.is_empty.ensures ∙ c.if-not-is_empty.false) in
+    let none = none_found c.sort_findings-report.result c.sort_findings-report.ensures (sym c.is_empty.ensures ∙ c.if-not-is_empty.false) in
     record {
       is_program = c.requires.program;
       named = c.requires.names;
