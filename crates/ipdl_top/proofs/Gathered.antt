@@ -7,7 +7,9 @@ use Rattle.std.proofs.lemmas.List.Elements.{Contains-push, Contains-push_cases}
 use Rattle.ipdl_base.specs.declared.finding.Finding.{Finding}
 use Rattle.ipdl_syntax.specs.declared.program.Entry.{Entry}
 use Rattle.ipdl_syntax.specs.Programs.{IsProgram, BearTheirNames}
+use Rattle.findings.specs.Gains.{Gains}
 use Rattle.findings.specs.Report.{IsReport}
+use Rattle.findings.proofs.Gathers.{Gains-then}
 use Rattle.program_schema.specs.Clean.{IsClean}
 use Rattle.sync_list.specs.declared.list.Section.{Section}
 use Rattle.ipdl_top.specs.declared.list.SyncListFile.{SyncListFile}
@@ -18,27 +20,12 @@ use Rattle.ipdl_top.specs.CommandAnswer.{BreaksRules}
 abbrev pub Has : List Finding → (Finding → Type 0) → Type 0
 Has found Holds = (f : Finding) → Contains found f ↔ Holds f
 
--- of two kinds of rule
-pub of_two : (P Q : Finding → Type 0) (a b : List Finding) → Has a P → Has b Q → Has (a ++ b) (λ f. P f ⊎ Q f)
-of_two P Q a b one two f = (
-  λ h. elim (Contains-append_cases a b f h) [ inl x ↦ inl ((one f).0 x) | inr y ↦ inr ((two f).0 y) ],
-  λ h. elim h [ inl x ↦ Contains-append_left a b f ((one f).1 x) | inr y ↦ Contains-append_right a b f ((two f).1 y) ],
-)
-
--- and of a third that nothing breaks
-pub of_two_alone : (P Q S : Finding → Type 0) (a b : List Finding) → Has a P → Has b Q → ((f : Finding) → ¬ S f) → Has (a ++ b) (λ f. P f ⊎ (Q f ⊎ S f))
-of_two_alone P Q S a b one two none f =
-    let both = of_two P Q a b one two f in (
-      λ h. elim (both.0 h) [ inl x ↦ inl x | inr y ↦ inr (inl y) ],
-      λ h. both.1 (elim h [ inl x ↦ inl x | inr y ↦ elim y [ inl z ↦ inr z | inr z ↦ absurd (none f z) ] ]),
-    )
-
--- or of three
-pub of_three : (P Q S : Finding → Type 0) (a b c : List Finding) → Has a P → Has b Q → Has c S → Has ((a ++ b) ++ c) (λ f. P f ⊎ (Q f ⊎ S f))
-of_three P Q S a b c one two three f =
-    let all = of_two (λ f. P f ⊎ Q f) S (a ++ b) c (of_two P Q a b one two) three f in (
-      λ h. elim (all.0 h) [ inl x ↦ elim x [ inl y ↦ inl y | inr y ↦ inr (inl y) ] | inr z ↦ inr (inr z) ],
-      λ h. all.1 (elim h [ inl x ↦ inl (inl x) | inr y ↦ elim y [ inl z ↦ inl (inr z) | inr z ↦ inr z ] ]),
+-- what three kinds of rule added, to nothing
+pub of_three : (P Q S : Finding → Type 0) (none a b found : List Finding) → none ≡ [] → Gains P none a → Gains Q a b → Gains S b found → Has found (λ f. P f ⊎ (Q f ⊎ S f))
+of_three P Q S none a b found empty one two three f =
+    let all = Gains-then P (λ f. Q f ⊎ S f) none a found one (Gains-then Q S a b found two three) in (
+      λ h. elim ((all.exact f).0 h) [ inl old ↦ absurd (let at : Contains [] f = subst (λ (fs : List Finding). Contains fs f) empty old in let no : ⊥ = omega (arith, at.1) in no) | inr p ↦ p ],
+      λ p. (all.exact f).1 (inr p),
     )
 
 -- nothing is broken where nothing is found

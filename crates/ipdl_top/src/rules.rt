@@ -12,10 +12,10 @@ use findings::sort_findings;
 use ipdl_base::{Finding, Items, Name, Report};
 use ipdl_syntax::{Entry, Program};
 use name_table::Names;
-use proto_rules::proto_findings;
+use proto_rules::add_of_protocols;
 use std::alloc::{AllocError, Global};
-use sync_list::{SyncList, sync_findings};
-use type_rules::type_findings;
+use sync_list::{SyncList, add_of_list};
+use type_rules::add_of_types;
 
 /// All findings that hold of a program, and of its sync list where it has one, in some order.
 fn gathered(
@@ -28,15 +28,13 @@ fn gathered(
     requires of_program { names.now ≡ program.now }
     ensures { IfOk result (λ found. (f : Finding) → Contains found.items f ↔ BreaksRules program.now (option_copied list.entry) f) }
 {
-    let mut found = type_findings(alloc, program, names)?.into_vec();
-    found.extend_from_slice(proto_findings(alloc, program, names)?.as_slice())?;
-    match list {
-        Some(list) => {
-            found.extend_from_slice(sync_findings(alloc, program, list)?.as_slice())?;
-            Ok(found)
-        }
-        None => Ok(found),
+    let mut found = Vec::new(alloc);
+    add_of_types(alloc, program, names, &mut found)?;
+    add_of_protocols(alloc, program, names, &mut found)?;
+    if let Some(list) = list {
+        add_of_list(alloc, program, list, &mut found)?;
     }
+    Ok(found)
 }
 
 /// How a report calls the files of a program.

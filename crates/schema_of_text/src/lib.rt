@@ -7,14 +7,15 @@ ghost use Rattle.ipdl_base.specs.Sound.{IsSound};
 ghost use Rattle.ipdl_syntax.specs.Programs.{IsProgram, BearTheirNames};
 
 use actor_tables::schema;
+use findings::sort_findings;
 use include_graph::{LoadResult, are_file_words, load};
 use ipdl_base::{MemoryFiles, Schema};
 use ipdl_syntax::Program;
 use name_table::Names;
-use proto_rules::proto_findings;
+use proto_rules::add_of_protocols;
 use std::alloc::Global;
 use std::test::Fail;
-use type_rules::type_findings;
+use type_rules::add_of_types;
 
 /// The program that a file of these reaches, which breaks no rule of files.
 fn program(alloc: Global, mut files: MemoryFiles, word: &str) -> Result<Program, Fail>
@@ -39,13 +40,12 @@ fn clean_schema(alloc: Global, program: &Program) -> Result<Schema, Fail>
     ensures { IfOk result IsSound }
 {
     let names = Names::build(alloc, program)?;
-    let types = type_findings(alloc, program, &names)?;
-    if !types.is_empty() {
-        return Err("a program that breaks rules on types".into());
-    }
-    let protocols = proto_findings(alloc, program, &names)?;
-    if !protocols.is_empty() {
-        return Err("a program that breaks rules on protocols".into());
+    let mut found = Vec::new(alloc);
+    add_of_types(alloc, program, &names, &mut found)?;
+    add_of_protocols(alloc, program, &names, &mut found)?;
+    let report = sort_findings(found);
+    if !report.is_empty() {
+        return Err("a program that breaks rules".into());
     }
     Ok(schema(alloc, program, &names)?)
 }

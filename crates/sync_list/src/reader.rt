@@ -1,4 +1,5 @@
-ghost use Rattle.std.specs.Prelude.{◌≡◌, false, ℕ, ◌+◌, ◌≤◌, ◌⊎◌, ◌&&◌, List, [], ◌∷◌, ◌++◌, length, Ok, Err, IfOk, IfErr, OnOk};
+ghost use Rattle.std.specs.Prelude.{◌≡◌, false, ℕ, ◌+◌, ◌≤◌, ◌⊎◌, ◌&&◌, List, [], ◌∷◌, ◌++◌, length};
+ghost use Rattle.std.specs.Prelude.{Ok, Err, IfOk, IfErr, OnOk};
 ghost use Rattle.std.specs.List.{Contains};
 ghost use Rattle.ipdl_base.specs.declared.files.TheConstants.{MOST_BYTES};
 ghost use Rattle.sync_list.specs.declared.list.ListFault.TheVariants.{NoMemory};
@@ -84,7 +85,8 @@ impl<'a> ListReader<'a> {
         ensures ok { OnOk result ((forms : List LineForm) → HasRead forms self.old → length forms + 1 ≡ number
             → Begins forms protocol.now message.now self.new) }
         ensures err { IfErr result (λ fault. (fault ≡ NoMemory)
-            ⊎ ((fault ≡ ListFault.Line number) × ((forms : List LineForm) → HasRead forms self.old → Contains forms (section protocol.now message.now)))) }
+            ⊎ ((fault ≡ ListFault.Line number)
+            × ((forms : List LineForm) → HasRead forms self.old → Contains forms (section protocol.now message.now)))) }
     {
         let names = (protocol, message);
         let is_new = self.seen.insert(names)?;
@@ -110,8 +112,8 @@ impl<'a> ListReader<'a> {
     /// Reads the next line, which has this number.
     fn read(&mut self, alloc: Global, line: &'a [u8], number: u32) -> Result<(), ListFault>
         ensures ok { OnOk result ((forms : List LineForm) → HasRead forms self.old → length forms + 1 ≡ number → ReadsLine forms line.now self.new) }
-        ensures err { IfErr result (λ fault. (fault ≡ NoMemory) ⊎ ((fault ≡ ListFault.Line number) × ((forms : List LineForm)
-            → HasRead forms self.old → IsBad forms line.now))) }
+        ensures err { IfErr result (λ fault. (fault ≡ NoMemory)
+            ⊎ ((fault ≡ ListFault.Line number) × ((forms : List LineForm) → HasRead forms self.old → IsBad forms line.now))) }
     {
         match line_of(line) {
             ListLine::Blank | ListLine::Comment => {
