@@ -1,7 +1,7 @@
 ghost use Rattle.std.specs.Prelude.{◌≡◌, ◌++◌, List, length, true, IfOk, IfNone, IfSome, MatchResult};
 ghost use Rattle.crossbeam_queue.specs.SegTies.{IsSegPassOf};
-ghost use Rattle.ordered_queue.specs.Passes.{MayBoth, MayPop, MayPush, view_of};
-ghost use Rattle.ordered_queue.specs.InOrder.{first_view, popping_part, pushing_part, whole, with_popped, with_pushed};
+ghost use Rattle.ordered_queue.specs.Passes.{IsParted, IsWhole, MayBoth, MayPop, MayPush, view_of};
+ghost use Rattle.ordered_queue.specs.InOrder.{first_view, with_popped, with_pushed};
 
 use crate::view::{InOrder, Parting, PassView, Popped, Pushed, Reunion};
 use crossbeam_queue::{RuledSegQueue, SegPass};
@@ -28,8 +28,7 @@ impl<T: Drop> OrderedQueue<T> {
     /// Makes two passes of one: the old one may push, the new one may pop.
     pub fn part(&self, pass: &mut QueuePass<T>) -> QueuePass<T>
         requires { MayBoth self.now.queue pass.old }
-        ensures old { IsSegPassOf self.now.queue pass.new × (view_of pass.new ≡ pushing_part (view_of pass.old)) }
-        ensures new { IsSegPassOf self.now.queue result × (view_of result ≡ popping_part (view_of pass.old)) }
+        ensures { IsParted self.now.queue (view_of pass.old) pass.new result }
     {
         self.queue.another::<Parting>(pass)
     }
@@ -38,7 +37,7 @@ impl<T: Drop> OrderedQueue<T> {
     pub fn join(&self, pass: &mut QueuePass<T>, other: QueuePass<T>)
         requires pass { MayPush self.now.queue pass.old }
         requires other { MayPop self.now.queue other }
-        ensures { IsSegPassOf self.now.queue pass.new × (view_of pass.new ≡ whole (view_of pass.old) (view_of other)) }
+        ensures { IsWhole self.now.queue pass.old other pass.new }
     {
         self.queue.absorb::<Reunion>(pass, other);
     }

@@ -1,6 +1,7 @@
 -- How both stand at the end of a run is a relay: what came to each is a front of what the other has sent.
 use Rattle.std.proofs.Common.{◌≡◌, ◌⊎◌, inl, inr, ⊎_elim, Bool, true, false, ◌&&◌, ◌||◌, is_some, List, [], ◌∷◌, ◌++◌, drop, length, map, None, refl, sym, ap, subst, ◌∙◌, append-nil, append_assoc}
 use Rattle.std.proofs.lemmas.List.{append_cancel_left}
+use Rattle.std.proofs.Math.Seq.{drop-append_seam}
 use Rattle.std.specs.List.{AllByRecursion}
 use Rattle.handler_script.specs.ScriptOf.{first_of}
 use Rattle.channel_core.specs.EndView.{IsFramed, packet_of, packets_of}
@@ -54,10 +55,6 @@ module _ (schema : Schema) where
       }
 
 -- Lists
-
-drop-front : {A : Type 0} (xs ys : List A) → drop (length xs) (xs ++ ys) ≡ ys
-drop-front [] ys = refl
-drop-front (x ∷ xs) ys = drop-front xs ys
 
 none-mapped : {A B : Type 0} (f : A → B) (xs : List A) → [] ≡ map f xs → xs ≡ []
 none-mapped f [] e = refl
@@ -116,10 +113,10 @@ module _ (setting : Setting) where
 
       -- what comes to the parent next is the first in its hands, or else of what waits; and so with the child
       parent-next : next_packet sides.Parent relay ≡ first_of (parent_hands ++ to-parent.waiting)
-      parent-next = ap first_of (ap (drop (length p.state.came)) parent-order ∙ drop-front p.state.came (parent_hands ++ to-parent.waiting))
+      parent-next = ap first_of (ap (drop (length p.state.came)) parent-order ∙ drop-append_seam p.state.came (parent_hands ++ to-parent.waiting))
 
       child-next : next_packet sides.Child relay ≡ first_of (child_hands ++ to-child.waiting)
-      child-next = ap first_of (ap (drop (length c.state.came)) child-order ∙ drop-front c.state.came (child_hands ++ to-child.waiting))
+      child-next = ap first_of (ap (drop (length c.state.came)) child-order ∙ drop-append_seam c.state.came (child_hands ++ to-child.waiting))
 
       -- such lines, where it ends so
       relayed-at : (ending : RunEnding) → EndsAs setting relay ending → Relayed setting parent.history child.history ending

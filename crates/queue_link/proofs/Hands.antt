@@ -1,5 +1,6 @@
 -- What a step of a half does to what was pushed and popped for it.
 use Rattle.std.proofs.Common.{◌≡◌, inl, inr, true, false, Result, Ok, Err, MatchResult, OnOk, Bool, List, [], ◌∷◌, ◌++◌, map, Some, None, refl, sym, ap, subst, ◌∙◌, append-nil}
+use Rattle.std.proofs.lemmas.List.{map-append}
 use Rattle.std.specs.List.{AllByRecursion}
 use Rattle.channel_core.specs.EndView.{packet_of, packets_of}
 use Rattle.channel_model.specs.Ends as model
@@ -7,6 +8,7 @@ use Rattle.channel_model.specs.Outputs.{is_open}
 use Rattle.end_parts.specs.declared.packet.Packet.{Packet}
 use Rattle.end_parts.specs.PacketReading.{packet_read}
 use Rattle.ipdl_base.specs.declared.kinds.Side.{Side}
+use Rattle.nesting_laws.proofs.AloneSteps.{all-appended}
 use Rattle.relay_runs.specs.HalfRuns.{behind, behind_packet, delivered_for}
 use Rattle.script_steps.specs.Choices.{Setting}
 use Rattle.world_core.specs.declared.answers.AcceptAnswer.{AcceptAnswer}
@@ -17,14 +19,6 @@ use Rattle.world_core.specs.HalfView.{HalfView}
 use Rattle.world_core.specs.Relaying.{AcceptGives, GoesApart, GoingGives, HasAccepted, IsApart, PutGives, came_by, turn_answer}
 use Rattle.queue_link.specs.Work.{DeliveryGives, HandsOver, HasNoStep, HasTaken, IsAtWork, IsReadBack, IsResting, OwnGives, PacketView, PushGives, StepGives, TakeGives}
 
-all-snoc : {A : Type 0} (P : A → Type 0) (xs : List A) (x : A) → AllByRecursion P xs → P x → AllByRecursion P (xs ++ x ∷ [])
-all-snoc P [] x all is = (is, tt)
-all-snoc P (first ∷ rest) x all is = (all.0, all-snoc P rest x all.1 is)
-
-map-snoc : {A B : Type 0} (f : A → B) (xs : List A) (x : A) → map f (xs ++ x ∷ []) ≡ map f xs ++ f x ∷ []
-map-snoc f [] x = refl
-map-snoc f (first ∷ rest) x = ap (λ ys. f first ∷ ys) (map-snoc f rest x)
-
 module _ (setting : Setting) where
   -- what comes by a packet
   abbrev read : Packet → model.Packet
@@ -33,8 +27,8 @@ module _ (setting : Setting) where
   -- one packet more
   more-taken : (popped : List Packet) (taken : List model.Packet) (packet : Packet) → HasTaken setting popped taken → IsReadBack setting.schema packet → HasTaken setting (popped ++ packet ∷ []) (taken ++ read packet ∷ [])
   more-taken popped taken packet has reads = record {
-    is = ap (λ (ps : List model.Packet). ps ++ read packet ∷ []) has.is ∙ sym (map-snoc read popped packet);
-    reads = all-snoc (IsReadBack setting.schema) popped packet has.reads reads;
+    is = ap (λ (ps : List model.Packet). ps ++ read packet ∷ []) has.is ∙ sym (map-append read popped (packet ∷ []));
+    reads = all-appended (IsReadBack setting.schema) popped packet has.reads reads;
   }
 
   module _ (side : Side) (pushed popped : List Packet) (half half' : HalfView) where
@@ -46,7 +40,7 @@ module _ (setting : Setting) where
       state = h.state;
       handed = h.handed ++ gives.next ∷ [];
       goes = gives.goes;
-      pushes = ap (λ (ps : List Packet). ps ++ packet ∷ []) h.pushes ∙ (ap (λ (p : Packet). packets_of setting.schema h.handed ++ p ∷ []) gives.is ∙ sym (map-snoc (packet_of setting.schema) h.handed gives.next));
+      pushes = ap (λ (ps : List Packet). ps ++ packet ∷ []) h.pushes ∙ (ap (λ (p : Packet). packets_of setting.schema h.handed ++ p ∷ []) gives.is ∙ sym (map-append (packet_of setting.schema) h.handed (gives.next ∷ [])));
       pops = h.pops;
     }
 

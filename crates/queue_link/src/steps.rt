@@ -7,13 +7,12 @@ ghost use Rattle.ordered_queue.specs.Passes.{HasPopped, HasPushed, MayPop, MayPu
 ghost use Rattle.queue_link.specs.Work.{DeliveryGives, HandsOver, HasNoStep, IsAtWork, OwnGives, PushGives, StepGives, TakeGives};
 ghost use Rattle.script_steps.specs.Choices.{Setting};
 ghost use Rattle.world_core.specs.declared.answers.StepAnswer.TheVariants as answer;
-ghost use Rattle.world_core.specs.Relaying.{turn_answer};
 
 use crate::packets::{PacketPass, PacketQueue};
 use channel_core::Packet;
 use std::alloc::AllocError;
 use std::sync::Wait;
-use world_core::{AcceptAnswer, Half, StepAnswer};
+use world_core::{Half, StepAnswer, turn_answer};
 
 // Pushes the next packet that the half has not handed out, and says whether there was one. The only
 // error is want of memory.
@@ -74,18 +73,6 @@ fn go_on(half: &mut Half<'_>) -> StepAnswer
     ensures { (pushed popped : List OfPacket) → IsAtWork at.0 at.1 pushed popped half.old → OwnGives at.0 at.1 pushed popped result half.new }
 {
     half.go_on()
-}
-
-// What a step answers, by what a half answers to a packet.
-fn turn_answer(answer: AcceptAnswer) -> StepAnswer
-    ensures { result ≡ turn_answer answer }
-{
-    match answer {
-        AcceptAnswer::Did | AcceptAnswer::Refused => StepAnswer::Did,
-        AcceptAnswer::Nothing => StepAnswer::Nothing,
-        AcceptAnswer::Spent(side) => StepAnswer::Spent(side),
-        AcceptAnswer::NoMemory => StepAnswer::NoMemory,
-    }
 }
 
 // A delivery to an open half that has no own step, of a packet that was popped for it.

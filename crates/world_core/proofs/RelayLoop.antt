@@ -223,9 +223,6 @@ pub record LoopsSo (setting : Setting) (begun : RelayState) (side : Side) (left 
   pub now : RelayState
   pub so : RelaysSo setting begun now side left parent child
 
-pub loop-begins : (setting : Setting) (begun : RelayState) (parent child : HalfView) → GoApart setting sides.Parent begun parent child → LoopsSo setting begun sides.Parent 2 parent child
-loop-begins setting begun parent child apart = record { now = begun; so = record { apart = apart; whole = λ last ending h. h } }
-
 one-less : (left : ℕ) → 0 < left → left ≡ suc (left - 1)
 one-less left h = omega arith
 
@@ -336,9 +333,6 @@ loop-ends setting begun side left parent child none loop =
 
 abbrev pub LoopsInEach : HalfView → HalfView → Side → ℕ → HalfView → HalfView → Type 0
 LoopsInEach parent child side left parent' child' = BothInEach parent child (λ setting begun. LoopsSo setting begun side left parent' child')
-
-pub loops-begin : (parent child : HalfView) → LoopsInEach parent child sides.Parent 2 parent child
-loops-begin parent child setting begun apart = loop-begins setting begun parent child apart
 
 pub loops-apart : (begun_parent begun_child parent child : HalfView) (side : Side) (left : ℕ) → BothApart begun_parent begun_child → LoopsInEach begun_parent begun_child side left parent child → BothApart parent child
 loops-apart begun_parent begun_child parent child side left is loops =

@@ -23,6 +23,6 @@ pub use laws::{
     feed_turns_are_possible, feeds_come_to_an_end, halves_fit_behind_more, stored_lines_follow,
 };
 pub use link::Link;
-pub use relay::{Halves, Relay, take_turns};
+pub use relay::{Halves, Relay, take_turns, turn_answer};
 pub use schedules::{Stop, Turn};
 pub use world::{Replay, World};

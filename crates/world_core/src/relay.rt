@@ -109,8 +109,8 @@ fn receive(half: &mut Half<'_>, facing: &mut Half<'_>) -> StepAnswer
     }
 }
 
-// What a turn answers, by what a half answers to a packet.
-fn turn_answer(answer: AcceptAnswer) -> StepAnswer
+/// What a turn answers, by what a half answers to a packet.
+pub fn turn_answer(answer: AcceptAnswer) -> StepAnswer
     ensures { result ≡ turn_answer answer }
 {
     match answer {
