@@ -3,12 +3,12 @@ use Rattle.std.proofs.Common.{◌≡◌, inl, inr, true, false, Result, Ok, Err,
 use Rattle.std.proofs.lemmas.List.{map-append}
 use Rattle.std.specs.List.{AllByRecursion}
 use Rattle.channel_core.specs.EndView.{packet_of, packets_of}
+use Rattle.channel_model.proofs.Known.{all-append}
 use Rattle.channel_model.specs.Ends as model
 use Rattle.channel_model.specs.Outputs.{is_open}
 use Rattle.end_parts.specs.declared.packet.Packet.{Packet}
 use Rattle.end_parts.specs.PacketReading.{packet_read}
 use Rattle.ipdl_base.specs.declared.kinds.Side.{Side}
-use Rattle.nesting_laws.proofs.AloneSteps.{all-appended}
 use Rattle.relay_runs.specs.HalfRuns.{behind, behind_packet, delivered_for}
 use Rattle.script_steps.specs.Choices.{Setting}
 use Rattle.world_core.specs.declared.answers.AcceptAnswer.{AcceptAnswer}
@@ -28,7 +28,7 @@ module _ (setting : Setting) where
   more-taken : (popped : List Packet) (taken : List model.Packet) (packet : Packet) → HasTaken setting popped taken → IsReadBack setting.schema packet → HasTaken setting (popped ++ packet ∷ []) (taken ++ read packet ∷ [])
   more-taken popped taken packet has reads = record {
     is = ap (λ (ps : List model.Packet). ps ++ read packet ∷ []) has.is ∙ sym (map-append read popped (packet ∷ []));
-    reads = all-appended (IsReadBack setting.schema) popped packet has.reads reads;
+    reads = all-append (IsReadBack setting.schema) popped (packet ∷ []) has.reads (reads, tt);
   }
 
   module _ (side : Side) (pushed popped : List Packet) (half half' : HalfView) where
