@@ -12,7 +12,7 @@ use std::alloc::Global;
 use std::sync::Wait;
 use std::test::Fail;
 use std::thread::Threads;
-use world_core::{Halves, OneThread, Relay, RunAnswer, Stop, World, take_turns};
+use world_core::{Halves, OneThread, Relay, RunAnswer, Stop, World};
 
 /// The halves of a relay whose sides go on at once, and how it ended.
 fn relay<R: Threads + Wait + Sync + AllocGlobal>(
@@ -94,29 +94,6 @@ fn races<R: Threads + Wait + Sync + AllocGlobal>(rt: &R, count: u32) -> Result<u
 fn two_calls_at_once(rt: HostRuntime) -> Result<(), Fail> {
     let good = races(&rt, 100)?;
     assert_eq!(rt; good, 100);
-    Ok(())
-}
-
-/// The lines of both halves, and how they ended, that take turns by hand.
-fn in_turn(alloc: Global, schema: &Schema, script: &Script) -> Result<String, Fail>
-    requires sound { IsSound schema.now }
-    requires valid { IsValid schema.now script.now }
-{
-    let world = World::open(alloc, schema, script, None, 10_000)?;
-    let (mut parent, mut child) = world.into_halves();
-    let answer = take_turns(&mut parent, &mut child);
-    let mut text = half_text(alloc, schema, parent.lines())?;
-    text.push_str(half_text(alloc, schema, child.lines())?.as_str())?;
-    writeln!(text, "{}", ending_of(answer))?;
-    Ok(text)
-}
-
-#[test]
-fn two_tells_in_turn(rt: HostRuntime) -> Result<(), Fail> {
-    let schema = schema_of(rt.alloc(), PROTOCOL)?;
-    let script = script_of(rt.alloc(), &schema, TELLS)?;
-    let text = in_turn(rt.alloc(), &schema, &script)?;
-    assert_eq!(rt; text.as_str(), TWO_TELLS);
     Ok(())
 }
 
