@@ -22,7 +22,7 @@ use Rattle.message_rules.specs.Broken as messages
 use Rattle.message_rules.specs.Messages.{IsTooMany}
 use Rattle.name_table.specs.declared.kinds.MessageKind.TheVariants as kind
 use Rattle.name_table.specs.Decls.{FindsNoProtocol, protocol_of}
-use Rattle.type_rules.specs.Written.{InParams, InMessage}
+use Rattle.type_rules.proofs.Places.{InParams, InMessage}
 use Rattle.program_schema.specs.Clean.{IsClean}
 use Rattle.program_schema.proofs.Lists.{any_at}
 use Rattle.message_rules.proofs.Whole.{some_in}

@@ -12,7 +12,8 @@ use Rattle.ipdl_syntax.specs.declared.tree.TypeSpec.{TypeSpec}
 use Rattle.ipdl_syntax.specs.declared.tree.UnionDecl.{UnionDecl}
 use Rattle.name_table.specs.Decls.{struct_of, union_of}
 use Rattle.type_rules.specs.TypeNames.{IsUnknown, IsAmbiguous, IsUnknownType, IsAmbiguousType}
-use Rattle.type_rules.specs.Written.{OfType, HoldsWithin, InType, InParams, InUnit}
+use Rattle.type_rules.specs.Written.{OfType}
+use Rattle.type_rules.proofs.Places.{HoldsWithin, InType, InParams, InUnit, some_in_file}
 use Rattle.program_schema.specs.Clean.{IsClean}
 use Rattle.program_schema.proofs.Lists.{any_at}
 use Rattle.actor_tables.specs.SchemaSource.{FindsSole, ParamsFindSole, TypesFindSole}
@@ -54,10 +55,10 @@ types_sole program file types unknown ambiguous = λ k d below.
 
 -- in the tree of a file
 pub unit_unknown : (program : List Entry) (file : ℕ) (e : Entry) → IsClean program → slice_get program file ≡ Some e → (place : Place) → ¬ InUnit (Unknown program file place) e.unit
-unit_unknown program file e clean at place h = never_unknown program clean place (file, e, at, h)
+unit_unknown program file e clean at place h = never_unknown program clean place (some_in_file (λ n. Unknown program n place) program (file, e, at, h))
 
 pub unit_ambiguous : (program : List Entry) (file : ℕ) (e : Entry) → IsClean program → slice_get program file ≡ Some e → (place : Place) → ¬ InUnit (Ambiguous program file place) e.unit
-unit_ambiguous program file e clean at place h = never_ambiguous program clean place (file, e, at, h)
+unit_ambiguous program file e clean at place h = never_ambiguous program clean place (some_in_file (λ n. Ambiguous program n place) program (file, e, at, h))
 
 pub struct_sole : (program : List Entry) (file index : ℕ) (s : StructDecl) → IsClean program → struct_of program file index ≡ Some s → ParamsFindSole program file s.fields
 struct_sole program file index s clean is =

@@ -1,22 +1,26 @@
 -- Programs that are alike break the same rules on names of declarations, names of fields, and attributes.
-use Rattle.std.proofs.Common.{◌≡◌, ◌⊎◌, inl, inr, ◌∙◌, List, ◌++◌, Option, Some, None, IsSomeAnd, false, true, map, refl, sym, subst}
+use Rattle.std.proofs.Common.{◌≡◌, ◌⊎◌, ◌∙◌, List, [], ◌∷◌, ◌++◌, Option, Some, None, option_map, unwrap_or, false, true, map, refl, sym, subst}
+use Rattle.std.proofs.lemmas.Option.{same_Some}
 use Rattle.std.specs.List.{Any}
 use Rattle.ipdl_base.specs.declared.finding.Place.{Place}
 use Rattle.ipdl_syntax.specs.declared.program.Entry.{Entry}
-use Rattle.ipdl_syntax.specs.declared.tree.Attribute.{Attribute}
 use Rattle.ipdl_syntax.specs.declared.tree.MessageDecl.{MessageDecl}
 use Rattle.ipdl_syntax.specs.declared.tree.Param.{Param}
 use Rattle.ipdl_syntax.specs.declared.tree.ProtocolDecl.{ProtocolDecl}
 use Rattle.ipdl_syntax.specs.declared.tree.StructDecl.{StructDecl}
 use Rattle.ipdl_syntax.specs.declared.tree.UnionDecl.{UnionDecl}
 use Rattle.ipdl_syntax.specs.declared.tree.Unit.{Unit as FileUnit}
-use Rattle.grammar_laws.specs.Boxes.{unboxed_param, unboxed_struct, unboxed_union, unboxed_held, unboxed}
+use Rattle.ipdl_syntax.specs.declared.tree.Using.{Using}
+use Rattle.grammar_laws.specs.Boxes.{unboxed_param, unboxed_message, unboxed_protocol, unboxed_struct, unboxed_union, unboxed_held, unboxed}
 use Rattle.findings.specs.Repeats.{IsRepeatedAt}
 use Rattle.type_rules.specs.Declarations.{Declaration, of_protocol, declarations, Repeats, TakesTypeWord, IsRepeatedDeclaration, IsRepeatedField}
-use Rattle.type_rules.specs.Attributes.{OfParams, OfMessage, OfProtocol, OfUnit, IsUnlistedOfMessage, IsUnlistedOfProtocol, SomeAttribute, IsUnlistedIn, IsBadAttribute}
+use Rattle.type_rules.specs.Attributes.{HasRepeat, HasUnlisted, IsBadAttribute}
+use Rattle.written_parts.specs.Attributes.{AttributesOf, borne_by, lists_of_params, lists_of_message, lists_of_protocol, lists_of_unit}
+use Rattle.written_parts.specs.declared.attributes.Bearer.TheVariants as bearer
 use Rattle.answer_laws.specs.Programs.{unboxed_entry, AreProgramsAlike}
-use Rattle.answer_laws.proofs.Lists.{any_alike, map_alike, option_alike}
-use Rattle.answer_laws.proofs.Protocols.{SameProtocol, SameMessage, any_message_alike, held_alike, returns_alike}
+use Rattle.answer_laws.proofs.Lists.{any_alike, flat_alike, map_alike}
+use Rattle.answer_laws.proofs.Names.{held_is}
+use Rattle.answer_laws.proofs.Protocols.{SameProtocol, SameMessage, returns_alike}
 
 -- Declarations
 
@@ -54,37 +58,38 @@ module _ (program other : List Entry) (alike : AreProgramsAlike program other) (
 
 -- Attributes
 
-module _ (Holds : List Attribute → Type 0) where
-  of_params : (ps qs : List Param) → map unboxed_param ps ≡ map unboxed_param qs → OfParams Holds ps → OfParams Holds qs
-  of_params ps qs same holds = any_alike unboxed_param (λ p. Holds p.attributes) (λ p. Holds p.attributes) (λ p q looks is. subst (λ (x : Param). Holds x.attributes) looks is) ps qs same holds
+of_params : (ps qs : List Param) → map unboxed_param ps ≡ map unboxed_param qs → lists_of_params ps ≡ lists_of_params qs
+of_params ps qs same = map_alike unboxed_param (λ (p : Param). borne_by bearer.Parameter p.attributes) (λ p. refl) ps qs same
 
-  of_message : (m n : MessageDecl) → SameMessage m n → OfMessage Holds m → OfMessage Holds n
-  of_message m n same (inl holds) = inl (subst (λ (x : MessageDecl). Holds x.attributes) same holds)
-  of_message m n same (inr (inl holds)) = inr (inl (of_params m.params n.params (λ i. (same i).params) holds))
-  of_message m n same (inr (inr holds)) = inr (inr (option_alike (map unboxed_param) (OfParams Holds) (OfParams Holds) of_params m.returns n.returns (returns_alike m n same) holds))
+of_returns : (a b : Option (List Param)) → option_map (map unboxed_param) a ≡ option_map (map unboxed_param) b → lists_of_params (unwrap_or a []) ≡ lists_of_params (unwrap_or b [])
+of_returns None None same = refl
+of_returns None (Some qs) same = absurd (let no : ⊥ = cc in no)
+of_returns (Some ps) None same = absurd (let no : ⊥ = cc in no)
+of_returns (Some ps) (Some qs) same = of_params ps qs (same_Some (map unboxed_param ps) (map unboxed_param qs) same)
 
-  protocol_has : (p q : ProtocolDecl) → SameProtocol p q → OfProtocol Holds p → OfProtocol Holds q
-  protocol_has p q same (inl holds) = inl (subst (λ (x : ProtocolDecl). Holds x.attributes) same holds)
-  protocol_has p q same (inr holds) = inr (any_message_alike (OfMessage Holds) (OfMessage Holds) of_message p q same holds)
+of_message : (m n : MessageDecl) → SameMessage m n → lists_of_message m ≡ lists_of_message n
+of_message m n same =
+    let params = of_params m.params n.params (λ i. (same i).params) in
+    let returns = of_returns m.returns n.returns (returns_alike m n same) in
+    λ i. borne_by bearer.Message (same i).attributes ∷ (params i ++ returns i)
 
-  of_unit : (u v : FileUnit) → unboxed u ≡ unboxed v → OfUnit Holds u → OfUnit Holds v
-  of_unit u v same (inl holds) = inl (subst (λ (x : FileUnit). Any (λ a. Holds a.attributes) x.usings) same holds)
-  of_unit u v same (inr (inl holds)) =
-      inr (inl (any_alike unboxed_struct (λ s. Holds s.attributes) (λ s. Holds s.attributes) (λ s t looks is. subst (λ (x : StructDecl). Holds x.attributes) looks is) u.structs v.structs (λ i. (same i).structs) holds))
-  of_unit u v same (inr (inr (inl holds))) =
-      inr (inr (inl (any_alike unboxed_union (λ s. Holds s.attributes) (λ s. Holds s.attributes) (λ s t looks is. subst (λ (x : UnionDecl). Holds x.attributes) looks is) u.unions v.unions (λ i. (same i).unions) holds)))
-  of_unit u v same (inr (inr (inr holds))) = inr (inr (inr (held_alike (OfProtocol Holds) (OfProtocol Holds) protocol_has u.protocol v.protocol (λ i. (same i).protocol) holds)))
+of_held : (a b : Option ProtocolDecl) → option_map unboxed_protocol a ≡ option_map unboxed_protocol b → lists_of_protocol a ≡ lists_of_protocol b
+of_held None None same = refl
+of_held None (Some q) same = absurd (let no : ⊥ = cc in no)
+of_held (Some p) None same = absurd (let no : ⊥ = cc in no)
+of_held (Some p) (Some q) same =
+    let protocols : SameProtocol p q = same_Some (unboxed_protocol p) (unboxed_protocol q) same in
+    let messages = flat_alike unboxed_message lists_of_message of_message p.messages q.messages (λ i. (protocols i).messages) in
+    λ i. borne_by bearer.Protocol (protocols i).attributes ∷ messages i
 
-unlisted_in : (place : Place) (p q : ProtocolDecl) → SameProtocol p q → IsUnlistedIn place p → IsUnlistedIn place q
-unlisted_in place p q same (inl is) = inl (subst (λ (x : ProtocolDecl). SomeAttribute IsUnlistedOfProtocol place x.attributes) same is)
-unlisted_in place p q same (inr some) =
-    inr (any_message_alike (λ m. SomeAttribute IsUnlistedOfMessage place m.attributes) (λ m. SomeAttribute IsUnlistedOfMessage place m.attributes) (λ m n looks is. subst (λ (x : MessageDecl). SomeAttribute IsUnlistedOfMessage place x.attributes) looks is) p q same some)
+of_unit : (u v : FileUnit) → unboxed u ≡ unboxed v → lists_of_unit u ≡ lists_of_unit v
+of_unit u v same =
+    let structs = map_alike unboxed_struct (λ (s : StructDecl). borne_by bearer.Struct s.attributes) (λ s. refl) u.structs v.structs (λ i. (same i).structs) in
+    let unions = map_alike unboxed_union (λ (s : UnionDecl). borne_by bearer.Union s.attributes) (λ s. refl) u.unions v.unions (λ i. (same i).unions) in
+    let held = of_held u.protocol v.protocol (sym (held_is u.protocol) ∙ (λ i. (same i).protocol) ∙ held_is v.protocol) in
+    λ i. map (λ (s : Using). borne_by bearer.Using s.attributes) (same i).usings ++ (structs i ++ (unions i ++ held i))
 
 pub bad_attribute : (program other : List Entry) → AreProgramsAlike program other → (place : Place) → IsBadAttribute program place → IsBadAttribute other place
 bad_attribute program other alike place broken =
-    any_alike unboxed_entry
-    (λ e. OfUnit (λ attributes. IsRepeatedAt (map (λ a. (a.name, a.place)) attributes) place) e.unit ⊎ IsSomeAnd e.unit.protocol (IsUnlistedIn place)) (λ e. OfUnit (λ attributes. IsRepeatedAt (map (λ a. (a.name, a.place)) attributes) place) e.unit ⊎ IsSomeAnd e.unit.protocol (IsUnlistedIn place))
-    (λ x y same. elim [
-      | inl is ↦ inl (of_unit (λ attributes. IsRepeatedAt (map (λ a. (a.name, a.place)) attributes) place) x.unit y.unit (λ i. (same i).unit) is)
-      | inr is ↦ inr (held_alike (IsUnlistedIn place) (IsUnlistedIn place) (unlisted_in place) x.unit.protocol y.unit.protocol (λ i. (same i).unit.protocol) is)
-    ]) program other alike broken
+    let lists = flat_alike unboxed_entry (λ (e : Entry). lists_of_unit e.unit) (λ x y same. of_unit x.unit y.unit (λ i. (same i).unit)) program other alike in
+    subst (λ (ls : List AttributesOf). Any (λ l. HasRepeat place l.attributes ⊎ HasUnlisted place l.bearer l.attributes) ls) lists broken

@@ -1,7 +1,7 @@
 -- Lists and options whose elements look alike: what holds of one holds of the other, where the looks decide it.
-use Rattle.std.proofs.Common.{◌≡◌, ◌∙◌, ℕ, zero, suc, ◌+◌, List, [], ◌∷◌, Option, Some, None, IsSomeAnd, slice_get, map, refl, sym, ap}
+use Rattle.std.proofs.Common.{◌≡◌, ◌∙◌, ℕ, zero, suc, ◌+◌, List, [], ◌∷◌, ◌++◌, Option, Some, None, IsSomeAnd, slice_get, map, refl, sym, ap}
 use Rattle.std.specs.Prelude.{option_map, IsSome}
-use Rattle.std.specs.List.{AllZip, Any, Contains}
+use Rattle.std.specs.List.{AllZip, Any, Contains, flat_map}
 use Rattle.std.proofs.lemmas.Option.{same_Some}
 use Rattle.findings.specs.Gains.{AtSome}
 use Rattle.program_schema.specs.SchemaOf.{AreRows}
@@ -88,6 +88,18 @@ kept_map look g keeps (x ∷ xs) =
 
 pub map_alike : {X W : Type 0} (look : X → X) (g : X → W) → ((x : X) → g (look x) ≡ g x) → (xs ys : List X) → map look xs ≡ map look ys → map g xs ≡ map g ys
 map_alike look g keeps xs ys same = sym (kept_map look g keeps xs) ∙ ap (map g) same ∙ kept_map look g keeps ys
+
+-- lists that are made of parts which the look decides
+pub flat_alike : {X W : Type 0} (look : X → X) (f : X → List W) → ((x y : X) → look x ≡ look y → f x ≡ f y) → (xs ys : List X) → map look xs ≡ map look ys → flat_map f xs ≡ flat_map f ys
+flat_alike look f step [] [] same = refl
+flat_alike look f step [] (y ∷ ys) same = absurd (let no : ⊥ = cc in no)
+flat_alike look f step (x ∷ xs) [] same = absurd (let no : ⊥ = cc in no)
+flat_alike look f step (x ∷ xs) (y ∷ ys) same =
+    let first : look x ≡ look y = cc in
+    let others : map look xs ≡ map look ys = cc in
+    let here = step x y first in
+    let rest = flat_alike look f step xs ys others in
+    λ i. here i ++ rest i
 
 kept_option : {X W : Type 0} (look : X → X) (g : X → W) → ((x : X) → g (look x) ≡ g x) → (a : Option X) → option_map g (option_map look a) ≡ option_map g a
 kept_option look g keeps None = refl

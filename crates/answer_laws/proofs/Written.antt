@@ -9,7 +9,8 @@ use Rattle.ipdl_syntax.specs.declared.tree.Param.{Param}
 use Rattle.ipdl_syntax.specs.declared.tree.TypeSpec.{TypeSpec}
 use Rattle.ipdl_syntax.specs.declared.tree.Unit.{Unit as FileUnit}
 use Rattle.grammar_laws.specs.Boxes.{unboxed_base, unboxed_type, unboxed_param, unboxed_struct, unboxed_union, unboxed}
-use Rattle.type_rules.specs.Written.{OfType, HoldsWithin, InType, InParams, InMessage, InUnit, SomeType}
+use Rattle.type_rules.specs.Written.{OfType, SomeType}
+use Rattle.type_rules.proofs.Places.{HoldsWithin, InType, InParams, InMessage, InUnit, some_in_file, file_of_some}
 use Rattle.type_rules.specs.TypeNames.{IsUnknown, IsAmbiguous, IsNoActor, IsUnknownType, IsAmbiguousType, IsNullableNonActor}
 use Rattle.answer_laws.specs.Programs.{unboxed_entry, AreProgramsAlike}
 use Rattle.answer_laws.proofs.Lists.{any_alike, at_alike, option_alike}
@@ -64,7 +65,9 @@ module _ (P Q : OfType) (passes : Passes P Q) where
 
 some_type : (P Q : ℕ → OfType) → ((file : ℕ) → Passes (P file) (Q file)) → (program other : List Entry) → AreProgramsAlike program other → SomeType P program → SomeType Q other
 some_type P Q passes program other alike holds =
-    at_alike unboxed_entry (λ file e. InUnit (P file) e.unit) (λ file e. InUnit (Q file) e.unit) (λ file x y same is. in_unit (P file) (Q file) (passes file) x.unit y.unit (λ i. (same i).unit) is) program other alike holds
+    some_in_file Q other
+    (at_alike unboxed_entry (λ file e. InUnit (P file) e.unit) (λ file e. InUnit (Q file) e.unit) (λ file x y same is. in_unit (P file) (Q file) (passes file) x.unit y.unit (λ i. (same i).unit) is) program other alike
+    (file_of_some P program holds))
 
 -- The rules
 

@@ -2,6 +2,7 @@
 use Rattle.std.specs.Prelude.{◌≡◌, ◌≢◌, ℕ, ◌+◌, if◌then◌else◌, List, [], ◌∷◌, take, drop, map, Option, Some, None}
 use Rattle.std.specs.Str.{bytes_eq}
 use Rattle.ipdl_base.specs.declared.finding.Rule.{Rule}
+use Rattle.ipdl_base.specs.declared.finding.TheConstants.Rule as rule
 use Rattle.ipdl_base.specs.declared.message.Message.{Message}
 use Rattle.ipdl_base.specs.declared.schema.Schema.{Schema}
 use Rattle.ipdl_base.specs.Plain.{plain_message}
@@ -16,9 +17,9 @@ use Rattle.frame_list.specs.declared.list.PlacedMessage.{PlacedMessage}
 abbrev pub layout_at : List ℕ → Layout
 layout_at bytes = if bytes_eq (take 4 bytes) MARK then NEW else OLD
 
--- a rule on frames, by its number
+-- the rule on frames of this number: all of them have one letter
 abbrev pub frame_rule : ℕ → Rule
-frame_rule number = record { letter = 70; number = number }
+frame_rule number = record { letter = (rule.BAD_MARK).letter; number = number }
 
 -- At this offset of a file stand bytes that are not empty and that no frame begins: they are less than one, or break a rule.
 abbrev pub IsFault : Schema → ℕ → List ℕ → FrameListFault → Type 0

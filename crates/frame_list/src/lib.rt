@@ -8,6 +8,6 @@ mod list;
 mod text;
 mod told;
 
-pub use list::{FrameListFault, PlacedMessage};
+pub use list::{FrameListFault, PlacedMessage, frame_rule};
 pub use text::fault_text;
 pub use told::{push_lines, push_new_frames};

@@ -3,7 +3,7 @@ ghost use Rattle.std.specs.Str.{bytes_eq};
 ghost use Rattle.ipdl_base.specs.Sound.{IsSound};
 ghost use Rattle.value_types.specs.declared.layout.TheConstants.{MARK};
 ghost use Rattle.value_codec.specs.Decoding.{IsTrueOf};
-ghost use Rattle.frame_list.specs.Frames.{layout_at};
+ghost use Rattle.frame_list.specs.Frames.{frame_rule as the_frame_rule, layout_at};
 ghost use Rattle.frame_list.specs.Steps.{IsFound};
 
 use ipdl_base::{Message, Rule, Schema};
@@ -43,6 +43,16 @@ fn is_marked(bytes: &[u8]) -> bool
     bytes.starts_with(&MARK)
 }
 
+/// The rule on frames of this number: all of them have the letter F.
+pub fn frame_rule(number: u8) -> Rule
+    ensures { result ≡ the_frame_rule number }
+{
+    Rule {
+        letter: Rule::BAD_MARK.letter,
+        number,
+    }
+}
+
 /// What bytes begin, in the layout that their first bytes tell.
 fn begun(alloc: Global, schema: &Schema, bytes: &[u8]) -> Decoded
     requires { IsSound schema.now }
@@ -70,10 +80,7 @@ pub(crate) fn found_at(
         Decoded::Frame(message, size) => Ok(FrameReading::Frame(message, size)),
         Decoded::Short(missing) => Ok(FrameReading::Fault(FrameListFault::Short(offset, missing))),
         Decoded::Bad(within, number) => {
-            let rule = Rule {
-                letter: b'F',
-                number,
-            };
+            let rule = frame_rule(number);
             Ok(FrameReading::Fault(FrameListFault::Broken(offset + within, rule)))
         }
         Decoded::NoMemory => Err(AllocError),

@@ -1,8 +1,8 @@
 ghost use Rattle.std.specs.Prelude.{IfOk};
 ghost use Rattle.ipdl_syntax.specs.Programs.{IsProgram, BearTheirNames};
 
-use include_graph::{are_file_words, load};
-use ipdl_base::{Files, Finding, Findings, MemoryFiles, Name, ReadAnswer};
+use include_graph::{LoadResult, are_file_words, load};
+use ipdl_base::{Failure, FileBytes, Files, Finding, Findings, MemoryFiles, Name};
 use ipdl_syntax::Program;
 use std::alloc::{AllocError, Global};
 use std::test::Fail;
@@ -55,8 +55,8 @@ pub fn program(alloc: Global, mut files: MemoryFiles, words: &str) -> Result<Pro
         return Err("no words of files".into());
     }
     match load(alloc, &mut files, words.as_slice(), path.as_slice()) {
-        Ok(program) => Ok(program),
-        Err(_) => Err("no program".into()),
+        Ok(LoadResult::Whole(program)) => Ok(program),
+        _ => Err("no program".into()),
     }
 }
 
@@ -118,10 +118,8 @@ impl Files for NotedFiles {
 
     ghost faults = { λ f. f.files.faults };
 
-    fn read(&mut self, alloc: Global, name: &str, limit: usize) -> ReadAnswer {
-        match push_asked(&mut self.asked, name) {
-            Ok(()) => self.files.read(alloc, name, limit),
-            Err(AllocError) => ReadAnswer::NoMemory,
-        }
+    fn read(&mut self, alloc: Global, name: &str, limit: usize) -> Result<FileBytes, Failure> {
+        push_asked(&mut self.asked, name)?;
+        self.files.read(alloc, name, limit)
     }
 }

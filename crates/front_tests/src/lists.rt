@@ -1,8 +1,9 @@
 use super::given::{files, note, program, show};
+use findings::sort_findings;
 use ipdl_syntax::Program;
 use std::alloc::Global;
 use std::test::Fail;
-use sync_list::{ListFault, read_list, sync_findings};
+use sync_list::{ListFault, add_of_list, read_list};
 
 /// The files of the programs, each with its name behind `@ `, and then its text. A message of `PT` is
 /// sync and async; two protocols of `two` have messages of one name.
@@ -394,7 +395,9 @@ fn show_findings(alloc: Global, program: &Program, text: &str) -> Result<String,
         return Err("a list or a program that is too large".into());
     }
     let list = read_list(alloc, text.as_bytes()).map_err(|_| "no list")?;
-    Ok(show(alloc, &sync_findings(alloc, program, &list)?)?)
+    let mut found = Vec::new(alloc);
+    add_of_list(alloc, program, &list, &mut found)?;
+    Ok(show(alloc, &sort_findings(found))?)
 }
 
 /// The program of these files, of which each is a word.

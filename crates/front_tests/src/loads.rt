@@ -1,7 +1,7 @@
 use super::given::{NotedFiles, files, note, push_finding, strings, text};
 use super::load_rows::LOADS;
-use include_graph::{LoadFault, are_file_words, load, one_reach};
-use ipdl_base::{Finding, Findings, MemoryFiles, Texts as Names, key_of};
+use include_graph::{LoadResult, are_file_words, load, one_reach};
+use ipdl_base::{Failure, Finding, MemoryFiles, Report, Texts as Names, key_of};
 use ipdl_syntax::{Entry, Program};
 use std::alloc::{AllocError, Global};
 use std::test::Fail;
@@ -31,21 +31,21 @@ fn push_named(finding: &Finding, names: &Names, out: &mut String) -> Result<(), 
     out.push('\n')
 }
 
-/// Appends findings, each on a line.
-fn push_findings(findings: &Findings, names: &Names, out: &mut String) -> Result<(), AllocError> {
-    for finding in findings.as_slice() {
-        push_named(finding, names, out)?;
+/// Appends the findings of a report, each on a line.
+fn push_report(report: &Report, out: &mut String) -> Result<(), AllocError> {
+    for finding in report.findings.as_slice() {
+        push_named(finding, &report.names, out)?;
     }
     Ok(())
 }
 
 /// Appends what a load gives.
-fn push_answer(answer: &Result<Program, LoadFault>, out: &mut String) -> Result<(), AllocError> {
+fn push_answer(answer: &Result<LoadResult, Failure>, out: &mut String) -> Result<(), AllocError> {
     match answer {
-        Ok(program) => push_program(program, out),
-        Err(LoadFault::Broken(findings, names)) => push_findings(findings, names, out),
-        Err(LoadFault::ReadFault) => out.push_str("read fault\n"),
-        Err(LoadFault::NoMemory) => out.push_str("no memory\n"),
+        Ok(LoadResult::Whole(program)) => push_program(program, out),
+        Ok(LoadResult::Broken(report)) => push_report(report, out),
+        Err(Failure::ReadFault) => out.push_str("read fault\n"),
+        Err(Failure::NoMemory) => out.push_str("no memory\n"),
     }
 }
 

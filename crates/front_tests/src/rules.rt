@@ -4,13 +4,14 @@ use super::given::{files, note, program, show};
 use super::manager_rows::{MANAGERS, MANAGERS_COUNT};
 use super::message_rows::{MESSAGES, MESSAGES_COUNT};
 use super::type_rows::{TYPES, TYPES_COUNT};
+use findings::sort_findings;
 use ipdl_base::Findings;
 use ipdl_syntax::Program;
 use name_table::Names;
-use proto_rules::proto_findings;
+use proto_rules::add_of_protocols;
 use std::alloc::Global;
 use std::test::Fail;
-use type_rules::type_findings;
+use type_rules::add_of_types;
 
 /// Some rules on programs.
 #[derive(Clone, Copy)]
@@ -28,10 +29,12 @@ impl Rules {
             return Err("too many files".into());
         }
         let names = Names::build(alloc, program)?;
-        Ok(match self {
-            Rules::Types => type_findings(alloc, program, &names)?,
-            Rules::Protocols => proto_findings(alloc, program, &names)?,
-        })
+        let mut found = Vec::new(alloc);
+        match self {
+            Rules::Types => add_of_types(alloc, program, &names, &mut found)?,
+            Rules::Protocols => add_of_protocols(alloc, program, &names, &mut found)?,
+        }
+        Ok(sort_findings(found))
     }
 }
 

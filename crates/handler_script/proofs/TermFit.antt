@@ -1,7 +1,7 @@
 -- What fits a type stands for a term that does.
 use Rattle.std.proofs.Common.{◌≡◌, ℕ, ◌*◌, ◌<◌, ◌^◌, Bool, true, false, List, [], ◌∷◌, length, Option, Some, None, ℤ, pos, ◌≤ℤ◌, ◌⊎◌, inl, inr, refl, sym, subst, arith}
 use Rattle.std.specs.Prelude.{IsTrue, IsSome, IsSomeAnd, unwrap_or, option_and_then, if◌then◌else◌}
-use Rattle.std.proofs.lemmas.Bool.{true≢false, cases_Bool, or_parts, eq-eqb}
+use Rattle.std.proofs.lemmas.Bool.{true≢false, or_parts, not-false, eq-eqb}
 use Rattle.std.proofs.lemmas.Int.{by_lt_z, ints}
 use Rattle.ipdl_base.specs.declared.builtin.Builtin.{Builtin as BuiltinType}
 use Rattle.ipdl_base.specs.declared.builtin.Builtin.TheVariants as builtin
@@ -20,7 +20,7 @@ use Rattle.value_types.specs.HasType.{IsInRange, IsActorOf}
 use Rattle.value_types.specs.Shapes.{range_of, builtin_of, is_bytes, element_of, held_by, fields_of, component_of}
 use Rattle.handler_script.specs.declared.term.Term.TheVariants as term
 use Rattle.handler_script.specs.Blocks.{BlockContext, in_main, in_handler, given_in}
-use Rattle.handler_script.specs.Broken.{is_of_handler, is_made, is_of_constructor}
+use Rattle.handler_script.specs.Broken.{is_unknown}
 use Rattle.handler_script.specs.Mentions.{atom_mentions, mentions, any_mentions}
 use Rattle.handler_script.specs.Messages.{is_constructor}
 use Rattle.handler_script.specs.Terms.{Fits, AllFit, EachFits, AtomFits, AreBits, StandsFor, WhoFits, param_at, is_actor, number_of, bytes_term, who_term, atom_term, term_of, elements_of, terms_of}
@@ -28,19 +28,15 @@ use Rattle.handler_script.specs.Valid.{MayName, TermFits, AllTermsFit, EachTermF
 use Rattle.handler_script.proofs.SameTypes.{same_nat, stands}
 use Rattle.handler_script.proofs.Names.{AreBytes, IsNamed, AtomNames, ValueNames, ValuesNames}
 
-abbrev pub is_main : BlockContext → Bool
-is_main (in_main side) = true
-is_main (in_handler side message) = false
-
--- One who is spoken of may be: in a main it is not the handled message's, and elsewhere than in a constructor's handler not what was made.
-pub may_name : (b : BlockContext) (w : Who) → (is_main b ≡ true → is_of_handler w ≡ false) → (is_of_constructor b ≡ false → is_made w ≡ false) → IsNamed w → ((n : ℕ) → whos.Param n ≡ w → MayName b w) → MayName b w
-may_name b whos.Top m k n p = tt
-may_name (in_main side) whos.This m k n p = absurd (true≢false (m refl))
-may_name (in_handler side message) whos.This m k n p = refl
-may_name (in_main side) whos.Made m k n p = absurd (true≢false (k refl))
-may_name (in_handler side message) whos.Made m k n p = elim (cases_Bool (is_constructor message.kind)) [ inl t ↦ t | inr f ↦ absurd (true≢false (k f)) ]
-may_name b (whos.Param i) m k n p = p i refl
-may_name b (whos.Name name) m k n p = n
+-- One who is known in a block may be spoken of there.
+pub may_name : (b : BlockContext) (w : Who) → is_unknown b w ≡ false → IsNamed w → ((n : ℕ) → whos.Param n ≡ w → MayName b w) → MayName b w
+may_name b whos.Top k n p = tt
+may_name (in_main side) whos.This k n p = absurd (true≢false k)
+may_name (in_handler side message) whos.This k n p = refl
+may_name (in_main side) whos.Made k n p = absurd (true≢false k)
+may_name (in_handler side message) whos.Made k n p = not-false (is_constructor message.kind) k
+may_name b (whos.Param i) k n p = p i refl
+may_name b (whos.Name name) k n p = n
 
 -- What is not false of things that can be told apart is so
 
@@ -60,12 +56,12 @@ is_below : (a b : ℤ) → ¬ ¬ (a ≤ℤ b) → a ≤ℤ b
 is_below a b h = by_lt_z b a (λ lt. absurd (h (λ le. let no : ⊥ = omega (arith, ints) in no))) (λ le. le)
 
 -- one who fits as a value stands for a term
-who_fits : (schema : Schema) (b : BlockContext) (shape : Shape) (w : Who) → ¬ ¬ WhoFits (given_in b) shape w → (is_main b ≡ true → is_of_handler w ≡ false) → (is_of_constructor b ≡ false → is_made w ≡ false) → IsNamed w → TermFits schema b shape (who_term w)
-who_fits schema b shape whos.Top h m k n = (is_true (is_actor shape) h, refl, tt)
-who_fits schema b shape whos.This h m k n = (is_true (is_actor shape) h, refl, may_name b whos.This m k n (λ i e. let no : ⊥ = cc in absurd no))
-who_fits schema b shape whos.Made h m k n = (is_true (is_actor shape) h, refl, may_name b whos.Made m k n (λ i e. let no : ⊥ = cc in absurd no))
-who_fits schema b shape (whos.Param i) h m k n = some_part (λ (param : ParamRow). StandsFor param.shape shape) (λ param. StandsFor param.shape shape) (param_at (given_in b) i) h (λ param e s. stands param.shape shape s)
-who_fits schema b shape (whos.Name name) h m k n = (is_true (is_actor shape) h, refl, n)
+who_fits : (schema : Schema) (b : BlockContext) (shape : Shape) (w : Who) → ¬ ¬ WhoFits (given_in b) shape w → is_unknown b w ≡ false → IsNamed w → TermFits schema b shape (who_term w)
+who_fits schema b shape whos.Top h k n = (is_true (is_actor shape) h, refl, tt)
+who_fits schema b shape whos.This h k n = (is_true (is_actor shape) h, refl, may_name b whos.This k n (λ i e. let no : ⊥ = cc in absurd no))
+who_fits schema b shape whos.Made h k n = (is_true (is_actor shape) h, refl, may_name b whos.Made k n (λ i e. let no : ⊥ = cc in absurd no))
+who_fits schema b shape (whos.Param i) h k n = some_part (λ (param : ParamRow). StandsFor param.shape shape) (λ param. StandsFor param.shape shape) (param_at (given_in b) i) h (λ param e s. stands param.shape shape s)
+who_fits schema b shape (whos.Name name) h k n = (is_true (is_actor shape) h, refl, n)
 
 -- bits of four and of eight bytes
 
@@ -130,46 +126,46 @@ number_fits shape i h =
     some_part (λ (range : ℤ × ℤ). (range.0 ≤ℤ i) × (i ≤ℤ range.1)) (λ range. (range.0 ≤ℤ i) × (i ≤ℤ range.1)) (option_and_then range_of (builtin_of shape)) h
     (λ range e s. let both = not_both s in (is_below range.0 i both.0, is_below i range.1 both.1))
 
-atom_fits : (schema : Schema) (b : BlockContext) (shape : Shape) (a : Atom) → ¬ ¬ AtomFits (given_in b) shape a → (is_main b ≡ true → atom_mentions is_of_handler a ≡ false) → (is_of_constructor b ≡ false → atom_mentions is_made a ≡ false) → AtomNames a → TermFits schema b shape (atom_term shape a)
-atom_fits schema b shape (atom.Bool t) h m k n = bool_fits shape h
-atom_fits schema b shape (atom.Number i) h m k n = number_fits shape i h
-atom_fits schema b shape (atom.Text text) h m k n = (text_fits shape (not_both h).0, n)
-atom_fits schema b shape (atom.Bytes bytes) h m k n = bytes_fit schema b shape bytes n h
-atom_fits schema b shape atom.Nothing h m k n = elim (held_by shape) as (λ o. ¬ ¬ IsSome o → IsSomeAnd o (λ inner. Unit {0})) [ None ↦ (λ h. absurd (h (λ none. true≢false (sym none)))) | Some inner ↦ (λ h. tt) ] h
-atom_fits schema b shape atom.Null h m k n = (refl, null_fits shape h)
-atom_fits schema b shape (atom.Who w) h m k n = who_fits schema b shape w h m k n
+atom_fits : (schema : Schema) (b : BlockContext) (shape : Shape) (a : Atom) → ¬ ¬ AtomFits (given_in b) shape a → atom_mentions (is_unknown b) a ≡ false → AtomNames a → TermFits schema b shape (atom_term shape a)
+atom_fits schema b shape (atom.Bool t) h k n = bool_fits shape h
+atom_fits schema b shape (atom.Number i) h k n = number_fits shape i h
+atom_fits schema b shape (atom.Text text) h k n = (text_fits shape (not_both h).0, n)
+atom_fits schema b shape (atom.Bytes bytes) h k n = bytes_fit schema b shape bytes n h
+atom_fits schema b shape atom.Nothing h k n = elim (held_by shape) as (λ o. ¬ ¬ IsSome o → IsSomeAnd o (λ inner. Unit {0})) [ None ↦ (λ h. absurd (h (λ none. true≢false (sym none)))) | Some inner ↦ (λ h. tt) ] h
+atom_fits schema b shape atom.Null h k n = (refl, null_fits shape h)
+atom_fits schema b shape (atom.Who w) h k n = who_fits schema b shape w h k n
 
 mutual
-  pub value_fits : (schema : Schema) (b : BlockContext) (shape : Shape) (v : WrittenValue) → ¬ ¬ Fits schema (given_in b) shape v → (is_main b ≡ true → mentions is_of_handler v ≡ false) → (is_of_constructor b ≡ false → mentions is_made v ≡ false) → ValueNames v → TermFits schema b shape (term_of schema shape v)
-  value_fits schema b shape (written.Atom a) h m k n = atom_fits schema b shape a h m k n
-  value_fits schema b shape (written.Struct vs) h m k n =
+  pub value_fits : (schema : Schema) (b : BlockContext) (shape : Shape) (v : WrittenValue) → ¬ ¬ Fits schema (given_in b) shape v → mentions (is_unknown b) v ≡ false → ValueNames v → TermFits schema b shape (term_of schema shape v)
+  value_fits schema b shape (written.Atom a) h k n = atom_fits schema b shape a h k n
+  value_fits schema b shape (written.Struct vs) h k n =
       some_part (λ fields. EachFits schema (given_in b) fields vs) (λ fields. EachTermFits schema b fields (terms_of schema (unwrap_or (fields_of schema shape) []) vs)) (fields_of schema shape) h
-      (λ fields e fit. let P : Option (List ParamRow) → Type 0 = λ o. EachTermFits schema b fields (terms_of schema (unwrap_or o []) vs) in subst P (sym e) (each_value_fits schema b fields vs fit m k n))
-  value_fits schema b shape (written.Array vs) h m k n =
+      (λ fields e fit. let P : Option (List ParamRow) → Type 0 = λ o. EachTermFits schema b fields (terms_of schema (unwrap_or o []) vs) in subst P (sym e) (each_value_fits schema b fields vs fit k n))
+  value_fits schema b shape (written.Array vs) h k n =
       some_part (λ element. AllFit schema (given_in b) element vs) (λ element. AllTermsFit schema b element (elements_of schema (unwrap_or (element_of shape) shape) vs)) (element_of shape) h
-      (λ element e fit. let P : Option Shape → Type 0 = λ o. AllTermsFit schema b element (elements_of schema (unwrap_or o shape) vs) in subst P (sym e) (all_values_fit schema b element vs fit m k n))
-  value_fits schema b shape (Union' index _ v) h m k n =
+      (λ element e fit. let P : Option Shape → Type 0 = λ o. AllTermsFit schema b element (elements_of schema (unwrap_or o shape) vs) in subst P (sym e) (all_values_fit schema b element vs fit k n))
+  value_fits schema b shape (Union' index _ v) h k n =
       some_part (λ component. Fits schema (given_in b) component v) (λ component. TermFits schema b component (term_of schema (unwrap_or (component_of schema shape index) shape) v)) (component_of schema shape index) h
-      (λ component e fit. let P : Option Shape → Type 0 = λ o. TermFits schema b component (term_of schema (unwrap_or o shape) v) in subst P (sym e) (value_fits schema b component v fit m k n))
-  value_fits schema b shape (Held' _ v) h m k n =
+      (λ component e fit. let P : Option Shape → Type 0 = λ o. TermFits schema b component (term_of schema (unwrap_or o shape) v) in subst P (sym e) (value_fits schema b component v fit k n))
+  value_fits schema b shape (Held' _ v) h k n =
       some_part (λ inner. Fits schema (given_in b) inner v) (λ inner. TermFits schema b inner (term_of schema (unwrap_or (held_by shape) shape) v)) (held_by shape) h
-      (λ inner e fit. let P : Option Shape → Type 0 = λ o. TermFits schema b inner (term_of schema (unwrap_or o shape) v) in subst P (sym e) (value_fits schema b inner v fit m k n))
+      (λ inner e fit. let P : Option Shape → Type 0 = λ o. TermFits schema b inner (term_of schema (unwrap_or o shape) v) in subst P (sym e) (value_fits schema b inner v fit k n))
 
-  all_values_fit : (schema : Schema) (b : BlockContext) (shape : Shape) (vs : WrittenValues) → ¬ ¬ AllFit schema (given_in b) shape vs → (is_main b ≡ true → any_mentions is_of_handler vs ≡ false) → (is_of_constructor b ≡ false → any_mentions is_made vs ≡ false) → ValuesNames vs → AllTermsFit schema b shape (elements_of schema shape vs)
-  all_values_fit schema b shape values.Nothing h m k n = tt
-  all_values_fit schema b shape (First' _ v _ vs) h m k n =
+  all_values_fit : (schema : Schema) (b : BlockContext) (shape : Shape) (vs : WrittenValues) → ¬ ¬ AllFit schema (given_in b) shape vs → any_mentions (is_unknown b) vs ≡ false → ValuesNames vs → AllTermsFit schema b shape (elements_of schema shape vs)
+  all_values_fit schema b shape values.Nothing h k n = tt
+  all_values_fit schema b shape (First' _ v _ vs) h k n =
       let both = not_both h in (
-        value_fits schema b shape v both.0 (λ e. (or_parts (mentions is_of_handler v) (any_mentions is_of_handler vs) (m e)).0) (λ e. (or_parts (mentions is_made v) (any_mentions is_made vs) (k e)).0) n.0,
-        all_values_fit schema b shape vs both.1 (λ e. (or_parts (mentions is_of_handler v) (any_mentions is_of_handler vs) (m e)).1) (λ e. (or_parts (mentions is_made v) (any_mentions is_made vs) (k e)).1) n.1,
+        value_fits schema b shape v both.0 (or_parts (mentions (is_unknown b) v) (any_mentions (is_unknown b) vs) k).0 n.0,
+        all_values_fit schema b shape vs both.1 (or_parts (mentions (is_unknown b) v) (any_mentions (is_unknown b) vs) k).1 n.1,
       )
 
   -- values that do not fail to fit stand for terms that fit
-  pub each_value_fits : (schema : Schema) (b : BlockContext) (fields : List ParamRow) (vs : WrittenValues) → ¬ ¬ EachFits schema (given_in b) fields vs → (is_main b ≡ true → any_mentions is_of_handler vs ≡ false) → (is_of_constructor b ≡ false → any_mentions is_made vs ≡ false) → ValuesNames vs → EachTermFits schema b fields (terms_of schema fields vs)
-  each_value_fits schema b [] values.Nothing h m k n = tt
-  each_value_fits schema b (field ∷ fields) values.Nothing h m k n = absurd (h (λ no. no))
-  each_value_fits schema b [] (First' _ v _ vs) h m k n = absurd (h (λ no. no))
-  each_value_fits schema b (field ∷ fields) (First' _ v _ vs) h m k n =
+  pub each_value_fits : (schema : Schema) (b : BlockContext) (fields : List ParamRow) (vs : WrittenValues) → ¬ ¬ EachFits schema (given_in b) fields vs → any_mentions (is_unknown b) vs ≡ false → ValuesNames vs → EachTermFits schema b fields (terms_of schema fields vs)
+  each_value_fits schema b [] values.Nothing h k n = tt
+  each_value_fits schema b (field ∷ fields) values.Nothing h k n = absurd (h (λ no. no))
+  each_value_fits schema b [] (First' _ v _ vs) h k n = absurd (h (λ no. no))
+  each_value_fits schema b (field ∷ fields) (First' _ v _ vs) h k n =
       let both = not_both h in (
-        value_fits schema b field.shape v both.0 (λ e. (or_parts (mentions is_of_handler v) (any_mentions is_of_handler vs) (m e)).0) (λ e. (or_parts (mentions is_made v) (any_mentions is_made vs) (k e)).0) n.0,
-        each_value_fits schema b fields vs both.1 (λ e. (or_parts (mentions is_of_handler v) (any_mentions is_of_handler vs) (m e)).1) (λ e. (or_parts (mentions is_made v) (any_mentions is_made vs) (k e)).1) n.1,
+        value_fits schema b field.shape v both.0 (or_parts (mentions (is_unknown b) v) (any_mentions (is_unknown b) vs) k).0 n.0,
+        each_value_fits schema b fields vs both.1 (or_parts (mentions (is_unknown b) v) (any_mentions (is_unknown b) vs) k).1 n.1,
       )

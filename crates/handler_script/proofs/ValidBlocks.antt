@@ -1,12 +1,13 @@
 -- A script that breaks no rule is valid.
-use Rattle.std.proofs.Common.{◌≡◌, ℕ, ◌+◌, ◌≤◌, Bool, true, false, not, cond, ◌&&◌, ◌||◌, List, [], ◌∷◌, ◌++◌, length, map, take, drop, Option, Some, None, inl, inr, refl, sym, ap, ◌∙◌, subst, append_assoc, arith}
+use Rattle.std.proofs.Common.{◌≡◌, ℕ, ◌+◌, ◌≤◌, Bool, true, false, not, cond, ◌&&◌, ◌||◌, List, [], ◌∷◌, ◌++◌, length, map, take, drop, Option, Some, None, inl, inr, refl, sym, ap, ◌∙◌, subst, append-nil, append_assoc, arith}
 use Rattle.std.specs.Prelude.{if◌then◌else◌, IsTrue, IfSome, IsSomeAnd, option_and_then, slice_get, count_by}
-use Rattle.std.specs.List.{All, AllByRecursion, filter_map, cons_option}
+use Rattle.std.specs.List.{All, AllByRecursion, filter_map, cons_option, list_any}
 use Rattle.std.specs.Option.{option_map, option_map_or}
+use Rattle.std.proofs.Math.Bool.{or-false}
 use Rattle.std.proofs.lemmas.Bool.{true≢false, cases_Bool, false_from_ne_true}
 use Rattle.std.proofs.lemmas.List.Elements.{All-from_recursion}
 use Rattle.std.proofs.lemmas.List.Recursion.{is_count_by}
-use Rattle.std.proofs.lemmas.List.Sums.{fold-append}
+use Rattle.std.proofs.lemmas.List.Folds.{list_any-append}
 use Rattle.std.proofs.lemmas.List.{length-append, length-map}
 use Rattle.std.proofs.Math.Seq.{take-append_seam, drop-append_seam}
 use Rattle.ipdl_base.specs.declared.finding.Finding.{Finding}
@@ -31,13 +32,16 @@ use Rattle.handler_script.specs.declared.term.Term.{Term, Union', Maybe', Held-T
 use Rattle.handler_script.specs.declared.term.Term.TheVariants as term
 use Rattle.handler_script.specs.declared.term.Terms.{Terms, First'}
 use Rattle.handler_script.specs.declared.term.Terms.TheVariants as terms
-use Rattle.handler_script.specs.Blocks.{closes, answers, opened_by, open_after, open_behind, answered_after, answered_behind, BlockContext, in_main, in_handler, standing_of, standing_behind, handled_in}
-use Rattle.handler_script.specs.Broken.{line_place, NamesNone, BreaksDirection, BreaksValues, IsNotAllowed, BreaksCarried, LineBreaks, StatementBreaks, is_misdirected, is_uncarried, IsBroken}
-use Rattle.handler_script.specs.Messages.{message_named, receives, resolves, replies, is_constructor}
+use Rattle.handler_script.specs.Blocks.{opens, closes, answers, statements, BlockContext, in_main, in_handler, standing_of, handled_in}
+use Rattle.handler_script.specs.Knowing.{place_of}
+use Rattle.handler_script.specs.Broken.{line_place, NamesNone, BlockBreaks, LineBreaks, StatementBreaks, is_misdirected, is_uncarried, IsBroken}
+use Rattle.handler_script.specs.Messages.{message_named, named, receives, resolves, replies, is_constructor}
 use Rattle.handler_script.specs.Plain.{plain_term, plain_held, plain_terms, plain_action, plain_block}
 use Rattle.handler_script.specs.ScriptOf.{inside, action_of, reply_of, first_of, block_of, blocks_at, blocks_of}
 use Rattle.handler_script.specs.Valid.{TermFits, HeldTermFits, AllTermsFit, EachTermFits, IsSendable, IsValidAction, answers_handled, IsValidIn, IsHandledBy, IsValidBlock}
 use Rattle.handler_script.proofs.Names.{Names, statement_names}
+use Rattle.handler_script.proofs.Built.{said_last}
+use Rattle.handler_script.proofs.Standing.{place_more, place_opened, place_kept, stands}
 use Rattle.value_types.specs.Shapes.{element_of, held_by, fields_of, component_of}
 use Rattle.handler_script.proofs.TermFit.{is_true}
 use Rattle.handler_script.proofs.ValidActions.{IsUnbroken, some_in, message_numbered, action_valid, reply_valid, answers_alike, answers_once}
@@ -46,7 +50,7 @@ use Rattle.handler_script.proofs.ValidActions.{IsUnbroken, some_in, message_numb
 
 abbrev pub AreKept : Schema → List LineReading → List LineReading → Type 0
 AreKept schema before [] = Unit {0}
-AreKept schema before (x ∷ rest) = ((r : Rule) → ¬ LineBreaks schema r before x rest) × AreKept schema (before ++ x ∷ []) rest
+AreKept schema before (x ∷ rest) = ((r : Rule) → ¬ LineBreaks schema r (statements before) x (statements rest)) × AreKept schema (before ++ x ∷ []) rest
 
 slice_get-seam : (before : List LineReading) (x : LineReading) (rest : List LineReading) → slice_get (before ++ x ∷ rest) (length before) ≡ Some x
 slice_get-seam [] x rest = refl
@@ -56,7 +60,7 @@ length-more : (before : List LineReading) (x : LineReading) → length (before +
 length-more [] x = refl
 length-more (y ∷ ys) x = let h = length-more ys x in omega (arith, h)
 
-line_kept : (schema : Schema) (top : ℕ) (before : List LineReading) (x : LineReading) (rest : List LineReading) → ((f : Finding) → ¬ IsBroken schema top (before ++ x ∷ rest) f) → (r : Rule) → ¬ LineBreaks schema r before x rest
+line_kept : (schema : Schema) (top : ℕ) (before : List LineReading) (x : LineReading) (rest : List LineReading) → ((f : Finding) → ¬ IsBroken schema top (before ++ x ∷ rest) f) → (r : Rule) → ¬ LineBreaks schema r (statements before) x (statements rest)
 line_kept schema top before x rest kept r h =
     let all : List LineReading = before ++ x ∷ rest in
     let f : Finding = record { place = line_place (length before + 1); rule = r } in
@@ -65,8 +69,8 @@ line_kept schema top before x rest kept r h =
     let back : drop (length before + 1) (before ++ x ∷ rest) ≡ rest =
     ap (drop (length before + 1)) split ∙ (ap (λ n. drop n ((before ++ x ∷ []) ++ rest)) (sym (length-more before x)) ∙ drop-append_seam (before ++ x ∷ []) rest)
     in
-    let P : List LineReading → Type 0 = λ ls. LineBreaks schema r ls x (drop (length before + 1) (before ++ x ∷ rest)) in
-    let Q : List LineReading → Type 0 = λ ls. LineBreaks schema r before x ls in
+    let P : List LineReading → Type 0 = λ ls. LineBreaks schema r (statements ls) x (statements (drop (length before + 1) (before ++ x ∷ rest))) in
+    let Q : List LineReading → Type 0 = λ ls. LineBreaks schema r (statements before) x (statements ls) in
     kept f (inr (length before, x, slice_get-seam before x rest, (refl, subst P (sym front) (subst Q (sym back) h))))
 
 pub are_kept : (schema : Schema) (top : ℕ) (before rest : List LineReading) → ((f : Finding) → ¬ IsBroken schema top (before ++ rest) f) → AreKept schema before rest
@@ -94,35 +98,24 @@ read_names (l ∷ lines) (line.Statement held ∷ rest) h = (statement_names l h
 read_names (l ∷ lines) (line.NoStatement ∷ rest) h = (tt, read_names lines rest h.1)
 read_names (l ∷ lines) (line.TooLong ∷ rest) h = (tt, read_names lines rest h.1)
 
--- What is open, and what was answered, behind one more line
-
-open_more : (before : List LineReading) (x : LineReading) → open_behind (before ++ x ∷ []) ≡ open_after (open_behind before) x
-open_more before x = fold-append open_after None before (x ∷ [])
-
-answered_more : (before : List LineReading) (x : LineReading) → answered_behind (before ++ x ∷ []) ≡ answered_after (answered_behind before) x
-answered_more before x = fold-append answered_after false before (x ∷ [])
-
-stays_open : (current : Option Statement) (s : Statement) → closes s ≡ false → opened_by current s ≡ current
-stays_open current (forms.Main side) e = absurd (true≢false e)
-stays_open current (forms.On side m) e = absurd (true≢false e)
-stays_open current forms.End e = absurd (true≢false e)
-stays_open current s e = refl
+answered_more : (above : List Statement) (s : Statement) → list_any answers (above ++ s ∷ []) ≡ (list_any answers above || answers s)
+answered_more above s = list_any-append answers above (s ∷ []) ∙ ap (λ b. list_any answers above || b) (or-false (answers s))
 
 -- a statement of a line, in the block that is open
-unbroken : (schema : Schema) (b : BlockContext) (before : List LineReading) (s : Statement) (after : List LineReading) → standing_behind schema before ≡ Some b → ((r : Rule) → ¬ StatementBreaks schema r before s after)
-    → IsUnbroken schema (answered_behind before) b s after
-unbroken schema b before s after e h =
-    let D : Option BlockContext → Type 0 = λ o. ¬ BreaksDirection schema o s in
-    let V : Option BlockContext → Type 0 = λ o. ¬ BreaksValues schema o s in
-    let A : Option BlockContext → Type 0 = λ o. ¬ IsNotAllowed schema (answered_behind before) o s after in
-    let C : Option BlockContext → Type 0 = λ o. ¬ BreaksCarried schema o s in
-    let known : ¬ NamesNone schema s = λ n. h rule.UNKNOWN_MESSAGE (inr (inl (refl, n))) in
+unbroken : (schema : Schema) (first : Statement) (b : BlockContext) (before above : List Statement) (s : Statement) (below : List Statement) → standing_of schema first ≡ Some b → place_of before ≡ Some (first, above) → ((r : Rule) → ¬ StatementBreaks schema r before s below)
+    → IsUnbroken schema (list_any answers above) b s below
+unbroken schema first b before above s below st e h =
+    let known : ¬ NamesNone (named schema s) s = λ n. h rule.UNKNOWN_MESSAGE (inr (inl (refl, n))) in
+    let here : (r : Rule) → ¬ BlockBreaks schema r (named schema s) (list_any answers above) b s below =
+    λ r broken. h r (inr (inr (known, inr (first, above, stands before first above e, some_in (λ c. BlockBreaks schema r (named schema s) (list_any answers above) c s below) (standing_of schema first) b st broken))))
+    in
     record {
       known = known;
-      direction = subst D e (λ d. h rule.WRONG_DIRECTION (inr (inr (known, inl (refl, d)))));
-      values = subst V e (λ d. h rule.UNFIT_VALUES (inr (inr (known, inr (inl (refl, d))))));
-      allowed = subst A e (λ d. h rule.NOT_ALLOWED_HERE (inr (inr (known, inr (inr (inl (refl, d)))))));
-      carried = subst C e (λ d. h rule.UNCARRIED_TYPE (inr (inr (known, inr (inr (inr (refl, d)))))));
+      direction = λ d. here rule.WRONG_DIRECTION (inl (refl, d));
+      values = λ d. here rule.UNFIT_VALUES (inr (inl (refl, d)));
+      quiet = false_from_ne_true _ (λ d. here rule.NOT_ALLOWED_HERE (inr (inr (inl (refl, inl d)))));
+      placed = λ d. here rule.NOT_ALLOWED_HERE (inr (inr (inl (refl, inr d))));
+      carried = λ d. here rule.UNCARRIED_TYPE (inr (inr (inr (refl, d))));
     }
 
 -- The statements of a block
@@ -167,38 +160,35 @@ once_more (Some a) actions false false h k n = rw h n
 none_valid : (schema : Schema) (b : BlockContext) (answered : Bool) → AreValid schema b answered []
 none_valid schema b answered = record { actions = tt; once = omega arith; reply = tt }
 
-more_valid : (schema : Schema) (sound : IsSound schema) (b : BlockContext) (answered : Bool) (s : Statement) (after : List LineReading) (ss : List Statement) → IsUnbroken schema answered b s after → Names s
+more_valid : (schema : Schema) (sound : IsSound schema) (b : BlockContext) (answered : Bool) (s : Statement) (below ss : List Statement) → IsUnbroken schema answered b s below → Names s
     → AreValid schema b (answered || answers s) ss → AreValid schema b answered (s ∷ ss)
-more_valid schema sound b answered s after ss u n v = record {
-  actions = cons_valid (IsValidAction schema b) (action_of schema b s) (filter_map (action_of schema b) ss) (action_valid schema sound answered b s after u n) v.actions;
-  once = once_more (action_of schema b s) (filter_map (action_of schema b) ss) answered (answers s) (answers_alike schema b s) (answers_once schema answered b s after u) v.once;
-  reply = first_valid (IsReply schema b) (reply_of schema b s) (filter_map (reply_of schema b) ss) (reply_valid schema answered b s after u n) v.reply;
+more_valid schema sound b answered s below ss u n v = record {
+  actions = cons_valid (IsValidAction schema b) (action_of schema b s) (filter_map (action_of schema b) ss) (action_valid schema sound answered b s below u n) v.actions;
+  once = once_more (action_of schema b s) (filter_map (action_of schema b) ss) answered (answers s) (answers_alike schema b s) (answers_once schema answered b s below u) v.once;
+  reply = first_valid (IsReply schema b) (reply_of schema b s) (filter_map (reply_of schema b) ss) (reply_valid schema answered b s below u n) v.reply;
 }
 
-inside_valid : (schema : Schema) (sound : IsSound schema) (b : BlockContext) (first : Statement) → standing_of schema first ≡ Some b → (before rest : List LineReading) → open_behind before ≡ Some first
-    → AreKept schema before rest → AllNames rest → AreValid schema b (answered_behind before) (inside rest)
-inside_valid schema sound b first st before [] e k n = none_valid schema b (answered_behind before)
-inside_valid schema sound b first st before (line.Silent ∷ rest) e k n =
-    let P : Bool → Type 0 = λ t. AreValid schema b t (inside rest) in
-    subst P (answered_more before line.Silent) (inside_valid schema sound b first st (before ++ line.Silent ∷ []) rest (open_more before line.Silent ∙ e) k.1 n.1)
-inside_valid schema sound b first st before (line.NoStatement ∷ rest) e k n =
-    let P : Bool → Type 0 = λ t. AreValid schema b t (inside rest) in
-    subst P (answered_more before line.NoStatement) (inside_valid schema sound b first st (before ++ line.NoStatement ∷ []) rest (open_more before line.NoStatement ∙ e) k.1 n.1)
-inside_valid schema sound b first st before (line.TooLong ∷ rest) e k n =
-    let P : Bool → Type 0 = λ t. AreValid schema b t (inside rest) in
-    subst P (answered_more before line.TooLong) (inside_valid schema sound b first st (before ++ line.TooLong ∷ []) rest (open_more before line.TooLong ∙ e) k.1 n.1)
-inside_valid schema sound b first st before (line.Statement held ∷ rest) e k n =
+inside_valid : (schema : Schema) (sound : IsSound schema) (b : BlockContext) (first : Statement) → standing_of schema first ≡ Some b → (before rest : List LineReading) (above : List Statement) → place_of (statements before) ≡ Some (first, above)
+    → AreKept schema before rest → AllNames rest → AreValid schema b (list_any answers above) (inside rest)
+inside_valid schema sound b first st before [] above e k n = none_valid schema b (list_any answers above)
+inside_valid schema sound b first st before (line.Silent ∷ rest) above e k n = inside_valid schema sound b first st (before ++ line.Silent ∷ []) rest above (ap place_of (said_last before line.Silent ∙ append-nil (statements before)) ∙ e) k.1 n.1
+inside_valid schema sound b first st before (line.NoStatement ∷ rest) above e k n = inside_valid schema sound b first st (before ++ line.NoStatement ∷ []) rest above (ap place_of (said_last before line.NoStatement ∙ append-nil (statements before)) ∙ e) k.1 n.1
+inside_valid schema sound b first st before (line.TooLong ∷ rest) above e k n = inside_valid schema sound b first st (before ++ line.TooLong ∷ []) rest above (ap place_of (said_last before line.TooLong ∙ append-nil (statements before)) ∙ e) k.1 n.1
+inside_valid schema sound b first st before (line.Statement held ∷ rest) above e k n =
     let s = held.value in
-    let answered = answered_behind before in
+    let answered = list_any answers above in
     let P : Bool → Type 0 = λ c. AreValid schema b answered (if c then [] else s ∷ inside rest) in
     elim (cases_Bool (closes s)) [
       | inl t ↦ subst P (sym t) (none_valid schema b answered)
       | inr f ↦ (
-          let later = inside_valid schema sound b first st (before ++ line.Statement held ∷ []) rest (open_more before (line.Statement held) ∙ (stays_open (open_behind before) s f ∙ e)) k.1 n.1 in
+          let place : place_of (statements (before ++ line.Statement held ∷ [])) ≡ Some (first, above ++ s ∷ []) =
+          ap place_of (said_last before (line.Statement held))
+          ∙ (place_more (statements before) s ∙ (place_kept (place_of (statements before)) s f ∙ ap (option_map (λ p. (p.0, p.1 ++ s ∷ []))) e))
+          in
+          let later = inside_valid schema sound b first st (before ++ line.Statement held ∷ []) rest (above ++ s ∷ []) place k.1 n.1 in
           let Q : Bool → Type 0 = λ t. AreValid schema b t (inside rest) in
-          let is : answered_behind (before ++ line.Statement held ∷ []) ≡ (answered || answers s) = answered_more before (line.Statement held) ∙ ap (λ c. not c && (answered || answers s)) f in
-          let here = unbroken schema b before s rest (ap (option_and_then (standing_of schema)) e ∙ st) k.0 in
-          subst P (sym f) (more_valid schema sound b answered s rest (inside rest) here n.0 (subst Q is later))
+          let here = unbroken schema first b (statements before) above s (statements rest) st e k.0 in
+          subst P (sym f) (more_valid schema sound b answered s (statements rest) (inside rest) here n.0 (subst Q (answered_more above s) later))
           )
     ]
 
@@ -217,10 +207,10 @@ abbrev pub IsDoableBlock : Schema → Block → Option ℕ → Type 0
 IsDoableBlock schema block None = IsDoable schema (in_main block.side) block
 IsDoableBlock schema block (Some number) = IsSomeAnd (message_of schema number) (IsHandled schema block number)
 
-opens_itself : (schema : Schema) (current : Option Statement) (s : Statement) (b : BlockContext) → standing_of schema s ≡ Some b → opened_by current s ≡ Some s
-opens_itself schema current (forms.Main side) b e = refl
-opens_itself schema current (forms.On side m) b e = refl
-opens_itself schema current s b e = absurd (let no : ⊥ = cc in no)
+opens_block : (schema : Schema) (s : Statement) (b : BlockContext) → standing_of schema s ≡ Some b → opens s ≡ true
+opens_block schema (forms.Main side) b e = refl
+opens_block schema (forms.On side m) b e = refl
+opens_block schema s b e = absurd (let no : ⊥ = cc in no)
 
 handler_of : (side other : Side) (o : Option MessageRow) (m : MessageRow) → option_map (in_handler side) o ≡ Some (in_handler other m) → o ≡ Some m
 handler_of side other None m e = absurd (let no : ⊥ = cc in no)
@@ -231,28 +221,24 @@ handler_named schema (forms.On other name) side m e = (name, handler_of other si
 handler_named schema (forms.Main other) side m e = absurd (let no : ⊥ = cc in no)
 handler_named schema s side m e = absurd (let no : ⊥ = cc in no)
 
-at_most_one : (answered : Bool) (n : ℕ) → n ≤ cond answered 0 1 → n ≤ 1
-at_most_one true n h = omega arith
-at_most_one false n h = h
-
-in_block : (schema : Schema) (sound : IsSound schema) (b : BlockContext) (s : Statement) → standing_of schema s ≡ Some b → (before rest : List LineReading) → open_behind before ≡ Some s → AreKept schema before rest → AllNames rest
+in_block : (schema : Schema) (sound : IsSound schema) (b : BlockContext) (s : Statement) → standing_of schema s ≡ Some b → (before rest : List LineReading) → place_of (statements before) ≡ Some (s, []) → AreKept schema before rest → AllNames rest
     → IsDoable schema b (block_of schema b (inside rest))
 in_block schema sound b s st before rest e k n =
-    let v = inside_valid schema sound b s st before rest e k n in
-    record { actions = v.actions; once = at_most_one (answered_behind before) _ v.once; reply = v.reply }
+    let v = inside_valid schema sound b s st before rest [] e k n in
+    record { actions = v.actions; once = v.once; reply = v.reply }
 
-block_doable : (schema : Schema) (sound : IsSound schema) (b : BlockContext) (s : Statement) → standing_of schema s ≡ Some b → (before lines rest : List LineReading) → ((r : Rule) → ¬ StatementBreaks schema r before s rest)
-    → open_behind lines ≡ Some s → AreKept schema lines rest → AllNames rest → IsDoableBlock schema (block_of schema b (inside rest)) (block_of schema b (inside rest)).handles
+block_doable : (schema : Schema) (sound : IsSound schema) (b : BlockContext) (s : Statement) → standing_of schema s ≡ Some b → (before : List Statement) (lines rest : List LineReading) → ((r : Rule) → ¬ StatementBreaks schema r before s (statements rest))
+    → place_of (statements lines) ≡ Some (s, []) → AreKept schema lines rest → AllNames rest → IsDoableBlock schema (block_of schema b (inside rest)) (block_of schema b (inside rest)).handles
 block_doable schema sound (in_main side) s st before lines rest h e k n = in_block schema sound (in_main side) s st lines rest e k n
 block_doable schema sound (in_handler side m) s st before lines rest h e k n =
     let b : BlockContext = in_handler side m in
-    let known : ¬ NamesNone schema s = λ x. h rule.UNKNOWN_MESSAGE (inr (inl (refl, x))) in
+    let known : ¬ NamesNone (named schema s) s = λ x. h rule.UNKNOWN_MESSAGE (inr (inl (refl, x))) in
     let named = handler_named schema s side m st in
     let received : receives side m.direction ≡ true =
-    is_true _ (λ x. h rule.WRONG_DIRECTION (inr (inr (known, inl (refl, inl (some_in (λ b. IsTrue (is_misdirected b)) (standing_of schema s) b st (ap not (false_from_ne_true _ x))))))))
+    is_true _ (λ x. h rule.WRONG_DIRECTION (inr (inr (known, inl (inl (refl, ap is_misdirected st ∙ ap not (false_from_ne_true _ x)))))))
     in
     let carried : m.carried ≡ true =
-    is_true _ (λ x. h rule.UNCARRIED_TYPE (inr (inr (known, inr (inr (inr (refl, inl (some_in (λ b. IsTrue (is_uncarried b)) (standing_of schema s) b st (ap not (false_from_ne_true _ x))))))))))
+    is_true _ (λ x. h rule.UNCARRIED_TYPE (inr (inr (known, inl (inr (refl, ap is_uncarried st ∙ ap not (false_from_ne_true _ x)))))))
     in
     some_in (IsHandled schema (block_of schema b (inside rest)) m.number) (message_of schema m.number) m (message_numbered schema sound named.0 m named.1) (refl, received, carried, in_block schema sound b s st lines rest e k n)
 
@@ -263,10 +249,10 @@ append_valid : {X : Type 0} (P : X → Type 0) (xs ys : List X) → AllByRecursi
 append_valid P [] ys h k = k
 append_valid P (x ∷ xs) ys h k = (h.0, append_valid P xs ys h.1 k)
 
-opened_valid : (schema : Schema) (sound : IsSound schema) (o : Option BlockContext) (s : Statement) → standing_of schema s ≡ o → (before lines rest : List LineReading) → ((r : Rule) → ¬ StatementBreaks schema r before s rest)
-    → open_behind lines ≡ opened_by (open_behind before) s → AreKept schema lines rest → AllNames rest → AllByRecursion (Doable schema) (option_map_or (λ b. block_of schema b (inside rest) ∷ []) o [])
+opened_valid : (schema : Schema) (sound : IsSound schema) (o : Option BlockContext) (s : Statement) → standing_of schema s ≡ o → (before : List Statement) (lines rest : List LineReading) → ((r : Rule) → ¬ StatementBreaks schema r before s (statements rest))
+    → statements lines ≡ before ++ s ∷ [] → AreKept schema lines rest → AllNames rest → AllByRecursion (Doable schema) (option_map_or (λ b. block_of schema b (inside rest) ∷ []) o [])
 opened_valid schema sound None s st before lines rest h e k n = tt
-opened_valid schema sound (Some b) s st before lines rest h e k n = (block_doable schema sound b s st before lines rest h (e ∙ opens_itself schema (open_behind before) s b st) k n, tt)
+opened_valid schema sound (Some b) s st before lines rest h e k n = (block_doable schema sound b s st before lines rest h (ap place_of e ∙ (place_more before s ∙ place_opened (place_of before) s (opens_block schema s b st))) k n, tt)
 
 pub blocks_doable : (schema : Schema) (sound : IsSound schema) (before rest : List LineReading) → AreKept schema before rest → AllNames rest → AllByRecursion (Doable schema) (blocks_of schema rest)
 blocks_doable schema sound before [] k n = tt
@@ -275,7 +261,7 @@ blocks_doable schema sound before (line.NoStatement ∷ rest) k n = blocks_doabl
 blocks_doable schema sound before (line.TooLong ∷ rest) k n = blocks_doable schema sound (before ++ line.TooLong ∷ []) rest k.1 n.1
 blocks_doable schema sound before (line.Statement held ∷ rest) k n =
     append_valid (Doable schema) (blocks_at schema held.value rest) (blocks_of schema rest)
-    (opened_valid schema sound (standing_of schema held.value) held.value refl before (before ++ line.Statement held ∷ []) rest k.0 (open_more before (line.Statement held)) k.1 n.1)
+    (opened_valid schema sound (standing_of schema held.value) held.value refl (statements before) (before ++ line.Statement held ∷ []) rest k.0 (said_last before (line.Statement held)) k.1 n.1)
     (blocks_doable schema sound (before ++ line.Statement held ∷ []) rest k.1 n.1)
 
 -- there are no more blocks than lines

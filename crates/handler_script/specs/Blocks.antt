@@ -1,6 +1,6 @@
--- The blocks of a script: in which block a line stands, and what stands before and behind it there.
-use Rattle.std.specs.Prelude.{Bool, true, false, ◌||◌, not, ◌&&◌, List, [], ◌∷◌, fold, Option, Some, None, option_and_then}
-use Rattle.std.specs.List.{list_any}
+-- The blocks of a script: in which block a statement stands, and what stands above and below it there.
+use Rattle.std.specs.Prelude.{◌≡◌, Bool, true, false, List, [], ◌∷◌, ◌++◌, slice_get, Option, Some, None, IsTrue, IsSomeAnd}
+use Rattle.std.specs.List.{list_any, filter_map}
 use Rattle.std.specs.Option.{option_map}
 use Rattle.ipdl_base.specs.declared.kinds.Side.{Side}
 use Rattle.ipdl_base.specs.declared.schema.MessageRow.{MessageRow}
@@ -10,7 +10,7 @@ use Rattle.script_reader.specs.declared.line.LineReading.{LineReading}
 use Rattle.script_reader.specs.declared.line.LineReading.TheVariants as line
 use Rattle.script_reader.specs.declared.statement.Statement.{Statement}
 use Rattle.script_reader.specs.declared.statement.Statement.TheVariants as forms
-use Rattle.handler_script.specs.Messages.{message_named}
+use Rattle.handler_script.specs.Messages.{named}
 
 -- whether a statement opens a block
 abbrev pub opens : Statement → Bool
@@ -35,57 +35,38 @@ abbrev pub said : LineReading → Option Statement
 said (line.Statement held) = Some held.value
 said _ = None
 
--- the statement that opened the block which is open behind one more line
-abbrev pub opened_by : Option Statement → Statement → Option Statement
-opened_by current (forms.Main side) = Some (forms.Main side)
-opened_by current (forms.On side message) = Some (forms.On side message)
-opened_by current forms.End = None
-opened_by current _ = current
+-- the statements of lines: a line that is none does not count
+abbrev pub statements : List LineReading → List Statement
+statements lines = filter_map said lines
 
-abbrev pub open_after : Option Statement → LineReading → Option Statement
-open_after current (line.Statement held) = opened_by current held.value
-open_after current _ = current
+-- What comes behind these statements stands in the block that the first one opened, below those above of it: none of these opens or closes a block.
+pub record StandsIn (before : List Statement) (first : Statement) (above : List Statement) : Type 0 where
+  pub outer : List Statement
+  pub split : before ≡ outer ++ first ∷ above
+  pub opened : opens first ≡ true
+  pub unclosed : list_any closes above ≡ false
 
--- the statement that opened the block in which the line behind these stands, if it stands in one
-abbrev pub open_behind : List LineReading → Option Statement
-open_behind before = fold open_after None before
+-- it stands in a block, of which this holds
+abbrev pub IsInBlock : List Statement → (Statement → List Statement → Type 0) → Type 0
+IsInBlock before Holds = (first : Statement) × (above : List Statement) × StandsIn before first above × Holds first above
 
-abbrev pub answered_after : Bool → LineReading → Bool
-answered_after answered (line.Statement held) = not (closes held.value) && (answered || answers held.value)
-answered_after answered _ = answered
-
--- whether a line of that block answers the handled message or keeps its resolver already
-abbrev pub answered_behind : List LineReading → Bool
-answered_behind before = fold answered_after false before
-
--- whether another action, or another `return`, of the same block follows: lines that are no statement do not count
-abbrev pub is_followed : List LineReading → Bool
-is_followed [] = false
-is_followed (line.Statement held ∷ rest) = not (closes held.value)
-is_followed (_ ∷ rest) = is_followed rest
-
-abbrev pub closes_line : LineReading → Bool
-closes_line (line.Statement held) = closes held.value
-closes_line _ = false
-
--- whether a block that is open before these lines is closed in them
-abbrev pub is_closed : List LineReading → Bool
-is_closed lines = list_any closes_line lines
+-- another statement of the block follows
+abbrev pub IsFollowed : List Statement → Type 0
+IsFollowed below = IsSomeAnd (slice_get below 0) (λ s. closes s ≡ false)
 
 -- A block in which lines are tested: the main of a side, or a handler of a message that there is.
 pub data BlockContext : Type 0 where
   in_main : Side → BlockContext
   in_handler : Side → MessageRow → BlockContext
 
--- the block that a statement opens
-abbrev pub standing_of : Schema → Statement → Option BlockContext
-standing_of schema (forms.Main side) = Some (in_main side)
-standing_of schema (forms.On side message) = option_map (in_handler side) (message_named schema message)
-standing_of schema _ = None
+-- the block that a statement opens, if it names this message
+abbrev pub standing_by : Option MessageRow → Statement → Option BlockContext
+standing_by message (forms.Main side) = Some (in_main side)
+standing_by message (forms.On side name) = option_map (in_handler side) message
+standing_by message _ = None
 
--- the block in which the line behind these is tested
-abbrev pub standing_behind : Schema → List LineReading → Option BlockContext
-standing_behind schema before = option_and_then (standing_of schema) (open_behind before)
+abbrev pub standing_of : Schema → Statement → Option BlockContext
+standing_of schema s = standing_by (named schema s) s
 
 abbrev pub side_of : BlockContext → Side
 side_of (in_main side) = side

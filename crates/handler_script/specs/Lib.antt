@@ -9,6 +9,8 @@ pub mod Messages
 pub mod Plain
 pub mod ScriptOf
 pub mod Served
+pub mod Contexts
+pub mod Tables
 pub mod Terms
 pub mod Valid
 pub mod ValueOf

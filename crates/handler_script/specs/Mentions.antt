@@ -1,5 +1,6 @@
 -- Whom a statement and its values speak of.
 use Rattle.std.specs.Prelude.{Bool, false, ◌||◌, Option, Some, None}
+use Rattle.std.specs.Option.{option_map_or}
 use Rattle.script_reader.specs.declared.statement.Statement.{Statement}
 use Rattle.script_reader.specs.declared.statement.Statement.TheVariants as forms
 use Rattle.script_reader.specs.declared.statement.MessageName.{MessageName}
@@ -53,14 +54,6 @@ message_of (forms.ResolveKept n c) = Some c.message
 message_of (forms.RejectKept n m) = Some m
 message_of _ = None
 
-abbrev pub some_mentions : (Who → Bool) → Option WrittenValues → Bool
-some_mentions test None = false
-some_mentions test (Some vs) = any_mentions test vs
-
-abbrev pub some_passes : (Who → Bool) → Option Who → Bool
-some_passes test None = false
-some_passes test (Some w) = test w
-
 -- whether a statement speaks of one who passes the test
 abbrev pub speaks_of : (Who → Bool) → Statement → Bool
-speaks_of test s = some_passes test (who_of s) || some_mentions test (values_of s)
+speaks_of test s = option_map_or test (who_of s) false || option_map_or (any_mentions test) (values_of s) false

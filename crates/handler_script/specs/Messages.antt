@@ -15,6 +15,8 @@ use Rattle.ipdl_base.specs.declared.schema.ProtocolRow.{ProtocolRow}
 use Rattle.ipdl_base.specs.declared.schema.Schema.{Schema}
 use Rattle.ipdl_base.specs.Words.{short_name}
 use Rattle.script_reader.specs.declared.statement.MessageName.{MessageName}
+use Rattle.script_reader.specs.declared.statement.Statement.{Statement}
+use Rattle.handler_script.specs.Mentions.{message_of}
 
 -- the protocol with this short name
 abbrev pub protocol_named : Schema → List ℕ → Option ProtocolRow
@@ -27,6 +29,10 @@ message_in name protocol = find (λ m. bytes_eq m.name name) protocol.messages
 -- the message of this name
 abbrev pub message_named : Schema → MessageName → Option MessageRow
 message_named schema name = option_and_then (message_in name.message) (protocol_named schema name.protocol)
+
+-- the message that a statement names, where it is there
+abbrev pub named : Schema → Statement → Option MessageRow
+named schema s = option_and_then (message_named schema) (message_of s)
 
 -- whether the side receives messages of this direction
 abbrev pub receives : Side → Direction → Bool

@@ -4,6 +4,7 @@ use Rattle.std.specs.List.{filter_map}
 use Rattle.std.specs.Option.{option_map, option_map_or}
 use Rattle.ipdl_base.specs.declared.finding.Finding.{Finding}
 use Rattle.ipdl_base.specs.declared.kinds.Side.{Side}
+use Rattle.ipdl_base.specs.declared.schema.MessageRow.{MessageRow}
 use Rattle.ipdl_base.specs.declared.schema.Schema.{Schema}
 use Rattle.script_reader.specs.declared.line.LineReading.{LineReading}
 use Rattle.script_reader.specs.declared.line.LineReading.TheVariants as line
@@ -21,7 +22,7 @@ use Rattle.handler_script.specs.declared.script.Script.{Script}
 use Rattle.handler_script.specs.declared.term.Terms.{Terms}
 use Rattle.handler_script.specs.Blocks.{closes, BlockContext, standing_of, side_of, handled_in}
 use Rattle.handler_script.specs.Broken.{types_of, IsBroken}
-use Rattle.handler_script.specs.Messages.{message_named}
+use Rattle.handler_script.specs.Messages.{message_named, named}
 use Rattle.handler_script.specs.Plain.{plain_script}
 use Rattle.handler_script.specs.Served.{serves}
 use Rattle.handler_script.specs.Terms.{terms_of}
@@ -32,27 +33,35 @@ inside [] = []
 inside (line.Statement held ∷ rest) = if closes held.value then [] else held.value ∷ inside rest
 inside (_ ∷ rest) = inside rest
 
--- the number of a message's request
+-- the number of a request, and 0 where there is no message
+abbrev pub request_of : Option MessageRow → ℕ
+request_of message = option_map_or (λ m. m.number) message 0
+
+-- the number of the request of a message that is named
 abbrev pub number_of : Schema → MessageName → ℕ
-number_of schema name = option_map_or (λ message. message.number) (message_named schema name) 0
+number_of schema name = request_of (message_named schema name)
 
 -- the terms of a statement's values
 abbrev pub typed : Schema → BlockContext → Statement → WrittenValues → Terms
 typed schema block s values = terms_of schema (unwrap_or (types_of schema block s) []) values
 
--- the action that a statement in a block is; `return` is none
+-- the action that a statement is which names this message and whose values have these terms; `return` is none
+abbrev pub action_by : Option MessageRow → (WrittenValues → Terms) → Statement → Option Action
+action_by message terms (forms.Send w c) = Some (action.Send w (request_of message) (terms c.values))
+action_by message terms (forms.New n w c) = Some (action.New n w (request_of message) (terms c.values))
+action_by message terms (forms.Let n w) = Some (action.Let n w)
+action_by message terms (forms.Resolve vs) = Some (action.Resolve (terms vs))
+action_by message terms forms.Reject = Some action.Reject
+action_by message terms (forms.Keep n) = Some (action.Keep n)
+action_by message terms (forms.ResolveKept n c) = Some (action.ResolveNamed n (request_of message) (terms c.values))
+action_by message terms (forms.RejectKept n name) = Some (action.RejectNamed n (request_of message))
+action_by message terms forms.Close = Some action.Close
+action_by message terms forms.Die = Some action.Die
+action_by message terms _ = None
+
+-- the action that a statement in a block is
 abbrev pub action_of : Schema → BlockContext → Statement → Option Action
-action_of schema block (forms.Send w c) = Some (action.Send w (number_of schema c.message) (typed schema block (forms.Send w c) c.values))
-action_of schema block (forms.New n w c) = Some (action.New n w (number_of schema c.message) (typed schema block (forms.New n w c) c.values))
-action_of schema block (forms.Let n w) = Some (action.Let n w)
-action_of schema block (forms.Resolve vs) = Some (action.Resolve (typed schema block (forms.Resolve vs) vs))
-action_of schema block forms.Reject = Some action.Reject
-action_of schema block (forms.Keep n) = Some (action.Keep n)
-action_of schema block (forms.ResolveKept n c) = Some (action.ResolveNamed n (number_of schema c.message) (typed schema block (forms.ResolveKept n c) c.values))
-action_of schema block (forms.RejectKept n name) = Some (action.RejectNamed n (number_of schema name))
-action_of schema block forms.Close = Some action.Close
-action_of schema block forms.Die = Some action.Die
-action_of schema block _ = None
+action_of schema block s = action_by (named schema s) (typed schema block s) s
 
 -- the values that a statement returns
 abbrev pub reply_of : Schema → BlockContext → Statement → Option Terms

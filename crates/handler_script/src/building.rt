@@ -1,170 +1,103 @@
 ghost use Rattle.std.specs.Prelude.{◌≡◌, ◌++◌, map, IfOk, OnOk};
 ghost use Rattle.std.specs.List.{filter_map};
 ghost use Rattle.std.specs.Option.{option_map};
-ghost use Rattle.handler_script.specs.declared.action.Action.TheVariants as act;
 ghost use Rattle.handler_script.specs.Building.{listed, returned_by, blocks_of_line};
-ghost use Rattle.handler_script.specs.Knowing.{standing_in};
+ghost use Rattle.handler_script.specs.Contexts.{standing_in};
 ghost use Rattle.handler_script.specs.Plain.{plain_terms, plain_action, plain_block};
 ghost use Rattle.handler_script.specs.ScriptOf as script_of;
+ghost use Rattle.handler_script.specs.Tables.{IsTableOf};
+ghost use Rattle.handler_script.specs.Terms as terms;
 
 use crate::action::{Action, Actions, Block, Blocks};
+use crate::context::{Context, context_of, handled_in, side_of};
 use crate::lines::{closes, lines_behind, said};
-use crate::messages::message_named;
-use crate::rules::{Context, context_of, handled_in, side_of, types_of};
+use crate::rules::{replies_in, types_of};
+use crate::table::MessageTable;
 use crate::term::Terms;
 use crate::typed::{copy_who, terms_of};
-use ipdl_base::{Items, Name, Schema};
-use script_reader::{LineReading, MessageName, Statement, Who, WrittenMessage, WrittenValues};
+use ipdl_base::{Items, MessageRow, ParamRow, Schema};
+use script_reader::{LineReading, Statement, WrittenValues};
 use std::alloc::{AllocError, Global};
 
-/// The number of a message's request.
-fn number_of(schema: &Schema, name: &MessageName) -> u32
-    ensures { result ≡ script_of.number_of schema.now name.now }
+/// The number of a request, and 0 where there is no message.
+fn request_of(message: Option<&MessageRow>) -> u32
+    ensures { result ≡ script_of.request_of (option_map (λ m. m.now) message.entry) }
 {
-    match message_named(schema, name) {
+    match message {
         Some(message) => message.number,
         None => 0,
     }
 }
 
-/// The terms of a statement's values.
-fn typed(
-    alloc: Global,
-    schema: &Schema,
-    context: Context<'_>,
-    statement: &Statement,
-    values: &WrittenValues,
-) -> Result<Terms, AllocError>
-    ensures { IfOk result (λ ts. plain_terms ts ≡ script_of.typed schema.now (standing_in context.entry) statement.now values.now) }
-{
-    let types = types_of(schema, context, statement).unwrap_or(&[]);
-    terms_of(values, alloc, schema, types)
-}
-
-/// The action that sends a message.
-fn sending(
-    alloc: Global,
-    schema: &Schema,
-    context: Context<'_>,
-    statement: &Statement,
-    who: &Who,
-    call: &WrittenMessage,
-) -> Result<Action, AllocError>
-    ensures { IfOk result (λ a. plain_action a ≡ act.Send who.now (script_of.number_of schema.now call.now.message) (script_of.typed schema.now (standing_in context.entry) statement.now call.now.values)) }
-{
-    let values = typed(alloc, schema, context, statement, &call.values)?;
-    Ok(Action::Send {
-        who: copy_who(alloc, who)?,
-        number: number_of(schema, &call.message),
-        values,
-    })
-}
-
-/// The action that sends a constructor.
-fn making(
-    alloc: Global,
-    schema: &Schema,
-    context: Context<'_>,
-    statement: &Statement,
-    name: &Name,
-    who: &Who,
-    call: &WrittenMessage,
-) -> Result<Action, AllocError>
-    ensures { IfOk result (λ a. plain_action a ≡ act.New name.now who.now (script_of.number_of schema.now call.now.message) (script_of.typed schema.now (standing_in context.entry) statement.now call.now.values)) }
-{
-    let values = typed(alloc, schema, context, statement, &call.values)?;
-    Ok(Action::New {
-        name: name.copy(alloc)?,
-        who: copy_who(alloc, who)?,
-        number: number_of(schema, &call.message),
-        values,
-    })
-}
-
-/// The action that names an actor.
-fn naming(alloc: Global, name: &Name, who: &Who) -> Result<Action, AllocError>
-    ensures { IfOk result (λ a. a ≡ act.Let name.now who.now) }
-{
-    Ok(Action::Let {
-        name: name.copy(alloc)?,
-        who: copy_who(alloc, who)?,
-    })
-}
-
-/// The action that answers with a resolver that was kept.
-fn resolving(
-    alloc: Global,
-    schema: &Schema,
-    context: Context<'_>,
-    statement: &Statement,
-    name: &Name,
-    call: &WrittenMessage,
-) -> Result<Action, AllocError>
-    ensures { IfOk result (λ a. plain_action a ≡ act.ResolveNamed name.now (script_of.number_of schema.now call.now.message) (script_of.typed schema.now (standing_in context.entry) statement.now call.now.values)) }
-{
-    let values = typed(alloc, schema, context, statement, &call.values)?;
-    Ok(Action::ResolveNamed {
-        name: name.copy(alloc)?,
-        number: number_of(schema, &call.message),
-        values,
-    })
-}
-
-/// The action that a statement in a block is.
+/// The action that a statement is which names this message and whose values are of these types.
 fn action_of(
     alloc: Global,
     schema: &Schema,
-    context: Context<'_>,
+    types: &[ParamRow],
     statement: &Statement,
+    message: Option<&MessageRow>,
 ) -> Result<Option<Action>, AllocError>
-    ensures { IfOk result (λ a. option_map plain_action a ≡ script_of.action_of schema.now (standing_in context.entry) statement.now) }
+    ensures { IfOk result (λ a. option_map plain_action a
+        ≡ script_of.action_by (option_map (λ m. m.now) message.entry) (terms.terms_of schema.now types.now) statement.now) }
 {
-    match statement {
-        Statement::Send(who, call) => {
-            let action = sending(alloc, schema, context, statement, who, call)?;
-            Ok(Some(action))
-        }
-        Statement::New(name, who, call) => {
-            let action = making(alloc, schema, context, statement, name, who, call)?;
-            Ok(Some(action))
-        }
-        Statement::Let(name, who) => Ok(Some(naming(alloc, name, who)?)),
-        Statement::Resolve(values) => {
-            let values = typed(alloc, schema, context, statement, values)?;
-            Ok(Some(Action::Resolve { values }))
-        }
-        Statement::Reject => Ok(Some(Action::Reject)),
-        Statement::Keep(name) => Ok(Some(Action::Keep {
+    let number = request_of(message);
+    let action = match statement {
+        Statement::Send(who, call) => Action::Send {
+            who: copy_who(alloc, who)?,
+            number,
+            values: terms_of(&call.values, alloc, schema, types)?,
+        },
+        Statement::New(name, who, call) => Action::New {
             name: name.copy(alloc)?,
-        })),
-        Statement::ResolveKept(name, call) => {
-            let action = resolving(alloc, schema, context, statement, name, call)?;
-            Ok(Some(action))
-        }
-        Statement::RejectKept(name, message) => Ok(Some(Action::RejectNamed {
+            who: copy_who(alloc, who)?,
+            number,
+            values: terms_of(&call.values, alloc, schema, types)?,
+        },
+        Statement::Let(name, who) => Action::Let {
             name: name.copy(alloc)?,
-            number: number_of(schema, message),
-        })),
-        Statement::Close => Ok(Some(Action::Close)),
-        Statement::Die => Ok(Some(Action::Die)),
+            who: copy_who(alloc, who)?,
+        },
+        Statement::Resolve(values) => Action::Resolve {
+            values: terms_of(values, alloc, schema, types)?,
+        },
+        Statement::Reject => Action::Reject,
+        Statement::Keep(name) => Action::Keep {
+            name: name.copy(alloc)?,
+        },
+        Statement::ResolveKept(name, call) => Action::ResolveNamed {
+            name: name.copy(alloc)?,
+            number,
+            values: terms_of(&call.values, alloc, schema, types)?,
+        },
+        Statement::RejectKept(name, _) => Action::RejectNamed {
+            name: name.copy(alloc)?,
+            number,
+        },
+        Statement::Close => Action::Close,
+        Statement::Die => Action::Die,
         Statement::Main(_) | Statement::On(_, _) | Statement::End | Statement::Return(_) => {
-            Ok(None)
+            return Ok(None);
         }
-    }
+    };
+    Ok(Some(action))
 }
 
 /// Puts the action last that a statement in a block is, if it is one.
 fn add_action(
     alloc: Global,
     schema: &Schema,
+    messages: &MessageTable<'_>,
     context: Context<'_>,
     statement: &Statement,
     actions: &mut Vec<Action>,
 ) -> Result<(), AllocError>
+    requires { IsTableOf schema.now messages.now }
     ensures { OnOk result (map plain_action actions.new.items
         ≡ map plain_action actions.old.items ++ listed (script_of.action_of schema.now (standing_in context.entry) statement.now)) }
 {
-    if let Some(action) = action_of(alloc, schema, context, statement)? {
+    let message = messages.message_of(statement);
+    let types = types_of(context, statement, message).unwrap_or(&[]);
+    if let Some(action) = action_of(alloc, schema, types, statement, message)? {
         actions.push(action)?;
     }
     Ok(())
@@ -174,10 +107,13 @@ fn add_action(
 fn actions_in(
     alloc: Global,
     schema: &Schema,
+    messages: &MessageTable<'_>,
     context: Context<'_>,
     lines: &[LineReading],
 ) -> Result<Actions, AllocError>
-    ensures { IfOk result (λ actions. map plain_action actions ≡ filter_map (script_of.action_of schema.now (standing_in context.entry)) (script_of.inside lines.now)) }
+    requires { IsTableOf schema.now messages.now }
+    ensures { IfOk result (λ actions. map plain_action actions
+        ≡ filter_map (script_of.action_of schema.now (standing_in context.entry)) (script_of.inside lines.now)) }
 {
     let mut actions = Vec::new(alloc);
     for line in lines {
@@ -185,7 +121,7 @@ fn actions_in(
             if closes(statement) {
                 return Ok(Items::from_vec(actions));
             }
-            add_action(alloc, schema, context, statement, &mut actions)?;
+            add_action(alloc, schema, messages, context, statement, &mut actions)?;
         }
     }
     Ok(Items::from_vec(actions))
@@ -208,7 +144,8 @@ fn reply_in(
     context: Context<'_>,
     lines: &[LineReading],
 ) -> Result<Option<Terms>, AllocError>
-    ensures { IfOk result (λ reply. option_map plain_terms reply ≡ script_of.first_of (filter_map (script_of.reply_of schema.now (standing_in context.entry)) (script_of.inside lines.now))) }
+    ensures { IfOk result (λ reply. option_map plain_terms reply
+        ≡ script_of.first_of (filter_map (script_of.reply_of schema.now (standing_in context.entry)) (script_of.inside lines.now))) }
 {
     for line in lines {
         if let Some(statement) = said(line) {
@@ -216,8 +153,8 @@ fn reply_in(
                 return Ok(None);
             }
             if let Some(values) = returned(statement) {
-                let reply = typed(alloc, schema, context, statement, values)?;
-                return Ok(Some(reply));
+                let types = replies_in(context).unwrap_or(&[]);
+                return Ok(Some(terms_of(values, alloc, schema, types)?));
             }
         }
     }
@@ -228,12 +165,14 @@ fn reply_in(
 fn block_of(
     alloc: Global,
     schema: &Schema,
+    messages: &MessageTable<'_>,
     context: Context<'_>,
     lines: &[LineReading],
 ) -> Result<Block, AllocError>
+    requires { IsTableOf schema.now messages.now }
     ensures { IfOk result (λ b. plain_block b ≡ script_of.block_of schema.now (standing_in context.entry) (script_of.inside lines.now)) }
 {
-    let actions = actions_in(alloc, schema, context, lines)?;
+    let actions = actions_in(alloc, schema, messages, context, lines)?;
     let reply = reply_in(alloc, schema, context, lines)?;
     Ok(Block {
         side: side_of(context),
@@ -247,15 +186,18 @@ fn block_of(
 fn add_block(
     alloc: Global,
     schema: &Schema,
+    messages: &MessageTable<'_>,
     line: &LineReading,
     rest: &[LineReading],
     blocks: &mut Vec<Block>,
 ) -> Result<(), AllocError>
+    requires { IsTableOf schema.now messages.now }
     ensures { OnOk result (map plain_block blocks.new.items ≡ map plain_block blocks.old.items ++ blocks_of_line schema.now line.now rest.now) }
 {
     if let Some(statement) = said(line) {
-        if let Some(context) = context_of(schema, statement) {
-            blocks.push(block_of(alloc, schema, context, rest)?)?;
+        let message = messages.message_of(statement);
+        if let Some(context) = context_of(statement, message) {
+            blocks.push(block_of(alloc, schema, messages, context, rest)?)?;
         }
     }
     Ok(())
@@ -265,14 +207,16 @@ fn add_block(
 pub fn blocks_of(
     alloc: Global,
     schema: &Schema,
+    messages: &MessageTable<'_>,
     readings: &[LineReading],
 ) -> Result<Blocks, AllocError>
+    requires { IsTableOf schema.now messages.now }
     ensures { IfOk result (λ bs. map plain_block bs ≡ script_of.blocks_of schema.now readings.now) }
 {
     let mut blocks = Vec::new(alloc);
     for (i, line) in readings.iter().enumerate() {
         let rest = lines_behind(readings, i);
-        add_block(alloc, schema, line, rest, &mut blocks)?;
+        add_block(alloc, schema, messages, line, rest, &mut blocks)?;
     }
     Ok(Items::from_vec(blocks))
 }

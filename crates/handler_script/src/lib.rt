@@ -4,6 +4,7 @@
 
 mod action;
 mod building;
+mod context;
 mod fits;
 mod lines;
 mod mentions;
@@ -12,14 +13,16 @@ mod read;
 mod report;
 mod rules;
 mod script;
+mod table;
 mod term;
 mod typed;
 
 pub use action::{Action, Actions, Block, Blocks};
 pub use fits::each_fits;
-pub use messages::{message_named, receives, replies, resolves, sends};
+pub use messages::{receives, replies, resolves, sends};
 pub use read::read_script;
 pub use script::{Point, Script, ScriptFault};
 pub use script_reader::Who;
+pub use table::MessageTable;
 pub use term::{Term, Terms};
 pub use typed::terms_of;

@@ -1,16 +1,26 @@
-ghost use Rattle.std.specs.Prelude.{◌≡◌, ◌+◌, ◌<◌, length, drop, option_map};
+ghost use Rattle.std.specs.Prelude.{◌≡◌, ◌↔◌, ◌+◌, ◌<◌, IsTrue, length, drop, option_map};
+ghost use Rattle.std.specs.List.{list_any};
 ghost use Rattle.handler_script.specs.Blocks as blocks;
+ghost use Rattle.handler_script.specs.Broken as broken;
 
+use crate::context::Context;
 use ipdl_base::Side;
 use script_reader::{LineReading, Statement};
+
+/// A block that is open.
+#[derive(Clone, Copy)]
+pub struct OpenBlock<'a> {
+    /// Where its lines are tested, if the message that it handles is there.
+    pub context: Option<Context<'a>>,
+    /// Whether a line of it answers the handled message, or keeps its resolver.
+    pub answered: bool,
+}
 
 /// What is known behind lines.
 #[derive(Clone, Copy)]
 pub struct BlockProgress<'a> {
-    /// The statement that opened the block which is open.
-    pub opened: Option<&'a Statement>,
-    /// Whether a line of that block answers the handled message, or keeps its resolver.
-    pub answered: bool,
+    /// The block that is open.
+    pub block: Option<OpenBlock<'a>>,
     /// Whether a main of the parent stood among them.
     pub parent: bool,
     /// Whether a main of the child did.
@@ -67,7 +77,7 @@ pub fn answers(statement: &Statement) -> bool
 
 /// Whether another action, or another `return`, of the same block follows in these lines.
 pub fn is_followed(lines: &[LineReading]) -> bool
-    ensures { result ≡ blocks.is_followed lines.now }
+    ensures { IsTrue result ↔ blocks.IsFollowed (blocks.statements lines.now) }
 {
     for line in lines {
         if let Some(statement) = said(line) {
@@ -77,33 +87,75 @@ pub fn is_followed(lines: &[LineReading]) -> bool
     false
 }
 
-/// Whether a line closes a block.
-fn closes_line(line: &LineReading) -> bool
-    ensures { result ≡ blocks.closes_line line.now }
+/// Whether a block that is open before these lines is closed in them.
+pub fn is_closed(lines: &[LineReading]) -> bool
+    ensures { result ≡ list_any blocks.closes (blocks.statements lines.now) }
 {
-    match line {
-        LineReading::Statement(statement) => closes(statement),
+    for line in lines {
+        if let Some(statement) = said(line) {
+            if closes(statement) {
+                return true;
+            }
+        }
+    }
+    false
+}
+
+/// Whether a statement is a main of the side.
+fn is_main(statement: &Statement, side: Side) -> bool
+    ensures { result ≡ broken.is_main side statement.now }
+{
+    match statement {
+        Statement::Main(other) => *other == side,
         _ => false,
     }
 }
 
-/// Whether a block that is open before these lines is closed in them.
-pub fn is_closed(lines: &[LineReading]) -> bool
-    ensures { result ≡ blocks.is_closed lines.now }
-{
-    lines.iter().any(|line| closes_line(line))
+impl<'a> OpenBlock<'a> {
+    ghost use Rattle.std.specs.Prelude.{List, [], ◌∷◌, ◌++◌};
+    ghost use Rattle.ipdl_base.specs.declared.schema.Schema.{Schema as SchemaType};
+    ghost use Rattle.script_reader.specs.declared.statement.Statement.{Statement as StatementType};
+    ghost use Rattle.handler_script.specs.Contexts.{standing_in};
+    ghost use Rattle.handler_script.specs.Knowing.{KnowsBlock};
+
+    /// The block that is open behind a statement where this one was, if it opens this one where it
+    /// opens any.
+    fn behind(
+        block: Option<OpenBlock<'a>>,
+        statement: &Statement,
+        opened: Option<Context<'a>>,
+    ) -> Option<OpenBlock<'a>>
+        ensures { (schema : SchemaType) (before : List StatementType) → KnowsBlock schema before block.entry
+            → option_map standing_in opened.entry ≡ blocks.standing_of schema statement.now
+            → KnowsBlock schema (before ++ statement.now ∷ []) result }
+    {
+        if opens(statement) {
+            return Some(OpenBlock {
+                context: opened,
+                answered: false,
+            });
+        }
+        if closes(statement) {
+            return None;
+        }
+        let block = block?;
+        Some(OpenBlock {
+            context: block.context,
+            answered: block.answered || answers(statement),
+        })
+    }
 }
 
 impl<'a> BlockProgress<'a> {
     ghost use Rattle.std.specs.Prelude.{List, [], ◌∷◌, ◌++◌};
-    ghost use Rattle.script_reader.specs.declared.line.LineReading.{LineReading as LineReadingType};
-    ghost use Rattle.std.specs.List.{list_any};
-    ghost use Rattle.handler_script.specs.Broken.{is_main_line};
+    ghost use Rattle.ipdl_base.specs.declared.schema.Schema.{Schema as SchemaType};
+    ghost use Rattle.script_reader.specs.declared.statement.Statement.{Statement as StatementType};
+    ghost use Rattle.handler_script.specs.Contexts.{standing_in};
     ghost use Rattle.handler_script.specs.Knowing.{Knows};
 
     /// Whether a main of the side stood among the lines.
     pub fn has_main(self, side: Side) -> bool
-        ensures { (before : List LineReadingType) → Knows before self.entry → result ≡ list_any (is_main_line side) before }
+        ensures { (schema : SchemaType) (before : List StatementType) → Knows schema before self.entry → result ≡ list_any (broken.is_main side) before }
     {
         match side {
             Side::Parent => self.parent,
@@ -111,44 +163,16 @@ impl<'a> BlockProgress<'a> {
         }
     }
 
-    /// What is known behind one more line.
-    pub fn behind(self, line: &'a LineReading) -> BlockProgress<'a>
-        ensures { (before : List LineReadingType) → Knows before self.entry → Knows (before ++ line.now ∷ []) result }
+    /// What is known behind one more statement, which opens this block if it opens one.
+    pub fn behind(self, statement: &Statement, opened: Option<Context<'a>>) -> BlockProgress<'a>
+        ensures { (schema : SchemaType) (before : List StatementType) → Knows schema before self.entry
+            → option_map standing_in opened.entry ≡ blocks.standing_of schema statement.now
+            → Knows schema (before ++ statement.now ∷ []) result }
     {
-        let LineReading::Statement(statement) = line else {
-            return self;
-        };
-        match &**statement {
-            Statement::Main(Side::Parent) => BlockProgress {
-                opened: Some(statement),
-                answered: false,
-                parent: true,
-                child: self.child,
-            },
-            Statement::Main(Side::Child) => BlockProgress {
-                opened: Some(statement),
-                answered: false,
-                parent: self.parent,
-                child: true,
-            },
-            Statement::On(_, _) => BlockProgress {
-                opened: Some(statement),
-                answered: false,
-                parent: self.parent,
-                child: self.child,
-            },
-            Statement::End => BlockProgress {
-                opened: None,
-                answered: false,
-                parent: self.parent,
-                child: self.child,
-            },
-            _ => BlockProgress {
-                opened: self.opened,
-                answered: self.answered || answers(statement),
-                parent: self.parent,
-                child: self.child,
-            },
+        BlockProgress {
+            block: OpenBlock::behind(self.block, statement, opened),
+            parent: self.parent || is_main(statement, Side::Parent),
+            child: self.child || is_main(statement, Side::Child),
         }
     }
 }

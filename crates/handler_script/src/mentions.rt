@@ -1,8 +1,12 @@
 ghost use Rattle.std.specs.Prelude.{◌≡◌, option_map};
+ghost use Rattle.handler_script.specs.Broken.{is_unknown};
+ghost use Rattle.handler_script.specs.Contexts.{standing_in};
 ghost use Rattle.handler_script.specs.ValueQuery.{test_of};
 ghost use Rattle.handler_script.specs.Mentions as mentions;
 
+use crate::context::Context;
 use crate::fits::param_at;
+use crate::messages::is_constructor;
 use ipdl_base::ParamRow;
 use script_reader::{Atom, MessageName, Statement, Who, WrittenValue, WrittenValues};
 
@@ -11,10 +15,19 @@ use script_reader::{Atom, MessageName, Statement, Who, WrittenValue, WrittenValu
 pub enum ValueQuery<'a> {
     /// Whether it is a parameter that is not among these.
     Absent(&'a [ParamRow]),
-    /// Whether it is of the handled message.
-    OfHandler,
-    /// Whether it is the actor that a constructor built.
-    Made,
+    /// Whether it is one who is not known in this block.
+    Unknown(Context<'a>),
+}
+
+/// Whether one is not known in a block.
+fn is_unknown(context: Context<'_>, who: &Who) -> bool
+    ensures { result ≡ is_unknown (standing_in context.entry) who.now }
+{
+    match (context, who) {
+        (Context::Main(_), Who::This | Who::Param(_) | Who::Made) => true,
+        (Context::Handler(_, message), Who::Made) => !is_constructor(message.kind),
+        _ => false,
+    }
 }
 
 /// Whether this is so of one.
@@ -26,14 +39,7 @@ fn passes(asked: ValueQuery<'_>, who: &Who) -> bool
             Who::Param(n) => param_at(given, *n).is_none(),
             _ => false,
         },
-        ValueQuery::OfHandler => match who {
-            Who::This | Who::Param(_) => true,
-            _ => false,
-        },
-        ValueQuery::Made => match who {
-            Who::Made => true,
-            _ => false,
-        },
+        ValueQuery::Unknown(context) => is_unknown(context, who),
     }
 }
 

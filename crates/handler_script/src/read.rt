@@ -7,14 +7,14 @@ ghost use Rattle.handler_script.specs.Valid.{IsValid};
 use crate::building::blocks_of;
 use crate::report::report_of;
 use crate::script::{Script, ScriptFault};
+use crate::table::MessageTable;
 use ipdl_base::Schema;
 use script_reader::read_lines;
 use std::alloc::Global;
 
 /// The script of a text, for a schema and the number of its top protocol (docs/scripts.md). `Broken`
 /// gives the rules that the text breaks, in order, where it breaks any. Takes time in proportion to
-/// the text, but for the sort of the findings, and for each line that names a message, which goes
-/// through all messages of the program, several times for a `send`.
+/// the text and the schema, but for the sort of the findings.
 pub fn read_script(
     alloc: Global,
     text: &[u8],
@@ -31,13 +31,16 @@ pub fn read_script(
     let Ok(readings) = read_lines(alloc, text) else {
         return Err(ScriptFault::NoMemory);
     };
-    let Ok(findings) = report_of(alloc, schema, top, readings.as_slice()) else {
+    let Ok(messages) = MessageTable::new(alloc, schema) else {
+        return Err(ScriptFault::NoMemory);
+    };
+    let Ok(findings) = report_of(alloc, schema, &messages, top, readings.as_slice()) else {
         return Err(ScriptFault::NoMemory);
     };
     if !findings.as_slice().is_empty() {
         return Err(ScriptFault::Broken(findings));
     }
-    match blocks_of(alloc, schema, readings.as_slice()) {
+    match blocks_of(alloc, schema, &messages, readings.as_slice()) {
         Ok(blocks) => Ok(Script { top, blocks }),
         Err(_) => Err(ScriptFault::NoMemory),
     }

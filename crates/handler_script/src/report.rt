@@ -1,20 +1,25 @@
-ghost use Rattle.std.specs.Prelude.{◌≡◌, ◌↔◌, ◌<◌, ◌^◌, List, length, IsTrue, OnOk, IfOk, option_map};
+ghost use Rattle.std.specs.Prelude.{◌≡◌, ◌↔◌, ◌<◌, ◌^◌, ◌∷◌, [], ◌++◌, List, length, IsTrue, OnOk, IfOk, option_map};
 ghost use Rattle.std.specs.List.{Contains};
 ghost use Rattle.ipdl_base.specs.declared.finding.Finding.{Finding as FindingType};
 ghost use Rattle.findings.specs.Gains.{Gains};
 ghost use Rattle.findings.specs.Report as report;
-ghost use Rattle.script_reader.specs.declared.line.LineReading.{LineReading as LineReadingType};
-ghost use Rattle.handler_script.specs.Blocks.{standing_behind};
+ghost use Rattle.script_reader.specs.declared.statement.Statement.{Statement as StatementType};
+ghost use Rattle.handler_script.specs.Blocks.{said, statements};
 ghost use Rattle.handler_script.specs.Broken as broken;
-ghost use Rattle.handler_script.specs.Knowing.{Knows, standing_in};
+ghost use Rattle.handler_script.specs.Building.{listed};
+ghost use Rattle.handler_script.specs.Contexts.{standing_in};
+ghost use Rattle.handler_script.specs.Knowing.{Knows, KnowsBlock};
+ghost use Rattle.handler_script.specs.Messages.{named};
+ghost use Rattle.handler_script.specs.Tables.{IsTableOf};
 
-use crate::lines::{BlockProgress, lines_behind};
+use crate::context::{Context, context_of, given_in, is_misdirected, is_uncarried};
+use crate::lines::{BlockProgress, OpenBlock, lines_behind};
 use crate::rules::{
-    Context, breaks_allowed, breaks_blocks, breaks_carried, breaks_direction, breaks_values,
-    context_of, names_none,
+    breaks_blocks, is_missent, is_not_allowed, is_unsent, names_none, sent, types_of, values_break,
 };
+use crate::table::MessageTable;
 use findings::sort_findings;
-use ipdl_base::{Finding, Findings, Place, Rule, Schema};
+use ipdl_base::{Finding, Findings, MessageRow, Place, Rule, Schema};
 use script_reader::{LineReading, Statement};
 use std::alloc::{AllocError, Global};
 
@@ -44,29 +49,42 @@ fn add_if(
     Ok(())
 }
 
-/// The block in which a line is tested that stands behind lines of which this is known.
-fn context_behind<'a>(schema: &'a Schema, reached: BlockProgress<'a>) -> Option<Context<'a>>
-    ensures { (before : List LineReadingType) → Knows before reached.entry → option_map standing_in result ≡ standing_behind schema.now before }
+/// Adds the findings of the rules that the opening of a block breaks.
+fn add_opening(
+    opened: Option<Context<'_>>,
+    place: Place,
+    found: &mut Vec<Finding>,
+) -> Result<(), AllocError>
+    ensures { OnOk result (Gains (λ f. (place ≡ f.place) × broken.OpeningBreaks f.rule (option_map standing_in opened.entry)) found.old.items found.new.items) }
 {
-    context_of(schema, reached.opened?)
+    let misdirected = is_misdirected(opened);
+    let uncarried = is_uncarried(opened);
+    add_if(Rule::WRONG_DIRECTION, place, misdirected, found)?;
+    add_if(Rule::UNCARRIED_TYPE, place, uncarried, found)?;
+    Ok(())
 }
 
-/// Adds the findings of the rules that a statement breaks whose message is there.
-fn add_known(
+/// Adds the findings of the rules that a statement breaks in a block.
+fn add_in_block(
     schema: &Schema,
-    context: Option<Context<'_>>,
+    context: Context<'_>,
     answered: bool,
     statement: &Statement,
+    message: Option<&MessageRow>,
     after: &[LineReading],
     place: Place,
     found: &mut Vec<Finding>,
 ) -> Result<(), AllocError>
-    ensures { OnOk result (Gains (λ f. (place ≡ f.place) × broken.KnownBreaks schema.now f.rule answered (option_map standing_in context.entry) statement.now after.now) found.old.items found.new.items) }
+    ensures { OnOk result (Gains (λ f. (place ≡ f.place)
+        × broken.BlockBreaks schema.now f.rule (option_map (λ m. m.now) message.entry) answered (standing_in context.entry) statement.now (statements after.now))
+        found.old.items found.new.items) }
 {
-    let direction = breaks_direction(schema, context, statement);
-    let values = breaks_values(schema, context, statement);
-    let allowed = breaks_allowed(schema, answered, context, statement, after);
-    let carried = breaks_carried(schema, context, statement);
+    let sent = sent(statement, message);
+    let direction = is_missent(context, sent);
+    let carried = is_unsent(sent);
+    let types = types_of(context, statement, message);
+    let values = values_break(schema, given_in(context), types, statement);
+    let allowed = is_not_allowed(context, answered, statement, message, after);
     add_if(Rule::WRONG_DIRECTION, place, direction, found)?;
     add_if(Rule::UNFIT_VALUES, place, values, found)?;
     add_if(Rule::NOT_ALLOWED_HERE, place, allowed, found)?;
@@ -74,86 +92,146 @@ fn add_known(
     Ok(())
 }
 
-/// Adds the findings of the rules that a statement breaks.
-fn add_statement(
+/// Adds the findings of the rules that a statement breaks in the block in which it stands.
+fn add_inside(
     schema: &Schema,
-    reached: BlockProgress<'_>,
+    block: Option<OpenBlock<'_>>,
+    statement: &Statement,
+    message: Option<&MessageRow>,
+    after: &[LineReading],
+    place: Place,
+    found: &mut Vec<Finding>,
+) -> Result<(), AllocError>
+    ensures { OnOk result ((before : List StatementType) → KnowsBlock schema.now before block.entry
+        → option_map (λ m. m.now) message.entry ≡ named schema.now statement.now
+        → Gains (λ f. (place ≡ f.place) × broken.InsideBreaks schema.now f.rule before statement.now (statements after.now)) found.old.items found.new.items) }
+{
+    if let Some(block) = block {
+        if let Some(context) = block.context {
+            add_in_block(
+                schema,
+                context,
+                block.answered,
+                statement,
+                message,
+                after,
+                place,
+                found,
+            )?;
+        }
+    }
+    Ok(())
+}
+
+/// Adds the findings of the rules that a statement breaks by its message and in its block.
+fn add_named(
+    schema: &Schema,
+    block: Option<OpenBlock<'_>>,
+    statement: &Statement,
+    message: Option<&MessageRow>,
+    after: &[LineReading],
+    place: Place,
+    found: &mut Vec<Finding>,
+) -> Result<(), AllocError>
+    ensures { OnOk result ((before : List StatementType) → KnowsBlock schema.now before block.entry
+        → option_map (λ m. m.now) message.entry ≡ named schema.now statement.now
+        → Gains (λ f. (place ≡ f.place) × broken.MessageBreaks schema.now f.rule before statement.now (statements after.now)) found.old.items found.new.items) }
+{
+    if names_none(statement, message) {
+        add_if(Rule::UNKNOWN_MESSAGE, place, true, found)?;
+        return Ok(());
+    }
+    add_opening(context_of(statement, message), place, found)?;
+    add_inside(schema, block, statement, message, after, place, found)?;
+    Ok(())
+}
+
+/// Adds the findings of the rules that a statement breaks, and gives what is known behind it.
+fn add_statement<'a>(
+    schema: &Schema,
+    messages: &MessageTable<'a>,
+    reached: BlockProgress<'a>,
     statement: &Statement,
     after: &[LineReading],
     place: Place,
     found: &mut Vec<Finding>,
-) -> Result<(), AllocError>
-    ensures { OnOk result ((before : List LineReadingType) → Knows before reached.entry → Gains (λ f. (place ≡ f.place) × broken.StatementBreaks schema.now f.rule before statement.now after.now) found.old.items found.new.items) }
+) -> Result<BlockProgress<'a>, AllocError>
+    requires { IsTableOf schema.now messages.now }
+    ensures gains { OnOk result ((before : List StatementType) → Knows schema.now before reached.entry
+        → Gains (λ f. (place ≡ f.place) × broken.StatementBreaks schema.now f.rule before statement.now (statements after.now))
+        found.old.items found.new.items) }
+    ensures knows { IfOk result (λ behind. (before : List StatementType) → Knows schema.now before reached.entry
+        → Knows schema.now (before ++ statement.now ∷ []) behind) }
 {
+    let message = messages.message_of(statement);
     let blocks = breaks_blocks(reached, statement, after);
     add_if(Rule::BLOCK_STRUCTURE, place, blocks, found)?;
-    if names_none(schema, statement) {
-        add_if(Rule::UNKNOWN_MESSAGE, place, true, found)?;
-        return Ok(());
-    }
-    let context = context_behind(schema, reached);
-    add_known(
+    add_named(
         schema,
-        context,
-        reached.answered,
+        reached.block,
         statement,
+        message,
         after,
         place,
         found,
     )?;
-    Ok(())
+    Ok(reached.behind(statement, context_of(statement, message)))
 }
 
-/// Adds the findings of the rules that a line breaks.
-fn add_line(
+/// Adds the findings of the rules that a line breaks, and gives what is known behind it.
+fn add_line<'a>(
     schema: &Schema,
-    reached: BlockProgress<'_>,
+    messages: &MessageTable<'a>,
+    reached: BlockProgress<'a>,
     reading: &LineReading,
     after: &[LineReading],
     place: Place,
     found: &mut Vec<Finding>,
-) -> Result<(), AllocError>
-    ensures { OnOk result ((before : List LineReadingType) → Knows before reached.entry → Gains (λ f. (place ≡ f.place) × broken.LineBreaks schema.now f.rule before reading.now after.now) found.old.items found.new.items) }
+) -> Result<BlockProgress<'a>, AllocError>
+    requires { IsTableOf schema.now messages.now }
+    ensures gains { OnOk result ((before : List StatementType) → Knows schema.now before reached.entry
+        → Gains (λ f. (place ≡ f.place) × broken.LineBreaks schema.now f.rule before reading.now (statements after.now)) found.old.items found.new.items) }
+    ensures knows { IfOk result (λ behind. (before : List StatementType) → Knows schema.now before reached.entry
+        → Knows schema.now (before ++ listed (said reading.now)) behind) }
 {
     match reading {
-        LineReading::Silent => {}
+        LineReading::Silent => Ok(reached),
         LineReading::Statement(statement) => {
-            add_statement(schema, reached, statement, after, place, found)?;
+            let behind = add_statement(schema, messages, reached, statement, after, place, found)?;
+            Ok(behind)
         }
-        LineReading::NoStatement => add_if(Rule::NOT_A_STATEMENT, place, true, found)?,
-        LineReading::TooLong => add_if(Rule::UNREADABLE_SCRIPT, place, true, found)?,
+        LineReading::NoStatement => {
+            add_if(Rule::NOT_A_STATEMENT, place, true, found)?;
+            Ok(reached)
+        }
+        LineReading::TooLong => {
+            add_if(Rule::UNREADABLE_SCRIPT, place, true, found)?;
+            Ok(reached)
+        }
     }
-    Ok(())
 }
 
 /// Adds the findings of the rules that lines break.
 fn add_lines(
     schema: &Schema,
+    messages: &MessageTable<'_>,
     readings: &[LineReading],
     found: &mut Vec<Finding>,
 ) -> Result<(), AllocError>
-    requires { length readings.now < 2 ^ 32 }
+    requires table { IsTableOf schema.now messages.now }
+    requires few { length readings.now < 2 ^ 32 }
     ensures { OnOk result (Gains (broken.IsBrokenByLine schema.now readings.now) found.old.items found.new.items) }
 {
-    let mut opened = None;
-    let mut answered = false;
-    let mut parent = false;
-    let mut child = false;
+    let mut reached = BlockProgress {
+        block: None,
+        parent: false,
+        child: false,
+    };
     for (i, reading) in readings.iter().enumerate() {
-        let reached = BlockProgress {
-            opened,
-            answered,
-            parent,
-            child,
-        };
         let place = line_place(i as u32 + 1);
         let after = lines_behind(readings, i);
-        add_line(schema, reached, reading, after, place, found)?;
-        let behind = reached.behind(reading);
-        opened = behind.opened;
-        answered = behind.answered;
-        parent = behind.parent;
-        child = behind.child;
+        let behind = add_line(schema, messages, reached, reading, after, place, found)?;
+        reached = behind;
     }
     Ok(())
 }
@@ -172,10 +250,12 @@ fn has_manager(schema: &Schema, top: u32) -> bool
 fn gathered(
     alloc: Global,
     schema: &Schema,
+    messages: &MessageTable<'_>,
     top: u32,
     readings: &[LineReading],
 ) -> Result<Vec<Finding>, AllocError>
-    requires { length readings.now < 2 ^ 32 }
+    requires table { IsTableOf schema.now messages.now }
+    requires few { length readings.now < 2 ^ 32 }
     ensures { IfOk result (λ found. (f : FindingType) → Contains found.items f ↔ broken.IsBroken schema.now top readings.now f) }
 {
     let mut found = Vec::new(alloc);
@@ -186,20 +266,22 @@ fn gathered(
     };
     let managed = has_manager(schema, top);
     add_if(Rule::NOT_A_TOP_PROTOCOL, whole, managed, &mut found)?;
-    add_lines(schema, readings, &mut found)?;
+    add_lines(schema, messages, readings, &mut found)?;
     Ok(found)
 }
 
-/// The report on what lines say, for a schema and its top protocol.
+/// The report on what lines say, for a schema, the table of its messages and its top protocol.
 pub fn report_of(
     alloc: Global,
     schema: &Schema,
+    messages: &MessageTable<'_>,
     top: u32,
     readings: &[LineReading],
 ) -> Result<Findings, AllocError>
-    requires { length readings.now < 2 ^ 32 }
+    requires table { IsTableOf schema.now messages.now }
+    requires few { length readings.now < 2 ^ 32 }
     ensures { IfOk result (report.IsReport (broken.IsBroken schema.now top readings.now)) }
 {
-    let found = gathered(alloc, schema, top, readings)?;
+    let found = gathered(alloc, schema, messages, top, readings)?;
     Ok(sort_findings(found))
 }

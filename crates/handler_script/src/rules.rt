@@ -1,149 +1,55 @@
-ghost use Rattle.std.specs.Prelude.{◌≡◌, ◌↔◌, IsTrue, List, option_map};
-ghost use Rattle.script_reader.specs.declared.line.LineReading.{LineReading as LineReadingType};
+ghost use Rattle.std.specs.Prelude.{◌≡◌, ◌↔◌, false, IsTrue, IsNone, IsSomeAnd, List, option_and_then, option_map};
+ghost use Rattle.ipdl_base.specs.declared.schema.Schema.{Schema as SchemaType};
+ghost use Rattle.script_reader.specs.declared.statement.Statement.{Statement as StatementType};
 ghost use Rattle.handler_script.specs.Blocks as blocks;
 ghost use Rattle.handler_script.specs.Broken as broken;
-ghost use Rattle.handler_script.specs.Knowing.{Knows, standing_in};
+ghost use Rattle.handler_script.specs.Contexts.{standing_in};
+ghost use Rattle.handler_script.specs.Knowing.{Knows};
+ghost use Rattle.handler_script.specs.Messages as messages;
 
+use crate::context::{Context, handled_in, side_of};
 use crate::fits::{each_fits, is_actor, param_at};
 use crate::lines::{BlockProgress, answers, is_closed, is_followed, opens};
 use crate::mentions::{ValueQuery, any_mentions, message_of, speaks_of, values_of, who_of};
-use crate::messages::{is_constructor, message_named, receives, replies, resolves, sends};
-use ipdl_base::{MessageRow, ParamRow, Schema, Side};
+use crate::messages::{is_constructor, replies, resolves, sends};
+use ipdl_base::{MessageRow, ParamRow, Schema};
 use script_reader::{LineReading, Statement, Who, WrittenValues};
 
-/// The block in which a line is tested.
-#[derive(Clone, Copy)]
-pub enum Context<'a> {
-    /// The main of a side.
-    Main(Side),
-    /// A handler of a message.
-    Handler(Side, &'a MessageRow),
+/// Whether a statement names a message, and it is not there.
+pub fn names_none(statement: &Statement, message: Option<&MessageRow>) -> bool
+    ensures { IsTrue result ↔ broken.NamesNone (option_map (λ m. m.now) message.entry) statement.now }
+{
+    message_of(statement).is_some() && message.is_none()
 }
 
-/// The block that a statement opens, if its message is there.
-pub fn context_of<'a>(schema: &'a Schema, statement: &Statement) -> Option<Context<'a>>
-    ensures { option_map standing_in result ≡ blocks.standing_of schema.now statement.now }
+/// The message that a statement sends, if it names this one.
+pub fn sent<'a>(statement: &Statement, message: Option<&'a MessageRow>) -> Option<&'a MessageRow>
+    ensures { option_map (λ m. m.now) result ≡ broken.sent (option_map (λ m. m.now) message.entry) statement.now }
 {
     match statement {
-        Statement::Main(side) => Some(Context::Main(*side)),
-        Statement::On(side, name) => {
-            let message = message_named(schema, name)?;
-            Some(Context::Handler(*side, message))
-        }
+        Statement::Send(_, _) | Statement::New(_, _, _) => message,
         _ => None,
     }
 }
 
-/// The side of a block.
-pub fn side_of(context: Context<'_>) -> Side
-    ensures { result ≡ blocks.side_of (standing_in context.entry) }
+/// Whether a message is sent that the side of the block cannot send.
+pub fn is_missent(context: Context<'_>, sent: Option<&MessageRow>) -> bool
+    ensures { IsTrue result ↔ broken.IsMissent (standing_in context.entry) (option_map (λ m. m.now) sent.entry) }
 {
-    match context {
-        Context::Main(side) => side,
-        Context::Handler(side, _) => side,
-    }
-}
-
-/// The parameters of the handled message.
-fn given_in<'a>(context: Context<'a>) -> &'a [ParamRow]
-    ensures { result.now ≡ blocks.given_in (standing_in context.entry) }
-{
-    match context {
-        Context::Main(_) => &[],
-        Context::Handler(_, message) => message.params.as_slice(),
-    }
-}
-
-/// The handled message.
-pub fn handled_in<'a>(context: Context<'a>) -> Option<&'a MessageRow>
-    ensures { option_map (λ m. m.now) result ≡ blocks.handled_in (standing_in context.entry) }
-{
-    match context {
-        Context::Main(_) => None,
-        Context::Handler(_, message) => Some(message),
-    }
-}
-
-/// Whether a statement names a message that is not there.
-pub fn names_none(schema: &Schema, statement: &Statement) -> bool
-    ensures { IsTrue result ↔ broken.NamesNone schema.now statement.now }
-{
-    match message_of(statement) {
-        Some(name) => message_named(schema, name).is_none(),
+    match sent {
+        Some(message) => !sends(side_of(context), message.direction),
         None => false,
     }
 }
 
-/// The message that a statement sends.
-fn sent<'a>(schema: &'a Schema, statement: &Statement) -> Option<&'a MessageRow>
-    ensures { option_map (λ m. m.now) result ≡ broken.sent schema.now statement.now }
+/// Whether a message is sent that no channel carries.
+pub fn is_unsent(sent: Option<&MessageRow>) -> bool
+    ensures { IsTrue result ↔ broken.IsUnsent (option_map (λ m. m.now) sent.entry) }
 {
-    match statement {
-        Statement::Send(_, call) | Statement::New(_, _, call) => {
-            message_named(schema, &call.message)
-        }
-        _ => None,
+    match sent {
+        Some(message) => !message.carried,
+        None => false,
     }
-}
-
-/// Whether the side cannot receive the message whose block this is.
-fn is_misdirected(context: Context<'_>) -> bool
-    ensures { result ≡ broken.is_misdirected (standing_in context.entry) }
-{
-    match context {
-        Context::Main(_) => false,
-        Context::Handler(side, message) => !receives(side, message.direction),
-    }
-}
-
-/// Whether no channel carries the message whose block this is.
-fn is_uncarried(context: Context<'_>) -> bool
-    ensures { result ≡ broken.is_uncarried (standing_in context.entry) }
-{
-    match context {
-        Context::Main(_) => false,
-        Context::Handler(_, message) => !message.carried,
-    }
-}
-
-/// Whether the message goes the wrong way.
-pub fn breaks_direction(
-    schema: &Schema,
-    context: Option<Context<'_>>,
-    statement: &Statement,
-) -> bool
-    ensures { IsTrue result ↔ broken.BreaksDirection schema.now (option_map standing_in context.entry) statement.now }
-{
-    let is_misdirected = match context_of(schema, statement) {
-        Some(opened) => is_misdirected(opened),
-        None => false,
-    };
-    let is_missent = match context {
-        Some(context) => match sent(schema, statement) {
-            Some(message) => !sends(side_of(context), message.direction),
-            None => false,
-        },
-        None => false,
-    };
-    is_misdirected || is_missent
-}
-
-/// Whether no channel carries the message.
-pub fn breaks_carried(schema: &Schema, context: Option<Context<'_>>, statement: &Statement) -> bool
-    ensures { IsTrue result ↔ broken.BreaksCarried schema.now (option_map standing_in context.entry) statement.now }
-{
-    let is_uncarried = match context_of(schema, statement) {
-        Some(opened) => is_uncarried(opened),
-        None => false,
-    };
-    let is_unsent = match context {
-        Some(_) => match sent(schema, statement) {
-            Some(message) => !message.carried,
-            None => false,
-        },
-        None => false,
-    };
-    is_uncarried || is_unsent
 }
 
 /// Whether it is a parameter that is no actor, or that is not there.
@@ -159,22 +65,33 @@ fn is_no_actor(given: &[ParamRow], who: &Who) -> bool
     }
 }
 
+/// The types of what answers the message that a block handles, if it is answered by a resolver.
+fn resolves_in<'a>(context: Context<'a>) -> Option<&'a [ParamRow]>
+    ensures { option_map (λ ps. ps.now) result ≡ option_and_then messages.resolves (blocks.handled_in (standing_in context.entry)) }
+{
+    resolves(handled_in(context)?)
+}
+
+/// The types of what the message that a block handles gives back, if it gives anything.
+pub fn replies_in<'a>(context: Context<'a>) -> Option<&'a [ParamRow]>
+    ensures { option_map (λ ps. ps.now) result ≡ option_and_then messages.replies (blocks.handled_in (standing_in context.entry)) }
+{
+    replies(handled_in(context)?)
+}
+
 /// The types that the values of a statement are to fit, where there are any.
 pub fn types_of<'a>(
-    schema: &'a Schema,
     context: Context<'a>,
     statement: &Statement,
+    message: Option<&'a MessageRow>,
 ) -> Option<&'a [ParamRow]>
-    ensures { option_map (λ ps. ps.now) result ≡ broken.types_of schema.now (standing_in context.entry) statement.now }
+    ensures { option_map (λ ps. ps.now) result ≡ broken.types_by (option_map (λ m. m.now) message.entry) (standing_in context.entry) statement.now }
 {
     match statement {
-        Statement::Send(_, call) | Statement::New(_, _, call) => {
-            let message = message_named(schema, &call.message)?;
-            Some(message.params.as_slice())
-        }
-        Statement::Resolve(_) => resolves(handled_in(context)?),
-        Statement::ResolveKept(_, call) => resolves(message_named(schema, &call.message)?),
-        Statement::Return(_) => replies(handled_in(context)?),
+        Statement::Send(_, _) | Statement::New(_, _, _) => Some(message?.params.as_slice()),
+        Statement::Resolve(_) => resolves_in(context),
+        Statement::ResolveKept(_, _) => resolves(message?),
+        Statement::Return(_) => replies_in(context),
         _ => None,
     }
 }
@@ -195,56 +112,29 @@ fn are_unfit(
     }
 }
 
-/// Whether the values of a statement in a block do not fit.
-fn values_break(schema: &Schema, context: Context<'_>, statement: &Statement) -> bool
-    ensures { IsTrue result ↔ broken.ValuesBreak schema.now (standing_in context.entry) statement.now }
+/// Whether a statement goes to one who is no actor, or its values do not fit these types.
+pub fn values_break(
+    schema: &Schema,
+    given: &[ParamRow],
+    types: Option<&[ParamRow]>,
+    statement: &Statement,
+) -> bool
+    ensures { IsTrue result ↔ broken.ValuesBreak schema.now given.now (option_map (λ ps. ps.now) types.entry) statement.now }
 {
-    let given = given_in(context);
     let is_no_actor = match who_of(statement) {
         Some(who) => is_no_actor(given, who),
         None => false,
     };
     let are_unfit = match values_of(statement) {
-        Some(values) => are_unfit(schema, given, types_of(schema, context, statement), values),
+        Some(values) => are_unfit(schema, given, types, values),
         None => false,
     };
     is_no_actor || are_unfit
 }
 
-/// Whether the values of a statement do not fit.
-pub fn breaks_values(schema: &Schema, context: Option<Context<'_>>, statement: &Statement) -> bool
-    ensures { IsTrue result ↔ broken.BreaksValues schema.now (option_map standing_in context.entry) statement.now }
-{
-    match context {
-        Some(context) => values_break(schema, context, statement),
-        None => false,
-    }
-}
-
-/// Whether those of a handled message are spoken of in a main.
-fn speaks_in_main(context: Context<'_>, statement: &Statement) -> bool
-    ensures { result ≡ broken.speaks_in_main (standing_in context.entry) statement.now }
-{
-    match context {
-        Context::Main(_) => speaks_of(statement, ValueQuery::OfHandler),
-        Context::Handler(_, _) => false,
-    }
-}
-
-/// Whether the actor that a constructor built is spoken of elsewhere.
-fn speaks_of_made(context: Context<'_>, statement: &Statement) -> bool
-    ensures { result ≡ broken.speaks_of_made (standing_in context.entry) statement.now }
-{
-    let is_of_constructor = match context {
-        Context::Main(_) => false,
-        Context::Handler(_, message) => is_constructor(message.kind),
-    };
-    speaks_of(statement, ValueQuery::Made) && !is_of_constructor
-}
-
 /// Whether a message is there, and is not answered by a resolver.
 fn is_unresolved(message: Option<&MessageRow>) -> bool
-    ensures { result ≡ broken.is_unresolved (option_map (λ m. m.now) message.entry) }
+    ensures { IsTrue result ↔ IsSomeAnd (option_map (λ m. m.now) message.entry) (λ m. IsNone (messages.resolves m)) }
 {
     match message {
         Some(message) => resolves(message).is_none(),
@@ -252,29 +142,9 @@ fn is_unresolved(message: Option<&MessageRow>) -> bool
     }
 }
 
-/// Whether the block handles no message that is answered by a resolver.
-fn has_no_resolver(context: Context<'_>) -> bool
-    ensures { result ≡ broken.has_no_resolver (standing_in context.entry) }
-{
-    match handled_in(context) {
-        Some(message) => resolves(message).is_none(),
-        None => true,
-    }
-}
-
-/// Whether the block handles no message to which values are returned.
-fn has_no_reply(context: Context<'_>) -> bool
-    ensures { result ≡ broken.has_no_reply (standing_in context.entry) }
-{
-    match handled_in(context) {
-        Some(message) => replies(message).is_none(),
-        None => true,
-    }
-}
-
 /// Whether a message is there, and makes no actor.
 fn is_other_constructor(message: Option<&MessageRow>) -> bool
-    ensures { result ≡ broken.is_other_constructor (option_map (λ m. m.now) message.entry) }
+    ensures { IsTrue result ↔ IsSomeAnd (option_map (λ m. m.now) message.entry) (λ m. messages.is_constructor m.kind ≡ false) }
 {
     match message {
         Some(message) => !is_constructor(message.kind),
@@ -282,48 +152,44 @@ fn is_other_constructor(message: Option<&MessageRow>) -> bool
     }
 }
 
-/// Whether a statement of its own kind stands where it may not.
+/// Whether a statement stands in a block that does not allow its kind, or not there.
 fn is_misplaced(
-    schema: &Schema,
-    answered: bool,
     context: Context<'_>,
+    answered: bool,
     statement: &Statement,
+    message: Option<&MessageRow>,
     after: &[LineReading],
 ) -> bool
-    ensures { result ≡ broken.is_misplaced schema.now answered (standing_in context.entry) statement.now after.now }
+    ensures { IsTrue result
+        ↔ broken.IsMisplaced (option_map (λ m. m.now) message.entry) answered (standing_in context.entry) statement.now (blocks.statements after.now) }
 {
     match statement {
-        Statement::New(_, _, call) => is_other_constructor(message_named(schema, &call.message)),
-        Statement::Return(_) => has_no_reply(context) || is_followed(after),
-        Statement::ResolveKept(_, call) => is_unresolved(message_named(schema, &call.message)),
-        Statement::RejectKept(_, name) => is_unresolved(message_named(schema, name)),
-        _ => answers(statement) && (has_no_resolver(context) || answered),
+        Statement::New(_, _, _) => is_other_constructor(message),
+        Statement::Return(_) => replies_in(context).is_none() || is_followed(after),
+        Statement::ResolveKept(_, _) | Statement::RejectKept(_, _) => is_unresolved(message),
+        _ => answers(statement) && (resolves_in(context).is_none() || answered),
     }
 }
 
 /// Whether a statement is not allowed where it stands.
-pub fn breaks_allowed(
-    schema: &Schema,
+pub fn is_not_allowed(
+    context: Context<'_>,
     answered: bool,
-    context: Option<Context<'_>>,
     statement: &Statement,
+    message: Option<&MessageRow>,
     after: &[LineReading],
 ) -> bool
-    ensures { IsTrue result ↔ broken.IsNotAllowed schema.now answered (option_map standing_in context.entry) statement.now after.now }
+    ensures { IsTrue result
+        ↔ broken.IsNotAllowed (option_map (λ m. m.now) message.entry) answered (standing_in context.entry) statement.now (blocks.statements after.now) }
 {
-    match context {
-        Some(context) => {
-            speaks_in_main(context, statement)
-                || speaks_of_made(context, statement)
-                || is_misplaced(schema, answered, context, statement, after)
-        }
-        None => false,
-    }
+    speaks_of(statement, ValueQuery::Unknown(context))
+        || is_misplaced(context, answered, statement, message, after)
 }
 
 /// Whether a statement is a second main of its side.
 fn is_second_main(reached: BlockProgress<'_>, statement: &Statement) -> bool
-    ensures { (before : List LineReadingType) → Knows before reached.entry → IsTrue result ↔ broken.IsSecondMain before statement.now }
+    ensures { (schema : SchemaType) (before : List StatementType) → Knows schema before reached.entry
+        → IsTrue result ↔ broken.IsSecondMain before statement.now }
 {
     match statement {
         Statement::Main(side) => reached.has_main(*side),
@@ -337,12 +203,17 @@ pub fn breaks_blocks(
     statement: &Statement,
     after: &[LineReading],
 ) -> bool
-    ensures { (before : List LineReadingType) → Knows before reached.entry → IsTrue result ↔ broken.BreaksBlocks before statement.now after.now }
+    ensures { (schema : SchemaType) (before : List StatementType) → Knows schema before reached.entry
+        → IsTrue result ↔ broken.BreaksBlocks before statement.now (blocks.statements after.now) }
 {
-    let is_outside = reached.opened.is_none();
-    if opens(statement) {
-        !is_outside || is_second_main(reached, statement) || !is_closed(after)
-    } else {
-        is_outside
+    if !opens(statement) {
+        return reached.block.is_none();
     }
+    if reached.block.is_some() {
+        return true;
+    }
+    if is_second_main(reached, statement) {
+        return true;
+    }
+    !is_closed(after)
 }

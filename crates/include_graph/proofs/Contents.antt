@@ -3,6 +3,8 @@ use Rattle.std.proofs.Common.{◌≡◌, ◌≤◌, ℕ, List, length, refl, sym
 use Rattle.std.specs.Prelude.{Option, Some, None}
 use Rattle.std.proofs.lemmas.Option.{same_Some}
 use Rattle.ipdl_base.specs.declared.finding.Place.{Place}
+use Rattle.ipdl_base.specs.declared.files.TheConstants.{MOST_BYTES}
+use Rattle.ipdl_base.specs.Outside.{HasMore}
 use Rattle.ipdl_lex.specs.declared.token.Lexed.{Lexed}
 use Rattle.ipdl_lex.specs.declared.token.LexFault.{LexFault}
 use Rattle.ipdl_lex.specs.Tokens.{IsTokens, IsFault}
@@ -15,7 +17,7 @@ use Rattle.include_graph.specs.declared.content.Content.{Content}
 use Rattle.include_graph.specs.declared.content.Content.TheVariants.{Absent, Large, BadToken, SyntaxFault, Read}
 use Rattle.include_graph.specs.Reach.{IsUnitOf}
 use Rattle.include_graph.specs.Reading.{IsContent}
-use Rattle.include_graph.specs.Rules.{HasBadToken, HasSyntaxFault, IsLarge, place_of}
+use Rattle.include_graph.specs.Rules.{HasBadToken, HasSyntaxFault, place_of}
 use Rattle.include_graph.proofs.OneUnit.{AtMostOne, kind_one}
 use Rattle.include_graph.proofs.SyntaxPlaces.{one_syntax_place}
 
@@ -35,7 +37,7 @@ no_text e f = cc
 
 module _ (laws : OneAnswer) (number : ℕ) (key : List ℕ) (held : Option (List ℕ)) where
   -- a text is not both small and large
-  not_large : {b : List ℕ} → held ≡ Some b → length b ≤ 1048576 → ¬ IsLarge held
+  not_large : {b : List ℕ} → held ≡ Some b → length b ≤ MOST_BYTES → ¬ HasMore MOST_BYTES held
   not_large {b} e small l =
       let same : b ≡ l.bytes = one_text e l.has in
       let large = l.large in
@@ -57,7 +59,7 @@ module _ (laws : OneAnswer) (number : ℕ) (key : List ℕ) (held : Option (List
   absent_is (SyntaxFault place) h none = absurd (no_text none h.has)
   absent_is (Read unit) h none = absurd (no_text none h.has)
 
-  pub large_is : (c : Content) → IsContent number key held c → IsLarge held → c ≡ Large
+  pub large_is : (c : Content) → IsContent number key held c → HasMore MOST_BYTES held → c ≡ Large
   large_is Absent h l = absurd (no_text h l.has)
   large_is Large h l = refl
   large_is (BadToken place) h l = absurd (not_large h.has h.small l)

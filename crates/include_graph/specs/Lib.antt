@@ -3,7 +3,6 @@ pub mod Growth
 pub mod Keys
 pub mod Laws
 pub mod Load
-pub mod LoadOutcome
 pub mod Reach
 pub mod Reading
 pub mod Rules

@@ -1,11 +1,12 @@
 -- What a load answers.
-use Rattle.std.specs.Prelude.{◌≡◌, ◌≢◌, ℕ, List, [], map, slice_get, Option, Some, None, Result, MatchResult}
+use Rattle.std.specs.Prelude.{◌≡◌, ◌≢◌, ℕ, ◌≤◌, List, [], length, map, slice_get, Option, Some, None}
 use Rattle.ipdl_base.specs.declared.finding.Finding.{Finding}
 use Rattle.ipdl_base.specs.Outside.{FileMap}
 use Rattle.ipdl_syntax.specs.declared.program.Entry.{Entry}
+use Rattle.ipdl_syntax.specs.Programs.{IsProgram, BearTheirNames}
 use Rattle.findings.specs.Report.{IsReport}
-use Rattle.include_graph.specs.declared.loader.LoadFault.{LoadFault}
-use Rattle.include_graph.specs.declared.loader.LoadFault.TheVariants.{Broken, ReadFault, NoMemory}
+use Rattle.include_graph.specs.declared.loader.LoadResult.{LoadResult}
+use Rattle.include_graph.specs.declared.loader.LoadResult.TheVariants.{Whole, Broken}
 use Rattle.include_graph.specs.Sources.{LoadInput, IsReadUnder, content, text_of}
 use Rattle.include_graph.specs.Reach.{IsUnitOf, IsReach}
 use Rattle.include_graph.specs.Rules.{IsBroken}
@@ -38,12 +39,12 @@ pub record IsReportOf (given : LoadInput) (findings : List Finding) (texts : Lis
   pub some : findings ≢ []
   pub called : texts ≡ map (text_of given) keys
 
--- why there is no program: the report on the files; a failed read and want of memory have causes of their own
-abbrev pub IsFaultOf : LoadInput → LoadFault → Type 0
-IsFaultOf given (Broken findings texts) = IsReportOf given findings texts
-IsFaultOf given ReadFault = Unit {0}
-IsFaultOf given NoMemory = Unit {0}
+-- What was loaded: the program where no rule is broken, and else the report.
+abbrev pub IsAnswer : LoadInput → LoadResult → Type 0
+IsAnswer given (Whole program) = IsProgramOf given program
+IsAnswer given (Broken report) = IsReportOf given report.findings report.names
 
--- The answer: the program where no rule is broken, and else the report.
-abbrev pub IsAnswer : LoadInput → Result (List Entry) LoadFault → Type 0
-IsAnswer given answer = MatchResult answer (IsProgramOf given) (IsFaultOf given)
+-- a program that is one, of protocols that bear the names of their files; or a report on at most 4,096 files
+abbrev pub IsGood : LoadResult → Type 0
+IsGood (Whole program) = IsProgram program × BearTheirNames program
+IsGood (Broken report) = length report.names ≤ 4096

@@ -1,6 +1,7 @@
 -- Which files are reached.
 use Rattle.std.specs.Prelude.{◌≡◌, ◌≢◌, ℕ, ◌≤◌, ◌<◌, ◌⊎◌, List, [], ◌++◌, length, take, slice_get, Option, Some}
 use Rattle.std.specs.List.{All, AllPairs, Contains, flat_map, position_or_len}
+use Rattle.ipdl_base.specs.declared.files.TheConstants.{MOST_BYTES}
 use Rattle.ipdl_lex.specs.declared.token.Lexed.{Lexed}
 use Rattle.ipdl_lex.specs.Tokens.{IsTokens}
 use Rattle.ipdl_syntax.specs.declared.tree.FileKind.{FileKind}
@@ -14,7 +15,7 @@ use Rattle.include_graph.specs.Sources.{LoadInput, content}
 pub record IsUnitOf (number : ℕ) (key : List ℕ) (held : Option (List ℕ)) (unit : FileUnit) : Type 0 where
   pub bytes : List ℕ
   pub has : held ≡ Some bytes
-  pub small : length bytes ≤ 1048576
+  pub small : length bytes ≤ MOST_BYTES
   pub lexed : Lexed
   pub tokens : IsTokens number bytes lexed
   pub kind : FileKind

@@ -2,7 +2,8 @@
 use Rattle.std.specs.Prelude.{◌≡◌, ℕ, List, [], ◌∷◌, length, map, slice_get, Option, Some, None, unwrap_or}
 use Rattle.std.specs.List.{AllZip, Contains, filter_map}
 use Rattle.std.specs.Option.{option_and_then, option_or}
-use Rattle.ipdl_base.specs.Outside.{FileMap}
+use Rattle.ipdl_base.specs.declared.files.TheConstants.{MOST_BYTES}
+use Rattle.ipdl_base.specs.Outside.{FileMap, HasMore}
 use Rattle.ipdl_lex.specs.declared.token.Lexed.{Lexed}
 use Rattle.ipdl_syntax.specs.declared.program.Entry.{Entry}
 use Rattle.ipdl_syntax.specs.declared.tree.FileKind.{FileKind}
@@ -13,8 +14,6 @@ use Rattle.ipdl_syntax.specs.Programs.{named_key, named_keys}
 use Rattle.ipdl_parse.specs.Place.{HasTree, IsSyntaxPlace, IsPlaceAt}
 use Rattle.include_graph.specs.declared.content.Content.{Content}
 use Rattle.include_graph.specs.declared.content.Content.TheVariants.{Absent, Large, BadToken, SyntaxFault, Read}
-use Rattle.include_graph.specs.declared.read.FileBytes.{FileBytes}
-use Rattle.include_graph.specs.declared.read.FileBytes.TheVariants as found
 use Rattle.include_graph.specs.declared.read.SourceFile.{SourceFile}
 use Rattle.include_graph.specs.declared.walk.ReachedFile.{ReachedFile}
 use Rattle.include_graph.specs.declared.walk.Target.{Target}
@@ -22,7 +21,7 @@ use Rattle.include_graph.specs.declared.walk.Target.TheVariants.{Nothing, LeftOu
 use Rattle.include_graph.specs.Growth.{HasWords}
 use Rattle.include_graph.specs.Sources.{LoadInput, word_of, name_on_path, content}
 use Rattle.include_graph.specs.Reach.{IsUnitOf, IsReachBy}
-use Rattle.include_graph.specs.Rules.{HasBadToken, HasSyntaxFault, IsLarge}
+use Rattle.include_graph.specs.Rules.{HasBadToken, HasSyntaxFault}
 
 -- what the tokens of a file of this kind are read as
 abbrev pub IsContentOfTokens : FileKind → Lexed → Content → Type 0
@@ -35,16 +34,10 @@ IsContentOfTokens kind lexed (Read unit) = Tree kind lexed.tokens unit
 -- what the file of this number and key, which holds these bytes, if any, is read as
 abbrev pub IsContent : ℕ → List ℕ → Option (List ℕ) → Content → Type 0
 IsContent number key held Absent = held ≡ None
-IsContent number key held Large = IsLarge held
+IsContent number key held Large = HasMore MOST_BYTES held
 IsContent number key held (BadToken place) = HasBadToken number held place
 IsContent number key held (SyntaxFault place) = HasSyntaxFault number key held place
 IsContent number key held (Read unit) = IsUnitOf number key held unit
-
--- what a read of a name found, by what the name has
-abbrev pub IsFound : Option (List ℕ) → FileBytes → Type 0
-IsFound held (found.Bytes bytes) = held ≡ Some bytes.items
-IsFound held found.Large = IsLarge held
-IsFound held found.Absent = held ≡ None
 
 -- what came of a key that is read under this name, if any
 pub record IsSource (number : ℕ) (key : List ℕ) (files : FileMap) (name : Option (List ℕ)) (source : SourceFile) : Type 0 where

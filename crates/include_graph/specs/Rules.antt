@@ -1,8 +1,10 @@
 -- The rules that files can break by how they are read and named, each with the places at which it is broken.
-use Rattle.std.specs.Prelude.{◌≡◌, ◌≢◌, ℕ, ◌≤◌, ◌<◌, ◌⊎◌, List, ◌++◌, length, slice_get, Option, Some, None, IsSome, IsSomeAnd}
+use Rattle.std.specs.Prelude.{◌≡◌, ◌≢◌, ℕ, ◌≤◌, ◌⊎◌, List, ◌++◌, length, slice_get, Option, Some, None, IsSome, IsSomeAnd}
 use Rattle.std.specs.List.{Any, Contains}
 use Rattle.ipdl_base.specs.declared.finding.Finding.{Finding}
 use Rattle.ipdl_base.specs.declared.finding.Place.{Place}
+use Rattle.ipdl_base.specs.declared.files.TheConstants.{MOST_BYTES}
+use Rattle.ipdl_base.specs.Outside.{HasMore}
 use Rattle.ipdl_base.specs.declared.finding.TheConstants.Rule as rule
 use Rattle.ipdl_base.specs.Words.{short_name}
 use Rattle.ipdl_lex.specs.declared.token.Lexed.{Lexed}
@@ -34,7 +36,7 @@ place_of NoMemory = None
 pub record HasBadToken (number : ℕ) (held : Option (List ℕ)) (place : Place) : Type 0 where
   pub bytes : List ℕ
   pub has : held ≡ Some bytes
-  pub small : length bytes ≤ 1048576
+  pub small : length bytes ≤ MOST_BYTES
   pub fault : LexFault
   pub is_fault : IsFault number bytes fault
   pub here : place_of fault ≡ Some place
@@ -43,7 +45,7 @@ pub record HasBadToken (number : ℕ) (held : Option (List ℕ)) (place : Place)
 pub record HasSyntaxFault (number : ℕ) (key : List ℕ) (held : Option (List ℕ)) (place : Place) : Type 0 where
   pub bytes : List ℕ
   pub has : held ≡ Some bytes
-  pub small : length bytes ≤ 1048576
+  pub small : length bytes ≤ MOST_BYTES
   pub lexed : Lexed
   pub tokens : IsTokens number bytes lexed
   pub kind : FileKind
@@ -52,12 +54,6 @@ pub record HasSyntaxFault (number : ℕ) (key : List ℕ) (held : Option (List �
   pub index : ℕ
   pub longest : IsSyntaxPlace kind lexed.tokens index
   pub here : IsPlaceAt lexed.tokens lexed.end index place
-
--- the file has more bytes than are read
-pub record IsLarge (held : Option (List ℕ)) : Type 0 where
-  pub bytes : List ℕ
-  pub has : held ≡ Some bytes
-  pub large : 1048576 < length bytes
 
 -- this holds of the number and the key of one of the files
 abbrev pub OfFile : List (List ℕ) → (ℕ → List ℕ → Type 0) → Type 0
@@ -96,7 +92,7 @@ IsMisnamed given keys place = OfUnit given keys (IsMisnamedAt place)
 -- A file has more bytes than are read, or an include names a key that is not in the list.
 abbrev pub IsTooLarge : LoadInput → List (List ℕ) → Place → Type 0
 IsTooLarge given keys place =
-    OfFile keys (λ number key. IsLarge (content given key) × (place ≡ whole_file number))
+    OfFile keys (λ number key. HasMore MOST_BYTES (content given key) × (place ≡ whole_file number))
     ⊎ OfUnit given keys (λ _. IncludesAt place (λ key. ¬ Contains keys key))
 
 -- the finding holds of the files of these keys: its rule is broken at its place

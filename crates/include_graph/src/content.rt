@@ -1,4 +1,5 @@
-ghost use Rattle.std.specs.Prelude.{◌≡◌, IfOk, Some};
+ghost use Rattle.std.specs.Prelude.{◌≤◌, IfOk, Some, length};
+ghost use Rattle.ipdl_base.specs.declared.files.TheConstants.{MOST_BYTES};
 ghost use Rattle.ipdl_base.specs.FileNames.{IsFileWord};
 ghost use Rattle.include_graph.specs.Reading.{IsContentOfTokens, IsContent};
 
@@ -8,9 +9,6 @@ use ipdl_lex::{LexFault, Lexed, lex};
 use ipdl_parse::{SyntaxFault, parse};
 use ipdl_syntax::{FileKind, Unit};
 use std::alloc::{AllocError, Global};
-
-/// The most bytes of a file that is read.
-pub const MOST_BYTES: usize = 1_048_576;
 
 /// What the file of a key is read as.
 #[derive(Drop)]
@@ -45,12 +43,10 @@ pub fn content_of_bytes(
     key: &[u8],
     bytes: &[u8],
 ) -> Result<Content, AllocError>
-    requires { IsFileWord key.now }
+    requires word { IsFileWord key.now }
+    requires small { length bytes.now ≤ MOST_BYTES }
     ensures { IfOk result (IsContent number key.now (Some bytes.now)) }
 {
-    if bytes.len() > MOST_BYTES {
-        return Ok(Content::Large);
-    }
     match lex(alloc, bytes, number) {
         Ok(lexed) => content_of_tokens(alloc, &lexed, kind_of(key)),
         Err(LexFault::NoMemory) => Err(AllocError),

@@ -6,7 +6,6 @@ mod content;
 mod keys;
 mod laws;
 mod loader;
-mod outcome;
 mod program;
 mod read;
 mod rules;
@@ -14,4 +13,4 @@ mod walk;
 
 pub use keys::are_file_words;
 pub use laws::one_reach;
-pub use loader::{LoadFault, load};
+pub use loader::{LoadResult, load};

@@ -1,59 +1,111 @@
-ghost use Rattle.std.specs.Prelude.{◌≡◌, ◌≤◌, IfOk, Err, map, string_bytes};
+ghost use Rattle.std.specs.Prelude.{◌≡◌, ◌≤◌, Err, IfOk, List, length, map, string_bytes};
+ghost use Rattle.std.specs.List.{AllByRecursion, Contains};
+ghost use Rattle.findings.specs.Report.{IsReport};
 ghost use Rattle.ipdl_base.specs.Outside.{Rose};
-ghost use Rattle.ipdl_syntax.specs.Programs.{IsProgram, BearTheirNames};
+ghost use Rattle.ipdl_base.specs.declared.finding.Finding.{Finding as TheFinding};
+ghost use Rattle.ipdl_syntax.specs.declared.program.Entry.{Entry};
 ghost use Rattle.include_graph.specs.Keys.{AreFileWords};
-ghost use Rattle.include_graph.specs.Load.{ForMap, IsAnswer};
+ghost use Rattle.include_graph.specs.Load.{ForMap, IsAnswer, IsGood};
+ghost use Rattle.include_graph.specs.Reading.{IsGathered, IsOfTree, AreEntriesFrom};
+ghost use Rattle.include_graph.specs.declared.loader.LoadResult.TheVariants.{Broken, Whole};
+ghost use Rattle.include_graph.specs.Sources.{LoadInput};
 
-use crate::outcome::{LoadOutcome, outcome_of};
-use crate::read::ReadStop;
-use crate::walk::gather;
-use ipdl_base::{Files, Findings, Texts};
+use crate::program::{names_of, program_of};
+use crate::rules::found_in;
+use crate::walk::{FileSet, ReachedFile, gather};
+use findings::sort_findings;
+use grammar_laws::{files_hold, names_hold, one_tree, places_hold};
+use ipdl_base::{Failure, Files, Finding, Report};
+use ipdl_lex::{one_answer, words_hold};
 use ipdl_syntax::Program;
-use std::alloc::Global;
+use std::alloc::{AllocError, Global};
 
-/// Why files make no program.
-#[derive(Debug, Drop)]
-pub enum LoadFault {
-    /// The report on the files, and for each of them how the report calls it.
-    Broken(Findings, Texts),
-    /// A read failed.
-    ReadFault,
-    /// Memory ran out.
-    NoMemory,
+/// What the files make that a command reaches.
+#[derive(Drop)]
+pub enum LoadResult {
+    /// Their program, where they break no rule by how they are read and named.
+    Whole(Program),
+    /// The report on the rules that they break so.
+    Broken(Report),
 }
 
-/// The program of the files that the names reach, which are looked for in the directories of the path (docs/reach.md).
+/// The program of the files that are reached, each of which has a tree.
+fn whole(alloc: Global, gathered: FileSet) -> Result<LoadResult, AllocError>
+    requires size { length gathered.files.items ≡ length gathered.keys.keys }
+    requires trees { AllByRecursion (λ f. IsOfTree f.source.content) gathered.files.items }
+    ensures { IfOk result (λ made. (program : List Entry) × (made ≡ Whole program) × AreEntriesFrom gathered.keys.keys gathered.files.items program) }
+{
+    let program = program_of(alloc, gathered.keys, gathered.files)?;
+    Ok(LoadResult::Whole(program))
+}
+
+/// The report of what was found in the files that are reached.
+fn report(
+    alloc: Global,
+    files: Vec<ReachedFile>,
+    found: Vec<Finding>,
+) -> Result<LoadResult, AllocError>
+    ensures { IfOk result (λ made. (findings : List TheFinding)
+        × (made ≡ Broken (record { findings = findings; names = map (λ f. f.source.text) files.items }))
+        × IsReport (Contains found.items) findings) }
+{
+    let names = names_of(alloc, files)?;
+    Ok(LoadResult::Broken(Report {
+        findings: sort_findings(found),
+        names,
+    }))
+}
+
+/// What the files that are reached make.
+fn result_of(alloc: Global, gathered: FileSet) -> Result<LoadResult, AllocError>
+    requires { (given : LoadInput) × IsGathered given gathered.words gathered.keys.keys gathered.files.items }
+    ensures answer { IfOk result (λ made. (given : LoadInput) → IsGathered given gathered.words gathered.keys.keys gathered.files.items
+        → IsAnswer given made) }
+    ensures good { IfOk result IsGood }
+{
+    words_hold();
+    files_hold();
+    names_hold();
+    places_hold();
+    one_tree();
+    one_answer();
+    let found = found_in(
+        alloc,
+        gathered.words,
+        gathered.keys.as_slice(),
+        gathered.files.as_slice(),
+    )?;
+    if found.is_empty() {
+        whole(alloc, gathered)
+    } else {
+        report(alloc, gathered.files, found)
+    }
+}
+
+/// Loads the files that the names reach, which are looked for in the directories of the path (docs/reach.md).
 ///
-/// The answer is `LoadFault::Broken` exactly where a rule is broken by them: with the findings, in order,
-/// and for each file of the reach the name under which it was read, or its key where there is no such file.
-/// It is `LoadFault::ReadFault` where a read fails, and `LoadFault::NoMemory` where memory runs out.
+/// They are `LoadResult::Broken` exactly where they break a rule: with the findings, in order, and for
+/// each file of the reach the name under which it was read, or its key where there is no such file.
 pub fn load<F: Files>(
     alloc: Global,
     files: &mut F,
     names: &[String],
     path: &[String],
-) -> Result<Program, LoadFault>
+) -> Result<LoadResult, Failure>
     requires { AreFileWords (map string_bytes names.now) }
 
     // The program of the reach where no rule is broken, and else the report; for some map where the files tell none.
-    ensures answer { ForMap (F.told files.old) (λ files'. IsAnswer (record { files = files'; words = map string_bytes names.now; path = map string_bytes path.now }) result) }
+    ensures answer { ForMap (F.told files.old) (λ files'. IfOk result
+        (IsAnswer (record { files = files'; words = map string_bytes names.now; path = map string_bytes path.now }))) }
 
     // Whatever the files tell, a program is one.
-    ensures program { IfOk result IsProgram }
-    ensures names { IfOk result BearTheirNames }
+    ensures good { IfOk result IsGood }
 
     // The map of the files stays, and only a failed read gives a fault.
     ensures told { F.told files.new ≡ F.told files.old }
     ensures count { F.faults files.old ≤ F.faults files.new }
-    ensures read_fault { result ≡ Err LoadFault.ReadFault → Rose (F.faults files.old) (F.faults files.new) }
+    ensures read_fault { result ≡ Err Failure.ReadFault → Rose (F.faults files.old) (F.faults files.new) }
 {
-    match gather(alloc, files, names, path) {
-        Ok(gathered) => match outcome_of(alloc, gathered) {
-            Ok(LoadOutcome::Whole(program)) => Ok(program),
-            Ok(LoadOutcome::Report(findings, texts)) => Err(LoadFault::Broken(findings, texts)),
-            Err(_) => Err(LoadFault::NoMemory),
-        },
-        Err(ReadStop::ReadFault) => Err(LoadFault::ReadFault),
-        Err(ReadStop::NoMemory) => Err(LoadFault::NoMemory),
-    }
+    let gathered = gather(alloc, files, names, path)?;
+    Ok(result_of(alloc, gathered)?)
 }

@@ -75,7 +75,7 @@ pub fn program_of(
 }
 
 /// How a report calls a file.
-fn text_of(file: ReachedFile) -> Name
+fn name_of(file: ReachedFile) -> Name
     ensures { result ≡ file.source.text }
 {
     let ReachedFile { source, .. } = file;
@@ -84,12 +84,12 @@ fn text_of(file: ReachedFile) -> Name
 }
 
 /// How a report calls the files.
-pub fn texts_of(alloc: Global, files: Vec<ReachedFile>) -> Result<Texts, AllocError>
-    ensures { IfOk result (λ texts. texts ≡ map (λ f. f.source.text) files.items) }
+pub fn names_of(alloc: Global, files: Vec<ReachedFile>) -> Result<Texts, AllocError>
+    ensures { IfOk result (λ names. names ≡ map (λ f. f.source.text) files.items) }
 {
-    let mut texts = Vec::new(alloc);
+    let mut names = Vec::new(alloc);
     for file in files {
-        texts.push(text_of(file))?;
+        names.push(name_of(file))?;
     }
-    Ok(Items::from_vec(texts))
+    Ok(Items::from_vec(names))
 }

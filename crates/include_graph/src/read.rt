@@ -1,45 +1,15 @@
-ghost use Rattle.std.specs.Prelude.{◌≡◌, ◌≤◌, ◌++◌, IfOk, IfSome, Some, None, Option, List, ℕ, map, string_bytes};
+ghost use Rattle.std.specs.Prelude.{◌≡◌, ◌≤◌, ◌++◌, Err, IfOk, Some, None, Option, List, ℕ, map, string_bytes};
 ghost use Rattle.std.specs.Option.{option_copied, option_or};
 ghost use Rattle.std.specs.Str.{IsUtf8};
-ghost use Rattle.ipdl_base.specs.Outside.{Rose};
+ghost use Rattle.ipdl_base.specs.Outside.{HasAtMost, IsHeldWithin, Rose};
 ghost use Rattle.ipdl_base.specs.FileNames.{IsFileWord};
 ghost use Rattle.include_graph.specs.Load.{ForMap};
 ghost use Rattle.include_graph.specs.Sources.{in_directory as the_name_in, name_on_path};
-ghost use Rattle.include_graph.specs.Reading.{IsContent, IsFound, IsSource};
+ghost use Rattle.include_graph.specs.Reading.{IsContent, IsSource};
 
-use crate::content::{Content, MOST_BYTES, content_of_bytes};
-use ipdl_base::{Files, Name, ReadAnswer};
+use crate::content::{Content, content_of_bytes};
+use ipdl_base::{Failure, FileBytes, Files, MOST_BYTES, Name};
 use std::alloc::{AllocError, Global};
-
-/// Why files are read no further.
-#[derive(Clone, Copy)]
-pub enum ReadStop {
-    /// A read failed.
-    ReadFault,
-    /// Memory ran out.
-    NoMemory,
-}
-
-impl From<AllocError> for ReadStop {
-    ghost use Rattle.include_graph.specs.declared.read.ReadStop.TheVariants.{NoMemory};
-
-    ghost from_gives = { λ _ stop. stop ≡ NoMemory };
-
-    fn from(_error: AllocError) -> ReadStop {
-        ReadStop::NoMemory
-    }
-}
-
-/// What stands at a name.
-#[derive(Drop)]
-pub enum FileBytes {
-    /// A file with these bytes.
-    Bytes(Vec<u8>),
-    /// A file with more bytes than are read.
-    Large,
-    /// No file.
-    Absent,
-}
 
 /// What came of a key.
 #[derive(Drop)]
@@ -49,22 +19,6 @@ pub struct SourceFile {
     pub content: Content,
 }
 
-/// Reads a name.
-fn read_name<F: Files>(alloc: Global, files: &mut F, name: &str) -> Result<FileBytes, ReadStop>
-    ensures found { IfOk result (λ found. IfSome (F.told files.old) (λ map'. IsFound (map' name.now) found)) }
-    ensures told { F.told files.new ≡ F.told files.old }
-    ensures count { F.faults files.old ≤ F.faults files.new }
-    ensures read_fault { result ≡ Err ReadStop.ReadFault → Rose (F.faults files.old) (F.faults files.new) }
-{
-    match files.read(alloc, name, MOST_BYTES) {
-        ReadAnswer::Bytes(bytes) => Ok(FileBytes::Bytes(bytes)),
-        ReadAnswer::Larger => Ok(FileBytes::Large),
-        ReadAnswer::Absent => Ok(FileBytes::Absent),
-        ReadAnswer::Failed => Err(ReadStop::ReadFault),
-        ReadAnswer::NoMemory => Err(ReadStop::NoMemory),
-    }
-}
-
 /// What the file of this number and key is read as, by what was found.
 fn content_of_found(
     alloc: Global,
@@ -72,13 +26,14 @@ fn content_of_found(
     key: &[u8],
     found: &FileBytes,
 ) -> Result<Content, AllocError>
-    requires { IsFileWord key.now }
-    ensures { IfOk result (λ content. (held : Option (List ℕ)) → IsFound held found.now → IsContent number key.now held content) }
+    requires word { IsFileWord key.now }
+    requires small { HasAtMost MOST_BYTES found.now }
+    ensures { IfOk result (λ content. (held : Option (List ℕ)) → IsHeldWithin MOST_BYTES held found.now → IsContent number key.now held content) }
 {
     match found {
-        FileBytes::Bytes(bytes) => content_of_bytes(alloc, number, key, bytes.as_slice()),
-        FileBytes::Large => Ok(Content::Large),
         FileBytes::Absent => Ok(Content::Absent),
+        FileBytes::Larger => Ok(Content::Large),
+        FileBytes::Bytes(bytes) => content_of_bytes(alloc, number, key, bytes.as_slice()),
     }
 }
 
@@ -89,14 +44,14 @@ fn read_word<F: Files>(
     word: &str,
     key: &[u8],
     number: u32,
-) -> Result<SourceFile, ReadStop>
+) -> Result<SourceFile, Failure>
     requires { IsFileWord key.now }
     ensures source { IfOk result (λ source. ForMap (F.told files.old) (λ files'. IsSource number key.now files' (Some word.now) source)) }
     ensures told { F.told files.new ≡ F.told files.old }
     ensures count { F.faults files.old ≤ F.faults files.new }
-    ensures read_fault { result ≡ Err ReadStop.ReadFault → Rose (F.faults files.old) (F.faults files.new) }
+    ensures read_fault { result ≡ Err Failure.ReadFault → Rose (F.faults files.old) (F.faults files.new) }
 {
-    let found = read_name(alloc, files, word)?;
+    let found = files.read(alloc, word, MOST_BYTES)?;
     let content = content_of_found(alloc, number, key, &found)?;
     Ok(SourceFile {
         text: Name::from_slice(alloc, word.as_bytes())?,
@@ -124,20 +79,21 @@ fn read_on_path<F: Files>(
     path: &[String],
     key: &[u8],
     number: u32,
-) -> Result<SourceFile, ReadStop>
+) -> Result<SourceFile, Failure>
     requires word { IsFileWord key.now }
     requires utf8 { IsUtf8 key.now }
-    ensures source { IfOk result (λ source. ForMap (F.told files.old) (λ files'. IsSource number key.now files' (name_on_path files' (map string_bytes path.now) key.now) source)) }
+    ensures source { IfOk result (λ source. ForMap (F.told files.old)
+        (λ files'. IsSource number key.now files' (name_on_path files' (map string_bytes path.now) key.now) source)) }
     ensures told { F.told files.new ≡ F.told files.old }
     ensures count { F.faults files.old ≤ F.faults files.new }
-    ensures read_fault { result ≡ Err ReadStop.ReadFault → Rose (F.faults files.old) (F.faults files.new) }
+    ensures read_fault { result ≡ Err Failure.ReadFault → Rose (F.faults files.old) (F.faults files.new) }
 {
     let Ok(text) = str::from_utf8(key) else {
         unreachable!()
     };
     for directory in path {
         let name = in_directory(alloc, directory.as_str(), text)?;
-        match read_name(alloc, files, name.as_str())? {
+        match files.read(alloc, name.as_str(), MOST_BYTES)? {
             FileBytes::Absent => {}
             found => {
                 let content = content_of_found(alloc, number, key, &found)?;
@@ -162,13 +118,14 @@ pub fn read_key<F: Files>(
     path: &[String],
     key: &[u8],
     number: u32,
-) -> Result<SourceFile, ReadStop>
+) -> Result<SourceFile, Failure>
     requires word { IsFileWord key.now }
     requires utf8 { option_copied word ≡ None → IsUtf8 key.now }
-    ensures source { IfOk result (λ source. ForMap (F.told files.old) (λ files'. IsSource number key.now files' (option_or (option_copied word.entry) (name_on_path files' (map string_bytes path.now) key.now)) source)) }
+    ensures source { IfOk result (λ source. ForMap (F.told files.old)
+        (λ files'. IsSource number key.now files' (option_or (option_copied word.entry) (name_on_path files' (map string_bytes path.now) key.now)) source)) }
     ensures told { F.told files.new ≡ F.told files.old }
     ensures count { F.faults files.old ≤ F.faults files.new }
-    ensures read_fault { result ≡ Err ReadStop.ReadFault → Rose (F.faults files.old) (F.faults files.new) }
+    ensures read_fault { result ≡ Err Failure.ReadFault → Rose (F.faults files.old) (F.faults files.new) }
 {
     match word {
         Some(word) => read_word(alloc, files, word, key, number),

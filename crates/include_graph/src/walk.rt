@@ -1,4 +1,4 @@
-ghost use Rattle.std.specs.Prelude.{◌≡◌, ◌≤◌, [], IfOk, OnOk, map, string_bytes, length};
+ghost use Rattle.std.specs.Prelude.{◌≡◌, ◌≤◌, [], Err, IfOk, OnOk, map, string_bytes, length};
 ghost use Rattle.std.specs.List.{AllZip};
 ghost use Rattle.ipdl_base.specs.Outside.{Rose};
 ghost use Rattle.ipdl_syntax.specs.Programs.{named_key, named_keys};
@@ -9,10 +9,10 @@ ghost use Rattle.include_graph.specs.Reading.{IsTarget, AreTargets, AreRead, IsG
 
 use crate::content::Content;
 use crate::keys::named_key_of;
-use crate::read::{ReadStop, SourceFile, read_key};
+use crate::read::{SourceFile, read_key};
 use grammar_laws::names_hold;
 use indexmap::IndexSet;
-use ipdl_base::{Files, Name, key_of};
+use ipdl_base::{Failure, Files, Name, key_of};
 use ipdl_lex::words_hold;
 use ipdl_syntax::Include;
 use std::alloc::{AllocError, Global};
@@ -124,13 +124,14 @@ fn walk<F: Files>(
     firsts: &[&str],
     path: &[String],
     keys: &mut IndexSet<Name>,
-) -> Result<Vec<ReachedFile>, ReadStop>
+) -> Result<Vec<ReachedFile>, Failure>
     requires words { AreFileWords (map string_bytes words.now) }
     requires keys { HasWords (map string_bytes words.now) keys.old.keys (map (λ first. first.now) firsts.now) }
-    ensures read { IfOk result (λ reached. ForMap (F.told files.old) (λ files'. AreRead (record { files = files'; words = map string_bytes words.now; path = map string_bytes path.now }) keys.new.keys reached.items)) }
+    ensures read { IfOk result (λ reached. ForMap (F.told files.old) (λ files'. AreRead
+        (record { files = files'; words = map string_bytes words.now; path = map string_bytes path.now }) keys.new.keys reached.items)) }
     ensures told { F.told files.new ≡ F.told files.old }
     ensures count { F.faults files.old ≤ F.faults files.new }
-    ensures read_fault { result ≡ Err ReadStop.ReadFault → Rose (F.faults files.old) (F.faults files.new) }
+    ensures read_fault { result ≡ Err Failure.ReadFault → Rose (F.faults files.old) (F.faults files.new) }
 {
     words_hold();
     names_hold();
@@ -140,9 +141,7 @@ fn walk<F: Files>(
         let word = firsts.get(number).copied();
         let source = read_key(alloc, files, word, path, key.as_slice(), number as u32)?;
         let targets = add_named(alloc, &source.content, keys)?;
-        reached
-            .push(ReachedFile { source, targets })
-            .map_err(AllocError::from)?;
+        reached.push(ReachedFile { source, targets })?;
     }
     Ok(reached)
 }
@@ -163,25 +162,21 @@ pub fn gather<F: Files>(
     files: &mut F,
     words: &[String],
     path: &[String],
-) -> Result<FileSet, ReadStop>
+) -> Result<FileSet, Failure>
     requires { AreFileWords (map string_bytes words.now) }
-    ensures gathered { IfOk result (λ g. ForMap (F.told files.old) (λ files'. IsGathered (record { files = files'; words = map string_bytes words.now; path = map string_bytes path.now }) g.words g.keys.keys g.files.items)) }
+    ensures gathered { IfOk result (λ g. ForMap (F.told files.old) (λ files'. IsGathered
+        (record { files = files'; words = map string_bytes words.now; path = map string_bytes path.now }) g.words g.keys.keys g.files.items)) }
     ensures told { F.told files.new ≡ F.told files.old }
     ensures count { F.faults files.old ≤ F.faults files.new }
-    ensures read_fault { result ≡ Err ReadStop.ReadFault → Rose (F.faults files.old) (F.faults files.new) }
+    ensures read_fault { result ≡ Err Failure.ReadFault → Rose (F.faults files.old) (F.faults files.new) }
 {
     let mut keys = IndexSet::new(alloc);
     let mut firsts = Vec::new(alloc);
-    match add_words(alloc, words, &mut keys, &mut firsts) {
-        Ok(()) => {}
-        Err(_) => return Err(ReadStop::NoMemory),
-    }
-    match walk(alloc, files, words, firsts.as_slice(), path, &mut keys) {
-        Ok(files) => Ok(FileSet {
-            words: firsts.len(),
-            keys,
-            files,
-        }),
-        Err(stop) => Err(stop),
-    }
+    add_words(alloc, words, &mut keys, &mut firsts)?;
+    let files = walk(alloc, files, words, firsts.as_slice(), path, &mut keys)?;
+    Ok(FileSet {
+        words: firsts.len(),
+        keys,
+        files,
+    })
 }

@@ -1,6 +1,7 @@
 pub mod Behind
 pub mod Ends
 pub mod FindLemmas
+pub mod Held
 pub mod Numbers
 mod ShortNames
 pub mod WorkedSchema

@@ -1,6 +1,6 @@
 use Rattle.std.specs.Prelude.{◌≡◌, ℕ, ◌<◌, ◌≤◌, ◌⊎◌, List, [], ◌++◌, length, take, Option, Some, None}
-use Rattle.ipdl_base.specs.declared.files.ReadAnswer.{ReadAnswer}
-use Rattle.ipdl_base.specs.declared.files.ReadAnswer.TheVariants.{Bytes, Absent, Larger, Failed, NoMemory}
+use Rattle.ipdl_base.specs.declared.files.FileBytes.{FileBytes}
+use Rattle.ipdl_base.specs.declared.files.FileBytes.TheVariants.{Absent, Larger, Bytes}
 use Rattle.ipdl_base.specs.declared.sink.WriteAnswer.{WriteAnswer}
 use Rattle.ipdl_base.specs.declared.sink.WriteAnswer.TheVariants.{Took}
 use Rattle.ipdl_base.specs.declared.sink.WriteAnswer.TheVariants as write
@@ -13,13 +13,23 @@ FileMap = List ℕ → Option (List ℕ)
 abbrev pub Rose : ℕ → ℕ → Type 0
 Rose old new = (old < new) ⊎ (new ≡ 18446744073709551615)
 
--- the answer to a read, by what the map has of the name
-abbrev pub IsRead : Option (List ℕ) → ℕ → ReadAnswer → Type 0
-IsRead file limit (Bytes bytes) = (file ≡ Some bytes.items) × (length bytes.items ≤ limit)
-IsRead file limit Absent = file ≡ None
-IsRead file limit Larger = (bytes : List ℕ) × (file ≡ Some bytes) × (limit < length bytes)
-IsRead file limit Failed = Unit {0}
-IsRead file limit NoMemory = Unit {0}
+-- what is held is more than so many bytes
+pub record HasMore (most : ℕ) (held : Option (List ℕ)) : Type 0 where
+  pub bytes : List ℕ
+  pub has : held ≡ Some bytes
+  pub large : most < length bytes
+
+-- what stands at a name, by what the map has of it, where no more than so many bytes are read
+abbrev pub IsHeldWithin : ℕ → Option (List ℕ) → FileBytes → Type 0
+IsHeldWithin most held Absent = held ≡ None
+IsHeldWithin most held Larger = HasMore most held
+IsHeldWithin most held (Bytes bytes) = (held ≡ Some bytes.items) × (length bytes.items ≤ most)
+
+-- no more than so many bytes were read
+abbrev pub HasAtMost : ℕ → FileBytes → Type 0
+HasAtMost most Absent = Unit {0}
+HasAtMost most Larger = Unit {0}
+HasAtMost most (Bytes bytes) = length bytes.items ≤ most
 
 -- where the bytes written so far are told, these are put behind them
 abbrev pub Appends : Option (List ℕ) → Option (List ℕ) → List ℕ → Type 0

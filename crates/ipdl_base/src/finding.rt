@@ -2,6 +2,7 @@ ghost use Rattle.std.specs.Prelude.{◌≡◌, ◌∷◌, ◌++◌, Some, codes}
 ghost use Rattle.ipdl_base.specs.Rules.{rule_text, rule_name, rule_line};
 
 use crate::items::Items;
+use crate::name::Texts;
 use std::fmt;
 
 /// A place in a file. Lines and columns count from 1, in bytes; line 0 and column 0 mean the file
@@ -459,3 +460,11 @@ pub struct Finding {
 
 /// A list of findings.
 pub type Findings = Items<Finding>;
+
+/// A report: what is found in files, in the order of the places, each finding once, and how each file is called.
+#[derive(Drop)]
+pub struct Report {
+    pub findings: Findings,
+    /// The names of the files, by their numbers.
+    pub names: Texts,
+}

@@ -23,8 +23,8 @@ mod value;
 pub use builtin::Builtin;
 pub use deferral::defers_request;
 pub use file_name::{HEADER_ENDING, PROTOCOL_ENDING, is_file_word, key_of};
-pub use files::{Files, ReadAnswer};
-pub use finding::{Finding, Findings, Place, Rule};
+pub use files::{Failure, FileBytes, Files, MOST_BYTES};
+pub use finding::{Finding, Findings, Place, Report, Rule};
 pub use full_name::short_name;
 pub use items::{Items, Numbers};
 pub use kinds::{

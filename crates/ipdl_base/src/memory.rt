@@ -1,8 +1,8 @@
-ghost use Rattle.std.specs.Prelude.{◌≡◌, ℕ, ◌+◌, ◌-◌, ◌^◌, ◌<◌, ◌≤◌, ◌++◌, ◌↔◌, IsTrue, IfSome, IfOk, Option, Some, None, List, [], length, min, map, option_map, string_bytes, if◌then◌else◌};
+ghost use Rattle.std.specs.Prelude.{◌≡◌, ℕ, ◌+◌, ◌-◌, ◌^◌, ◌<◌, ◌≤◌, ◌++◌, ◌↔◌, IsTrue, IfSome, IfOk, Option, Some, None, Err, List, [], length, min, map, option_map, string_bytes, if◌then◌else◌};
 ghost use Rattle.ipdl_base.specs.Memory as memory;
-ghost use Rattle.ipdl_base.specs.Outside.{Rose};
+ghost use Rattle.ipdl_base.specs.Outside.{HasAtMost, IsHeldWithin, Rose};
 
-use crate::files::{Files, ReadAnswer};
+use crate::files::{Failure, FileBytes, Files};
 use crate::sink::{Sink, WriteAnswer};
 use std::alloc::{AllocError, Global};
 use std::marker::Model;
@@ -29,6 +29,22 @@ fn find<'a>(files: &'a [(String, Vec<u8>)], name: &str) -> Option<&'a [u8]>
         }
     }
     None
+}
+
+/// What is read of the first file of that name.
+fn read_named(
+    alloc: Global,
+    files: &[(String, Vec<u8>)],
+    name: &str,
+    limit: usize,
+) -> Result<FileBytes, AllocError>
+    ensures small { IfOk result (HasAtMost limit) }
+    ensures held { IfOk result (IsHeldWithin limit (memory.file_named (map (λ f. (string_bytes f.0, f.1.items)) files.now) name.now)) }
+{
+    match find(files, name) {
+        None => Ok(FileBytes::Absent),
+        Some(bytes) => FileBytes::of_bytes(alloc, bytes, limit),
+    }
 }
 
 /// Files in memory, for tests: the calls with the given numbers, from 1, fail.
@@ -90,33 +106,27 @@ impl MemoryFiles {
 }
 
 impl Files for MemoryFiles {
-    ghost use Rattle.ipdl_base.specs.Outside.{FileMap, IsRead};
+    ghost use Rattle.ipdl_base.specs.Outside.{FileMap, HasAtMost, IsHeldWithin};
 
     ghost told = { λ m. Some (memory.file_named m.files) };
 
     ghost faults = { λ m. m.faults };
 
-    fn read(&mut self, alloc: Global, name: &str, limit: usize) -> ReadAnswer
+    fn read(&mut self, alloc: Global, name: &str, limit: usize) -> Result<FileBytes, Failure>
         ensures map { Some (memory.file_named self.new.files) ≡ Some (memory.file_named self.old.files) }
         ensures count { self.old.faults ≤ self.new.faults }
-        ensures failed { result ≡ ReadAnswer.Failed → Rose self.old.faults self.new.faults }
-        ensures answer { IsRead (memory.file_named self.old.files name.now) limit result }
+        ensures failed { result ≡ Err Failure.ReadFault → Rose self.old.faults self.new.faults }
+        ensures small { IfOk result (HasAtMost limit) }
+        ensures held { IfOk result (IsHeldWithin limit (memory.file_named self.old.files name.now)) }
 
         // Beside what every reader of files does: it fails at the given calls and at no other.
-        ensures fails { (result ≡ ReadAnswer.Failed) ↔ IsTrue (memory.is_next self.old.fails self.old.calls) }
+        ensures fails { (result ≡ Err Failure.ReadFault) ↔ IsTrue (memory.is_next self.old.fails self.old.calls) }
         ensures counted { self.new ≡ memory.after_read self.old }
     {
         if self.count() {
-            return ReadAnswer::Failed;
+            return Err(Failure::ReadFault);
         }
-        match find(self.files.as_slice(), name) {
-            None => ReadAnswer::Absent,
-            Some(bytes) if bytes.len() > limit => ReadAnswer::Larger,
-            Some(bytes) => match Vec::from_slice(alloc, bytes) {
-                Ok(bytes) => ReadAnswer::Bytes(bytes),
-                Err(_) => ReadAnswer::NoMemory,
-            },
-        }
+        Ok(read_named(alloc, self.files.as_slice(), name, limit)?)
     }
 }
 

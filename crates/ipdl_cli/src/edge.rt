@@ -33,7 +33,8 @@ pub fn exit_code_of<F: Files, O: Sink, E: Sink, D: Driver, Q: Relay>(
 ) -> ExitCode
     requires ready { D.ready driver.old }
     requires relay_ready { Q.ready relay.old }
-    ensures answer { ForMap (F.told files.old) (λ map'. EndsWith (IsAnswer (D.Gives driver.old) (Q.Gives relay.old) map' (map string_bytes words.now)) (exit_status result)
+    ensures answer { ForMap (F.told files.old) (λ map'. EndsWith
+        (IsAnswer (D.Gives driver.old) (Q.Gives relay.old) map' (map string_bytes words.now)) (exit_status result)
         (record { old = O.written out.old; new = O.written out.new })
         (record { old = E.written err.old; new = E.written err.new })) }
     ensures code { IsCode (exit_status result) }

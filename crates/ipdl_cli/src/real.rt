@@ -1,7 +1,8 @@
 //! The outside as it is: real files and streams, of which no contract says what they hold.
-ghost use Rattle.std.specs.Prelude.{◌≡◌, ◌<◌, ◌≤◌, IfSome, None, length};
+ghost use Rattle.std.specs.Prelude.{◌≡◌, ◌<◌, ◌≤◌, IfOk, IfSome, None, length};
+ghost use Rattle.ipdl_base.specs.Outside.{HasAtMost};
 
-use ipdl_base::{Files, ReadAnswer, Sink, WriteAnswer};
+use ipdl_base::{Failure, FileBytes, Files, Sink, WriteAnswer};
 use std::alloc::Global;
 use std::fs::File;
 use std::io::{ErrorKind, Read, Write};
@@ -26,23 +27,28 @@ impl<'r, R: std::rt::Files> RealFiles<'r, R> {
 }
 
 /// The bytes that are left of a file, at most `limit`.
-fn read_all<F: Read>(alloc: Global, file: &mut F, piece: &mut [u8], limit: usize) -> ReadAnswer {
+fn read_all<F: Read>(
+    alloc: Global,
+    file: &mut F,
+    piece: &mut [u8],
+    limit: usize,
+) -> Result<FileBytes, Failure>
+    ensures { IfOk result (HasAtMost limit) }
+{
     let mut bytes = Vec::new(alloc);
     'pieces: for _ in 0..u64::MAX {
         let n = match file.read(piece) {
-            Ok(0) => return ReadAnswer::Bytes(bytes),
+            Ok(0) => return Ok(FileBytes::Bytes(bytes)),
             Ok(n) => n,
             Err(error) if error.kind() == ErrorKind::Interrupted => continue,
-            Err(_) => return ReadAnswer::Failed,
+            Err(_) => return Err(Failure::ReadFault),
         };
         if n > limit.saturating_sub(bytes.len()) {
-            return ReadAnswer::Larger;
+            return Ok(FileBytes::Larger);
         }
-        if bytes.extend_from_slice(&piece[..n]).is_err() {
-            return ReadAnswer::NoMemory;
-        }
+        bytes.extend_from_slice(&piece[..n])?;
     }
-    ReadAnswer::Failed
+    Err(Failure::ReadFault)
 }
 
 /// What a real file has, if it is there.
@@ -52,12 +58,14 @@ fn read_file<R: std::rt::Files>(
     name: &str,
     piece: &mut [u8],
     limit: usize,
-) -> ReadAnswer {
+) -> Result<FileBytes, Failure>
+    ensures { IfOk result (HasAtMost limit) }
+{
     match File::open(rt, name) {
         Ok(mut file) => read_all(alloc, &mut file, piece, limit),
-        Err(error) if error.kind() == ErrorKind::NotFound => ReadAnswer::Absent,
-        Err(error) if error.kind() == ErrorKind::OutOfMemory => ReadAnswer::NoMemory,
-        Err(_) => ReadAnswer::Failed,
+        Err(error) if error.kind() == ErrorKind::NotFound => Ok(FileBytes::Absent),
+        Err(error) if error.kind() == ErrorKind::OutOfMemory => Err(Failure::NoMemory),
+        Err(_) => Err(Failure::ReadFault),
     }
 }
 
@@ -66,12 +74,12 @@ impl<R: std::rt::Files> Files for RealFiles<'_, R> {
 
     ghost faults = { λ f. f.faults };
 
-    fn read(&mut self, alloc: Global, name: &str, limit: usize) -> ReadAnswer {
-        let answer = read_file(self.rt, alloc, name, &mut self.piece, limit);
-        if matches!(&answer, ReadAnswer::Failed) {
+    fn read(&mut self, alloc: Global, name: &str, limit: usize) -> Result<FileBytes, Failure> {
+        let found = read_file(self.rt, alloc, name, &mut self.piece, limit);
+        if matches!(&found, Err(Failure::ReadFault)) {
             self.faults = self.faults.saturating_add(1);
         }
-        answer
+        found
     }
 }
 

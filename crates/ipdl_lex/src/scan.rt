@@ -1,6 +1,7 @@
 ghost use Rattle.std.specs.Prelude.{◌≡◌, ◌↔◌, ℕ, ◌+◌, ◌<◌, ◌≤◌, ◌^◌, ◌-◌, ◌⊎◌, ◌++◌, Some, None, IsTrue, IfOk, IfErr, OnOk, IfSome, IfNone, Contains, map, not, length, position, List, Ok, Err, slice_index, take};
 ghost use Rattle.std.specs.List.{list_any};
 ghost use Rattle.std.specs.Str.{bytes_eq};
+ghost use Rattle.ipdl_base.specs.declared.files.TheConstants.{MOST_BYTES};
 ghost use Rattle.ipdl_base.specs.Words.{is_word_start, is_word_byte, IsWord};
 ghost use Rattle.ipdl_lex.specs.Pieces.{is_blank, is_line_feed, is_mark, reserved_words, IsPieceOf, Spells};
 ghost use Rattle.ipdl_lex.specs.Tokens.{FailsAt, IsShortOf, IsTokens, IsFault, Gives, token_at};
@@ -354,7 +355,7 @@ fn keep<'t>(
 
 /// The tokens of a text, or why it has none.
 fn scan(alloc: Global, text: &[u8], file: u32) -> Result<Lexed<'_>, LexFault>
-    requires { length text.now ≤ 1048576 }
+    requires { length text.now ≤ MOST_BYTES }
     ensures tokens { IfOk result (IsTokens file text.now) }
     ensures fault { IfErr result (λ fault. (fault ≡ NoMemory) ⊎ IsFault file text.now fault) }
 {
@@ -382,7 +383,7 @@ fn scan(alloc: Global, text: &[u8], file: u32) -> Result<Lexed<'_>, LexFault>
 /// (docs/tokens.md). A fault is the first from the left: the place of the first byte at which
 /// neither a token nor a blank or a comment begins, or of the first token of more than 256 bytes.
 pub fn lex(alloc: Global, text: &[u8], file: u32) -> Result<Lexed<'_>, LexFault>
-    requires { length text.now ≤ 1048576 }
+    requires { length text.now ≤ MOST_BYTES }
     ensures tokens { IfOk result (IsTokens file text.now) }
     ensures fault { IfErr result (λ fault. (fault ≡ NoMemory) ⊎ IsFault file text.now fault) }
 

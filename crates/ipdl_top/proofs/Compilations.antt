@@ -3,16 +3,17 @@ use Rattle.std.proofs.Common.{◌≡◌, ◌≢◌, ◌↔◌, ℕ, zero, suc, L
 use Rattle.std.specs.Prelude.{Option, Some, None, slice_get, unwrap_or}
 use Rattle.std.specs.List.{Contains}
 use Rattle.std.proofs.lemmas.List.{length-map}
-use Rattle.std.proofs.lemmas.List.Elements.{Contains-push, Contains-push_cases}
 use Rattle.std.proofs.lemmas.Option.{same_Some}
 use Rattle.ipdl_base.specs.Outside.{FileMap}
 use Rattle.ipdl_base.specs.declared.finding.Finding.{Finding}
+use Rattle.ipdl_base.specs.declared.finding.Report.{Report}
 use Rattle.ipdl_base.specs.declared.schema.Schema.{Schema}
 use Rattle.ipdl_syntax.specs.declared.program.Entry.{Entry}
 use Rattle.ipdl_syntax.specs.Programs.{IsProgram}
-use Rattle.findings.specs.Order.{IsIncreasing}
 use Rattle.findings.specs.Report.{IsReport}
-use Rattle.include_graph.specs.Load.{IsProgramOf, IsReportOf, keys_of}
+use Rattle.include_graph.specs.declared.loader.LoadResult.{LoadResult}
+use Rattle.include_graph.specs.declared.loader.LoadResult.TheVariants as load
+use Rattle.include_graph.specs.Load.{IsAnswer, IsGood, IsProgramOf, IsReportOf, keys_of}
 use Rattle.include_graph.specs.Sources.{LoadInput, IsReadUnder, text_of}
 use Rattle.sync_list.specs.declared.list.Section.{Section}
 use Rattle.sync_list.specs.declared.list.ListFault.TheVariants.{Line}
@@ -20,12 +21,12 @@ use Rattle.sync_list.specs.Lists.{IsFault}
 use Rattle.sync_list.proofs.Unique.{one_fault, never_both}
 use Rattle.ipdl_top.specs.declared.answer.CommandAnswer.{CommandAnswer}
 use Rattle.ipdl_top.specs.declared.list.SyncListFile.{SyncListFile}
-use Rattle.ipdl_top.specs.declared.list.SyncListFile.TheVariants.{Sections, Broken}
+use Rattle.ipdl_top.specs.declared.list.SyncListFile.TheVariants as list
 use Rattle.ipdl_top.specs.declared.checked.CheckResult.{CheckResult}
-use Rattle.ipdl_top.specs.declared.checked.CheckResult.TheVariants.{Report, Clean}
+use Rattle.ipdl_top.specs.declared.checked.CheckResult.TheVariants.{Broken, Clean}
 use Rattle.ipdl_top.specs.CommandAnswer.{IsCompilation, IsFileReport, IsRuleReport, report_answer}
 use Rattle.ipdl_top.specs.Lists.{IsListFault, IsFaultOfList, AreSections, list_names}
-use Rattle.ipdl_top.specs.Steps.{IsChecked, IsFilesAnswer, IsListed, IsListedChecked, IsProgramChecked, IsRuleChecked, IsToldOf, names_of}
+use Rattle.ipdl_top.specs.Steps.{IsChecked, IsFilesReport, IsListed, IsListedChecked, IsLoadedChecked, IsRuleChecked, IsToldOf, Reports, answer_of_report, file_count, names_of}
 
 -- Lists
 
@@ -72,22 +73,6 @@ no_fault lists (Some word) (Some sections) number f a (inr (inr b)) =
 some_element : (report : List Finding) (f : Finding) → Contains report f → report ≢ []
 some_element report f has none = let at : Contains [] f = subst (λ (fs : List Finding). Contains fs f) none has in absurd (omega (arith, at.1))
 
--- one finding is in order
-one_ordered : (finding : Finding) → IsIncreasing (finding ∷ [])
-one_ordered finding zero zero d lt low = absurd (omega arith)
-one_ordered finding zero (suc j) d lt low = absurd (omega arith)
-one_ordered finding (suc i) j d lt low = absurd (omega arith)
-
--- the report of one finding
-one_finding : (finding : Finding) → IsReport (λ f. f ≡ finding) (finding ∷ [])
-one_finding finding = record {
-  ordered = one_ordered finding;
-  exact = λ f. (
-    λ h. elim (Contains-push_cases [] finding f h) [ inl none ↦ absurd (omega (arith, none.1)) | inr e ↦ sym e ],
-    λ e. subst (λ (g : Finding). Contains (finding ∷ []) g) (sym e) (Contains-push [] finding),
-  );
-}
-
 -- Names
 
 -- a report calls a file by the name under which it is read
@@ -100,44 +85,43 @@ names_called given (entry ∷ program) h =
 
 -- Answers
 
--- the answer for the program of the reach, where the list breaks a rule
-of_broken : (given : LoadInput) (lists : FileMap) (list : Option (List ℕ)) (program : List Entry) (finding : Finding) (answer : CommandAnswer) → IsProgramOf given program → IsFaultOfList lists list (length program) finding → answer ≡ report_answer (names_of program list) (finding ∷ []) → IsFileReport given lists list answer
-of_broken given lists list program finding answer p broken says =
+-- the report on the program of the reach, where the list breaks a rule
+of_broken : (given : LoadInput) (lists : FileMap) (word : Option (List ℕ)) (program : List Entry) (finding : Finding) (report : Report) → IsProgramOf given program → IsFaultOfList lists word (length program) finding → Reports (λ f. f ≡ finding) (names_of program) word report → IsFileReport given lists word (answer_of_report report)
+of_broken given lists word program finding report p broken r =
     let keys = keys_of program in
     let long : length keys ≡ length program = length-map program (λ (e : Entry). e.key) in
-    let fault : IsFaultOfList lists list (length keys) finding = subst (λ n. IsFaultOfList lists list n finding) (sym long) broken in
-    let one = one_finding finding in
+    let fault : IsFaultOfList lists word (length keys) finding = subst (λ n. IsFaultOfList lists word n finding) (sym long) broken in
     let names = names_called given program (λ number entry at. (p.entries number entry at).name) in
     record {
       keys = keys;
       reach = p.reach;
-      report = finding ∷ [];
+      report = report.findings;
       is_report = record {
-        ordered = one.ordered;
+        ordered = r.is_report.ordered;
         exact = λ f. (
-          λ c. inr (subst (λ (g : Finding). IsFaultOfList lists list (length keys) g) (sym ((one.exact f).0 c)) fault),
+          λ c. inr (subst (λ (g : Finding). IsFaultOfList lists word (length keys) g) (sym ((r.is_report.exact f).0 c)) fault),
           λ b. elim b [
             | inl broken ↦ absurd (p.clean f broken)
-            | inr other ↦ (one.exact f).1 (one_list_fault lists list (length keys) f finding other fault)
+            | inr other ↦ (r.is_report.exact f).1 (one_list_fault lists word (length keys) f finding other fault)
           ],
         );
       };
-      some = some_element (finding ∷ []) finding (Contains-push [] finding);
-      says = says ∙ ap (λ (ns : List (List ℕ)). report_answer (ns ++ list_names list) (finding ∷ [])) (sym names);
+      some = some_element report.findings finding ((r.is_report.exact finding).1 refl);
+      says = ap (λ (ns : List (List ℕ)). report_answer ns report.findings) (r.called ∙ ap (λ (ns : List (List ℕ)). ns ++ list_names word) (sym names));
     }
 
--- and where it has sections
-of_sections : (given : LoadInput) (lists : FileMap) (list : Option (List ℕ)) (program : List Entry) (sections : Option (List Section)) (checked : CheckResult) → IsProgramOf given program → IsProgram program → AreSections lists list sections → IsRuleChecked program sections (names_of program list) checked → IsChecked given lists list checked
-of_sections given lists list program sections (Report answer) p whole are r = inr (record {
+-- and what is found where it has sections
+of_sections : (given : LoadInput) (lists : FileMap) (word : Option (List ℕ)) (program : List Entry) (sections : Option (List Section)) (checked : CheckResult) → IsProgramOf given program → IsProgram program → AreSections lists word sections → IsRuleChecked program sections word checked → IsChecked given lists word checked
+of_sections given lists word program sections (Broken report) p whole are r = inr (record {
   program = program;
   sections = sections;
   reading = record { is_program = p; whole = whole; are_sections = are };
-  report = r.report;
-  is_report = r.is_report;
+  report = report.findings;
+  is_report = r.reports.is_report;
   some = r.some;
-  says = r.says;
+  says = ap (λ (ns : List (List ℕ)). report_answer ns report.findings) r.reports.called;
 })
-of_sections given lists list program sections (Clean schema) p whole are t = (
+of_sections given lists word program sections (Clean schema) p whole are t = (
   record {
     program = program;
     sections = sections;
@@ -148,27 +132,24 @@ of_sections given lists list program sections (Clean schema) p whole are t = (
   t.sound,
 )
 
-of_listed : (given : LoadInput) (lists : FileMap) (list : Option (List ℕ)) (program : List Entry) (listed : SyncListFile) (checked : CheckResult) → IsProgramOf given program → IsProgram program → IsListed lists list (length program) listed → IsListedChecked program listed (names_of program list) checked → IsChecked given lists list checked
-of_listed given lists list program (Sections sections) checked p whole h found = of_sections given lists list program sections checked p whole h found
-of_listed given lists list program (Broken finding) (Report answer) p whole h found = inl (of_broken given lists list program finding answer p h found)
-of_listed given lists list program (Broken finding) (Clean schema) p whole h found = absurd found
-
 -- so what is found of the program of the reach is found of the files
-pub of_program : (given : LoadInput) (lists : FileMap) (list : Option (List ℕ)) (program : List Entry) (checked : CheckResult) → IsProgramOf given program → IsProgram program → IsProgramChecked lists list program checked → IsChecked given lists list checked
-of_program given lists list program checked p whole h = of_listed given lists list program h.listed checked p whole h.is_listed h.found
+of_program : (given : LoadInput) (lists : FileMap) (word : Option (List ℕ)) (program : List Entry) (listed : SyncListFile) (checked : CheckResult) → IsProgramOf given program → IsProgram program → IsListed lists word (length program) listed → IsListedChecked program listed word checked → IsChecked given lists word checked
+of_program given lists word program (list.Sections sections) checked p whole h found = of_sections given lists word program sections checked p whole h found
+of_program given lists word program (list.Broken finding) (Broken report) p whole h found = inl (of_broken given lists word program finding report p h found)
+of_program given lists word program (list.Broken finding) (Clean schema) p whole h found = absurd found
 
 -- an answer by what was found is that of the compilation
 pub of_told : (Says : Schema → CommandAnswer → Type 0) (given : LoadInput) (lists : FileMap) (list : Option (List ℕ)) (checked : CheckResult) (answer : CommandAnswer) → IsChecked given lists list checked → IsToldOf Says checked answer → IsCompilation Says given lists list answer
-of_told Says given lists list (Report report) answer (inl h) e = inl (subst (IsFileReport given lists list) (sym e) h)
-of_told Says given lists list (Report report) answer (inr h) e = inr (inl (subst (IsRuleReport given lists list) (sym e) h))
+of_told Says given lists list (Broken report) answer (inl h) e = inl (subst (IsFileReport given lists list) (sym e) h)
+of_told Says given lists list (Broken report) answer (inr h) e = inr (inl (subst (IsRuleReport given lists list) (sym e) h))
 of_told Says given lists list (Clean schema) answer h says = inr (inr (record { schema = schema; read = h.0; says = says }))
 
 -- what was found of the list is what the list breaks
-listed_fault : (lists : FileMap) (list : Option (List ℕ)) (number : ℕ) (listed : SyncListFile) (f : Finding) → IsListed lists list number listed → IsFaultOfList lists list number f ↔ (listed ≡ Broken f)
-listed_fault lists list number (Sections sections) f h = (λ fault. absurd (no_fault lists list sections number f h fault), λ e. absurd (let no : ⊥ = cc in no))
-listed_fault lists list number (Broken finding) f h = (
-  λ fault. ap Broken (one_list_fault lists list number finding f h fault),
-  λ e. let same : finding ≡ f = cc in subst (λ (g : Finding). IsFaultOfList lists list number g) same h,
+listed_fault : (lists : FileMap) (word : Option (List ℕ)) (number : ℕ) (listed : SyncListFile) (f : Finding) → IsListed lists word number listed → IsFaultOfList lists word number f ↔ (listed ≡ list.Broken f)
+listed_fault lists word number (list.Sections sections) f h = (λ fault. absurd (no_fault lists word sections number f h fault), λ e. absurd (let no : ⊥ = cc in no))
+listed_fault lists word number (list.Broken finding) f h = (
+  λ fault. ap list.Broken (one_list_fault lists word number finding f h fault),
+  λ e. let same : finding ≡ f = cc in subst (λ (g : Finding). IsFaultOfList lists word number g) same h,
 )
 
 -- some finding of a report that is not empty
@@ -176,28 +157,34 @@ some_of : (findings report : List Finding) → findings ≢ [] → ((f : Finding
 some_of [] report some to = absurd (some refl)
 some_of (f ∷ findings) report some to = some_element report f (to f (zero, omega arith, refl))
 
--- the answer for the files of the reach, where they break rules, is the report on them
-pub of_files : (given : LoadInput) (lists : FileMap) (list : Option (List ℕ)) (findings : List Finding) (texts : List (List ℕ)) (answer : CommandAnswer) → IsReportOf given findings texts → IsFilesAnswer lists list findings texts answer → IsFileReport given lists list answer
-of_files given lists list findings texts answer r h =
-    let long : length texts ≡ length r.keys = ap length r.called ∙ length-map r.keys (text_of given) in
-    let listed : IsListed lists list (length r.keys) h.listed = subst (λ n. IsListed lists list n h.listed) long h.is_listed in
+-- the report on the files of the reach, where they break rules
+of_files : (given : LoadInput) (lists : FileMap) (word : Option (List ℕ)) (files : Report) (listed : SyncListFile) (report : Report) → IsReportOf given files.findings files.names → IsListed lists word (length files.names) listed → IsFilesReport files listed word report → IsFileReport given lists word (answer_of_report report)
+of_files given lists word files listed report r is h =
+    let long : length files.names ≡ length r.keys = ap length r.called ∙ length-map r.keys (text_of given) in
+    let behind : IsListed lists word (length r.keys) listed = subst (λ n. IsListed lists word n listed) long is in
     record {
       keys = r.keys;
       reach = r.reach;
-      report = h.reported.report;
+      report = report.findings;
       is_report = record {
-        ordered = h.reported.is_report.ordered;
+        ordered = h.is_report.ordered;
         exact = λ f. (
-          λ c. elim ((h.reported.is_report.exact f).0 c) [
+          λ c. elim ((h.is_report.exact f).0 c) [
             | inl a ↦ inl ((r.report.exact f).0 a)
-            | inr e ↦ inr ((listed_fault lists list (length r.keys) h.listed f listed).1 e)
+            | inr e ↦ inr ((listed_fault lists word (length r.keys) listed f behind).1 e)
           ],
-          λ b. (h.reported.is_report.exact f).1 (elim b [
+          λ b. (h.is_report.exact f).1 (elim b [
             | inl broken ↦ inl ((r.report.exact f).1 broken)
-            | inr fault ↦ inr ((listed_fault lists list (length r.keys) h.listed f listed).0 fault)
+            | inr fault ↦ inr ((listed_fault lists word (length r.keys) listed f behind).0 fault)
           ]),
         );
       };
-      some = some_of findings h.reported.report r.some (λ f c. (h.reported.is_report.exact f).1 (inl c));
-      says = h.reported.says ∙ ap (λ (ns : List (List ℕ)). report_answer (ns ++ list_names list) h.reported.report) r.called;
+      some = some_of files.findings report.findings r.some (λ f c. (h.is_report.exact f).1 (inl c));
+      says = ap (λ (ns : List (List ℕ)). report_answer ns report.findings) (h.called ∙ ap (λ (ns : List (List ℕ)). ns ++ list_names word) r.called);
     }
+
+-- what is found of what was loaded is found of the files
+pub of_loaded : (given : LoadInput) (lists : FileMap) (word : Option (List ℕ)) (loaded : LoadResult) (listed : SyncListFile) (checked : CheckResult) → IsAnswer given loaded → IsGood loaded → IsListed lists word (file_count loaded) listed → IsLoadedChecked loaded listed word checked → IsChecked given lists word checked
+of_loaded given lists word (load.Whole program) listed checked p good is found = of_program given lists word program listed checked p good.0 is found
+of_loaded given lists word (load.Broken files) listed (Broken report) r good is found = inl (of_files given lists word files listed report r is found)
+of_loaded given lists word (load.Broken files) listed (Clean schema) r good is found = absurd found

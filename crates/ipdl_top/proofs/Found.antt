@@ -1,34 +1,26 @@
--- What is found of a list.
-use Rattle.std.proofs.Common.{◌≡◌, ◌≤◌, ◌<◌, ℕ, suc, List, length, refl, inl, inr, arith}
-use Rattle.std.proofs.Math.ListN.{replicate}
-use Rattle.std.proofs.lemmas.List.{length-replicate}
-use Rattle.std.specs.Prelude.{Option, Some, None}
-use Rattle.ipdl_base.specs.declared.finding.TheConstants.Rule as rule
-use Rattle.include_graph.specs.Rules.{whole_file}
-use Rattle.sync_list.specs.declared.list.Section.{Section}
-use Rattle.sync_list.specs.Lists.{IsListOf}
-use Rattle.ipdl_top.specs.Lists.{IsListFault, SpellsList, finding_at}
+-- What is found of a file that is read, and of a list.
+use Rattle.std.proofs.Common.{List, ℕ}
+use Rattle.std.specs.Prelude.{Err, IfOk, None, Ok, Option, Result, Some}
+use Rattle.std.specs.Option.{IfSome}
+use Rattle.ipdl_base.proofs.Held.{some_held}
+use Rattle.ipdl_base.specs.Outside.{FileMap, HasAtMost, IsHeldWithin}
+use Rattle.ipdl_base.specs.declared.files.Failure.{Failure}
+use Rattle.ipdl_base.specs.declared.files.FileBytes.{FileBytes}
+use Rattle.include_graph.specs.Load as load
+use Rattle.ipdl_top.specs.declared.list.SyncListFile.{SyncListFile}
+use Rattle.ipdl_top.specs.declared.list.SyncListFile.TheVariants.{Sections, Broken}
+use Rattle.ipdl_top.specs.Steps.{IsFound, IsListed}
+use Rattle.include_graph.proofs.Readings.{for_all}
 
--- the list is absent
-pub absent : (number : ℕ) → IsListFault None number (finding_at rule.FILE_NOT_FOUND (whole_file number))
-absent number = inl (refl, refl)
+-- what was read of a name is what some map has of it, and what the map has that is told
+pub read_so : (told : Option FileMap) (most : ℕ) (name : List ℕ) (result : Result FileBytes Failure) → IfOk result (HasAtMost most) → IfOk result (λ found. IfSome told (λ map. IsHeldWithin most (map name) found))
+    → load.ForMap told (λ map. IfOk result (IsHeldWithin most (map name)))
+read_so None most name (Ok found) small held = let some = some_held most found small in ((λ other. some.0), some.1)
+read_so (Some map) most name (Ok found) small held = held
+read_so told most name (Err failure) small held = for_all told (λ map. Unit {0}) (λ map. tt)
 
--- it is too large
-pub large : (held : Option (List ℕ)) (bytes : List ℕ) (number : ℕ) → held ≡ Some bytes → 1048576 < length bytes → IsListFault held number (finding_at rule.TOO_LARGE (whole_file number))
-large held bytes number has more = inr (inl (record { bytes = bytes; has = has; large = more }, refl))
-
--- it has sections
-pub spelled : (bytes : List ℕ) (sections : List Section) → length bytes ≤ 1048576 → IsListOf bytes sections → SpellsList (Some bytes) sections
-spelled bytes sections few spells = record { bytes = bytes; has = refl; small = few; spells = spells }
-
--- some list of each length
-long : (n : ℕ) → (xs : List ℕ) × (length xs ≡ n)
-long n = (replicate n 0, length-replicate n 0)
-
--- more bytes than so many
-pub more_than : (most : ℕ) → (xs : List ℕ) × (most < length xs)
-more_than most = let some = long (suc most) in (some.0, omega (arith, some.1))
-
--- bytes that are not all read
-pub more_than_read : (xs : List ℕ) × (length xs ≡ 1048577)
-more_than_read = long 1048577
+-- what was found of a list is that of the one which is named
+pub listed_so : (lists : FileMap) (word : List ℕ) (number : ℕ) (listed : SyncListFile) → IsFound (lists word) number listed → IsListed lists (Some word) number listed
+listed_so lists word number (Sections None) found = found
+listed_so lists word number (Sections (Some sections)) found = found
+listed_so lists word number (Broken finding) found = found

@@ -1,5 +1,5 @@
 -- How the findings of all rules are put together.
-use Rattle.std.proofs.Common.{◌≡◌, ◌⊎◌, List, [], ◌∷◌, ◌++◌, Option, inl, inr, ap, subst, arith}
+use Rattle.std.proofs.Common.{◌≡◌, ◌≢◌, ◌<◌, ◌⊎◌, List, [], ◌∷◌, ◌++◌, Option, inl, inr, ap, length, refl, subst, sym, arith}
 use Rattle.std.specs.Prelude.{◌↔◌}
 use Rattle.std.specs.List.{Contains}
 use Rattle.std.proofs.lemmas.List.Elements.{Contains-append_left, Contains-append_right, Contains-append_cases}
@@ -7,7 +7,9 @@ use Rattle.std.proofs.lemmas.List.Elements.{Contains-push, Contains-push_cases}
 use Rattle.ipdl_base.specs.declared.finding.Finding.{Finding}
 use Rattle.ipdl_syntax.specs.declared.program.Entry.{Entry}
 use Rattle.ipdl_syntax.specs.Programs.{IsProgram, BearTheirNames}
+use Rattle.findings.specs.Gains.{Gains}
 use Rattle.findings.specs.Report.{IsReport}
+use Rattle.findings.proofs.Gathers.{Gains-then}
 use Rattle.program_schema.specs.Clean.{IsClean}
 use Rattle.sync_list.specs.declared.list.Section.{Section}
 use Rattle.ipdl_top.specs.declared.list.SyncListFile.{SyncListFile}
@@ -18,40 +20,33 @@ use Rattle.ipdl_top.specs.CommandAnswer.{BreaksRules}
 abbrev pub Has : List Finding → (Finding → Type 0) → Type 0
 Has found Holds = (f : Finding) → Contains found f ↔ Holds f
 
--- of two kinds of rule
-pub of_two : (P Q : Finding → Type 0) (a b : List Finding) → Has a P → Has b Q → Has (a ++ b) (λ f. P f ⊎ Q f)
-of_two P Q a b one two f = (
-  λ h. elim (Contains-append_cases a b f h) [ inl x ↦ inl ((one f).0 x) | inr y ↦ inr ((two f).0 y) ],
-  λ h. elim h [ inl x ↦ Contains-append_left a b f ((one f).1 x) | inr y ↦ Contains-append_right a b f ((two f).1 y) ],
-)
-
--- and of a third that nothing breaks
-pub of_two_alone : (P Q S : Finding → Type 0) (a b : List Finding) → Has a P → Has b Q → ((f : Finding) → ¬ S f) → Has (a ++ b) (λ f. P f ⊎ (Q f ⊎ S f))
-of_two_alone P Q S a b one two none f =
-    let both = of_two P Q a b one two f in (
-      λ h. elim (both.0 h) [ inl x ↦ inl x | inr y ↦ inr (inl y) ],
-      λ h. both.1 (elim h [ inl x ↦ inl x | inr y ↦ elim y [ inl z ↦ inr z | inr z ↦ absurd (none f z) ] ]),
+-- what three kinds of rule added, to nothing
+pub of_three : (P Q S : Finding → Type 0) (none a b found : List Finding) → none ≡ [] → Gains P none a → Gains Q a b → Gains S b found → Has found (λ f. P f ⊎ (Q f ⊎ S f))
+of_three P Q S none a b found empty one two three f =
+    let all = Gains-then P (λ f. Q f ⊎ S f) none a found one (Gains-then Q S a b found two three) in (
+      λ h. elim ((all.exact f).0 h) [ inl old ↦ absurd (let at : Contains [] f = subst (λ (fs : List Finding). Contains fs f) empty old in let no : ⊥ = omega (arith, at.1) in no) | inr p ↦ p ],
+      λ p. (all.exact f).1 (inr p),
     )
 
--- or of three
-pub of_three : (P Q S : Finding → Type 0) (a b c : List Finding) → Has a P → Has b Q → Has c S → Has ((a ++ b) ++ c) (λ f. P f ⊎ (Q f ⊎ S f))
-of_three P Q S a b c one two three f =
-    let all = of_two (λ f. P f ⊎ Q f) S (a ++ b) c (of_two P Q a b one two) three f in (
-      λ h. elim (all.0 h) [ inl x ↦ elim x [ inl y ↦ inl y | inr y ↦ inr (inl y) ] | inr z ↦ inr (inr z) ],
-      λ h. all.1 (elim h [ inl x ↦ inl (inl x) | inr y ↦ elim y [ inl z ↦ inl (inr z) | inr z ↦ inr z ] ]),
-    )
+-- nothing is broken where nothing is found
+pub nothing : {Breaks : Finding → Type 0} (found : List Finding) → found ≡ [] → Has found Breaks → (f : Finding) → ¬ Breaks f
+nothing found none has f b =
+    let at : Contains [] f = subst (λ (fs : List Finding). Contains fs f) none ((has f).1 b) in
+    let no : ⊥ = omega (arith, at.1) in
+    no
 
--- nothing is broken where the report is empty
-pub nothing : {Breaks : Finding → Type 0} (report : List Finding) → report ≡ [] → IsReport Breaks report → (f : Finding) → ¬ Breaks f
-nothing report none r f b =
-    let at : Contains [] f = subst (λ (fs : List Finding). Contains fs f) none ((r.exact f).1 b) in
+-- the report of what is found is not empty, where something is
+pub some_reported : (found report : List Finding) → 0 < length found → IsReport (Contains found) report → report ≢ []
+some_reported [] report some r none = absurd (omega arith)
+some_reported (f ∷ found) report some r none =
+    let at : Contains [] f = subst (λ (fs : List Finding). Contains fs f) none ((r.exact f).1 (0, some, refl)) in
     let no : ⊥ = omega (arith, at.1) in
     no
 
 -- such a program is clean
-pub clean_of : (program : List Entry) (sections : Option (List Section)) (report : List Finding) → IsProgram program → BearTheirNames program → report ≡ [] → IsReport (BreaksRules program sections) report → IsClean program
-clean_of program sections report whole named none r =
-    let clean : (f : Finding) → ¬ BreaksRules program sections f = nothing report none r in
+pub clean_of : (program : List Entry) (sections : Option (List Section)) (found : List Finding) → IsProgram program → BearTheirNames program → found ≡ [] → Has found (BreaksRules program sections) → IsClean program
+clean_of program sections found whole named none has =
+    let clean : (f : Finding) → ¬ BreaksRules program sections f = nothing found none has in
     record {
       is_program = whole;
       named = named;
@@ -73,3 +68,10 @@ with_broken findings finding f = (
 -- a list with sections adds none
 pub without : (findings : List Finding) (listed : SyncListFile) (sections : Option (List Section)) → listed ≡ Sections sections → Has findings (λ f. Contains findings f ⊎ (listed ≡ Broken f))
 without findings listed sections is f = (λ h. inl h, λ h. elim h [ inl x ↦ x | inr e ↦ absurd (let no : ⊥ = cc in no) ])
+
+-- one finding
+pub of_one : (finding : Finding) → Has (finding ∷ []) (λ f. f ≡ finding)
+of_one finding f = (
+  λ h. elim (Contains-push_cases [] finding f h) [ inl none ↦ absurd (omega (arith, none.1)) | inr e ↦ sym e ],
+  λ e. subst (λ (g : Finding). Contains (finding ∷ []) g) (sym e) (Contains-push [] finding),
+)

@@ -1,27 +1,15 @@
 -- What holds for the maps of the files that are seen.
 use Rattle.std.proofs.Common.{◌≡◌, subst}
-use Rattle.std.proofs.Common.{IsErrAnd}
-use Rattle.std.specs.Prelude.{Err, IfOk, Ok, Option, Result, Some, None}
-use Rattle.std.specs.Option.{IfSome}
+use Rattle.std.specs.Prelude.{Option, Some, None}
 use Rattle.std.proofs.lemmas.Option.{same_Some}
 use Rattle.ipdl_base.specs.Outside.{FileMap}
 use Rattle.include_graph.specs.Load as load
 use Rattle.ipdl_top.specs.FileViews.{FileViews, ForMap, steady}
 
--- what follows for the map that is told, and holds for some map
-pub for_map : (told : Option FileMap) (P Q : FileMap → Type 0) → ((map : FileMap) → P map → Q map) → IfSome told P → (map : FileMap) → Q map → load.ForMap told Q
-for_map None P Q to h map some = (map, some)
-for_map (Some told) P Q to h map some = to told h
-
 -- what follows for each map
 pub for_each : (told : Option FileMap) (P Q : FileMap → Type 0) → ((map : FileMap) → P map → Q map) → load.ForMap told P → load.ForMap told Q
 for_each None P Q to (map, h) = (map, to map h)
 for_each (Some told) P Q to h = to told h
-
--- what holds for every map
-pub for_all : (told : Option FileMap) (P : FileMap → Type 0) → ((map : FileMap) → P map) → load.ForMap told P
-for_all None P h = (λ name. None, h (λ name. None))
-for_all (Some told) P h = h told
 
 -- what holds whatever is seen
 pub for_all_seen : (told : Option FileMap) (P : FileViews → Type 0) → ((seen : FileViews) → P seen) → ForMap told P
@@ -68,11 +56,6 @@ for_rest None None P Q R e to (seen, h) (behind, k) = (record seen { script = be
 for_rest None (Some map) P Q R e to h k = absurd (let no : ⊥ = cc in no)
 for_rest (Some map) None P Q R e to h k = absurd (let no : ⊥ = cc in no)
 for_rest (Some told) (Some again) P Q R e to h k = to (steady told) (steady told) h (subst (λ (map : FileMap). Q (steady map)) (same_Some again told e) k)
-
--- an error is no result that has to be anything
-pub none_ok : {T E : Type 0} (r : Result T E) (P : E → Type 0) (Q : T → Type 0) → IsErrAnd r P → IfOk r Q
-none_ok (Ok x) P Q h = absurd h
-none_ok (Err e) P Q h = tt
 
 -- something is seen
 pub some_seen : (told : Option FileMap) (P : FileViews → Type 0) → ForMap told P → (seen : FileViews) × P seen

@@ -31,7 +31,7 @@ use Rattle.program_schema.proofs.Lists.{place_in}
 use Rattle.program_schema.proofs.Numberings.{some_of}
 use Rattle.program_schema.specs.SchemaOf.{AreRows, IsProtocolRow, IsSchemaOf}
 use Rattle.ipdl_top.specs.declared.checked.CheckResult.{CheckResult}
-use Rattle.ipdl_top.specs.declared.checked.CheckResult.TheVariants.{Report, Clean}
+use Rattle.ipdl_top.specs.declared.checked.CheckResult.TheVariants.{Broken, Clean}
 use Rattle.ipdl_top.specs.Steps.{HasTop, IsChecked}
 use Rattle.ipdl_top.specs.Waits.{IsTop, bears_name}
 
@@ -129,7 +129,7 @@ top-of given schema file front (e ∷ rest) words ends is whole of =
 
 -- Where the words are one file of a protocol, what was found of it has a protocol that bears its name.
 pub has_top : (given : LoadInput) (lists : FileMap) (list : Option (List ℕ)) (file front : List ℕ) → given.words ≡ file ∷ [] → file ≡ front ++ codes ".ipdl" → (checked : CheckResult) → IsChecked given lists list checked → HasTop file checked
-has_top given lists list file front words ends (Report answer) h = tt
+has_top given lists list file front words ends (Broken report) h = tt
 has_top given lists list file front words ends (Clean schema) h = top-of given schema file front h.0.program words ends h.0.reading.is_program h.0.reading.whole h.0.schema_of
 
 -- Names

@@ -1,6 +1,7 @@
 -- What the command that runs one end on a file of bytes says of a schema.
 use Rattle.std.specs.Prelude.{◌≡◌, ℕ, ◌≤◌, ◌<◌, ◌⊎◌, Bool, true, false, if◌then◌else◌, List, [], ◌++◌, length, Option, Some, None, codes}
 use Rattle.std.specs.Fmt.{decimal}
+use Rattle.ipdl_base.specs.declared.files.TheConstants.{MOST_BYTES}
 use Rattle.ipdl_base.specs.declared.finding.Rule.{Rule}
 use Rattle.ipdl_base.specs.declared.kinds.Side.{Side}
 use Rattle.ipdl_base.specs.declared.line.Line.{Line}
@@ -76,7 +77,7 @@ pub record SaysFed (course : FeedCourse) (name bytes : List ℕ) (schema : Schem
 abbrev pub SaysFedOf : FeedCourse → List ℕ → Option (List ℕ) → Schema → Script → CommandAnswer → Type 0
 SaysFedOf course name None schema script answer = answer ≡ absent_answer name
 SaysFedOf course name (Some bytes) schema script answer =
-    ((1048576 < length bytes) × (answer ≡ larger_answer name)) ⊎ ((length bytes ≤ 1048576) × SaysFed course name bytes schema script answer)
+    ((MOST_BYTES < length bytes) × (answer ≡ larger_answer name)) ⊎ ((length bytes ≤ MOST_BYTES) × SaysFed course name bytes schema script answer)
 
 -- The answer is that for a script and a file of frames of these names, of which this is held.
 abbrev pub SaysFeed : FeedCourse → List ℕ → Option (List ℕ) → List ℕ → Option (List ℕ) → List ℕ → Schema → CommandAnswer → Type 0

@@ -1,5 +1,6 @@
 -- What the command that prints frames says of a file.
 use Rattle.std.specs.Prelude.{◌≡◌, ℕ, ◌≤◌, ◌<◌, ◌⊎◌, Bool, if◌then◌else◌, List, [], ◌++◌, length, Option, Some, None, codes}
+use Rattle.ipdl_base.specs.declared.files.TheConstants.{MOST_BYTES}
 use Rattle.ipdl_base.specs.declared.schema.Schema.{Schema}
 use Rattle.ipdl_base.specs.Sound.{IsSound}
 use Rattle.value_codec.specs.Laws.{AreBytes}
@@ -44,4 +45,4 @@ pub record SaysBytes (name : List ℕ) (convert : Bool) (bytes : List ℕ) (sche
 abbrev pub SaysFrames : List ℕ → Bool → Option (List ℕ) → Schema → CommandAnswer → Type 0
 SaysFrames name convert None schema answer = answer ≡ absent_answer name
 SaysFrames name convert (Some bytes) schema answer =
-    ((1048576 < length bytes) × (answer ≡ larger_answer name)) ⊎ ((length bytes ≤ 1048576) × SaysBytes name convert bytes schema answer)
+    ((MOST_BYTES < length bytes) × (answer ≡ larger_answer name)) ⊎ ((length bytes ≤ MOST_BYTES) × SaysBytes name convert bytes schema answer)

@@ -1,6 +1,7 @@
 -- The sync list that a command names, as a file behind those of the program.
-use Rattle.std.specs.Prelude.{◌≡◌, ℕ, ◌≤◌, ◌<◌, ◌⊎◌, List, [], ◌∷◌, length, Option, Some, None, IsSomeAnd}
-use Rattle.ipdl_base.specs.Outside.{FileMap}
+use Rattle.std.specs.Prelude.{◌≡◌, ℕ, ◌≤◌, ◌⊎◌, List, [], ◌∷◌, length, Option, Some, None, IsSomeAnd}
+use Rattle.ipdl_base.specs.declared.files.TheConstants.{MOST_BYTES}
+use Rattle.ipdl_base.specs.Outside.{FileMap, HasMore}
 use Rattle.ipdl_base.specs.declared.finding.Finding.{Finding}
 use Rattle.ipdl_base.specs.declared.finding.Place.{Place}
 use Rattle.ipdl_base.specs.declared.finding.Rule.{Rule}
@@ -13,21 +14,15 @@ use Rattle.sync_list.specs.Lists.{IsListOf, IsFirstBad}
 abbrev pub finding_at : Rule → Place → Finding
 finding_at rule place = record { place = place; rule = rule }
 
--- what is held is more than so many bytes
-pub record HasMore (most : ℕ) (held : Option (List ℕ)) : Type 0 where
-  pub bytes : List ℕ
-  pub has : held ≡ Some bytes
-  pub large : most < length bytes
-
 -- it is more than is read of a list
 abbrev pub IsLargeList : Option (List ℕ) → Type 0
-IsLargeList held = HasMore 1048576 held
+IsLargeList held = HasMore MOST_BYTES held
 
 -- the line with this number is the first that is not of the list's format
 pub record HasBadLine (held : Option (List ℕ)) (line : ℕ) : Type 0 where
   pub bytes : List ℕ
   pub has : held ≡ Some bytes
-  pub small : length bytes ≤ 1048576
+  pub small : length bytes ≤ MOST_BYTES
   pub bad : IsFirstBad bytes line
 
 -- What a list that holds this breaks, as the file of this number: it is absent, too large, or has a line not of its format.
@@ -45,7 +40,7 @@ IsFaultOfList files list number f = IsSomeAnd list (λ word. IsListFault (files 
 pub record SpellsList (held : Option (List ℕ)) (sections : List Section) : Type 0 where
   pub bytes : List ℕ
   pub has : held ≡ Some bytes
-  pub small : length bytes ≤ 1048576
+  pub small : length bytes ≤ MOST_BYTES
   pub spells : IsListOf bytes sections
 
 -- the sections of the list that is named; none where no list is

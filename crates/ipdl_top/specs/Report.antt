@@ -3,7 +3,10 @@ use Rattle.std.specs.Prelude.{ℕ, List, [], ◌++◌, codes, slice_get, unwrap_
 use Rattle.std.specs.List.{flat_map}
 use Rattle.std.specs.Fmt.{decimal}
 use Rattle.ipdl_base.specs.declared.finding.Finding.{Finding}
+use Rattle.ipdl_base.specs.declared.finding.Report.{Report}
 use Rattle.ipdl_base.specs.Rules.{rule_line}
+use Rattle.ipdl_top.specs.declared.answer.CommandAnswer.{CommandAnswer}
+use Rattle.ipdl_top.specs.declared.status.Status.{Status}
 
 -- the line of a finding in files that are called so, by their numbers
 abbrev pub finding_line : List (List ℕ) → Finding → List ℕ
@@ -13,3 +16,7 @@ finding_line names f =
 -- the text of a report on files that are called so
 abbrev pub report_text : List (List ℕ) → List Finding → List ℕ
 report_text names report = flat_map (finding_line names) report
+
+-- the answer that is a report, with this status
+abbrev pub broken_answer : Status → Report → CommandAnswer
+broken_answer status report = record { status = status; out = []; err = report_text report.names report.findings }

@@ -1,5 +1,5 @@
 -- What the steps of a run make.
-use Rattle.std.specs.Prelude.{◌≡◌, List, Option, Some, None, option_map}
+use Rattle.std.specs.Prelude.{◌≡◌, ℕ, List, Option, Some, None, option_map}
 use Rattle.ipdl_base.specs.declared.line.Line.{Line}
 use Rattle.ipdl_base.specs.declared.schema.Schema.{Schema}
 use Rattle.command_words.specs.Run.{Course}
@@ -11,7 +11,7 @@ use Rattle.world_core.specs.WorldView.{WorldView}
 use Rattle.ipdl_top.specs.declared.answer.CommandAnswer.{CommandAnswer}
 use Rattle.ipdl_top.specs.declared.rendering.Rendering.{Rendering}
 use Rattle.ipdl_top.specs.declared.run.RunRequest.{RunRequest}
-use Rattle.ipdl_top.specs.Run.{Driving, answer_of, run_answer}
+use Rattle.ipdl_top.specs.Run.{Driving, SaysRun, answer_of, run_answer}
 
 -- how the run of a request goes
 abbrev pub course_of : RunRequest → Course
@@ -27,3 +27,7 @@ pub record IsPrinted (shown : Rendering) (schema : Schema) (lines : List Line) (
   pub ending : RunEnding
   pub ends : ended ≡ answer_of ending
   pub says : answer ≡ run_answer shown schema lines ending
+
+-- what a request says by a script of which this is held, and by the name of a file
+abbrev pub run_says : Driving → RunRequest → Option (List ℕ) → List ℕ → Schema → CommandAnswer → Type 0
+run_says Gives wanted text file = SaysRun Gives wanted.rendering (course_of wanted) wanted.script.now text file

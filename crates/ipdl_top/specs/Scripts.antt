@@ -1,5 +1,6 @@
 -- What a command that goes by a script says of the script, before it does what is its own.
 use Rattle.std.specs.Prelude.{◌≡◌, ◌≢◌, ℕ, ◌≤◌, ◌<◌, ◌⊎◌, List, [], ◌∷◌, length, Option, Some, None}
+use Rattle.ipdl_base.specs.declared.files.TheConstants.{MOST_BYTES}
 use Rattle.ipdl_base.specs.declared.finding.Finding.{Finding}
 use Rattle.ipdl_base.specs.declared.finding.TheConstants.Rule as rule
 use Rattle.ipdl_base.specs.declared.schema.Schema.{Schema}
@@ -41,7 +42,7 @@ SaysOfText Says name text schema top answer = SaysBroken name text schema top an
 abbrev pub SaysOfHeld : (Script → CommandAnswer → Type 0) → List ℕ → Option (List ℕ) → Schema → ℕ → CommandAnswer → Type 0
 SaysOfHeld Says name None schema top answer = answer ≡ unreadable_answer name
 SaysOfHeld Says name (Some text) schema top answer =
-    ((1048576 < length text) × (answer ≡ unreadable_answer name)) ⊎ ((length text ≤ 1048576) × SaysOfText Says name text schema top answer)
+    ((MOST_BYTES < length text) × (answer ≡ unreadable_answer name)) ⊎ ((length text ≤ MOST_BYTES) × SaysOfText Says name text schema top answer)
 
 -- The answer is that for a script of this name, of which this is held, where the protocol of the file is the top.
 pub record SaysByScript (Says : Script → CommandAnswer → Type 0) (name : List ℕ) (held : Option (List ℕ)) (file : List ℕ) (schema : Schema) (answer : CommandAnswer) : Type 0 where

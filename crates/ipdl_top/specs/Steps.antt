@@ -1,47 +1,77 @@
 -- What the steps of a compilation make.
-use Rattle.std.specs.Prelude.{◌≡◌, ◌≢◌, ℕ, ◌≤◌, ◌⊎◌, List, [], ◌∷◌, ◌++◌, length, map, Option, Some, None}
-use Rattle.ipdl_base.specs.Outside.{FileMap}
+use Rattle.std.specs.Prelude.{◌≡◌, ◌≢◌, ℕ, ◌⊎◌, List, [], ◌∷◌, ◌++◌, length, map, Option, Some, None}
+use Rattle.std.specs.List.{Contains}
+use Rattle.ipdl_base.specs.declared.files.FileBytes.{FileBytes}
+use Rattle.ipdl_base.specs.declared.files.TheConstants.{MOST_BYTES}
 use Rattle.ipdl_base.specs.declared.finding.Finding.{Finding}
+use Rattle.ipdl_base.specs.declared.finding.Report.{Report}
 use Rattle.ipdl_base.specs.declared.schema.Schema.{Schema}
+use Rattle.ipdl_base.specs.Outside.{FileMap, HasAtMost, IsHeldWithin}
 use Rattle.ipdl_base.specs.Sound.{IsSound}
+use Rattle.include_graph.specs.declared.loader.LoadResult.{LoadResult}
+use Rattle.include_graph.specs.declared.loader.LoadResult.TheVariants as load
 use Rattle.include_graph.specs.Sources.{LoadInput}
 use Rattle.ipdl_syntax.specs.declared.program.Entry.{Entry}
 use Rattle.findings.specs.Report.{IsReport}
-use Rattle.std.specs.List.{Contains}
 use Rattle.sync_list.specs.declared.list.Section.{Section}
 use Rattle.program_schema.specs.SchemaOf.{IsSchemaOf}
 use Rattle.ipdl_top.specs.declared.answer.CommandAnswer.{CommandAnswer}
 use Rattle.ipdl_top.specs.declared.list.SyncListFile.{SyncListFile}
-use Rattle.ipdl_top.specs.declared.list.SyncListFile.TheVariants.{Sections, Broken}
+use Rattle.ipdl_top.specs.declared.list.SyncListFile.TheVariants as list
 use Rattle.ipdl_top.specs.declared.checked.CheckResult.{CheckResult}
-use Rattle.ipdl_top.specs.declared.checked.CheckResult.TheVariants.{Report, Clean}
-use Rattle.ipdl_top.specs.declared.held.HeldFile.{HeldFile}
-use Rattle.ipdl_top.specs.declared.held.HeldFile.TheVariants.{Absent, Larger, Bytes}
-use Rattle.ipdl_top.specs.CommandAnswer.{BreaksRules, IsFileReport, IsRuleReport, IsSchemaRead, report_answer}
+use Rattle.ipdl_top.specs.declared.checked.CheckResult.TheVariants.{Broken, Clean}
+use Rattle.ipdl_top.specs.declared.status.Status.TheVariants as status
+use Rattle.ipdl_top.specs.declared.frames.FramesRequest.{FramesRequest}
+use Rattle.ipdl_top.specs.CommandAnswer.{BreaksRules, IsCompilation, IsFileReport, IsRuleReport, IsSchemaRead, given_by}
+use Rattle.ipdl_top.specs.FileViews.{FileViews}
+use Rattle.ipdl_top.specs.Frames.{SaysFrames}
+use Rattle.ipdl_top.specs.Report.{broken_answer}
 use Rattle.ipdl_top.specs.Waits.{IsTop}
-use Rattle.ipdl_top.specs.Lists.{AreSections, HasMore, IsFaultOfList, IsListFault, SpellsList, list_names}
+use Rattle.ipdl_top.specs.Lists.{AreSections, IsFaultOfList, IsListFault, SpellsList, list_names}
+
+-- Files
+
+-- what a file of a program, a list, a script or a file of frames was found to be
+abbrev pub IsHeld : Option (List ℕ) → FileBytes → Type 0
+IsHeld held file = IsHeldWithin MOST_BYTES held file
+
+-- a file that was read has no more bytes than are read of such a file
+abbrev pub IsSmall : FileBytes → Type 0
+IsSmall file = HasAtMost MOST_BYTES file
+
+-- how many files were read
+abbrev pub file_count : LoadResult → ℕ
+file_count (load.Whole program) = length program
+file_count (load.Broken report) = length report.names
+
+-- The sync list
 
 -- what a list that holds this was found to be, as the file of this number
 abbrev pub IsFound : Option (List ℕ) → ℕ → SyncListFile → Type 0
-IsFound held number (Sections None) = ⊥
-IsFound held number (Sections (Some sections)) = SpellsList held sections
-IsFound held number (Broken finding) = IsListFault held number finding
+IsFound held number (list.Sections None) = ⊥
+IsFound held number (list.Sections (Some sections)) = SpellsList held sections
+IsFound held number (list.Broken finding) = IsListFault held number finding
 
 -- what a list that is named or not was found to be, as the file of this number
 abbrev pub IsListed : FileMap → Option (List ℕ) → ℕ → SyncListFile → Type 0
-IsListed lists list number (Sections sections) = AreSections lists list sections
-IsListed lists list number (Broken finding) = IsFaultOfList lists list number finding
+IsListed lists word number (list.Sections sections) = AreSections lists word sections
+IsListed lists word number (list.Broken finding) = IsFaultOfList lists word number finding
 
--- the names of a program's files and of the list
-abbrev pub names_of : List Entry → Option (List ℕ) → List (List ℕ)
-names_of program list = map (λ e. e.name) program ++ list_names list
+-- Findings
 
--- the answer is the report on what a program breaks, which is not empty
-pub record AreRulesReported (program : List Entry) (sections : Option (List Section)) (names : List (List ℕ)) (answer : CommandAnswer) : Type 0 where
-  pub report : List Finding
-  pub is_report : IsReport (BreaksRules program sections) report
-  pub some : report ≢ []
-  pub says : answer ≡ report_answer names report
+-- how a report calls the files of a program
+abbrev pub names_of : List Entry → List (List ℕ)
+names_of program = map (λ e. e.name) program
+
+-- The report of the findings of which this holds, on files that are called so and on the list behind them.
+pub record Reports (Holds : Finding → Type 0) (names : List (List ℕ)) (word : Option (List ℕ)) (report : Report) : Type 0 where
+  pub is_report : IsReport Holds report.findings
+  pub called : report.names ≡ names ++ list_names word
+
+-- the report on a program, and on its list where it has one, which is not empty
+pub record AreRulesReported (program : List Entry) (sections : Option (List Section)) (word : Option (List ℕ)) (report : Report) : Type 0 where
+  pub reports : Reports (BreaksRules program sections) (names_of program) word report
+  pub some : report.findings ≢ []
 
 -- the schema of a program that breaks no rule
 pub record IsCleanSchema (program : List Entry) (sections : Option (List Section)) (schema : Schema) : Type 0 where
@@ -50,72 +80,57 @@ pub record IsCleanSchema (program : List Entry) (sections : Option (List Section
   pub sound : IsSound schema
 
 -- what was found of a program and the sections of its list
-abbrev pub IsRuleChecked : List Entry → Option (List Section) → List (List ℕ) → CheckResult → Type 0
-IsRuleChecked program sections names (Report answer) = AreRulesReported program sections names answer
-IsRuleChecked program sections names (Clean schema) = IsCleanSchema program sections schema
+abbrev pub IsRuleChecked : List Entry → Option (List Section) → Option (List ℕ) → CheckResult → Type 0
+IsRuleChecked program sections word (Broken report) = AreRulesReported program sections word report
+IsRuleChecked program sections word (Clean schema) = IsCleanSchema program sections schema
 
 -- what was found of a program by what was found of its list
-abbrev pub IsListedChecked : List Entry → SyncListFile → List (List ℕ) → CheckResult → Type 0
-IsListedChecked program (Sections sections) names checked = IsRuleChecked program sections names checked
-IsListedChecked program (Broken finding) names (Report answer) = answer ≡ report_answer names (finding ∷ [])
-IsListedChecked program (Broken finding) names (Clean schema) = ⊥
+abbrev pub IsListedChecked : List Entry → SyncListFile → Option (List ℕ) → CheckResult → Type 0
+IsListedChecked program (list.Sections sections) word checked = IsRuleChecked program sections word checked
+IsListedChecked program (list.Broken finding) word (Broken report) = Reports (λ f. f ≡ finding) (names_of program) word report
+IsListedChecked program (list.Broken finding) word (Clean schema) = ⊥
 
--- what was found of a program and a list
-pub record IsProgramChecked (lists : FileMap) (list : Option (List ℕ)) (program : List Entry) (checked : CheckResult) : Type 0 where
-  pub listed : SyncListFile
-  pub is_listed : IsListed lists list (length program) listed
-  pub found : IsListedChecked program listed (names_of program list) checked
+-- the report on files by that on how they were read, and by what was found of the list behind them
+abbrev pub IsFilesReport : Report → SyncListFile → Option (List ℕ) → Report → Type 0
+IsFilesReport files listed word report = Reports (λ f. Contains files.findings f ⊎ (listed ≡ list.Broken f)) files.names word report
+
+-- what was found of what was loaded, by what was found of the list behind its files
+abbrev pub IsLoadedChecked : LoadResult → SyncListFile → Option (List ℕ) → CheckResult → Type 0
+IsLoadedChecked (load.Whole program) listed word checked = IsListedChecked program listed word checked
+IsLoadedChecked (load.Broken files) listed word (Broken report) = IsFilesReport files listed word report
+IsLoadedChecked (load.Broken files) listed word (Clean schema) = ⊥
+
+-- the answer that files or their program break rules
+abbrev pub answer_of_report : Report → CommandAnswer
+answer_of_report report = broken_answer status.Broken report
 
 -- what was found of the files of a command: a report on them or on their program, or the sound schema of a program that
 -- breaks no rule
 abbrev pub IsChecked : LoadInput → FileMap → Option (List ℕ) → CheckResult → Type 0
-IsChecked given lists list (Report answer) = IsFileReport given lists list answer ⊎ IsRuleReport given lists list answer
-IsChecked given lists list (Clean schema) = IsSchemaRead given lists list schema × IsSound schema
+IsChecked given lists word (Broken report) = IsFileReport given lists word (answer_of_report report) ⊎ IsRuleReport given lists word (answer_of_report report)
+IsChecked given lists word (Clean schema) = IsSchemaRead given lists word schema × IsSound schema
 
 -- an answer by what was found: the report, or what is said of the schema
 abbrev pub IsToldOf : (Schema → CommandAnswer → Type 0) → CheckResult → CommandAnswer → Type 0
-IsToldOf Says (Report report) answer = answer ≡ report
+IsToldOf Says (Broken report) answer = answer ≡ answer_of_report report
 IsToldOf Says (Clean schema) answer = Says schema answer
 
 -- a schema that was found is sound
 abbrev pub IsSoundChecked : CheckResult → Type 0
-IsSoundChecked (Report report) = Unit {0}
+IsSoundChecked (Broken report) = Unit {0}
 IsSoundChecked (Clean schema) = IsSound schema
-
--- what a file was found to be of which no more than so many bytes are read
-abbrev pub IsHeldWithin : ℕ → Option (List ℕ) → HeldFile → Type 0
-IsHeldWithin most held Absent = held ≡ None
-IsHeldWithin most held Larger = HasMore most held
-IsHeldWithin most held (Bytes bytes) = (held ≡ Some bytes.items) × (length bytes.items ≤ most)
-
--- a file that was read has no more than so many bytes
-abbrev pub HasAtMost : ℕ → HeldFile → Type 0
-HasAtMost most Absent = Unit {0}
-HasAtMost most Larger = Unit {0}
-HasAtMost most (Bytes bytes) = length bytes.items ≤ most
-
--- what a file of frames or a script was found to be
-abbrev pub IsHeld : Option (List ℕ) → HeldFile → Type 0
-IsHeld held file = IsHeldWithin 1048576 held file
-
--- a file that was read has no more bytes than are read of one of frames or of a script
-abbrev pub IsSmall : HeldFile → Type 0
-IsSmall file = HasAtMost 1048576 file
-
--- the answer is the report of these findings and of what the list breaks
-pub record AreFilesReported (findings : List Finding) (listed : SyncListFile) (names : List (List ℕ)) (answer : CommandAnswer) : Type 0 where
-  pub report : List Finding
-  pub is_report : IsReport (λ f. Contains findings f ⊎ (listed ≡ Broken f)) report
-  pub says : answer ≡ report_answer names report
-
--- The answer for files of which these findings hold and that are called so, and a list behind them: the report of those and
--- of what the list breaks.
-pub record IsFilesAnswer (lists : FileMap) (list : Option (List ℕ)) (findings : List Finding) (texts : List (List ℕ)) (answer : CommandAnswer) : Type 0 where
-  pub listed : SyncListFile
-  pub is_listed : IsListed lists list (length texts) listed
-  pub reported : AreFilesReported findings listed (texts ++ list_names list) answer
 
 -- a schema that was found has a protocol that bears the name of a file
 abbrev pub HasTop : List ℕ → CheckResult → Type 0
-HasTop file (Report report) = Unit {0}
+HasTop file (Broken report) = Unit {0}
 HasTop file (Clean schema) = (top : ℕ) × IsTop file schema top
+
+-- One command on one file
+
+-- what a request says of a file of frames of which this is held
+abbrev pub frames_says : FramesRequest → Option (List ℕ) → Schema → CommandAnswer → Type 0
+frames_says wanted file = SaysFrames wanted.name.now wanted.convert file
+
+-- the answer of a command on the file of this name, by what is seen of the files, the path and the list
+abbrev pub IsFileAnswer : (Schema → CommandAnswer → Type 0) → FileViews → List (List ℕ) → List ℕ → Option (List ℕ) → CommandAnswer → Type 0
+IsFileAnswer Says seen path file word answer = IsCompilation Says (given_by seen.files path (file ∷ [])) seen.list word answer

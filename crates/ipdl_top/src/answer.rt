@@ -1,9 +1,9 @@
-ghost use Rattle.std.specs.Prelude.{◌≡◌, IfOk, IsOkUnless, map};
+ghost use Rattle.std.specs.Prelude.{◌≡◌, IfOk, IsOkUnless};
 
 use crate::report::text_of_report;
 use crate::status::Status;
-use ipdl_base::{Finding, Items};
-use std::alloc::{AllocError, AllocFailed, Global};
+use ipdl_base::{Failure, Items, Report};
+use std::alloc::{AllocError, Global};
 
 /// The text that says how the program is called.
 const USAGE: &[u8] =
@@ -19,37 +19,9 @@ pub struct CommandAnswer {
     pub err: Items<u8>,
 }
 
-/// Why a command has no answer.
-#[derive(Clone, Copy, Debug, PartialEq, Eq)]
-pub enum Failure {
-    /// A read failed.
-    ReadFault,
-    /// Memory ran out.
-    NoMemory,
-}
-
-impl From<AllocError> for Failure {
-    ghost use Rattle.ipdl_top.specs.declared.answer.Failure.TheVariants.{NoMemory};
-
-    ghost from_gives = { λ _ failure. failure ≡ NoMemory };
-
-    fn from(_error: AllocError) -> Failure {
-        Failure::NoMemory
-    }
-}
-
-impl<T: Drop> From<AllocFailed<T>> for Failure {
-    ghost use Rattle.ipdl_top.specs.declared.answer.Failure.TheVariants.{NoMemory};
-
-    ghost from_gives = { λ _ failure. failure ≡ NoMemory };
-
-    fn from(_failed: AllocFailed<T>) -> Failure {
-        Failure::NoMemory
-    }
-}
-
 impl CommandAnswer {
-    ghost use Rattle.ipdl_top.specs.CommandAnswer.{table_answer, report_answer, usage_answer};
+    ghost use Rattle.ipdl_top.specs.CommandAnswer.{table_answer, usage_answer};
+    ghost use Rattle.ipdl_top.specs.Report.{broken_answer};
     ghost use Rattle.ipdl_top.specs.Audit.{bad_transcript_answer};
     ghost use Rattle.ipdl_top.specs.Frames.{bad_frames_answer};
 
@@ -86,18 +58,17 @@ impl CommandAnswer {
         }
     }
 
-    /// The answer that files break rules: the text of the report on them, which calls each by its name in this list.
+    /// The answer that rules are broken, of files or of a script as the status says: the text of the report.
     pub fn of_report(
         alloc: Global,
-        names: &[&[u8]],
-        report: &[Finding],
-    ) -> Result<CommandAnswer, Failure>
-        ensures answer { IfOk result (λ answer. answer ≡ report_answer (map (λ n. n.now) names.now) report.now) }
-        ensures memory { IsOkUnless result Failure.NoMemory }
+        status: Status,
+        report: &Report,
+    ) -> Result<CommandAnswer, AllocError>
+        ensures { IfOk result (λ answer. answer ≡ broken_answer status report.now) }
     {
-        let text = text_of_report(alloc, names, report)?;
+        let text = text_of_report(alloc, report)?;
         Ok(CommandAnswer {
-            status: Status::Broken,
+            status,
             out: Items::from_vec(Vec::new(alloc)),
             err: Items::from_vec(text),
         })

@@ -1,11 +1,10 @@
-use crate::answer::CommandAnswer;
-use ipdl_base::Schema;
+use ipdl_base::{Report, Schema};
 
 /// What was found of the files of a command.
 #[derive(Drop)]
 pub enum CheckResult {
-    /// They break rules: the report on them, or on their program.
-    Report(CommandAnswer),
+    /// They, or their program, break rules: the report.
+    Broken(Report),
     /// They break none: the schema of their program.
     Clean(Schema),
 }

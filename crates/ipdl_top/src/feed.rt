@@ -1,4 +1,5 @@
-ghost use Rattle.std.specs.Prelude.{◌≡◌, ◌≤◌, ◌∷◌, ◌++◌, [], ℕ, IfOk, List, Option, codes, map, option_map, string_bytes};
+ghost use Rattle.std.specs.Prelude.{◌≡◌, ◌≤◌, ◌∷◌, ◌++◌, [], ℕ, Err, IfOk, List, Option, codes, map, string_bytes};
+ghost use Rattle.std.specs.Option.{option_copied};
 ghost use Rattle.std.specs.Fmt.{decimal};
 ghost use Rattle.end_parts.specs.PlainLines.{plain_line};
 ghost use Rattle.history.specs.Text.{numbered};
@@ -9,27 +10,26 @@ ghost use Rattle.ipdl_base.specs.Outside.{Rose};
 ghost use Rattle.ipdl_base.specs.Sound.{IsSound};
 ghost use Rattle.value_codec.specs.Laws.{AreBytes};
 ghost use Rattle.world_core.specs.Worlds.{most_events};
-ghost use Rattle.ipdl_top.specs.CommandAnswer.{IsCompilation, given_by};
 ghost use Rattle.ipdl_top.specs.Feed as told;
-ghost use Rattle.ipdl_top.specs.Feed.{SaysFed, SaysFedOf, SaysFeed, feed_answer, feed_ending, feed_status, kept_text};
-ghost use Rattle.ipdl_top.specs.FeedSteps.{AreHeld, AreSmall, feed_course};
+ghost use Rattle.ipdl_top.specs.Feed.{SaysFed, SaysFedOf, feed_answer, feed_ending, feed_status, kept_text};
+ghost use Rattle.ipdl_top.specs.FeedSteps.{AreHeld, AreSmall, feed_course, feed_says};
 ghost use Rattle.ipdl_top.specs.FileViews.{ForMap};
-ghost use Rattle.ipdl_top.specs.Steps.{HasTop, IsHeld, IsSmall, IsSoundChecked, IsToldOf};
+ghost use Rattle.ipdl_top.specs.Steps.{HasTop, IsFileAnswer, IsHeld, IsSmall, IsSoundChecked, IsToldOf};
 ghost use Rattle.ipdl_top.specs.Waits.{IsTop};
 
-use crate::answer::{CommandAnswer, Failure};
+use crate::answer::CommandAnswer;
 use crate::checked::CheckResult;
 use crate::compile::{checked, leave};
 use crate::frames::unread_answer;
-use crate::held::{HeldFile, read_held};
+use crate::held::read_file;
 use crate::run::spent_line;
 use crate::scripts::{ScriptCheck, script_checked};
 use crate::status::Status;
 use feed_laws::feeds_obey_alone;
-use frame_list::{FrameListFault, fault_text};
+use frame_list::{FrameListFault, fault_text, frame_rule};
 use handler_script::Script;
 use history::push_numbered;
-use ipdl_base::{Files, Items, Rule, Schema, Side};
+use ipdl_base::{Failure, FileBytes, Files, Items, MOST_BYTES, Schema, Side};
 use law_statements::{decides_fallen, decides_readable, laws_want_readable_lines};
 use std::alloc::{AllocError, Global};
 use std::slice::from_ref;
@@ -51,8 +51,8 @@ pub struct FeedRequest<'w> {
 /// The files that a feed goes by, beside those of its program.
 #[derive(Drop)]
 struct FeedFiles {
-    script: HeldFile,
-    frames: HeldFile,
+    script: FileBytes,
+    frames: FileBytes,
 }
 
 /// The line of a fault: the name of the file, the place, and a word with a number.
@@ -89,11 +89,8 @@ fn kept_line(alloc: Global, name: &str, fault: FeedFault) -> Result<Vec<u8>, All
             fault_text(alloc, name.as_bytes(), &FrameListFault::Short(at, missing))
         }
         FeedFault::Bad(at, number) => {
-            let rule = Rule {
-                letter: b'F',
-                number,
-            };
-            fault_text(alloc, name.as_bytes(), &FrameListFault::Broken(at, rule))
+            let fault = FrameListFault::Broken(at, frame_rule(number));
+            fault_text(alloc, name.as_bytes(), &fault)
         }
         FeedFault::Stray(at, number) => numbered_line(alloc, name, at, b": stray ", number),
         FeedFault::WrongActor(at, id) => wrong_actor_line(alloc, name, at, id),
@@ -190,17 +187,18 @@ fn frames_answer(
     schema: &Schema,
     script: &Script,
     wanted: &FeedRequest<'_>,
-    frames: &HeldFile,
+    frames: &FileBytes,
 ) -> Result<CommandAnswer, AllocError>
     requires sound { IsSound schema.now }
     requires valid { IsValid schema.now script.now }
     requires limit { wanted.now.limit ≤ most_events }
-    ensures { IfOk result (λ answer. (bytes : Option (List ℕ)) → IsHeld bytes frames.now → SaysFedOf (feed_course wanted.now) wanted.now.frames.now bytes schema.now script.now answer) }
+    ensures { IfOk result (λ answer. (bytes : Option (List ℕ)) → IsHeld bytes frames.now
+        → SaysFedOf (feed_course wanted.now) wanted.now.frames.now bytes schema.now script.now answer) }
 {
     match frames {
-        HeldFile::Absent => unread_answer(alloc, wanted.frames, ":0: absent\n"),
-        HeldFile::Larger => unread_answer(alloc, wanted.frames, ":0: larger\n"),
-        HeldFile::Bytes(bytes) => bytes_answer(alloc, schema, script, wanted, bytes.as_slice()),
+        FileBytes::Absent => unread_answer(alloc, wanted.frames, ":0: absent\n"),
+        FileBytes::Larger => unread_answer(alloc, wanted.frames, ":0: larger\n"),
+        FileBytes::Bytes(bytes) => bytes_answer(alloc, schema, script, wanted, bytes.as_slice()),
     }
 }
 
@@ -216,10 +214,13 @@ fn held_answer(
     requires sound { IsSound schema.now }
     requires top { (top : ℕ) × IsTop file.now schema.now top }
     requires limit { wanted.now.limit ≤ most_events }
-    ensures { IfOk result (λ answer. (script bytes : Option (List ℕ)) → AreHeld script bytes held.now → SaysFeed (feed_course wanted.now) wanted.now.script.now script wanted.now.frames.now bytes file.now schema.now answer) }
+    ensures { IfOk result (λ answer. (script bytes : Option (List ℕ)) → AreHeld script bytes held.now
+        → feed_says wanted.now script bytes file.now schema.now answer) }
 {
     match script_checked(alloc, schema, file, wanted.script, &held.script)? {
-        ScriptCheck::Broken(answer) => Ok(answer),
+        ScriptCheck::Broken(report) => {
+            CommandAnswer::of_report(alloc, Status::BadScript, &report)
+        }
         ScriptCheck::Valid(script) => {
             frames_answer(alloc, schema, &script, wanted, &held.frames)
         }
@@ -238,10 +239,11 @@ fn checked_answer(
     requires sound { IsSoundChecked checked }
     requires top { HasTop file.now checked }
     requires limit { wanted.now.limit ≤ most_events }
-    ensures { IfOk result (λ answer. (script bytes : Option (List ℕ)) → AreHeld script bytes held.now → IsToldOf (SaysFeed (feed_course wanted.now) wanted.now.script.now script wanted.now.frames.now bytes file.now) checked answer) }
+    ensures { IfOk result (λ answer. (script bytes : Option (List ℕ)) → AreHeld script bytes held.now
+        → IsToldOf (feed_says wanted.now script bytes file.now) checked answer) }
 {
     match checked {
-        CheckResult::Report(report) => Ok(report),
+        CheckResult::Broken(report) => CommandAnswer::of_report(alloc, Status::Broken, &report),
         CheckResult::Clean(schema) => {
             let answer = held_answer(alloc, &schema, file, wanted, held);
             leave(schema);
@@ -260,8 +262,8 @@ fn read_files<F: Files>(
     ensures small { IfOk result AreSmall }
     ensures read_fault { result ≡ Err Failure.ReadFault → Rose (F.faults files.old) (F.faults files.new) }
 {
-    let script = read_held(alloc, files, wanted.script)?;
-    let frames = read_held(alloc, files, wanted.frames)?;
+    let script = read_file(alloc, files, wanted.script, MOST_BYTES)?;
+    let frames = read_file(alloc, files, wanted.frames, MOST_BYTES)?;
     Ok(FeedFiles { script, frames })
 }
 
@@ -277,7 +279,7 @@ fn answer_with<F: Files>(
     requires top { HasTop file.now checked }
     requires limit { wanted.now.limit ≤ most_events }
     ensures answer { ForMap (F.told files.old) (λ seen. IfOk result
-        (IsToldOf (SaysFeed (feed_course wanted.now) wanted.now.script.now (seen.script wanted.now.script.now) wanted.now.frames.now (seen.input wanted.now.frames.now) file.now) checked)) }
+        (IsToldOf (feed_says wanted.now (seen.script wanted.now.script.now) (seen.input wanted.now.frames.now) file.now) checked)) }
     ensures read_fault { result ≡ Err Failure.ReadFault → Rose (F.faults files.old) (F.faults files.new) }
 {
     let held = read_files(alloc, files, wanted)?;
@@ -290,7 +292,7 @@ fn answer_with<F: Files>(
 pub fn feed<F: Files>(
     alloc: Global,
     files: &mut F,
-    list: &Option<String>,
+    list: Option<&str>,
     path: &[String],
     file: &String,
     wanted: &FeedRequest<'_>,
@@ -299,7 +301,8 @@ pub fn feed<F: Files>(
     requires ending { (front : List ℕ) × (string_bytes file.now ≡ front ++ codes ".ipdl") }
     requires limit { wanted.now.limit ≤ most_events }
     ensures answer { ForMap (F.told files.old) (λ seen. IfOk result
-        (IsCompilation (SaysFeed (feed_course wanted.now) wanted.now.script.now (seen.script wanted.now.script.now) wanted.now.frames.now (seen.input wanted.now.frames.now) (string_bytes file.now)) (given_by seen.files (map string_bytes path.now) (string_bytes file.now ∷ [])) seen.list (option_map string_bytes list.now))) }
+        (IsFileAnswer (feed_says wanted.now (seen.script wanted.now.script.now) (seen.input wanted.now.frames.now) (string_bytes file.now))
+        seen (map string_bytes path.now) (string_bytes file.now) (option_copied list.entry))) }
     ensures read_fault { result ≡ Err Failure.ReadFault → Rose (F.faults files.old) (F.faults files.new) }
 {
     match checked(alloc, files, list, path, from_ref(file)) {

@@ -1,20 +1,21 @@
-ghost use Rattle.std.specs.Prelude.{◌≡◌, ◌≤◌, ◌∷◌, ◌++◌, [], IfOk, IsOkUnless, Option, Some, List, ℕ, length, map, option_map, string_bytes};
+ghost use Rattle.std.specs.Prelude.{◌≡◌, ◌≤◌, ◌∷◌, ◌++◌, [], Err, IfOk, IsOkUnless, Option, Some, List, ℕ, length, map, string_bytes};
+ghost use Rattle.std.specs.Option.{option_copied};
 ghost use Rattle.ipdl_base.specs.Outside.{Rose};
 ghost use Rattle.ipdl_base.specs.Sound.{IsSound};
 ghost use Rattle.include_graph.specs.Keys.{AreFileWords};
 ghost use Rattle.include_graph.specs.Load as load;
 ghost use Rattle.frame_list.specs.FramesTold.{Tells};
-ghost use Rattle.ipdl_top.specs.CommandAnswer.{IsCompilation, given_by};
-ghost use Rattle.ipdl_top.specs.Frames.{SaysBytes, SaysFrames, bad_frames_answer, frames_answer, frames_out};
+ghost use Rattle.ipdl_top.specs.Frames.{SaysBytes, bad_frames_answer, frames_answer, frames_out};
 ghost use Rattle.ipdl_top.specs.FileViews.{ForMap};
-ghost use Rattle.ipdl_top.specs.Steps.{IsHeld, IsSoundChecked, IsToldOf};
+ghost use Rattle.ipdl_top.specs.Steps.{IsFileAnswer, IsHeld, IsSoundChecked, IsToldOf, frames_says};
 
-use crate::answer::{CommandAnswer, Failure};
+use crate::answer::CommandAnswer;
 use crate::checked::CheckResult;
 use crate::compile::checked;
-use crate::held::{HeldFile, read_held};
+use crate::held::read_file;
+use crate::status::Status;
 use frame_list::{FrameListFault, fault_text, push_lines, push_new_frames};
-use ipdl_base::{Files, Schema};
+use ipdl_base::{Failure, FileBytes, Files, MOST_BYTES, Schema};
 use std::alloc::{AllocError, Global};
 use std::slice::from_ref;
 
@@ -51,13 +52,13 @@ fn answer_of(
     alloc: Global,
     name: &str,
     out: Vec<u8>,
-    fault: &Option<FrameListFault>,
+    fault: Option<FrameListFault>,
 ) -> Result<CommandAnswer, AllocError>
-    ensures { IfOk result (λ answer. answer ≡ frames_answer name.now out.items fault.now) }
+    ensures { IfOk result (λ answer. answer ≡ frames_answer name.now out.items fault) }
 {
     match fault {
         Some(fault) => {
-            let line = fault_text(alloc, name.as_bytes(), fault)?;
+            let line = fault_text(alloc, name.as_bytes(), &fault)?;
             Ok(CommandAnswer::of_bad_frames(out, line))
         }
         None => Ok(CommandAnswer::of_table(alloc, out)),
@@ -76,7 +77,7 @@ fn bytes_answer(
 {
     let mut out = Vec::new(alloc);
     let fault = push_text(&mut out, alloc, schema, wanted.convert, bytes)?;
-    answer_of(alloc, wanted.name, out, &fault)
+    answer_of(alloc, wanted.name, out, fault)
 }
 
 /// The answer that there is no file of frames to read, with this word for it.
@@ -93,15 +94,15 @@ fn held_answer(
     alloc: Global,
     schema: &Schema,
     wanted: &FramesRequest<'_>,
-    held: &HeldFile,
+    held: &FileBytes,
 ) -> Result<CommandAnswer, AllocError>
     requires { IsSound schema.now }
-    ensures { IfOk result (λ answer. (file : Option (List ℕ)) → IsHeld file held.now → SaysFrames wanted.now.name.now wanted.now.convert file schema.now answer) }
+    ensures { IfOk result (λ answer. (file : Option (List ℕ)) → IsHeld file held.now → frames_says wanted.now file schema.now answer) }
 {
     match held {
-        HeldFile::Absent => unread_answer(alloc, wanted.name, ":0: absent\n"),
-        HeldFile::Larger => unread_answer(alloc, wanted.name, ":0: larger\n"),
-        HeldFile::Bytes(bytes) => bytes_answer(alloc, schema, wanted, bytes.as_slice()),
+        FileBytes::Absent => unread_answer(alloc, wanted.name, ":0: absent\n"),
+        FileBytes::Larger => unread_answer(alloc, wanted.name, ":0: larger\n"),
+        FileBytes::Bytes(bytes) => bytes_answer(alloc, schema, wanted, bytes.as_slice()),
     }
 }
 
@@ -110,13 +111,13 @@ fn checked_answer(
     alloc: Global,
     checked: CheckResult,
     wanted: &FramesRequest<'_>,
-    held: &HeldFile,
+    held: &FileBytes,
 ) -> Result<CommandAnswer, AllocError>
     requires { IsSoundChecked checked }
-    ensures { IfOk result (λ answer. (file : Option (List ℕ)) → IsHeld file held.now → IsToldOf (SaysFrames wanted.now.name.now wanted.now.convert file) checked answer) }
+    ensures { IfOk result (λ answer. (file : Option (List ℕ)) → IsHeld file held.now → IsToldOf (frames_says wanted.now file) checked answer) }
 {
     match checked {
-        CheckResult::Report(report) => Ok(report),
+        CheckResult::Broken(report) => CommandAnswer::of_report(alloc, Status::Broken, &report),
         CheckResult::Clean(schema) => held_answer(alloc, &schema, wanted, held),
     }
 }
@@ -129,10 +130,10 @@ fn answer_with<F: Files>(
     wanted: &FramesRequest<'_>,
 ) -> Result<CommandAnswer, Failure>
     requires { IsSoundChecked checked }
-    ensures answer { load.ForMap (F.told files.old) (λ frames. IfOk result (IsToldOf (SaysFrames wanted.now.name.now wanted.now.convert (frames wanted.now.name.now)) checked)) }
+    ensures answer { load.ForMap (F.told files.old) (λ frames. IfOk result (IsToldOf (frames_says wanted.now (frames wanted.now.name.now)) checked)) }
     ensures read_fault { result ≡ Err Failure.ReadFault → Rose (F.faults files.old) (F.faults files.new) }
 {
-    let held = read_held(alloc, files, wanted.name)?;
+    let held = read_file(alloc, files, wanted.name, MOST_BYTES)?;
     Ok(checked_answer(alloc, checked, wanted, &held)?)
 }
 
@@ -141,14 +142,15 @@ fn answer_with<F: Files>(
 pub fn frames<F: Files>(
     alloc: Global,
     files: &mut F,
-    list: &Option<String>,
+    list: Option<&str>,
     path: &[String],
     file: &String,
     wanted: &FramesRequest<'_>,
 ) -> Result<CommandAnswer, Failure>
     requires { AreFileWords (string_bytes file.now ∷ []) }
     ensures answer { ForMap (F.told files.old) (λ seen. IfOk result
-        (IsCompilation (SaysFrames wanted.now.name.now wanted.now.convert (seen.input wanted.now.name.now)) (given_by seen.files (map string_bytes path.now) (string_bytes file.now ∷ [])) seen.list (option_map string_bytes list.now))) }
+        (IsFileAnswer (frames_says wanted.now (seen.input wanted.now.name.now))
+        seen (map string_bytes path.now) (string_bytes file.now) (option_copied list.entry))) }
     ensures read_fault { result ≡ Err Failure.ReadFault → Rose (F.faults files.old) (F.faults files.new) }
 {
     match checked(alloc, files, list, path, from_ref(file)) {

@@ -1,13 +1,12 @@
-ghost use Rattle.std.specs.Prelude.{◌≡◌, ◌≢◌, ◌≤◌, ◌∷◌, [], Some, None, IfOk, IsOkUnless, map, option_map, string_bytes};
-ghost use Rattle.ipdl_base.specs.Outside.{IsRead};
+ghost use Rattle.std.specs.Prelude.{◌≡◌, ◌≤◌, ◌∷◌, [], Some, None, IfOk, IsOkUnless, map, option_map, string_bytes};
 ghost use Rattle.ipdl_top.specs.CommandAnswer.{IsCompilation, given_by};
 ghost use Rattle.ipdl_top.specs.Gen.{SaysGen, case_files, case_path, files_of, holder_name};
 
-use crate::answer::{CommandAnswer, Failure};
+use crate::answer::CommandAnswer;
 use crate::rendering::Rendering;
 use crate::run::{RunRequest, run};
 use generated_case::{GeneratedCase, generate};
-use ipdl_base::{Files, ReadAnswer};
+use ipdl_base::{Failure, FileBytes, Files};
 use std::alloc::{AllocError, Global};
 use world_core::Driver;
 
@@ -44,32 +43,18 @@ fn text_of<'c>(case: &'c GeneratedCase, name: &str) -> Option<&'c str>
     }
 }
 
-/// What a read of a file gives that has these bytes.
-fn read_bytes(alloc: Global, bytes: &[u8], limit: usize) -> ReadAnswer
-    ensures read { IsRead (Some bytes.now) limit result }
-    ensures done { result ≢ ReadAnswer.Failed }
-{
-    if bytes.len() > limit {
-        return ReadAnswer::Larger;
-    }
-    match Vec::from_slice(alloc, bytes) {
-        Ok(copy) => ReadAnswer::Bytes(copy),
-        Err(_) => ReadAnswer::NoMemory,
-    }
-}
-
 impl Files for CaseFiles {
-    ghost use Rattle.ipdl_base.specs.Outside.{FileMap, IsRead, Rose};
+    ghost use Rattle.ipdl_base.specs.Outside.{FileMap, HasAtMost, IsHeldWithin, Rose};
     ghost use Rattle.ipdl_top.specs.Gen.{files_of};
 
     ghost told = { λ files. Some (files_of files.case) };
 
     ghost faults = { λ files. 0 };
 
-    fn read(&mut self, alloc: Global, name: &str, limit: usize) -> ReadAnswer {
+    fn read(&mut self, alloc: Global, name: &str, limit: usize) -> Result<FileBytes, Failure> {
         match text_of(&self.case, name) {
-            None => ReadAnswer::Absent,
-            Some(text) => read_bytes(alloc, text.as_bytes(), limit),
+            None => Ok(FileBytes::Absent),
+            Some(text) => Ok(FileBytes::of_bytes(alloc, text.as_bytes(), limit)?),
         }
     }
 }
@@ -106,7 +91,8 @@ fn case_answer<D: Driver>(
 ) -> Result<CommandAnswer, Failure>
     requires files { files_of files.old.case ≡ case_files rounds actors }
     requires ready { D.ready driver.old }
-    ensures answer { IfOk result (IsCompilation (SaysGen (D.Gives driver.old) rounds actors) (given_by (case_files rounds actors) case_path (holder_name ∷ [])) (case_files rounds actors) None) }
+    ensures answer { IfOk result (IsCompilation (SaysGen (D.Gives driver.old) rounds actors)
+        (given_by (case_files rounds actors) case_path (holder_name ∷ [])) (case_files rounds actors) None) }
     ensures memory { IsOkUnless result Failure.NoMemory }
 {
     let path = path_of(alloc)?;
@@ -121,7 +107,7 @@ fn case_answer<D: Driver>(
     run(
         alloc,
         files,
-        &None,
+        None,
         path.as_slice(),
         &holder,
         &wanted,
@@ -142,7 +128,8 @@ pub fn generation<D: Driver>(
     requires some_actors { 1 ≤ actors }
     requires actors { actors ≤ 100 }
     requires ready { D.ready driver.old }
-    ensures answer { IfOk result (IsCompilation (SaysGen (D.Gives driver.old) rounds actors) (given_by (case_files rounds actors) case_path (holder_name ∷ [])) (case_files rounds actors) None) }
+    ensures answer { IfOk result (IsCompilation (SaysGen (D.Gives driver.old) rounds actors)
+        (given_by (case_files rounds actors) case_path (holder_name ∷ [])) (case_files rounds actors) None) }
     ensures memory { IsOkUnless result Failure.NoMemory }
 {
     let mut files = case_of(alloc, rounds, actors)?;

@@ -1,16 +1,13 @@
-ghost use Rattle.std.specs.Prelude.{◌≡◌, ◌≤◌, IfOk, IfErr, Some, Option, List, ℕ, option_map, string_bytes};
+ghost use Rattle.std.specs.Prelude.{◌≡◌, ◌≤◌, Err, IfOk, Some, Option, List, ℕ, length};
+ghost use Rattle.std.specs.Option.{option_copied};
 ghost use Rattle.ipdl_base.specs.Outside.{Rose};
 ghost use Rattle.include_graph.specs.Load.{ForMap};
-ghost use Rattle.ipdl_top.specs.Lists.{IsListFault, SpellsList};
-ghost use Rattle.ipdl_top.specs.Steps.{IsFound, IsListed};
+ghost use Rattle.ipdl_top.specs.Steps.{IsFound, IsHeld, IsListed, IsSmall};
 
-use crate::answer::Failure;
-use ipdl_base::{Files, Finding, Place, ReadAnswer, Rule};
-use std::alloc::Global;
+use crate::held::read_file;
+use ipdl_base::{Failure, FileBytes, Files, Finding, MOST_BYTES, Place, Rule};
+use std::alloc::{AllocError, Global};
 use sync_list::{ListFault, SyncList, read_list};
-
-/// The most bytes of a list that is read.
-const MOST_BYTES: usize = 1_048_576;
 
 /// What a sync list that a command may name was found to be.
 #[derive(Drop)]
@@ -21,61 +18,39 @@ pub enum SyncListFile {
     Broken(Finding),
 }
 
-/// The list as a whole breaks a rule, as the file of this number.
-fn broken_whole(rule: Rule, number: u32) -> SyncListFile
-    ensures { result ≡ SyncListFile.Broken (record { place = record { file = number; line = 0; column = 0 }; rule = rule }) }
+/// The list breaks a rule at this line and column of the file of this number.
+fn broken_at(rule: Rule, file: u32, line: u32, column: u32) -> SyncListFile
+    ensures { result ≡ SyncListFile.Broken (record { place = record { file = file; line = line; column = column }; rule = rule }) }
 {
-    let place = Place {
-        file: number,
-        line: 0,
-        column: 0,
-    };
+    let place = Place { file, line, column };
     SyncListFile::Broken(Finding { place, rule })
 }
 
 /// What a list of these bytes is, as the file of this number.
-fn listed_of_bytes(alloc: Global, bytes: &[u8], number: u32) -> Result<SyncListFile, Failure>
-    ensures listed { IfOk result (IsFound (Some bytes.now) number) }
-    ensures memory { IfErr result (λ failure. failure ≡ Failure.NoMemory) }
+fn listed_of_bytes(alloc: Global, bytes: &[u8], number: u32) -> Result<SyncListFile, AllocError>
+    requires { length bytes.now ≤ MOST_BYTES }
+    ensures { IfOk result (IsFound (Some bytes.now) number) }
 {
-    if bytes.len() > MOST_BYTES {
-        return Ok(broken_whole(Rule::TOO_LARGE, number));
-    }
     match read_list(alloc, bytes) {
         Ok(sections) => Ok(SyncListFile::Sections(Some(sections))),
-        Err(ListFault::Line(line)) => {
-            let place = Place {
-                file: number,
-                line,
-                column: 1,
-            };
-            Ok(SyncListFile::Broken(Finding {
-                place,
-                rule: Rule::SYNTAX_FAULT,
-            }))
-        }
-        Err(ListFault::NoMemory) => Err(Failure::NoMemory),
+        Err(ListFault::Line(line)) => Ok(broken_at(Rule::SYNTAX_FAULT, number, line, 1)),
+        Err(ListFault::NoMemory) => Err(AllocError),
     }
 }
 
-/// Reads the list of this name, as the file of this number.
-fn read_named<F: Files>(
+/// What a list is, of which this was found, as the file of this number.
+fn listed_of_found(
     alloc: Global,
-    files: &mut F,
-    name: &str,
+    found: &FileBytes,
     number: u32,
-) -> Result<SyncListFile, Failure>
-    ensures listed { ForMap (F.told files.old) (λ lists. IfOk result (IsFound (lists name.now) number)) }
-    ensures told { F.told files.new ≡ F.told files.old }
-    ensures count { F.faults files.old ≤ F.faults files.new }
-    ensures read_fault { result ≡ Err Failure.ReadFault → Rose (F.faults files.old) (F.faults files.new) }
+) -> Result<SyncListFile, AllocError>
+    requires { IsSmall found.now }
+    ensures { IfOk result (λ listed. (held : Option (List ℕ)) → IsHeld held found.now → IsFound held number listed) }
 {
-    match files.read(alloc, name, MOST_BYTES) {
-        ReadAnswer::Bytes(bytes) => listed_of_bytes(alloc, bytes.as_slice(), number),
-        ReadAnswer::Absent => Ok(broken_whole(Rule::FILE_NOT_FOUND, number)),
-        ReadAnswer::Larger => Ok(broken_whole(Rule::TOO_LARGE, number)),
-        ReadAnswer::Failed => Err(Failure::ReadFault),
-        ReadAnswer::NoMemory => Err(Failure::NoMemory),
+    match found {
+        FileBytes::Absent => Ok(broken_at(Rule::FILE_NOT_FOUND, number, 0, 0)),
+        FileBytes::Larger => Ok(broken_at(Rule::TOO_LARGE, number, 0, 0)),
+        FileBytes::Bytes(bytes) => listed_of_bytes(alloc, bytes.as_slice(), number),
     }
 }
 
@@ -83,16 +58,19 @@ fn read_named<F: Files>(
 pub fn read_listed<F: Files>(
     alloc: Global,
     files: &mut F,
-    list: &Option<String>,
+    list: Option<&str>,
     number: u32,
 ) -> Result<SyncListFile, Failure>
-    ensures listed { ForMap (F.told files.old) (λ lists. IfOk result (IsListed lists (option_map string_bytes list.now) number)) }
+    ensures listed { ForMap (F.told files.old) (λ lists. IfOk result (IsListed lists (option_copied list.entry) number)) }
     ensures told { F.told files.new ≡ F.told files.old }
     ensures count { F.faults files.old ≤ F.faults files.new }
     ensures read_fault { result ≡ Err Failure.ReadFault → Rose (F.faults files.old) (F.faults files.new) }
 {
     match list {
-        Some(name) => read_named(alloc, files, name.as_str(), number),
+        Some(name) => {
+            let found = read_file(alloc, files, name, MOST_BYTES)?;
+            Ok(listed_of_found(alloc, &found, number)?)
+        }
         None => Ok(SyncListFile::Sections(None)),
     }
 }

@@ -1,4 +1,4 @@
-ghost use Rattle.std.specs.Prelude.{◌≡◌, ◌≢◌, ◌⊎◌, ℕ, IfOk, map, string_bytes};
+ghost use Rattle.std.specs.Prelude.{◌≡◌, ◌≢◌, ◌⊎◌, ℕ, Err, IfOk, map, string_bytes};
 ghost use Rattle.ipdl_base.specs.Outside.{Rose};
 ghost use Rattle.ipdl_top.specs.CommandAnswer.{IsAnswer, usage_answer};
 ghost use Rattle.command_words.specs.Command.{IsNoCommand};
@@ -7,7 +7,7 @@ ghost use Rattle.ipdl_top.specs.Outcome.{IsOutcome};
 ghost use Rattle.ipdl_top.specs.FileViews.{ForMap};
 ghost use Rattle.ipdl_top.specs.Written.{WritesAll};
 
-use crate::answer::{CommandAnswer, Failure};
+use crate::answer::CommandAnswer;
 use crate::compile::compile;
 use crate::feed::{FeedRequest, feed};
 use crate::frames::{FramesRequest, frames};
@@ -20,7 +20,7 @@ use crate::transcript_audit::{AuditRequest, audit_transcript};
 use crate::waits::waits;
 use crate::write::write_answer;
 use command_words::{Command, WordsFault, one_command, read_words};
-use ipdl_base::{Files, Sink};
+use ipdl_base::{Failure, Files, Sink};
 use std::alloc::Global;
 use world_core::{Driver, Relay};
 
@@ -47,7 +47,13 @@ fn answer_to<F: Files, D: Driver, Q: Relay>(
                 path,
                 files: names,
             },
-        ) => compile(alloc, files, &list, path.as_slice(), names.as_slice()),
+        ) => compile(
+            alloc,
+            files,
+            list.as_deref(),
+            path.as_slice(),
+            names.as_slice(),
+        ),
         Ok(
             Command::Frames {
                 list,
@@ -61,10 +67,17 @@ fn answer_to<F: Files, D: Driver, Q: Relay>(
                 name: name.as_str(),
                 convert,
             };
-            frames(alloc, files, &list, path.as_slice(), &file, &wanted)
+            frames(
+                alloc,
+                files,
+                list.as_deref(),
+                path.as_slice(),
+                &file,
+                &wanted,
+            )
         }
         Ok(Command::Waits { list, path, file }) => {
-            waits(alloc, files, &list, path.as_slice(), &file)
+            waits(alloc, files, list.as_deref(), path.as_slice(), &file)
         }
         Ok(
             Command::Run {
@@ -84,7 +97,15 @@ fn answer_to<F: Files, D: Driver, Q: Relay>(
                 death,
                 rendering: Rendering::Transcript,
             };
-            run(alloc, files, &list, path.as_slice(), &file, &wanted, driver)
+            run(
+                alloc,
+                files,
+                list.as_deref(),
+                path.as_slice(),
+                &file,
+                &wanted,
+                driver,
+            )
         }
         Ok(Command::Gen { rounds, actors }) => generation(alloc, rounds, actors, driver),
         Ok(
@@ -104,7 +125,14 @@ fn answer_to<F: Files, D: Driver, Q: Relay>(
                 side,
                 limit,
             };
-            feed(alloc, files, &list, path.as_slice(), &file, &wanted)
+            feed(
+                alloc,
+                files,
+                list.as_deref(),
+                path.as_slice(),
+                &file,
+                &wanted,
+            )
         }
         Ok(
             Command::Audit {
@@ -121,7 +149,14 @@ fn answer_to<F: Files, D: Driver, Q: Relay>(
                 transcript: transcript.as_str(),
                 limit,
             };
-            audit_transcript(alloc, files, &list, path.as_slice(), &file, &wanted)
+            audit_transcript(
+                alloc,
+                files,
+                list.as_deref(),
+                path.as_slice(),
+                &file,
+                &wanted,
+            )
         }
         Ok(
             Command::Relay {
@@ -138,7 +173,15 @@ fn answer_to<F: Files, D: Driver, Q: Relay>(
                 limit,
                 death,
             };
-            relay_script(alloc, files, &list, path.as_slice(), &file, &wanted, relay)
+            relay_script(
+                alloc,
+                files,
+                list.as_deref(),
+                path.as_slice(),
+                &file,
+                &wanted,
+                relay,
+            )
         }
         Err(WordsFault::Usage) => CommandAnswer::of_no_command(alloc),
         Err(WordsFault::NoMemory) => Err(Failure::NoMemory),

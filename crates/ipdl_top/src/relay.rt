@@ -1,28 +1,28 @@
-ghost use Rattle.std.specs.Prelude.{◌≡◌, ◌≤◌, ◌∷◌, ◌++◌, [], ℕ, IfOk, List, Option, codes, map, option_map, string_bytes};
+ghost use Rattle.std.specs.Prelude.{◌≡◌, ◌≤◌, ◌∷◌, ◌++◌, [], ℕ, Err, IfOk, List, Option, codes, map, string_bytes};
+ghost use Rattle.std.specs.Option.{option_copied};
 ghost use Rattle.handler_script.specs.Valid.{IsValid};
 ghost use Rattle.include_graph.specs.Keys.{AreFileWords};
 ghost use Rattle.include_graph.specs.Load as load;
 ghost use Rattle.ipdl_base.specs.Outside.{Rose};
 ghost use Rattle.ipdl_base.specs.Sound.{IsSound};
 ghost use Rattle.world_core.specs.Worlds.{most_events};
-ghost use Rattle.ipdl_top.specs.CommandAnswer.{IsCompilation, given_by};
 ghost use Rattle.ipdl_top.specs.FileViews.{ForMap};
-ghost use Rattle.ipdl_top.specs.Relay.{SaysRelay, SaysRelayed, half_lines, halves_text};
-ghost use Rattle.ipdl_top.specs.RelaySteps.{IsTextAnswer, relay_course};
-ghost use Rattle.ipdl_top.specs.Steps.{HasTop, IsHeld, IsSmall, IsSoundChecked, IsToldOf};
+ghost use Rattle.ipdl_top.specs.Relay.{SaysRelayed, half_lines, halves_text};
+ghost use Rattle.ipdl_top.specs.RelaySteps.{IsTextAnswer, relay_course, relay_says};
+ghost use Rattle.ipdl_top.specs.Steps.{HasTop, IsFileAnswer, IsHeld, IsSmall, IsSoundChecked, IsToldOf};
 ghost use Rattle.ipdl_top.specs.Waits.{IsTop};
 ghost use Rattle.history.specs.Text.{transcript_text};
 
-use crate::answer::{CommandAnswer, Failure};
+use crate::answer::CommandAnswer;
 use crate::checked::CheckResult;
 use crate::compile::{checked, leave};
-use crate::held::{HeldFile, read_held};
+use crate::held::read_file;
 use crate::run::{spent_line, with_ending};
 use crate::scripts::{ScriptCheck, script_checked};
 use crate::status::Status;
 use handler_script::Script;
 use history::{History, history_text};
-use ipdl_base::{Files, Schema};
+use ipdl_base::{Failure, FileBytes, Files, MOST_BYTES, Schema};
 use law_statements::{decides_fallen, decides_readable, laws_want_readable_lines};
 use line_laws::texts_see_no_box;
 use relay_laws::relays_obey_alone;
@@ -121,7 +121,7 @@ fn held_answer<Q: Relay>(
     schema: &Schema,
     file: &str,
     wanted: &RelayRequest<'_>,
-    held: &HeldFile,
+    held: &FileBytes,
     relay: &mut Q,
 ) -> Result<CommandAnswer, AllocError>
     requires small { IsSmall held.now }
@@ -129,10 +129,13 @@ fn held_answer<Q: Relay>(
     requires top { (top : ℕ) × IsTop file.now schema.now top }
     requires limit { wanted.now.limit ≤ most_events }
     requires ready { Q.ready relay.old }
-    ensures { IfOk result (λ answer. (text : Option (List ℕ)) → IsHeld text held.now → SaysRelay (Q.Gives relay.old) (relay_course wanted.now) wanted.now.script.now text file.now schema.now answer) }
+    ensures { IfOk result (λ answer. (text : Option (List ℕ)) → IsHeld text held.now
+        → relay_says (Q.Gives relay.old) wanted.now text file.now schema.now answer) }
 {
     match script_checked(alloc, schema, file, wanted.script, held)? {
-        ScriptCheck::Broken(answer) => Ok(answer),
+        ScriptCheck::Broken(report) => {
+            CommandAnswer::of_report(alloc, Status::BadScript, &report)
+        }
         ScriptCheck::Valid(script) => relayed_answer(alloc, schema, &script, wanted, relay),
     }
 }
@@ -143,7 +146,7 @@ fn checked_answer<Q: Relay>(
     checked: CheckResult,
     file: &str,
     wanted: &RelayRequest<'_>,
-    held: &HeldFile,
+    held: &FileBytes,
     relay: &mut Q,
 ) -> Result<CommandAnswer, AllocError>
     requires small { IsSmall held.now }
@@ -151,10 +154,11 @@ fn checked_answer<Q: Relay>(
     requires top { HasTop file.now checked }
     requires limit { wanted.now.limit ≤ most_events }
     requires ready { Q.ready relay.old }
-    ensures { IfOk result (λ answer. (text : Option (List ℕ)) → IsHeld text held.now → IsToldOf (SaysRelay (Q.Gives relay.old) (relay_course wanted.now) wanted.now.script.now text file.now) checked answer) }
+    ensures { IfOk result (λ answer. (text : Option (List ℕ)) → IsHeld text held.now
+        → IsToldOf (relay_says (Q.Gives relay.old) wanted.now text file.now) checked answer) }
 {
     match checked {
-        CheckResult::Report(report) => Ok(report),
+        CheckResult::Broken(report) => CommandAnswer::of_report(alloc, Status::Broken, &report),
         CheckResult::Clean(schema) => {
             let answer = held_answer(alloc, &schema, file, wanted, held, relay);
             leave(schema);
@@ -176,10 +180,10 @@ fn answer_with<F: Files, Q: Relay>(
     requires top { HasTop file.now checked }
     requires limit { wanted.now.limit ≤ most_events }
     requires ready { Q.ready relay.old }
-    ensures answer { load.ForMap (F.told files.old) (λ map'. IfOk result (IsToldOf (SaysRelay (Q.Gives relay.old) (relay_course wanted.now) wanted.now.script.now (map' wanted.now.script.now) file.now) checked)) }
+    ensures answer { load.ForMap (F.told files.old) (λ map'. IfOk result (IsToldOf (relay_says (Q.Gives relay.old) wanted.now (map' wanted.now.script.now) file.now) checked)) }
     ensures read_fault { result ≡ Err Failure.ReadFault → Rose (F.faults files.old) (F.faults files.new) }
 {
-    let held = read_held(alloc, files, wanted.script)?;
+    let held = read_file(alloc, files, wanted.script, MOST_BYTES)?;
     Ok(checked_answer(alloc, checked, file, wanted, &held, relay)?)
 }
 
@@ -189,7 +193,7 @@ fn answer_with<F: Files, Q: Relay>(
 pub fn relay_script<F: Files, Q: Relay>(
     alloc: Global,
     files: &mut F,
-    list: &Option<String>,
+    list: Option<&str>,
     path: &[String],
     file: &String,
     wanted: &RelayRequest<'_>,
@@ -200,7 +204,8 @@ pub fn relay_script<F: Files, Q: Relay>(
     requires limit { wanted.now.limit ≤ most_events }
     requires ready { Q.ready relay.old }
     ensures answer { ForMap (F.told files.old) (λ seen. IfOk result
-        (IsCompilation (SaysRelay (Q.Gives relay.old) (relay_course wanted.now) wanted.now.script.now (seen.script wanted.now.script.now) (string_bytes file.now)) (given_by seen.files (map string_bytes path.now) (string_bytes file.now ∷ [])) seen.list (option_map string_bytes list.now))) }
+        (IsFileAnswer (relay_says (Q.Gives relay.old) wanted.now (seen.script wanted.now.script.now) (string_bytes file.now))
+        seen (map string_bytes path.now) (string_bytes file.now) (option_copied list.entry))) }
     ensures read_fault { result ≡ Err Failure.ReadFault → Rose (F.faults files.old) (F.faults files.new) }
 {
     match checked(alloc, files, list, path, from_ref(file)) {

@@ -1,15 +1,15 @@
-ghost use Rattle.std.specs.Prelude.{◌≡◌, ◌++◌, [], IfOk, OnOk, map, slice_get, unwrap_or};
+ghost use Rattle.std.specs.Prelude.{◌≡◌, ◌++◌, [], IfOk, OnOk, slice_get, unwrap_or};
 ghost use Rattle.ipdl_top.specs.Report.{finding_line, report_text};
 
-use ipdl_base::Finding;
+use ipdl_base::{Finding, Name, Report};
 use std::alloc::{AllocError, Global};
 
 /// The name of the file of this number; nothing where there is none.
-fn name_of<'n>(names: &[&'n [u8]], number: u32) -> &'n [u8]
-    ensures { result.now ≡ unwrap_or (slice_get (map (λ n. n.now) names.entry.now) number) [] }
+fn name_of(names: &[Name], number: u32) -> &[u8]
+    ensures { result.now ≡ unwrap_or (slice_get names.now number) [] }
 {
     match names.get(number as usize) {
-        Some(name) => name,
+        Some(name) => name.as_slice(),
         None => &[],
     }
 }
@@ -18,10 +18,10 @@ fn name_of<'n>(names: &[&'n [u8]], number: u32) -> &'n [u8]
 fn push_finding(
     alloc: Global,
     text: &mut Vec<u8>,
-    names: &[&[u8]],
+    names: &[Name],
     finding: &Finding,
 ) -> Result<(), AllocError>
-    ensures { OnOk result (text.new.items ≡ text.old.items ++ finding_line (map (λ n. n.now) names.now) finding.now) }
+    ensures { OnOk result (text.new.items ≡ text.old.items ++ finding_line names.now finding.now) }
 {
     let line = finding.place.line;
     let column = finding.place.column;
@@ -31,16 +31,13 @@ fn push_finding(
     text.extend_from_slice(printed.as_bytes())
 }
 
-/// The text of a report on files of these names.
-pub fn text_of_report(
-    alloc: Global,
-    names: &[&[u8]],
-    report: &[Finding],
-) -> Result<Vec<u8>, AllocError>
-    ensures { IfOk result (λ text. text.items ≡ report_text (map (λ n. n.now) names.now) report.now) }
+/// The text of a report.
+pub fn text_of_report(alloc: Global, report: &Report) -> Result<Vec<u8>, AllocError>
+    ensures { IfOk result (λ text. text.items ≡ report_text report.now.names report.now.findings) }
 {
+    let names = report.names.as_slice();
     let mut text = Vec::new(alloc);
-    for finding in report {
+    for finding in report.findings.as_slice() {
         push_finding(alloc, &mut text, names, finding)?;
     }
     Ok(text)

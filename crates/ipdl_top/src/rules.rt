@@ -1,78 +1,89 @@
-ghost use Rattle.std.specs.Prelude.{◌≡◌, ◌≤◌, ◌↔◌, IfOk, IsOkUnless, length, map};
+ghost use Rattle.std.specs.Prelude.{◌≤◌, ◌↔◌, ◌≡◌, IfOk, length};
 ghost use Rattle.std.specs.List.{Contains};
+ghost use Rattle.std.specs.Option.{option_copied};
 ghost use Rattle.ipdl_base.specs.declared.finding.Finding.{Finding};
 ghost use Rattle.ipdl_syntax.specs.Programs.{IsProgram, BearTheirNames};
-ghost use Rattle.findings.specs.Report.{IsReport};
 ghost use Rattle.ipdl_top.specs.CommandAnswer.{BreaksRules};
-ghost use Rattle.ipdl_top.specs.Steps.{IsRuleChecked};
+ghost use Rattle.ipdl_top.specs.Steps.{IsRuleChecked, Reports, names_of as the_names_of};
 
-use crate::answer::{CommandAnswer, Failure};
 use crate::checked::CheckResult;
 use actor_tables::schema;
 use findings::sort_findings;
-use ipdl_base::{Finding, Findings};
-use ipdl_syntax::Program;
+use ipdl_base::{Finding, Items, Name, Report};
+use ipdl_syntax::{Entry, Program};
 use name_table::Names;
-use proto_rules::proto_findings;
+use proto_rules::add_of_protocols;
 use std::alloc::{AllocError, Global};
-use sync_list::{SyncList, sync_findings};
-use type_rules::type_findings;
+use sync_list::{SyncList, add_of_list};
+use type_rules::add_of_types;
 
 /// All findings that hold of a program, and of its sync list where it has one, in some order.
 fn gathered(
     alloc: Global,
     program: &Program,
     names: &Names<'_>,
-    list: &Option<SyncList>,
+    list: Option<&SyncList>,
 ) -> Result<Vec<Finding>, AllocError>
     requires few { length program.now ≤ 4096 }
     requires of_program { names.now ≡ program.now }
-    ensures { IfOk result (λ found. (f : Finding) → Contains found.items f ↔ BreaksRules program.now list.now f) }
+    ensures { IfOk result (λ found. (f : Finding) → Contains found.items f ↔ BreaksRules program.now (option_copied list.entry) f) }
 {
-    let mut found = type_findings(alloc, program, names)?.into_vec();
-    found.extend_from_slice(proto_findings(alloc, program, names)?.as_slice())?;
-    match list {
-        Some(list) => {
-            found.extend_from_slice(sync_findings(alloc, program, list)?.as_slice())?;
-            Ok(found)
-        }
-        None => Ok(found),
+    let mut found = Vec::new(alloc);
+    add_of_types(alloc, program, names, &mut found)?;
+    add_of_protocols(alloc, program, names, &mut found)?;
+    if let Some(list) = list {
+        add_of_list(alloc, program, list, &mut found)?;
     }
+    Ok(found)
 }
 
-/// The report on a program, and on its sync list where it has one.
-fn rule_findings(
-    alloc: Global,
-    program: &Program,
-    names: &Names<'_>,
-    list: &Option<SyncList>,
-) -> Result<Findings, AllocError>
-    requires few { length program.now ≤ 4096 }
-    requires of_program { names.now ≡ program.now }
-    ensures { IfOk result (IsReport (BreaksRules program.now list.now)) }
+/// How a report calls the files of a program.
+pub fn names_of(alloc: Global, program: &[Entry]) -> Result<Vec<Name>, AllocError>
+    ensures { IfOk result (λ names. names.items ≡ the_names_of program.now) }
 {
-    Ok(sort_findings(gathered(alloc, program, names, list)?))
+    let mut names = Vec::new(alloc);
+    for entry in program {
+        names.push(entry.name.copy(alloc)?)?;
+    }
+    Ok(names)
 }
 
-/// What is found of a program with its sync list, where it has one: the report on them by these
-/// names, or the schema of a program that breaks no rule.
+/// The report of these findings on files that are called so, and on the list behind them.
+pub fn report_of(
+    alloc: Global,
+    found: Vec<Finding>,
+    names: Vec<Name>,
+    list: Option<&str>,
+) -> Result<Report, AllocError>
+    ensures { IfOk result (Reports (Contains found.items) names.items (option_copied list.entry)) }
+{
+    let mut names = names;
+    if let Some(name) = list {
+        names.push(Name::from_slice(alloc, name.as_bytes())?)?;
+    }
+    Ok(Report {
+        findings: sort_findings(found),
+        names: Items::from_vec(names),
+    })
+}
+
+/// What is found of a program by the rules of the language, and by those of its sync list where it has one.
 pub fn rule_checked(
     alloc: Global,
     program: &Program,
-    list: &Option<SyncList>,
-    files: &[&[u8]],
-) -> Result<CheckResult, Failure>
+    sections: Option<&SyncList>,
+    list: Option<&str>,
+) -> Result<CheckResult, AllocError>
     requires program { IsProgram program.now }
     requires named { BearTheirNames program.now }
-    ensures found { IfOk result (IsRuleChecked program.now list.now (map (λ n. n.now) files.now)) }
-    ensures memory { IsOkUnless result Failure.NoMemory }
+    ensures { IfOk result (IsRuleChecked program.now (option_copied sections.entry) (option_copied list.entry)) }
 {
     let names = Names::build(alloc, program)?;
-    let report = rule_findings(alloc, program, &names, list)?;
-    if report.is_empty() {
+    let found = gathered(alloc, program, &names, sections)?;
+    if found.is_empty() {
         Ok(CheckResult::Clean(schema(alloc, program, &names)?))
     } else {
-        let report = CommandAnswer::of_report(alloc, files, report.as_slice())?;
-        Ok(CheckResult::Report(report))
+        let called = names_of(alloc, program.as_slice())?;
+        Ok(CheckResult::Broken(report_of(alloc, found, called, list)?))
     }
 }

@@ -1,4 +1,5 @@
-ghost use Rattle.std.specs.Prelude.{◌≡◌, ◌≤◌, ◌∷◌, ◌++◌, [], ℕ, IfOk, List, Option, codes, map, option_map, string_bytes};
+ghost use Rattle.std.specs.Prelude.{◌≡◌, ◌≤◌, ◌∷◌, ◌++◌, [], ℕ, Err, IfOk, List, Option, codes, map, string_bytes};
+ghost use Rattle.std.specs.Option.{option_copied};
 ghost use Rattle.handler_script.specs.Valid.{IsValid};
 ghost use Rattle.include_graph.specs.Keys.{AreFileWords};
 ghost use Rattle.include_graph.specs.Load as load;
@@ -11,23 +12,22 @@ ghost use Rattle.script_steps.specs.Turns.{at_limit};
 ghost use Rattle.world_core.specs.Turns.{StandsAs};
 ghost use Rattle.world_core.specs.WorldView.{WorldView};
 ghost use Rattle.world_core.specs.Worlds.{IsCase, IsLawful, most_events};
-ghost use Rattle.ipdl_top.specs.CommandAnswer.{IsCompilation, given_by};
 ghost use Rattle.ipdl_top.specs.FileViews.{ForMap};
-ghost use Rattle.ipdl_top.specs.Run.{SaysHistory, SaysRun, rendered};
-ghost use Rattle.ipdl_top.specs.RunSteps.{IsMadeUnless, IsPrinted, course_of};
-ghost use Rattle.ipdl_top.specs.Steps.{HasTop, IsHeld, IsSmall, IsSoundChecked, IsToldOf};
+ghost use Rattle.ipdl_top.specs.Run.{SaysHistory, rendered};
+ghost use Rattle.ipdl_top.specs.RunSteps.{IsMadeUnless, IsPrinted, course_of, run_says};
+ghost use Rattle.ipdl_top.specs.Steps.{HasTop, IsFileAnswer, IsHeld, IsSmall, IsSoundChecked, IsToldOf};
 ghost use Rattle.ipdl_top.specs.Waits.{IsTop};
 
-use crate::answer::{CommandAnswer, Failure};
+use crate::answer::CommandAnswer;
 use crate::checked::CheckResult;
 use crate::compile::{checked, leave};
-use crate::held::{HeldFile, read_held};
+use crate::held::read_file;
 use crate::rendering::Rendering;
 use crate::scripts::{ScriptCheck, script_checked};
 use crate::status::Status;
 use generated_case::{Counts, summary_text};
 use handler_script::Script;
-use ipdl_base::{Files, Items, Schema, Side};
+use ipdl_base::{Failure, FileBytes, Files, Items, MOST_BYTES, Schema, Side};
 use schedules::{Stop, Turn};
 use script_steps::choices_are_runs;
 use std::alloc::{AllocError, Global};
@@ -53,11 +53,11 @@ pub struct RunRequest<'w> {
 /// Runs a world by a word of turns, where one is given, and else by the driver.
 fn driven<'s, D: Driver>(
     world: World<'s>,
-    schedule: &Option<Vec<Turn>>,
+    schedule: Option<&[Turn]>,
     driver: &mut D,
 ) -> (World<'s>, RunAnswer)
     requires ready { D.ready driver.old }
-    ensures made { IsMadeUnless (D.Gives driver.old) (option_map (λ turns. turns.items) schedule.entry.now) world.entry result.0 result.1 }
+    ensures made { IsMadeUnless (D.Gives driver.old) (option_copied schedule.entry) world.entry result.0 result.1 }
     ensures same { result.0.setting ≡ world.entry.setting }
     ensures stands { StandsAs result.0 result.1 }
     ensures case { IsCase result.0 }
@@ -67,7 +67,7 @@ fn driven<'s, D: Driver>(
         None => driver.drive(world),
         Some(word) => {
             let mut world = world;
-            let ending = world.run_schedule(word.as_slice());
+            let ending = world.run_schedule(word);
             (world, ending)
         }
     }
@@ -107,7 +107,8 @@ fn ended_answer(
     text: Vec<u8>,
     ending: RunAnswer,
 ) -> Result<CommandAnswer, AllocError>
-    ensures { IfOk result (λ answer. (shown : Shown) (schema : Schema) (lines : List Line) → text.items ≡ rendered shown schema lines → IsPrinted shown schema lines ending answer) }
+    ensures { IfOk result (λ answer. (shown : Shown) (schema : Schema) (lines : List Line) → text.items ≡ rendered shown schema lines
+        → IsPrinted shown schema lines ending answer) }
 {
     match ending {
         RunAnswer::Finished => with_ending(alloc, Status::Done, text, b"finished\n"),
@@ -159,7 +160,7 @@ fn history_answer<D: Driver>(
     choices_are_runs();
     histories_are_lawful();
     let world = World::open(alloc, schema, script, wanted.death, wanted.limit)?;
-    let (world, ending) = driven(world, &wanted.schedule, driver);
+    let (world, ending) = driven(world, wanted.schedule.as_deref(), driver);
     world_answer(alloc, world, wanted.rendering, ending)
 }
 
@@ -169,7 +170,7 @@ fn held_answer<D: Driver>(
     schema: &Schema,
     file: &str,
     wanted: &RunRequest<'_>,
-    held: &HeldFile,
+    held: &FileBytes,
     driver: &mut D,
 ) -> Result<CommandAnswer, AllocError>
     requires small { IsSmall held.now }
@@ -177,10 +178,13 @@ fn held_answer<D: Driver>(
     requires top { (top : ℕ) × IsTop file.now schema.now top }
     requires limit { wanted.now.limit ≤ most_events }
     requires ready { D.ready driver.old }
-    ensures { IfOk result (λ answer. (text : Option (List ℕ)) → IsHeld text held.now → SaysRun (D.Gives driver.old) wanted.now.rendering (course_of wanted.now) wanted.now.script.now text file.now schema.now answer) }
+    ensures { IfOk result (λ answer. (text : Option (List ℕ)) → IsHeld text held.now
+        → run_says (D.Gives driver.old) wanted.now text file.now schema.now answer) }
 {
     match script_checked(alloc, schema, file, wanted.script, held)? {
-        ScriptCheck::Broken(answer) => Ok(answer),
+        ScriptCheck::Broken(report) => {
+            CommandAnswer::of_report(alloc, Status::BadScript, &report)
+        }
         ScriptCheck::Valid(script) => history_answer(alloc, schema, &script, wanted, driver),
     }
 }
@@ -191,7 +195,7 @@ fn checked_answer<D: Driver>(
     checked: CheckResult,
     file: &str,
     wanted: &RunRequest<'_>,
-    held: &HeldFile,
+    held: &FileBytes,
     driver: &mut D,
 ) -> Result<CommandAnswer, AllocError>
     requires small { IsSmall held.now }
@@ -199,10 +203,11 @@ fn checked_answer<D: Driver>(
     requires top { HasTop file.now checked }
     requires limit { wanted.now.limit ≤ most_events }
     requires ready { D.ready driver.old }
-    ensures { IfOk result (λ answer. (text : Option (List ℕ)) → IsHeld text held.now → IsToldOf (SaysRun (D.Gives driver.old) wanted.now.rendering (course_of wanted.now) wanted.now.script.now text file.now) checked answer) }
+    ensures { IfOk result (λ answer. (text : Option (List ℕ)) → IsHeld text held.now
+        → IsToldOf (run_says (D.Gives driver.old) wanted.now text file.now) checked answer) }
 {
     match checked {
-        CheckResult::Report(report) => Ok(report),
+        CheckResult::Broken(report) => CommandAnswer::of_report(alloc, Status::Broken, &report),
         CheckResult::Clean(schema) => {
             let answer = held_answer(alloc, &schema, file, wanted, held, driver);
             leave(schema);
@@ -224,10 +229,10 @@ fn answer_with<F: Files, D: Driver>(
     requires top { HasTop file.now checked }
     requires limit { wanted.now.limit ≤ most_events }
     requires ready { D.ready driver.old }
-    ensures answer { load.ForMap (F.told files.old) (λ map'. IfOk result (IsToldOf (SaysRun (D.Gives driver.old) wanted.now.rendering (course_of wanted.now) wanted.now.script.now (map' wanted.now.script.now) file.now) checked)) }
+    ensures answer { load.ForMap (F.told files.old) (λ map'. IfOk result (IsToldOf (run_says (D.Gives driver.old) wanted.now (map' wanted.now.script.now) file.now) checked)) }
     ensures read_fault { result ≡ Err Failure.ReadFault → Rose (F.faults files.old) (F.faults files.new) }
 {
-    let held = read_held(alloc, files, wanted.script)?;
+    let held = read_file(alloc, files, wanted.script, MOST_BYTES)?;
     Ok(checked_answer(alloc, checked, file, wanted, &held, driver)?)
 }
 
@@ -237,7 +242,7 @@ fn answer_with<F: Files, D: Driver>(
 pub fn run<F: Files, D: Driver>(
     alloc: Global,
     files: &mut F,
-    list: &Option<String>,
+    list: Option<&str>,
     path: &[String],
     file: &String,
     wanted: &RunRequest<'_>,
@@ -248,7 +253,8 @@ pub fn run<F: Files, D: Driver>(
     requires limit { wanted.now.limit ≤ most_events }
     requires ready { D.ready driver.old }
     ensures answer { ForMap (F.told files.old) (λ seen. IfOk result
-        (IsCompilation (SaysRun (D.Gives driver.old) wanted.now.rendering (course_of wanted.now) wanted.now.script.now (seen.script wanted.now.script.now) (string_bytes file.now)) (given_by seen.files (map string_bytes path.now) (string_bytes file.now ∷ [])) seen.list (option_map string_bytes list.now))) }
+        (IsFileAnswer (run_says (D.Gives driver.old) wanted.now (seen.script wanted.now.script.now) (string_bytes file.now))
+        seen (map string_bytes path.now) (string_bytes file.now) (option_copied list.entry))) }
     ensures read_fault { result ≡ Err Failure.ReadFault → Rose (F.faults files.old) (F.faults files.new) }
 {
     match checked(alloc, files, list, path, from_ref(file)) {

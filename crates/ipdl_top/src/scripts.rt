@@ -1,17 +1,14 @@
-ghost use Rattle.std.specs.Prelude.{◌≡◌, ◌≤◌, ◌<◌, ℕ, IfOk, List, Option, length};
+ghost use Rattle.std.specs.Prelude.{◌≡◌, ◌≤◌, ◌<◌, [], ◌∷◌, ℕ, IfOk, List, Option, length};
 ghost use Rattle.ipdl_base.specs.Sound.{IsSound};
-ghost use Rattle.ipdl_top.specs.ScriptSteps.{IsHeldChecked, IsScriptChecked, IsTextChecked, IsValidChecked};
-ghost use Rattle.ipdl_top.specs.Scripts.{bad_script_answer};
+ghost use Rattle.ipdl_top.specs.ScriptSteps.{IsHeldChecked, IsScriptChecked, IsTextChecked, IsUnreadable, IsValidChecked};
 ghost use Rattle.ipdl_top.specs.Steps.{IsHeld, IsSmall};
 ghost use Rattle.ipdl_top.specs.Waits.{IsTop};
 
-use crate::answer::CommandAnswer;
-use crate::held::HeldFile;
-use crate::report::text_of_report;
-use crate::status::Status;
 use crate::waits::top_of;
 use handler_script::{Script, ScriptFault, read_script};
-use ipdl_base::{Finding, Items, Place, Rule, Schema};
+use ipdl_base::{
+    FileBytes, Finding, Findings, Items, MOST_BYTES, Name, Place, Report, Rule, Schema,
+};
 use std::alloc::{AllocError, Global};
 
 /// The script as a whole.
@@ -24,26 +21,34 @@ const WHOLE_SCRIPT: Place = Place {
 /// What was found of a script.
 #[derive(Drop)]
 pub enum ScriptCheck {
-    /// It breaks rules: the answer that says so.
-    Broken(CommandAnswer),
+    /// It breaks rules: the report.
+    Broken(Report),
     /// It breaks none.
     Valid(Script),
 }
 
-/// The answer that a script breaks these rules.
-fn broken_answer(
-    alloc: Global,
-    name: &str,
-    findings: &[Finding],
-) -> Result<CommandAnswer, AllocError>
-    ensures { IfOk result (λ answer. answer ≡ bad_script_answer name.now findings.now) }
+/// A script of this name breaks these rules.
+fn broken_script(alloc: Global, name: &str, findings: Findings) -> Result<ScriptCheck, AllocError>
+    ensures { IfOk result (λ checked. checked ≡ ScriptCheck.Broken (record { findings = findings; names = name.now ∷ [] })) }
 {
-    let err = text_of_report(alloc, &[name.as_bytes()], findings)?;
-    Ok(CommandAnswer {
-        status: Status::BadScript,
-        out: Items::from_vec(Vec::new(alloc)),
-        err: Items::from_vec(err),
-    })
+    let mut names = Vec::new(alloc);
+    names.push(Name::from_slice(alloc, name.as_bytes())?)?;
+    Ok(ScriptCheck::Broken(Report {
+        findings,
+        names: Items::from_vec(names),
+    }))
+}
+
+/// A script of this name is absent, or has more bytes than are read.
+fn unreadable_script(alloc: Global, name: &str) -> Result<ScriptCheck, AllocError>
+    ensures { IfOk result (IsUnreadable name.now) }
+{
+    let finding = Finding {
+        place: WHOLE_SCRIPT,
+        rule: Rule::UNREADABLE_SCRIPT,
+    };
+    let found = Vec::from_slice(alloc, &[finding])?;
+    broken_script(alloc, name, Items::from_vec(found))
 }
 
 /// What is found of the text of a script.
@@ -56,16 +61,13 @@ fn text_checked(
 ) -> Result<ScriptCheck, AllocError>
     requires sound { IsSound schema.now }
     requires top { top < length schema.now.protocols }
-    requires small { length text.now ≤ 1048576 }
+    requires small { length text.now ≤ MOST_BYTES }
     ensures found { IfOk result (IsTextChecked name.now text.now schema.now top) }
     ensures valid { IfOk result (IsValidChecked schema.now) }
 {
     match read_script(alloc, text, schema, top) {
         Ok(script) => Ok(ScriptCheck::Valid(script)),
-        Err(ScriptFault::Broken(findings)) => {
-            let answer = broken_answer(alloc, name, findings.as_slice())?;
-            Ok(ScriptCheck::Broken(answer))
-        }
+        Err(ScriptFault::Broken(findings)) => broken_script(alloc, name, findings),
         Err(ScriptFault::NoMemory) => Err(AllocError),
     }
 }
@@ -76,7 +78,7 @@ fn held_checked(
     schema: &Schema,
     top: u32,
     name: &str,
-    held: &HeldFile,
+    held: &FileBytes,
 ) -> Result<ScriptCheck, AllocError>
     requires small { IsSmall held.now }
     requires sound { IsSound schema.now }
@@ -85,15 +87,8 @@ fn held_checked(
     ensures valid { IfOk result (IsValidChecked schema.now) }
 {
     match held {
-        HeldFile::Absent | HeldFile::Larger => {
-            let finding = Finding {
-                place: WHOLE_SCRIPT,
-                rule: Rule::UNREADABLE_SCRIPT,
-            };
-            let answer = broken_answer(alloc, name, &[finding])?;
-            Ok(ScriptCheck::Broken(answer))
-        }
-        HeldFile::Bytes(bytes) => text_checked(alloc, schema, top, name, bytes.as_slice()),
+        FileBytes::Absent | FileBytes::Larger => unreadable_script(alloc, name),
+        FileBytes::Bytes(bytes) => text_checked(alloc, schema, top, name, bytes.as_slice()),
     }
 }
 
@@ -103,12 +98,13 @@ pub fn script_checked(
     schema: &Schema,
     file: &str,
     name: &str,
-    held: &HeldFile,
+    held: &FileBytes,
 ) -> Result<ScriptCheck, AllocError>
     requires small { IsSmall held.now }
     requires sound { IsSound schema.now }
     requires top { (top : ℕ) × IsTop file.now schema.now top }
-    ensures found { IfOk result (λ checked. (text : Option (List ℕ)) → IsHeld text held.now → IsScriptChecked name.now text file.now schema.now checked) }
+    ensures found { IfOk result (λ checked. (text : Option (List ℕ)) → IsHeld text held.now
+        → IsScriptChecked name.now text file.now schema.now checked) }
     ensures valid { IfOk result (IsValidChecked schema.now) }
 {
     let Some(top) = top_of(schema, file) else {

@@ -1,27 +1,28 @@
-ghost use Rattle.std.specs.Prelude.{◌≡◌, ◌≤◌, ◌∷◌, ◌++◌, [], ℕ, IfOk, List, Option, codes, length, map, option_map, string_bytes};
+ghost use Rattle.std.specs.Prelude.{◌≡◌, ◌≤◌, ◌∷◌, ◌++◌, [], ℕ, Err, IfOk, List, Option, codes, length, map, string_bytes};
+ghost use Rattle.std.specs.Option.{option_copied};
 ghost use Rattle.handler_script.specs.Valid.{IsValid};
 ghost use Rattle.include_graph.specs.Keys.{AreFileWords};
-ghost use Rattle.ipdl_base.specs.Outside.{Rose};
+ghost use Rattle.ipdl_base.specs.Outside.{HasAtMost, IsHeldWithin, Rose};
 ghost use Rattle.ipdl_base.specs.Sound.{IsSound};
 ghost use Rattle.transcript_reader.specs.Compared.{most_text_bytes};
 ghost use Rattle.world_core.specs.Worlds.{most_events};
 ghost use Rattle.ipdl_top.specs.Audit as told;
-ghost use Rattle.ipdl_top.specs.Audit.{SaysAudit, SaysAudited, SaysAuditedOf, audit_answer, bad_line_answer, bad_transcript_answer};
-ghost use Rattle.ipdl_top.specs.AuditSteps.{AreHeld, AreSmall};
-ghost use Rattle.ipdl_top.specs.CommandAnswer.{IsCompilation, given_by};
+ghost use Rattle.ipdl_top.specs.Audit.{SaysAudited, SaysAuditedOf, audit_answer, bad_line_answer, bad_transcript_answer};
+ghost use Rattle.ipdl_top.specs.AuditSteps.{AreHeld, AreSmall, audit_says};
 ghost use Rattle.ipdl_top.specs.FileViews.{ForMap};
-ghost use Rattle.ipdl_top.specs.Steps.{HasAtMost, HasTop, IsHeldWithin, IsSoundChecked, IsToldOf};
+ghost use Rattle.ipdl_top.specs.Steps.{HasTop, IsFileAnswer, IsSoundChecked, IsToldOf};
 ghost use Rattle.ipdl_top.specs.Waits.{IsTop};
 
-use crate::answer::{CommandAnswer, Failure};
+use crate::answer::CommandAnswer;
 use crate::audited::Audit;
 use crate::auditing::audit;
 use crate::checked::CheckResult;
 use crate::compile::{checked, leave};
-use crate::held::{HeldFile, read_held, read_within};
+use crate::held::read_file;
 use crate::scripts::{ScriptCheck, script_checked};
+use crate::status::Status;
 use handler_script::Script;
-use ipdl_base::{Files, Rule, Schema};
+use ipdl_base::{Failure, FileBytes, Files, MOST_BYTES, Rule, Schema};
 use std::alloc::{AllocError, Global};
 use std::slice::from_ref;
 
@@ -42,8 +43,8 @@ pub struct AuditRequest<'w> {
 /// The files that an audit goes by, beside those of its program.
 #[derive(Drop)]
 struct AuditFiles {
-    script: HeldFile,
-    text: HeldFile,
+    script: FileBytes,
+    text: FileBytes,
 }
 
 /// The answer that the text of a file of this name is none that a run prints, with these words behind
@@ -112,18 +113,19 @@ fn text_answer(
     schema: &Schema,
     script: &Script,
     wanted: &AuditRequest<'_>,
-    text: &HeldFile,
+    text: &FileBytes,
 ) -> Result<CommandAnswer, AllocError>
     requires small { HasAtMost most_text_bytes text.now }
     requires sound { IsSound schema.now }
     requires valid { IsValid schema.now script.now }
     requires limit { wanted.now.limit ≤ most_events }
-    ensures { IfOk result (λ answer. (bytes : Option (List ℕ)) → IsHeldWithin most_text_bytes bytes text.now → SaysAuditedOf wanted.now.limit wanted.now.transcript.now bytes schema.now script.now answer) }
+    ensures { IfOk result (λ answer. (bytes : Option (List ℕ)) → IsHeldWithin most_text_bytes bytes text.now
+        → SaysAuditedOf wanted.now.limit wanted.now.transcript.now bytes schema.now script.now answer) }
 {
     match text {
-        HeldFile::Absent => bad_answer(alloc, wanted.transcript, ":0: absent\n"),
-        HeldFile::Larger => bad_answer(alloc, wanted.transcript, ":0: larger\n"),
-        HeldFile::Bytes(bytes) => bytes_answer(alloc, schema, script, wanted, bytes.as_slice()),
+        FileBytes::Absent => bad_answer(alloc, wanted.transcript, ":0: absent\n"),
+        FileBytes::Larger => bad_answer(alloc, wanted.transcript, ":0: larger\n"),
+        FileBytes::Bytes(bytes) => bytes_answer(alloc, schema, script, wanted, bytes.as_slice()),
     }
 }
 
@@ -139,10 +141,13 @@ fn held_answer(
     requires sound { IsSound schema.now }
     requires top { (top : ℕ) × IsTop file.now schema.now top }
     requires limit { wanted.now.limit ≤ most_events }
-    ensures { IfOk result (λ answer. (script text : Option (List ℕ)) → AreHeld script text held.now → SaysAudit wanted.now.limit wanted.now.script.now script wanted.now.transcript.now text file.now schema.now answer) }
+    ensures { IfOk result (λ answer. (script text : Option (List ℕ)) → AreHeld script text held.now
+        → audit_says wanted.now script text file.now schema.now answer) }
 {
     match script_checked(alloc, schema, file, wanted.script, &held.script)? {
-        ScriptCheck::Broken(answer) => Ok(answer),
+        ScriptCheck::Broken(report) => {
+            CommandAnswer::of_report(alloc, Status::BadScript, &report)
+        }
         ScriptCheck::Valid(script) => text_answer(alloc, schema, &script, wanted, &held.text),
     }
 }
@@ -159,10 +164,11 @@ fn checked_answer(
     requires sound { IsSoundChecked checked }
     requires top { HasTop file.now checked }
     requires limit { wanted.now.limit ≤ most_events }
-    ensures { IfOk result (λ answer. (script text : Option (List ℕ)) → AreHeld script text held.now → IsToldOf (SaysAudit wanted.now.limit wanted.now.script.now script wanted.now.transcript.now text file.now) checked answer) }
+    ensures { IfOk result (λ answer. (script text : Option (List ℕ)) → AreHeld script text held.now
+        → IsToldOf (audit_says wanted.now script text file.now) checked answer) }
 {
     match checked {
-        CheckResult::Report(report) => Ok(report),
+        CheckResult::Broken(report) => CommandAnswer::of_report(alloc, Status::Broken, &report),
         CheckResult::Clean(schema) => {
             let answer = held_answer(alloc, &schema, file, wanted, held);
             leave(schema);
@@ -181,8 +187,8 @@ fn read_files<F: Files>(
     ensures small { IfOk result AreSmall }
     ensures read_fault { result ≡ Err Failure.ReadFault → Rose (F.faults files.old) (F.faults files.new) }
 {
-    let script = read_held(alloc, files, wanted.script)?;
-    let text = read_within(alloc, files, wanted.transcript, MOST_TEXT_BYTES)?;
+    let script = read_file(alloc, files, wanted.script, MOST_BYTES)?;
+    let text = read_file(alloc, files, wanted.transcript, MOST_TEXT_BYTES)?;
     Ok(AuditFiles { script, text })
 }
 
@@ -198,7 +204,7 @@ fn answer_with<F: Files>(
     requires top { HasTop file.now checked }
     requires limit { wanted.now.limit ≤ most_events }
     ensures answer { ForMap (F.told files.old) (λ seen. IfOk result
-        (IsToldOf (SaysAudit wanted.now.limit wanted.now.script.now (seen.script wanted.now.script.now) wanted.now.transcript.now (seen.input wanted.now.transcript.now) file.now) checked)) }
+        (IsToldOf (audit_says wanted.now (seen.script wanted.now.script.now) (seen.input wanted.now.transcript.now) file.now) checked)) }
     ensures read_fault { result ≡ Err Failure.ReadFault → Rose (F.faults files.old) (F.faults files.new) }
 {
     let held = read_files(alloc, files, wanted)?;
@@ -211,7 +217,7 @@ fn answer_with<F: Files>(
 pub fn audit_transcript<F: Files>(
     alloc: Global,
     files: &mut F,
-    list: &Option<String>,
+    list: Option<&str>,
     path: &[String],
     file: &String,
     wanted: &AuditRequest<'_>,
@@ -220,7 +226,7 @@ pub fn audit_transcript<F: Files>(
     requires ending { (front : List ℕ) × (string_bytes file.now ≡ front ++ codes ".ipdl") }
     requires limit { wanted.now.limit ≤ most_events }
     ensures answer { ForMap (F.told files.old) (λ seen. IfOk result
-        (IsCompilation (SaysAudit wanted.now.limit wanted.now.script.now (seen.script wanted.now.script.now) wanted.now.transcript.now (seen.input wanted.now.transcript.now) (string_bytes file.now)) (given_by seen.files (map string_bytes path.now) (string_bytes file.now ∷ [])) seen.list (option_map string_bytes list.now))) }
+        (IsFileAnswer (audit_says wanted.now (seen.script wanted.now.script.now) (seen.input wanted.now.transcript.now) (string_bytes file.now)) seen (map string_bytes path.now) (string_bytes file.now) (option_copied list.entry))) }
     ensures read_fault { result ≡ Err Failure.ReadFault → Rose (F.faults files.old) (F.faults files.new) }
 {
     match checked(alloc, files, list, path, from_ref(file)) {

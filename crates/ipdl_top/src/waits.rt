@@ -1,19 +1,20 @@
-ghost use Rattle.std.specs.Prelude.{◌≡◌, ◌<◌, ◌++◌, ◌∷◌, [], ℕ, IfOk, IfSome, IsOkUnless, List, MatchOption, OnOk, codes, length, map, option_map, string_bytes};
+ghost use Rattle.std.specs.Prelude.{◌≡◌, ◌<◌, ◌++◌, ◌∷◌, [], ℕ, Err, IfOk, IfSome, IsOkUnless, List, MatchOption, OnOk, codes, length, map, string_bytes};
+ghost use Rattle.std.specs.Option.{option_copied};
 ghost use Rattle.std.specs.List.{position};
 ghost use Rattle.history.specs.Words as words;
 ghost use Rattle.ipdl_base.specs.Outside.{Rose};
 ghost use Rattle.ipdl_base.specs.Sound.{IsSound};
 ghost use Rattle.include_graph.specs.Keys.{AreFileWords};
-ghost use Rattle.ipdl_top.specs.CommandAnswer.{IsCompilation, given_by};
 ghost use Rattle.ipdl_top.specs.FileViews.{ForMap};
-ghost use Rattle.ipdl_top.specs.Steps.{HasTop, IsSoundChecked, IsToldOf};
+ghost use Rattle.ipdl_top.specs.Steps.{HasTop, IsFileAnswer, IsSoundChecked, IsToldOf};
 ghost use Rattle.ipdl_top.specs.Waits.{IsTop, SaysWaits, bears_name, pair_line, waits_text};
 
-use crate::answer::{CommandAnswer, Failure};
+use crate::answer::CommandAnswer;
 use crate::checked::CheckResult;
 use crate::compile::checked;
+use crate::status::Status;
 use history::push_message;
-use ipdl_base::{Files, PROTOCOL_ENDING, ProtocolRow, Schema, Side, key_of, short_name};
+use ipdl_base::{Failure, Files, PROTOCOL_ENDING, ProtocolRow, Schema, Side, key_of, short_name};
 use std::alloc::{AllocError, Global};
 use std::slice::from_ref;
 use wait_report::{Pair, pairs};
@@ -104,7 +105,9 @@ fn checked_answer(alloc: Global, checked: CheckResult, file: &str) -> Result<Com
     ensures memory { IsOkUnless result Failure.NoMemory }
 {
     match checked {
-        CheckResult::Report(report) => Ok(report),
+        CheckResult::Broken(report) => {
+            Ok(CommandAnswer::of_report(alloc, Status::Broken, &report)?)
+        }
         CheckResult::Clean(schema) => Ok(waits_answer(alloc, &schema, file)?),
     }
 }
@@ -114,14 +117,14 @@ fn checked_answer(alloc: Global, checked: CheckResult, file: &str) -> Result<Com
 pub fn waits<F: Files>(
     alloc: Global,
     files: &mut F,
-    list: &Option<String>,
+    list: Option<&str>,
     path: &[String],
     file: &String,
 ) -> Result<CommandAnswer, Failure>
     requires words { AreFileWords (string_bytes file.now ∷ []) }
     requires ending { (front : List ℕ) × (string_bytes file.now ≡ front ++ codes ".ipdl") }
     ensures answer { ForMap (F.told files.old) (λ seen. IfOk result
-        (IsCompilation (SaysWaits (string_bytes file.now)) (given_by seen.files (map string_bytes path.now) (string_bytes file.now ∷ [])) seen.list (option_map string_bytes list.now))) }
+        (IsFileAnswer (SaysWaits (string_bytes file.now)) seen (map string_bytes path.now) (string_bytes file.now) (option_copied list.entry))) }
     ensures read_fault { result ≡ Err Failure.ReadFault → Rose (F.faults files.old) (F.faults files.new) }
 {
     match checked(alloc, files, list, path, from_ref(file)) {

@@ -1,7 +1,7 @@
 use super::checks::{check, cut};
 use ipdl_base::{
-    Builtin, Files, Level, MemoryFiles, MemorySink, Name, ReadAnswer, Side, Sink, WriteAnswer,
-    defers_request,
+    Builtin, Failure, FileBytes, Files, Level, MemoryFiles, MemorySink, Name, Side, Sink,
+    WriteAnswer, defers_request,
 };
 use std::alloc::{AllocError, Global};
 use std::collections::HashSet;
@@ -23,16 +23,16 @@ fn files(alloc: Global) -> Result<MemoryFiles, AllocError> {
 }
 
 /// What a read gives, the bytes behind `bytes `.
-fn read_text(alloc: Global, answer: ReadAnswer) -> Result<String, Fail> {
+fn read_text(alloc: Global, answer: Result<FileBytes, Failure>) -> Result<String, Fail> {
     match answer {
-        ReadAnswer::Bytes(bytes) => {
+        Ok(FileBytes::Bytes(bytes)) => {
             let text = str::from_utf8(bytes.as_slice())?;
             Ok(format!(in alloc; "bytes {text}")?)
         }
-        ReadAnswer::Absent => Ok(String::from_str(alloc, "absent")?),
-        ReadAnswer::Larger => Ok(String::from_str(alloc, "larger")?),
-        ReadAnswer::Failed => Ok(String::from_str(alloc, "failed")?),
-        ReadAnswer::NoMemory => Err("no memory".into()),
+        Ok(FileBytes::Absent) => Ok(String::from_str(alloc, "absent")?),
+        Ok(FileBytes::Larger) => Ok(String::from_str(alloc, "larger")?),
+        Err(Failure::ReadFault) => Ok(String::from_str(alloc, "failed")?),
+        Err(Failure::NoMemory) => Err("no memory".into()),
     }
 }
 

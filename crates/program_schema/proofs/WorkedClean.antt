@@ -1,5 +1,5 @@
 -- A program that breaks no rule, of one protocol with one message; so its schema would be sound.
-use Rattle.std.proofs.Common.{◌≡◌, ◌≢◌, ◌∙◌, inl, inr, ℕ, zero, suc, true, false, leb, List, [], ◌∷◌, map, length, Some, None, slice_get, codes, refl, sym, ap, subst, arith}
+use Rattle.std.proofs.Common.{◌≡◌, ◌≢◌, ◌∙◌, ◌⊎◌, inl, inr, ℕ, zero, suc, true, false, leb, List, [], ◌∷◌, length, Some, None, slice_get, codes, refl, sym, ap, subst, arith}
 use Rattle.std.specs.List.{Any}
 use Rattle.std.proofs.lemmas.Bool.{true≢false}
 use Rattle.ipdl_base.specs.declared.finding.Finding.{Finding}
@@ -19,11 +19,15 @@ use Rattle.manager_rules.specs.Broken as managers
 use Rattle.manager_rules.specs.Managers.{HasManager, LeadsTo, NamesManager, one, more}
 use Rattle.message_rules.specs.Broken as messages
 use Rattle.message_rules.specs.Messages.{IsBadMaker}
-use Rattle.type_rules.specs.Attributes.{IsBadAttribute, OfUnit}
+use Rattle.type_rules.specs.Attributes.{HasRepeat, HasUnlisted, IsBadAttribute}
 use Rattle.type_rules.specs.Broken as types
 use Rattle.type_rules.specs.Declarations.{Declaration, IsRepeatedDeclaration, IsTypeWord}
 use Rattle.type_rules.specs.TypeNames.{IsAmbiguous, IsNoActor, IsUnknown}
-use Rattle.type_rules.specs.Written.{InMessage, InUnit, OfType, SomeType}
+use Rattle.type_rules.specs.Written.{OfType, SomeType}
+use Rattle.type_rules.proofs.Lists.{any_parts}
+use Rattle.written_parts.specs.Attributes.{AttributesOf, borne_by}
+use Rattle.written_parts.specs.declared.attributes.Bearer.{Bearer}
+use Rattle.written_parts.specs.declared.attributes.Bearer.TheVariants as bearer
 use Rattle.program_schema.specs.Clean.{IsClean}
 use Rattle.program_schema.proofs.Lists.{any_place}
 use Rattle.program_schema.proofs.Worked.{in_file, a_message, a_protocol, a_file, long_name, no_name}
@@ -98,13 +102,8 @@ is_program = record { few = omega arith; distinct = λ i j d before within. absu
 
 -- Rules on types
 
-none_in_file : (Holds : OfType) → ¬ InUnit Holds the_file.unit
-none_in_file Holds (inl some) = none_any _ some
-none_in_file Holds (inr (inl some)) = none_any _ some
-none_in_file Holds (inr (inr some)) = elim (one_any (InMessage Holds) go some) [ inl param ↦ none_any _ param | inr returned ↦ returned ]
-
 no_type : (Holds : ℕ → OfType) → ¬ SomeType Holds program
-no_type Holds some = none_in_file (Holds 0) (only_file (λ number e. InUnit (Holds number) e.unit) some)
+no_type Holds some = none_any _ some
 
 not_type_word : ¬ IsTypeWord (codes "PA")
 not_type_word (inl (type, is)) = true≢false (sym (long_name type) ∙ ap (λ text. leb 3 (length text)) is)
@@ -120,22 +119,18 @@ no_declaration place broken = elim (one_any _ the_declaration (one_any _ the_fil
   | inr taken ↦ not_type_word taken.word
 ]
 
-no_list_repeats : (place : Place) → ¬ OfUnit (λ attributes. IsRepeatedAt (map (λ a. (a.name, a.place)) attributes) place) the_file.unit
-no_list_repeats place (inl some) = none_any _ some
-no_list_repeats place (inr (inl some)) = none_any _ some
-no_list_repeats place (inr (inr (inl some))) = none_any _ some
-no_list_repeats place (inr (inr (inr (inl of_protocol)))) = never_repeated place of_protocol
-no_list_repeats place (inr (inr (inr (inr of_messages)))) = elim (one_any _ go of_messages) [
-  | inl of_message ↦ never_repeated place of_message
-  | inr (inl of_params) ↦ none_any _ of_params
-  | inr (inr of_returns) ↦ of_returns
-]
+abbrev IsBadIn : Place → AttributesOf → Type 0
+IsBadIn place l = HasRepeat place l.attributes ⊎ HasUnlisted place l.bearer l.attributes
+
+-- the protocol and its message have lists, and these are empty
+none_bad : (place : Place) (bearer : Bearer) → ¬ IsBadIn place (borne_by bearer [])
+none_bad place bearer (inl repeated) = never_repeated place repeated
+none_bad place bearer (inr unlisted) = none_any _ unlisted
 
 no_attribute : (place : Place) → ¬ IsBadAttribute program place
-no_attribute place broken = elim (one_any _ the_file broken) [
-  | inl repeated ↦ no_list_repeats place repeated
-  | inr (inl unlisted) ↦ none_any _ unlisted
-  | inr (inr unlisted) ↦ none_any _ (one_any _ go unlisted)
+no_attribute place broken = elim (any_parts (IsBadIn place) (borne_by bearer.Protocol []) (borne_by bearer.Message [] ∷ []) broken) [
+  | inl of_protocol ↦ none_bad place bearer.Protocol of_protocol
+  | inr of_message ↦ none_bad place bearer.Message (one_any (IsBadIn place) (borne_by bearer.Message []) of_message)
 ]
 
 no_types : (f : Finding) → ¬ types.BrokenAt program f

@@ -1,6 +1,6 @@
-//! The rules on protocols, B8 to B24: those on managers and those on messages, in one report (docs/protocols.md).
+//! The rules on protocols, B8 to B24: those on managers and those on messages (docs/protocols.md).
 #![tactic(auto)]
 
 mod report;
 
-pub use report::proto_findings;
+pub use report::add_of_protocols;

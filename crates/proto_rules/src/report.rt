@@ -1,39 +1,26 @@
-ghost use Rattle.std.specs.Prelude.{◌≡◌, ◌≤◌, ◌↔◌, length, IfOk};
-ghost use Rattle.std.specs.List.{Contains};
-ghost use Rattle.ipdl_base.specs.declared.finding.Finding.{Finding};
-ghost use Rattle.proto_rules.specs.Broken.{BrokenAt, IsReport};
+ghost use Rattle.std.specs.Prelude.{◌≡◌, ◌≤◌, length, OnOk};
+ghost use Rattle.findings.specs.Gains.{Gains};
+ghost use Rattle.proto_rules.specs.Broken.{BrokenAt};
 
-use findings::sort_findings;
-use ipdl_base::{Finding, Findings};
+use ipdl_base::Finding;
 use ipdl_syntax::Program;
 use manager_rules::add_of_managers;
 use message_rules::add_of_messages;
 use name_table::Names;
 use std::alloc::{AllocError, Global};
 
-/// All findings that hold of the program, in some order.
-fn gathered(alloc: Global, program: &Program, names: &Names<'_>) -> Result<Vec<Finding>, AllocError>
-    requires few { length program.now ≤ 4096 }
-    requires of_program { names.now ≡ program.now }
-    ensures { IfOk result (λ found. (f : Finding) → Contains found.items f ↔ BrokenAt program.now f) }
-{
-    let mut found = Vec::new(alloc);
-    add_of_managers(alloc, program, names, &mut found)?;
-    add_of_messages(alloc, program, &mut found)?;
-    Ok(found)
-}
-
-/// The report of a program: the rules B8 to B24 that it breaks, each once, in the order of their
-/// places (docs/protocols.md). The names are those of the program. The only error is want of memory.
-pub fn proto_findings(
+/// Adds the findings of the rules B8 to B24 that a program breaks (docs/protocols.md), in some order.
+/// The names are those of the program. The only error is want of memory.
+pub fn add_of_protocols(
     alloc: Global,
     program: &Program,
     names: &Names<'_>,
-) -> Result<Findings, AllocError>
+    found: &mut Vec<Finding>,
+) -> Result<(), AllocError>
     requires few { length program.now ≤ 4096 }
     requires of_program { names.now ≡ program.now }
-    ensures { IfOk result (IsReport program.now) }
+    ensures { OnOk result (Gains (BrokenAt program.now) found.old.items found.new.items) }
 {
-    let found = gathered(alloc, program, names)?;
-    Ok(sort_findings(found))
+    add_of_managers(alloc, program, names, found)?;
+    add_of_messages(alloc, program, found)
 }

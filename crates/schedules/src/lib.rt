@@ -1,5 +1,4 @@
-//! How a run is to go: the turns of its sides, and a death that it is given (docs/scripts.md). Types
-//! alone.
+//! How a run is to go: the turns of its sides, and a death that it is given (docs/scripts.md).
 #![tactic(auto)]
 
 mod stop;

@@ -6,3 +6,16 @@ pub struct Turn {
     pub side: Side,
     pub only_deliver: bool,
 }
+
+impl Turn {
+    /// The turn in which `side` may do all that a turn allows: its own step, or else a delivery
+    /// (docs/scripts.md).
+    pub fn whole(side: Side) -> Self
+        ensures { result ≡ record { side = side; only_deliver = false } }
+    {
+        Self {
+            side,
+            only_deliver: false,
+        }
+    }
+}

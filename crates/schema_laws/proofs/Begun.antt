@@ -1,13 +1,13 @@
 -- What bytes begin does not depend on where the boxes of a schema lie.
 use Rattle.std.proofs.Common.{◌≡◌, ◌∙◌, ◌⊎◌, inl, inr, ℕ, ◌+◌, ◌-◌, ◌==◌, ◌<◌, ◌≤◌, cond, List, length, Option, Some, None, refl, sym, ap, subst}
 use Rattle.std.specs.Prelude.{option_map, if◌then◌else◌, nat_lt}
+use Rattle.ipdl_base.specs.declared.finding.TheConstants.Rule as rule
 use Rattle.ipdl_base.specs.declared.message.Message.{Message}
 use Rattle.ipdl_base.specs.declared.schema.MessageRow.{MessageRow}
 use Rattle.ipdl_base.specs.declared.schema.Schema.{Schema}
 use Rattle.ipdl_base.specs.Sound.{message_of}
 use Rattle.value_types.specs.declared.layout.Layout.{Layout}
 use Rattle.value_codec.specs.declared.decoding.Decoded.TheVariants.{Short}
-use Rattle.value_codec.specs.declared.rules.TheConstants.{BAD_MARK, PAYLOAD_TOO_LARGE}
 use Rattle.value_codec.specs.Decoding.{begins, behind_header, with_contents, whole_size, payload_in, contents_of_type, contents, FrameBegins, IsShort, FrameFault}
 use Rattle.value_codec.specs.Frames.{FrameType, goodbye, request, reply, header_size, header_of, header_fault, has_mark, behind_mark, fields_fault, fault_of_type, goodbye_number, request_or_reply, carried_type, type_of, contents_at}
 use Rattle.value_codec.specs.Reading.{value_at}
@@ -51,11 +51,11 @@ fault_alike header (Some (reply row)) = refl
 
 fields_alike : (layout : Layout) (s : Schema) (header : _) → fields_fault layout (plain_schema s) header ≡ fields_fault layout s header
 fields_alike layout s header =
-    ap (λ (fault : Option (ℕ × ℕ)). if nat_lt layout.most_payload header.size then Some (0, PAYLOAD_TOO_LARGE) else fault)
+    ap (λ (fault : Option (ℕ × ℕ)). if nat_lt layout.most_payload header.size then Some (0, (rule.LARGE_PAYLOAD).number) else fault)
     (ap (fault_of_type header) (frame_type_alike s header.number) ∙ fault_alike header (type_of s header.number))
 
 header_alike : (layout : Layout) (s : Schema) (bytes : List ℕ) → header_fault layout (plain_schema s) bytes ≡ header_fault layout s bytes
-header_alike layout s bytes = λ i. if has_mark layout bytes then behind_mark layout (fields_alike layout s (header_of layout bytes) i) else Some (0, BAD_MARK)
+header_alike layout s bytes = λ i. if has_mark layout bytes then behind_mark layout (fields_alike layout s (header_of layout bytes) i) else Some (0, (rule.BAD_MARK).number)
 
 -- Payloads
 

@@ -1,6 +1,6 @@
 -- The messages that a script names, and the blocks of a script, under a schema whose boxes lie elsewhere.
 use Rattle.std.proofs.Common.{◌≡◌, ◌∙◌, ℕ, List, map, Option, None, Some, refl}
-use Rattle.std.specs.Prelude.{not, is_some, option_map, option_and_then}
+use Rattle.std.specs.Prelude.{is_some, option_map, option_and_then}
 use Rattle.std.specs.Option.{option_map_or}
 use Rattle.std.specs.Str.{bytes_eq}
 use Rattle.ipdl_base.specs.Words.{short_name}
@@ -13,13 +13,13 @@ use Rattle.ipdl_base.specs.declared.schema.ProtocolRow.{ProtocolRow}
 use Rattle.ipdl_base.specs.declared.schema.Schema.{Schema}
 use Rattle.program_schema.specs.Laws.{plain_param_row, plain_message_row, plain_protocol_row, plain_schema}
 use Rattle.schema_laws.proofs.Rows.{option_alike, then_alike, still_there, found}
-use Rattle.script_reader.specs.declared.line.LineReading.{LineReading}
 use Rattle.script_reader.specs.declared.statement.MessageName.{MessageName}
 use Rattle.script_reader.specs.declared.statement.Statement.{Statement}
 use Rattle.script_reader.specs.declared.statement.Statement.TheVariants as forms
-use Rattle.handler_script.specs.Blocks.{open_behind, BlockContext, in_main, in_handler, standing_of, standing_behind, side_of, given_in, handled_in}
-use Rattle.handler_script.specs.Broken.{has_no_resolver, has_no_reply, types_of}
-use Rattle.handler_script.specs.Messages.{protocol_named, message_in, message_named, if_async, resolves, if_sync, replies}
+use Rattle.handler_script.specs.Blocks.{BlockContext, in_main, in_handler, standing_of, side_of, given_in, handled_in}
+use Rattle.handler_script.specs.Broken.{types_by, types_of}
+use Rattle.handler_script.specs.Mentions.{message_of}
+use Rattle.handler_script.specs.Messages.{protocol_named, message_in, message_named, named, if_async, resolves, if_sync, replies}
 use Rattle.handler_script.specs.ScriptOf.{number_of}
 
 -- a block of a message whose types have their boxes at one place
@@ -72,13 +72,26 @@ pub handles_alike : (b : BlockContext) → option_map (λ message. message.numbe
 handles_alike (in_main side) = refl
 handles_alike (in_handler side message) = refl
 
-pub no_resolver_alike : (b : BlockContext) → has_no_resolver (plain_context b) ≡ has_no_resolver b
-no_resolver_alike (in_main side) = refl
-no_resolver_alike (in_handler side message) = λ i. not (resolved_alike message i)
+pub resolves_in_alike : (b : BlockContext) → is_some (option_and_then resolves (handled_in (plain_context b))) ≡ is_some (option_and_then resolves (handled_in b))
+resolves_in_alike (in_main side) = refl
+resolves_in_alike (in_handler side message) = resolved_alike message
 
-pub no_reply_alike : (b : BlockContext) → has_no_reply (plain_context b) ≡ has_no_reply b
-no_reply_alike (in_main side) = refl
-no_reply_alike (in_handler side message) = λ i. not (replied_alike message i)
+pub replies_in_alike : (b : BlockContext) → is_some (option_and_then replies (handled_in (plain_context b))) ≡ is_some (option_and_then replies (handled_in b))
+replies_in_alike (in_main side) = refl
+replies_in_alike (in_handler side message) = replied_alike message
+
+-- the types that values are to fit, where a statement names this message
+pub types_by_alike : (message : Option MessageRow) (b : BlockContext) (st : Statement) → types_by (option_map plain_message_row message) (plain_context b) st ≡ option_map (map plain_param_row) (types_by message b st)
+types_by_alike message b (forms.Send w c) = mapped plain_message_row (λ message. message.params) (map plain_param_row) (λ message. refl) message
+types_by_alike message b (forms.New n w c) = mapped plain_message_row (λ message. message.params) (map plain_param_row) (λ message. refl) message
+types_by_alike message b (forms.Resolve vs) =
+    (λ i. option_and_then resolves (handled_alike b i))
+    ∙ then_alike plain_message_row (map plain_param_row) resolves resolves_alike (handled_in b)
+types_by_alike message b (forms.ResolveKept n c) = then_alike plain_message_row (map plain_param_row) resolves resolves_alike message
+types_by_alike message b (forms.Return vs) =
+    (λ i. option_and_then replies (handled_alike b i))
+    ∙ then_alike plain_message_row (map plain_param_row) replies replies_alike (handled_in b)
+types_by_alike message b st = refl
 
 module _ (s : Schema) where
   protocol_alike : (name : List ℕ) → protocol_named (plain_schema s) name ≡ option_map plain_protocol_row (protocol_named s name)
@@ -105,30 +118,12 @@ module _ (s : Schema) where
   standing_alike (forms.On side name) = (λ i. option_map (in_handler side) (named_alike name i)) ∙ handler_of side (message_named s name)
   standing_alike st = refl
 
-  standing_in : (opened : Option Statement) → option_and_then (standing_of (plain_schema s)) opened ≡ option_map plain_context (option_and_then (standing_of s) opened)
-  standing_in None = refl
-  standing_in (Some st) = standing_alike st
+  named_in : (o : Option MessageName) → option_and_then (message_named (plain_schema s)) o ≡ option_map plain_message_row (option_and_then (message_named s) o)
+  named_in None = refl
+  named_in (Some name) = named_alike name
 
-  pub behind_alike : (before : List LineReading) → standing_behind (plain_schema s) before ≡ option_map plain_context (standing_behind s before)
-  behind_alike before = standing_in (open_behind before)
-
-  -- The types that values are to fit
-
-  params_alike : (name : MessageName) → option_map (λ message. message.params) (message_named (plain_schema s) name) ≡ option_map (map plain_param_row) (option_map (λ message. message.params) (message_named s name))
-  params_alike name =
-      (λ i. option_map (λ message. message.params) (named_alike name i))
-      ∙ mapped plain_message_row (λ message. message.params) (map plain_param_row) (λ message. refl) (message_named s name)
+  pub statement_alike : (st : Statement) → named (plain_schema s) st ≡ option_map plain_message_row (named s st)
+  statement_alike st = named_in (message_of st)
 
   pub types_alike : (b : BlockContext) (st : Statement) → types_of (plain_schema s) (plain_context b) st ≡ option_map (map plain_param_row) (types_of s b st)
-  types_alike b (forms.Send w c) = params_alike c.message
-  types_alike b (forms.New n w c) = params_alike c.message
-  types_alike b (forms.Resolve vs) =
-      (λ i. option_and_then resolves (handled_alike b i))
-      ∙ then_alike plain_message_row (map plain_param_row) resolves resolves_alike (handled_in b)
-  types_alike b (forms.ResolveKept n c) =
-      (λ i. option_and_then resolves (named_alike c.message i))
-      ∙ then_alike plain_message_row (map plain_param_row) resolves resolves_alike (message_named s c.message)
-  types_alike b (forms.Return vs) =
-      (λ i. option_and_then replies (handled_alike b i))
-      ∙ then_alike plain_message_row (map plain_param_row) replies replies_alike (handled_in b)
-  types_alike b st = refl
+  types_alike b st = (λ i. types_by (statement_alike st i) (plain_context b) st) ∙ types_by_alike (named s st) b st

@@ -7,14 +7,15 @@ ghost use Rattle.ipdl_base.specs.Sound.{IsSound};
 ghost use Rattle.ipdl_syntax.specs.Programs.{IsProgram, BearTheirNames};
 
 use actor_tables::schema;
-use include_graph::{are_file_words, load};
+use findings::sort_findings;
+use include_graph::{LoadResult, are_file_words, load};
 use ipdl_base::{MemoryFiles, Schema};
 use ipdl_syntax::Program;
 use name_table::Names;
-use proto_rules::proto_findings;
+use proto_rules::add_of_protocols;
 use std::alloc::Global;
 use std::test::Fail;
-use type_rules::type_findings;
+use type_rules::add_of_types;
 
 /// The program that a file of these reaches, which breaks no rule of files.
 fn program(alloc: Global, mut files: MemoryFiles, word: &str) -> Result<Program, Fail>
@@ -26,7 +27,10 @@ fn program(alloc: Global, mut files: MemoryFiles, word: &str) -> Result<Program,
     if !are_file_words(words.as_slice()) {
         return Err("no words of files".into());
     }
-    Ok(load(alloc, &mut files, words.as_slice(), path.as_slice())?)
+    match load(alloc, &mut files, words.as_slice(), path.as_slice())? {
+        LoadResult::Whole(program) => Ok(program),
+        LoadResult::Broken(_) => Err("a program that breaks rules on files".into()),
+    }
 }
 
 /// The schema of a program that breaks no rule.
@@ -36,13 +40,12 @@ fn clean_schema(alloc: Global, program: &Program) -> Result<Schema, Fail>
     ensures { IfOk result IsSound }
 {
     let names = Names::build(alloc, program)?;
-    let types = type_findings(alloc, program, &names)?;
-    if !types.is_empty() {
-        return Err("a program that breaks rules on types".into());
-    }
-    let protocols = proto_findings(alloc, program, &names)?;
-    if !protocols.is_empty() {
-        return Err("a program that breaks rules on protocols".into());
+    let mut found = Vec::new(alloc);
+    add_of_types(alloc, program, &names, &mut found)?;
+    add_of_protocols(alloc, program, &names, &mut found)?;
+    let report = sort_findings(found);
+    if !report.is_empty() {
+        return Err("a program that breaks rules".into());
     }
     Ok(schema(alloc, program, &names)?)
 }

@@ -1,7 +1,8 @@
 -- No rule on a statement, and no term, looks at where the boxes of values lie.
-use Rattle.std.proofs.Common.{◌≡◌, Bool, false, not, ◌&&◌, ◌||◌, List, [], ◌∷◌, Option, Some, None, ◌⊎◌, refl}
+use Rattle.std.proofs.Common.{◌≡◌, Bool, false, ◌||◌, List, [], ◌∷◌, Option, Some, None, ◌⊎◌, refl}
 use Rattle.std.specs.Prelude.{IsTrue, IsSomeAnd, unwrap_or}
 use Rattle.ipdl_base.specs.Plain.{one_box}
+use Rattle.ipdl_base.specs.declared.schema.MessageRow.{MessageRow}
 use Rattle.ipdl_base.specs.declared.schema.ParamRow.{ParamRow}
 use Rattle.ipdl_base.specs.declared.schema.Schema.{Schema}
 use Rattle.ipdl_base.specs.declared.schema.Shape.{Shape}
@@ -20,8 +21,8 @@ use Rattle.handler_script.specs.declared.term.Term as boxed
 use Rattle.handler_script.specs.declared.term.Term.TheVariants as term
 use Rattle.handler_script.specs.declared.term.Terms as boxed_list
 use Rattle.handler_script.specs.declared.term.Terms.{Terms}
-use Rattle.handler_script.specs.Blocks.{BlockContext, in_main, in_handler, given_in}
-use Rattle.handler_script.specs.Broken.{is_absent, is_no_actor, is_of_handler, is_made, is_of_constructor, speaks_in_main, speaks_of_made, types_of, AreUnfit, ValuesBreak}
+use Rattle.handler_script.specs.Blocks.{BlockContext}
+use Rattle.handler_script.specs.Broken.{is_absent, is_no_actor, types_by, types_of, AreUnfit, ValuesBreak}
 use Rattle.handler_script.specs.Mentions.{mentions, any_mentions, speaks_of}
 use Rattle.handler_script.specs.ScriptOf.{number_of, action_of, reply_of}
 use Rattle.handler_script.specs.Terms.{Fits, AllFit, EachFits, term_of, elements_of, terms_of}
@@ -75,9 +76,9 @@ mutual
 
 -- Statements
 
-pub types_alike : (schema : Schema) (b : BlockContext) (s : Statement) → types_of schema b (plain_statement s) ≡ types_of schema b s
-types_alike schema b (forms.Send w c) = refl
-types_alike schema b s = refl
+pub types_alike : (message : Option MessageRow) (b : BlockContext) (s : Statement) → types_by message b (plain_statement s) ≡ types_by message b s
+types_alike message b (forms.Send w c) = refl
+types_alike message b s = refl
 
 typed_alike : (schema : Schema) (types : Option (List ParamRow)) (vs : WrittenValues) → terms_of schema (unwrap_or types []) (plain_values vs) ≡ terms_of schema (unwrap_or types []) vs
 typed_alike schema types vs = terms_alike schema (unwrap_or types []) vs
@@ -93,7 +94,7 @@ pub reply_alike : (schema : Schema) (b : BlockContext) (s : Statement) → reply
 reply_alike schema b (forms.Return vs) = λ i. Some (typed_alike schema (types_of schema b (forms.Return vs)) vs i)
 reply_alike schema b s = refl
 
-speaks_alike : (test : Who → Bool) (s : Statement) → speaks_of test (plain_statement s) ≡ speaks_of test s
+pub speaks_alike : (test : Who → Bool) (s : Statement) → speaks_of test (plain_statement s) ≡ speaks_of test s
 speaks_alike test (forms.Send w c) = λ i. test w || any_alike test c.values i
 speaks_alike test (forms.New n w c) = λ i. test w || any_alike test c.values i
 speaks_alike test (forms.Resolve vs) = λ i. false || any_alike test vs i
@@ -101,21 +102,14 @@ speaks_alike test (forms.ResolveKept n c) = λ i. false || any_alike test c.valu
 speaks_alike test (forms.Return vs) = λ i. false || any_alike test vs i
 speaks_alike test s = refl
 
-pub main_alike : (b : BlockContext) (s : Statement) → speaks_in_main b (plain_statement s) ≡ speaks_in_main b s
-main_alike (in_main side) s = speaks_alike is_of_handler s
-main_alike (in_handler side message) s = refl
-
-pub made_alike : (b : BlockContext) (s : Statement) → speaks_of_made b (plain_statement s) ≡ speaks_of_made b s
-made_alike b s = λ i. speaks_alike is_made s i && not (is_of_constructor b)
-
 unfit_alike : (schema : Schema) (given : List ParamRow) (types : Option (List ParamRow)) (vs : WrittenValues) → AreUnfit schema given types (plain_values vs) ≡ AreUnfit schema given types vs
 unfit_alike schema given None vs = λ i. IsTrue (any_alike (is_absent given) vs i)
 unfit_alike schema given (Some types) vs = λ i. ¬ (each_alike schema given types vs i)
 
-pub values_alike : (schema : Schema) (b : BlockContext) (s : Statement) → ValuesBreak schema b (plain_statement s) ≡ ValuesBreak schema b s
-values_alike schema b (forms.Send w c) = λ i. IsTrue (is_no_actor (given_in b) w) ⊎ unfit_alike schema (given_in b) (types_of schema b (forms.Send w c)) c.values i
-values_alike schema b (forms.New n w c) = λ i. IsTrue (is_no_actor (given_in b) w) ⊎ unfit_alike schema (given_in b) (types_of schema b (forms.New n w c)) c.values i
-values_alike schema b (forms.Resolve vs) = λ i. ⊥ ⊎ unfit_alike schema (given_in b) (types_of schema b (forms.Resolve vs)) vs i
-values_alike schema b (forms.ResolveKept n c) = λ i. ⊥ ⊎ unfit_alike schema (given_in b) (types_of schema b (forms.ResolveKept n c)) c.values i
-values_alike schema b (forms.Return vs) = λ i. ⊥ ⊎ unfit_alike schema (given_in b) (types_of schema b (forms.Return vs)) vs i
-values_alike schema b s = refl
+pub values_alike : (schema : Schema) (given : List ParamRow) (types : Option (List ParamRow)) (s : Statement) → ValuesBreak schema given types (plain_statement s) ≡ ValuesBreak schema given types s
+values_alike schema given types (forms.Send w c) = λ i. IsTrue (is_no_actor given w) ⊎ unfit_alike schema given types c.values i
+values_alike schema given types (forms.New n w c) = λ i. IsTrue (is_no_actor given w) ⊎ unfit_alike schema given types c.values i
+values_alike schema given types (forms.Resolve vs) = λ i. ⊥ ⊎ unfit_alike schema given types vs i
+values_alike schema given types (forms.ResolveKept n c) = λ i. ⊥ ⊎ unfit_alike schema given types c.values i
+values_alike schema given types (forms.Return vs) = λ i. ⊥ ⊎ unfit_alike schema given types vs i
+values_alike schema given types s = refl

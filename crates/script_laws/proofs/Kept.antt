@@ -1,14 +1,16 @@
 -- Lines break the rules that their plain forms break, and have the same blocks.
 use Rattle.std.proofs.Common.{◌≡◌, ℕ, ◌+◌, Bool, true, false, not, ◌&&◌, ◌||◌, List, [], ◌∷◌, ◌++◌, map, take, drop, fold, Option, Some, None, ◌⊎◌, inl, inr, refl, sym, ap, ◌∙◌, subst}
-use Rattle.std.specs.Prelude.{IsTrue, IsSome, IsSomeAnd, if◌then◌else◌, option_and_then, slice_get}
+use Rattle.std.specs.Prelude.{◌↔◌, IsTrue, IsNone, IsSomeAnd, if◌then◌else◌, option_and_then, slice_get}
 use Rattle.std.specs.List.{list_any, filter_map, cons_option}
 use Rattle.std.specs.Option.{option_map, option_map_or}
-use Rattle.std.proofs.lemmas.List.{take-map, drop-map}
+use Rattle.std.proofs.Math.Path.{transport, transport⁻¹}
+use Rattle.std.proofs.lemmas.List.{take-map, drop-map, map-append}
 use Rattle.std.proofs.lemmas.Option.{slice_get-map}
 use Rattle.ipdl_base.specs.declared.finding.Finding.{Finding}
 use Rattle.ipdl_base.specs.declared.finding.TheConstants.Rule as rule
 use Rattle.ipdl_base.specs.declared.finding.Rule.{Rule}
 use Rattle.ipdl_base.specs.declared.kinds.Side.{Side}
+use Rattle.ipdl_base.specs.declared.schema.MessageRow.{MessageRow}
 use Rattle.ipdl_base.specs.declared.schema.Schema.{Schema}
 use Rattle.script_reader.specs.declared.line.LineReading.{LineReading}
 use Rattle.script_reader.specs.declared.line.LineReading.TheVariants as line
@@ -16,10 +18,13 @@ use Rattle.script_reader.specs.declared.statement.Statement.{Statement}
 use Rattle.script_reader.specs.declared.statement.Statement.TheVariants as forms
 use Rattle.script_reader.specs.Plain.{plain_statement, plain_reading}
 use Rattle.handler_script.specs.declared.action.Block.{Block}
-use Rattle.handler_script.specs.Blocks.{opens, closes, answers, opened_by, open_after, open_behind, answered_after, answered_behind, is_followed, closes_line, is_closed, BlockContext, standing_of, standing_behind, side_of, handled_in}
-use Rattle.handler_script.specs.Broken.{is_main, is_main_line, IsSecondMain, BreaksBlocks, NamesNone, BreaksDirection, BreaksCarried, has_no_reply, is_misplaced, KnownBreaks, StatementBreaks, LineBreaks, line_place, IsBrokenAt, IsBroken}
+use Rattle.handler_script.specs.Blocks.{opens, closes, answers, statements, IsInBlock, IsFollowed, BlockContext, standing_of, side_of, given_in, handled_in}
+use Rattle.handler_script.specs.Broken.{is_main, IsSecondMain, IsInside, BreaksBlocks, NamesNone, sent, IsMissent, IsUnsent, types_by, ValuesBreak, is_unknown, IsMisplaced, IsNotAllowed, OpeningBreaks, BlockBreaks, InsideBreaks, StatementBreaks, LineBreaks, line_place, IsBrokenAt, IsBroken}
+use Rattle.handler_script.specs.Knowing.{place_after, place_of}
+use Rattle.handler_script.specs.Messages.{named, replies}
 use Rattle.handler_script.specs.ScriptOf.{inside, action_of, reply_of, first_of, block_of, blocks_at, blocks_of}
-use Rattle.script_laws.proofs.Alike.{action_alike, reply_alike, main_alike, made_alike, values_alike}
+use Rattle.handler_script.proofs.Standing.{at_place, in_block}
+use Rattle.script_laws.proofs.Alike.{types_alike, action_alike, reply_alike, speaks_alike, values_alike}
 
 abbrev pub plain_lines : List LineReading → List LineReading
 plain_lines lines = map plain_reading lines
@@ -38,114 +43,155 @@ answers_alike : (s : Statement) → answers (plain_statement s) ≡ answers s
 answers_alike (forms.Send w c) = refl
 answers_alike s = refl
 
-opened_alike : (current : Option Statement) (s : Statement) → opened_by current (plain_statement s) ≡ opened_by current s
-opened_alike current (forms.Send w c) = refl
-opened_alike current s = refl
+is_main_alike : (side : Side) (s : Statement) → is_main side (plain_statement s) ≡ is_main side s
+is_main_alike side (forms.Send w c) = refl
+is_main_alike side s = refl
+
+named_alike : (schema : Schema) (s : Statement) → named schema (plain_statement s) ≡ named schema s
+named_alike schema (forms.Send w c) = refl
+named_alike schema s = refl
 
 standing_alike : (schema : Schema) (s : Statement) → standing_of schema (plain_statement s) ≡ standing_of schema s
 standing_alike schema (forms.Send w c) = refl
 standing_alike schema s = refl
 
-names_alike : (schema : Schema) (s : Statement) → NamesNone schema (plain_statement s) ≡ NamesNone schema s
-names_alike schema (forms.Send w c) = refl
-names_alike schema s = refl
+names_alike : (message : Option MessageRow) (s : Statement) → NamesNone message (plain_statement s) ≡ NamesNone message s
+names_alike message (forms.Send w c) = refl
+names_alike message s = refl
 
-direction_alike : (schema : Schema) (block : Option BlockContext) (s : Statement) → BreaksDirection schema block (plain_statement s) ≡ BreaksDirection schema block s
-direction_alike schema block (forms.Send w c) = refl
-direction_alike schema block s = refl
+sent_alike : (message : Option MessageRow) (s : Statement) → sent message (plain_statement s) ≡ sent message s
+sent_alike message (forms.Send w c) = refl
+sent_alike message s = refl
 
-carried_alike : (schema : Schema) (block : Option BlockContext) (s : Statement) → BreaksCarried schema block (plain_statement s) ≡ BreaksCarried schema block s
-carried_alike schema block (forms.Send w c) = refl
-carried_alike schema block s = refl
+-- What is told of statements
 
--- What is told of lines
+abbrev plain_all : List Statement → List Statement
+plain_all ss = map plain_statement ss
 
-fold_alike : {A : Type 0} (f : A → LineReading → A) → ((a : A) (x : LineReading) → f a (plain_reading x) ≡ f a x) → (a : A) (lines : List LineReading) → fold f a (plain_lines lines) ≡ fold f a lines
-fold_alike f same a [] = refl
-fold_alike f same a (x ∷ lines) = fold_alike f same (f a (plain_reading x)) lines ∙ ap (λ b. fold f b lines) (same a x)
+statements_alike : (lines : List LineReading) → statements (plain_lines lines) ≡ plain_all (statements lines)
+statements_alike [] = refl
+statements_alike (line.Statement held ∷ rest) = ap (λ (ss : List Statement). plain_statement held.value ∷ ss) (statements_alike rest)
+statements_alike (x ∷ rest) = statements_alike rest
 
-some_alike : (test : LineReading → Bool) → ((x : LineReading) → test (plain_reading x) ≡ test x) → (lines : List LineReading) → list_any test (plain_lines lines) ≡ list_any test lines
+some_alike : (test : Statement → Bool) → ((s : Statement) → test (plain_statement s) ≡ test s) → (ss : List Statement) → list_any test (plain_all ss) ≡ list_any test ss
 some_alike test same [] = refl
-some_alike test same (x ∷ lines) = λ i. same x i || some_alike test same lines i
+some_alike test same (s ∷ ss) = λ i. same s i || some_alike test same ss i
 
-open_after_alike : (current : Option Statement) (x : LineReading) → open_after current (plain_reading x) ≡ open_after current x
-open_after_alike current (line.Statement held) = opened_alike current held.value
-open_after_alike current x = refl
-
-answered_after_alike : (answered : Bool) (x : LineReading) → answered_after answered (plain_reading x) ≡ answered_after answered x
-answered_after_alike answered (line.Statement held) = λ i. not (closes_alike held.value i) && (answered || answers_alike held.value i)
-answered_after_alike answered x = refl
-
-closes_line_alike : (x : LineReading) → closes_line (plain_reading x) ≡ closes_line x
-closes_line_alike (line.Statement held) = closes_alike held.value
-closes_line_alike x = refl
-
-is_main_alike : (side : Side) (s : Statement) → is_main side (plain_statement s) ≡ is_main side s
-is_main_alike side (forms.Send w c) = refl
-is_main_alike side s = refl
-
-main_line_alike : (side : Side) (x : LineReading) → is_main_line side (plain_reading x) ≡ is_main_line side x
-main_line_alike side (line.Statement held) = is_main_alike side held.value
-main_line_alike side x = refl
-
-open_alike : (lines : List LineReading) → open_behind (plain_lines lines) ≡ open_behind lines
-open_alike lines = fold_alike open_after open_after_alike None lines
-
-answered_alike : (lines : List LineReading) → answered_behind (plain_lines lines) ≡ answered_behind lines
-answered_alike lines = fold_alike answered_after answered_after_alike false lines
-
-closed_alike : (lines : List LineReading) → is_closed (plain_lines lines) ≡ is_closed lines
-closed_alike lines = some_alike closes_line closes_line_alike lines
-
-followed_alike : (lines : List LineReading) → is_followed (plain_lines lines) ≡ is_followed lines
+followed_alike : (ss : List Statement) → IsFollowed (plain_all ss) ≡ IsFollowed ss
 followed_alike [] = refl
-followed_alike (line.Statement held ∷ rest) = ap not (closes_alike held.value)
-followed_alike (x ∷ rest) = followed_alike rest
+followed_alike (s ∷ ss) = λ i. closes_alike s i ≡ false
+
+abbrev Place : Type 0
+Place = Statement × List Statement
+
+abbrev plain_place : Place → Place
+plain_place p = (plain_statement p.0, plain_all p.1)
+
+grown_alike : (place : Option Place) (s : Statement) → option_map (λ p. (p.0, p.1 ++ plain_statement s ∷ [])) (option_map plain_place place) ≡ option_map plain_place (option_map (λ p. (p.0, p.1 ++ s ∷ [])) place)
+grown_alike None s = refl
+grown_alike (Some p) s = ap (λ (ss : List Statement). Some (plain_statement p.0, ss)) (sym (map-append plain_statement p.1 (s ∷ [])))
+
+after_alike : (place : Option Place) (s : Statement) → place_after (option_map plain_place place) (plain_statement s) ≡ option_map plain_place (place_after place s)
+after_alike place (forms.Main side) = refl
+after_alike place (forms.On side name) = refl
+after_alike place forms.End = refl
+after_alike place s = grown_alike place s
+
+places_alike : (place : Option Place) (ss : List Statement) → fold place_after (option_map plain_place place) (plain_all ss) ≡ option_map plain_place (fold place_after place ss)
+places_alike place [] = refl
+places_alike place (s ∷ ss) = ap (λ (p : Option Place). fold place_after p (plain_all ss)) (after_alike place s) ∙ places_alike (place_after place s) ss
+
+held_alike : (P Q : Statement → List Statement → Type 0) → ((first : Statement) (above : List Statement) → P (plain_statement first) (plain_all above) ≡ Q first above) → (place : Option Place) → IsSomeAnd (option_map plain_place place) (λ p. P p.0 p.1) ≡ IsSomeAnd place (λ p. Q p.0 p.1)
+held_alike P Q same None = refl
+held_alike P Q same (Some p) = same p.0 p.1
+
+-- what holds of the block in which plain statements stand holds where these stand
+block_alike : (P Q : Statement → List Statement → Type 0) → ((first : Statement) (above : List Statement) → P (plain_statement first) (plain_all above) ≡ Q first above) → (ss : List Statement) → IsInBlock (plain_all ss) P ↔ IsInBlock ss Q
+block_alike P Q same ss =
+    let path : IsSomeAnd (place_of (plain_all ss)) (λ p. P p.0 p.1) ≡ IsSomeAnd (place_of ss) (λ p. Q p.0 p.1) = (λ i. IsSomeAnd (places_alike None ss i) (λ p. P p.0 p.1)) ∙ held_alike P Q same (place_of ss) in
+    ((λ h. in_block ss Q (transport path (at_place (plain_all ss) P h))), (λ h. in_block (plain_all ss) P (transport⁻¹ path (at_place ss Q h))))
 
 -- The rules
 
-second_alike : (before : List LineReading) (s : Statement) → IsSecondMain (plain_lines before) (plain_statement s) ≡ IsSecondMain before s
-second_alike before (forms.Main side) = λ i. IsTrue (some_alike (is_main_line side) (main_line_alike side) before i)
+second_alike : (before : List Statement) (s : Statement) → IsSecondMain (plain_all before) (plain_statement s) ≡ IsSecondMain before s
+second_alike before (forms.Main side) = λ i. IsTrue (some_alike (is_main side) (is_main_alike side) before i)
 second_alike before s = refl
 
-blocks_alike : (before : List LineReading) (s : Statement) (after : List LineReading) → BreaksBlocks (plain_lines before) (plain_statement s) (plain_lines after) ≡ BreaksBlocks before s after
-blocks_alike before s after =
-    λ i. ((opens_alike s i ≡ false) × (open_alike before i ≡ None)) ⊎ ((opens_alike s i ≡ true) × (IsSome (open_alike before i) ⊎ (second_alike before s i ⊎ (closed_alike after i ≡ false))))
+inside_alike : (ss : List Statement) → IsInside (plain_all ss) ↔ IsInside ss
+inside_alike ss = block_alike (λ first above. Unit {0}) (λ first above. Unit {0}) (λ first above. refl) ss
 
-misplaced_alike : (schema : Schema) (answered : Bool) (b : BlockContext) (s : Statement) (after : List LineReading) → is_misplaced schema answered b (plain_statement s) (plain_lines after) ≡ is_misplaced schema answered b s after
-misplaced_alike schema answered b (forms.Return vs) after = λ i. has_no_reply b || followed_alike after i
-misplaced_alike schema answered b s after = refl
+blocks_plain : (before : List Statement) (s : Statement) (after : List Statement) → BreaksBlocks before s after → BreaksBlocks (plain_all before) (plain_statement s) (plain_all after)
+blocks_plain before s after (inl h) = inl (opens_alike s ∙ h.0, λ inside. h.1 ((inside_alike before).0 inside))
+blocks_plain before s after (inr (opened, inl inside)) = inr (opens_alike s ∙ opened, inl ((inside_alike before).1 inside))
+blocks_plain before s after (inr (opened, inr (inl second))) = inr (opens_alike s ∙ opened, inr (inl (transport⁻¹ (second_alike before s) second)))
+blocks_plain before s after (inr (opened, inr (inr none))) = inr (opens_alike s ∙ opened, inr (inr (some_alike closes closes_alike after ∙ none)))
 
-known_alike : (schema : Schema) (r : Rule) (answered : Bool) (block : Option BlockContext) (s : Statement) (after : List LineReading)
-    → KnownBreaks schema r answered block (plain_statement s) (plain_lines after) ≡ KnownBreaks schema r answered block s after
-known_alike schema r answered block s after =
-    λ i. ((r ≡ rule.WRONG_DIRECTION) × direction_alike schema block s i)
-    ⊎ (((r ≡ rule.UNFIT_VALUES) × IsSomeAnd block (λ b. values_alike schema b s i))
-    ⊎ (((r ≡ rule.NOT_ALLOWED_HERE) × IsSomeAnd block (λ b. IsTrue (main_alike b s i || made_alike b s i || misplaced_alike schema answered b s after i)))
-    ⊎ ((r ≡ rule.UNCARRIED_TYPE) × carried_alike schema block s i)))
+blocks_again : (before : List Statement) (s : Statement) (after : List Statement) → BreaksBlocks (plain_all before) (plain_statement s) (plain_all after) → BreaksBlocks before s after
+blocks_again before s after (inl h) = inl (sym (opens_alike s) ∙ h.0, λ inside. h.1 ((inside_alike before).1 inside))
+blocks_again before s after (inr (opened, inl inside)) = inr (sym (opens_alike s) ∙ opened, inl ((inside_alike before).0 inside))
+blocks_again before s after (inr (opened, inr (inl second))) = inr (sym (opens_alike s) ∙ opened, inr (inl (transport (second_alike before s) second)))
+blocks_again before s after (inr (opened, inr (inr none))) = inr (sym (opens_alike s) ∙ opened, inr (inr (sym (some_alike closes closes_alike after) ∙ none)))
 
-reached_alike : (schema : Schema) (r : Rule) (before : List LineReading) (s : Statement) (after : List LineReading)
-    → KnownBreaks schema r (answered_behind (plain_lines before)) (standing_behind schema (plain_lines before)) s after ≡ KnownBreaks schema r (answered_behind before) (standing_behind schema before) s after
-reached_alike schema r before s after = λ i. KnownBreaks schema r (answered_alike before i) (option_and_then (standing_of schema) (open_alike before i)) s after
+misplaced_alike : (message : Option MessageRow) (answered : Bool) (b : BlockContext) (s : Statement) (below : List Statement) → IsMisplaced message answered b (plain_statement s) (plain_all below) ≡ IsMisplaced message answered b s below
+misplaced_alike message answered b (forms.Return vs) below = λ i. IsNone (option_and_then replies (handled_in b)) ⊎ followed_alike below i
+misplaced_alike message answered b s below = refl
 
-statement_known : (schema : Schema) (r : Rule) (before : List LineReading) (s : Statement) (after : List LineReading)
-    → KnownBreaks schema r (answered_behind (plain_lines before)) (standing_behind schema (plain_lines before)) (plain_statement s) (plain_lines after) ≡ KnownBreaks schema r (answered_behind before) (standing_behind schema before) s after
-statement_known schema r before s after = known_alike schema r (answered_behind (plain_lines before)) (standing_behind schema (plain_lines before)) s after ∙ reached_alike schema r before s after
+breaks_alike : (schema : Schema) (r : Rule) (message : Option MessageRow) (answered : Bool) (b : BlockContext) (s : Statement) (below : List Statement)
+    → BlockBreaks schema r message answered b (plain_statement s) (plain_all below) ≡ BlockBreaks schema r message answered b s below
+breaks_alike schema r message answered b s below =
+    (λ i. ((r ≡ rule.WRONG_DIRECTION) × IsMissent b (sent_alike message s i))
+    ⊎ (((r ≡ rule.UNFIT_VALUES) × ValuesBreak schema (given_in b) (types_alike message b s i) (plain_statement s))
+    ⊎ (((r ≡ rule.NOT_ALLOWED_HERE) × (IsTrue (speaks_alike (is_unknown b) s i) ⊎ misplaced_alike message answered b s below i))
+    ⊎ ((r ≡ rule.UNCARRIED_TYPE) × IsUnsent (sent_alike message s i)))))
+    ∙ (λ i. ((r ≡ rule.WRONG_DIRECTION) × IsMissent b (sent message s))
+    ⊎ (((r ≡ rule.UNFIT_VALUES) × values_alike schema (given_in b) (types_by message b s) s i)
+    ⊎ (((r ≡ rule.NOT_ALLOWED_HERE) × IsNotAllowed message answered b s below)
+    ⊎ ((r ≡ rule.UNCARRIED_TYPE) × IsUnsent (sent message s)))))
 
-statement_alike : (schema : Schema) (r : Rule) (before : List LineReading) (s : Statement) (after : List LineReading) → StatementBreaks schema r (plain_lines before) (plain_statement s) (plain_lines after) ≡ StatementBreaks schema r before s after
-statement_alike schema r before s after =
-    λ i. ((r ≡ rule.BLOCK_STRUCTURE) × blocks_alike before s after i)
-    ⊎ (((r ≡ rule.UNKNOWN_MESSAGE) × names_alike schema s i)
-    ⊎ ((¬ (names_alike schema s i)) × statement_known schema r before s after i))
+abbrev InBlock : Schema → Rule → Statement → List Statement → Statement → List Statement → Type 0
+InBlock schema r s below first above = IsSomeAnd (standing_of schema first) (λ b. BlockBreaks schema r (named schema s) (list_any answers above) b s below)
 
-line_alike : (schema : Schema) (r : Rule) (before : List LineReading) (x : LineReading) (after : List LineReading) → LineBreaks schema r (plain_lines before) (plain_reading x) (plain_lines after) ≡ LineBreaks schema r before x after
-line_alike schema r before (line.Statement held) after = statement_alike schema r before held.value after
-line_alike schema r before x after = refl
+in_block_alike : (schema : Schema) (r : Rule) (s : Statement) (below : List Statement) (first : Statement) (above : List Statement)
+    → InBlock schema r (plain_statement s) (plain_all below) (plain_statement first) (plain_all above) ≡ InBlock schema r s below first above
+in_block_alike schema r s below first above =
+    (λ i. IsSomeAnd (standing_alike schema first i) (λ b. BlockBreaks schema r (named_alike schema s i) (some_alike answers answers_alike above i) b (plain_statement s) (plain_all below)))
+    ∙ (λ i. IsSomeAnd (standing_of schema first) (λ b. breaks_alike schema r (named schema s) (list_any answers above) b s below i))
 
-at_alike : (schema : Schema) (lines : List LineReading) (f : Finding) (index : ℕ) (x : LineReading) → IsBrokenAt schema (plain_lines lines) f index (plain_reading x) ≡ IsBrokenAt schema lines f index x
+insides_alike : (schema : Schema) (r : Rule) (before : List Statement) (s : Statement) (after : List Statement) → InsideBreaks schema r (plain_all before) (plain_statement s) (plain_all after) ↔ InsideBreaks schema r before s after
+insides_alike schema r before s after = block_alike (InBlock schema r (plain_statement s) (plain_all after)) (InBlock schema r s after) (in_block_alike schema r s after) before
+
+none_alike : (schema : Schema) (s : Statement) → NamesNone (named schema (plain_statement s)) (plain_statement s) ≡ NamesNone (named schema s) s
+none_alike schema s = (λ i. NamesNone (named_alike schema s i) (plain_statement s)) ∙ names_alike (named schema s) s
+
+opening_alike : (schema : Schema) (r : Rule) (s : Statement) → OpeningBreaks r (standing_of schema (plain_statement s)) ≡ OpeningBreaks r (standing_of schema s)
+opening_alike schema r s = λ i. OpeningBreaks r (standing_alike schema s i)
+
+statement_plain : (schema : Schema) (r : Rule) (before : List Statement) (s : Statement) (after : List Statement) → StatementBreaks schema r before s after → StatementBreaks schema r (plain_all before) (plain_statement s) (plain_all after)
+statement_plain schema r before s after (inl h) = inl (h.0, blocks_plain before s after h.1)
+statement_plain schema r before s after (inr (inl h)) = inr (inl (h.0, transport⁻¹ (none_alike schema s) h.1))
+statement_plain schema r before s after (inr (inr (known, inl h))) = inr (inr ((λ n. known (transport (none_alike schema s) n)), inl (transport⁻¹ (opening_alike schema r s) h)))
+statement_plain schema r before s after (inr (inr (known, inr h))) = inr (inr ((λ n. known (transport (none_alike schema s) n)), inr ((insides_alike schema r before s after).1 h)))
+
+statement_again : (schema : Schema) (r : Rule) (before : List Statement) (s : Statement) (after : List Statement) → StatementBreaks schema r (plain_all before) (plain_statement s) (plain_all after) → StatementBreaks schema r before s after
+statement_again schema r before s after (inl h) = inl (h.0, blocks_again before s after h.1)
+statement_again schema r before s after (inr (inl h)) = inr (inl (h.0, transport (none_alike schema s) h.1))
+statement_again schema r before s after (inr (inr (known, inl h))) = inr (inr ((λ n. known (transport⁻¹ (none_alike schema s) n)), inl (transport (opening_alike schema r s) h)))
+statement_again schema r before s after (inr (inr (known, inr h))) = inr (inr ((λ n. known (transport⁻¹ (none_alike schema s) n)), inr ((insides_alike schema r before s after).0 h)))
+
+line_plain : (schema : Schema) (r : Rule) (before : List Statement) (x : LineReading) (after : List Statement) → LineBreaks schema r before x after → LineBreaks schema r (plain_all before) (plain_reading x) (plain_all after)
+line_plain schema r before (line.Statement held) after h = statement_plain schema r before held.value after h
+line_plain schema r before x after h = h
+
+line_again : (schema : Schema) (r : Rule) (before : List Statement) (x : LineReading) (after : List Statement) → LineBreaks schema r (plain_all before) (plain_reading x) (plain_all after) → LineBreaks schema r before x after
+line_again schema r before (line.Statement held) after h = statement_again schema r before held.value after h
+line_again schema r before x after h = h
+
+-- the statements before and behind a line
+at_alike : (schema : Schema) (lines : List LineReading) (f : Finding) (index : ℕ) (x : LineReading)
+    → IsBrokenAt schema (plain_lines lines) f index (plain_reading x) ≡ ((line_place (index + 1) ≡ f.place) × LineBreaks schema f.rule (plain_all (statements (take index lines))) (plain_reading x) (plain_all (statements (drop (index + 1) lines))))
 at_alike schema lines f index x =
-    (λ i. (line_place (index + 1) ≡ f.place) × LineBreaks schema f.rule (take-map plain_reading index lines i) (plain_reading x) (drop-map plain_reading (index + 1) lines i))
-    ∙ (λ i. (line_place (index + 1) ≡ f.place) × line_alike schema f.rule (take index lines) x (drop (index + 1) lines) i)
+    (λ i. (line_place (index + 1) ≡ f.place) × LineBreaks schema f.rule (statements (take-map plain_reading index lines i)) (plain_reading x) (statements (drop-map plain_reading (index + 1) lines i)))
+    ∙ (λ i. (line_place (index + 1) ≡ f.place) × LineBreaks schema f.rule (statements_alike (take index lines) i) (plain_reading x) (statements_alike (drop (index + 1) lines) i))
 
 mapped : (o : Option LineReading) (y : LineReading) → option_map plain_reading o ≡ Some y → (x : LineReading) × (o ≡ Some x) × (plain_reading x ≡ y)
 mapped None y e = absurd (let no_one : ⊥ = cc in no_one)
@@ -155,7 +201,12 @@ mapped (Some x) y e = (x, refl, (let same : plain_reading x ≡ y = cc in same))
 pub broken_plain : (schema : Schema) (top : ℕ) (lines : List LineReading) (f : Finding) → IsBroken schema top lines f → IsBroken schema top (plain_lines lines) f
 broken_plain schema top lines f (inl h) = inl h
 broken_plain schema top lines f (inr h) =
-    inr (h.0, plain_reading h.1, slice_get-map plain_reading lines h.0 ∙ ap (option_map plain_reading) h.2, subst (λ (X : Type 0). X) (sym (at_alike schema lines f h.0 h.1)) h.3)
+    inr (
+      h.0,
+      plain_reading h.1,
+      slice_get-map plain_reading lines h.0 ∙ ap (option_map plain_reading) h.2,
+      transport⁻¹ (at_alike schema lines f h.0 h.1) (h.3.0, line_plain schema f.rule (statements (take h.0 lines)) h.1 (statements (drop (h.0 + 1) lines)) h.3.1),
+    )
 
 -- and no more
 pub broken_again : (schema : Schema) (top : ℕ) (lines : List LineReading) (f : Finding) → IsBroken schema top (plain_lines lines) f → IsBroken schema top lines f
@@ -163,7 +214,8 @@ broken_again schema top lines f (inl h) = inl h
 broken_again schema top lines f (inr h) =
     let there = mapped (slice_get lines h.0) h.1 (sym (slice_get-map plain_reading lines h.0) ∙ h.2) in
     let P : LineReading → Type 0 = λ y. IsBrokenAt schema (plain_lines lines) f h.0 y in
-    inr (h.0, there.0, there.1, subst (λ (X : Type 0). X) (at_alike schema lines f h.0 there.0) (subst P (sym there.2) h.3))
+    let at = transport (at_alike schema lines f h.0 there.0) (subst P (sym there.2) h.3) in
+    inr (h.0, there.0, there.1, (at.0, line_again schema f.rule (statements (take h.0 lines)) there.0 (statements (drop (h.0 + 1) lines)) at.1))
 
 -- The blocks
 
@@ -173,17 +225,17 @@ if_alike true false s xs ys e h = cc
 if_alike false true s xs ys e h = cc
 if_alike false false s xs ys e h = ap (λ zs. plain_statement s ∷ zs) h
 
-inside_alike : (lines : List LineReading) → inside (plain_lines lines) ≡ map plain_statement (inside lines)
-inside_alike [] = refl
-inside_alike (line.Statement held ∷ rest) = if_alike (closes (plain_statement held.value)) (closes held.value) held.value (inside (plain_lines rest)) (inside rest) (closes_alike held.value) (inside_alike rest)
-inside_alike (x ∷ rest) = inside_alike rest
+within_alike : (lines : List LineReading) → inside (plain_lines lines) ≡ map plain_statement (inside lines)
+within_alike [] = refl
+within_alike (line.Statement held ∷ rest) = if_alike (closes (plain_statement held.value)) (closes held.value) held.value (inside (plain_lines rest)) (inside rest) (closes_alike held.value) (within_alike rest)
+within_alike (x ∷ rest) = within_alike rest
 
 filtered_alike : {Y : Type 0} (read : Statement → Option Y) → ((s : Statement) → read (plain_statement s) ≡ read s) → (statements : List Statement) → filter_map read (map plain_statement statements) ≡ filter_map read statements
 filtered_alike read same [] = refl
 filtered_alike read same (s ∷ statements) = λ i. cons_option (same s i) (filtered_alike read same statements i)
 
-block_alike : (schema : Schema) (b : BlockContext) (statements : List Statement) → block_of schema b (map plain_statement statements) ≡ block_of schema b statements
-block_alike schema b statements =
+made_alike : (schema : Schema) (b : BlockContext) (statements : List Statement) → block_of schema b (map plain_statement statements) ≡ block_of schema b statements
+made_alike schema b statements =
     λ i. record {
       side = side_of b;
       handles = option_map (λ message. message.number) (handled_in b);
@@ -193,13 +245,13 @@ block_alike schema b statements =
 
 opened_block : (schema : Schema) (o : Option BlockContext) (rest : List LineReading) → option_map_or (λ b. block_of schema b (inside (plain_lines rest)) ∷ []) o [] ≡ option_map_or (λ b. block_of schema b (inside rest) ∷ []) o []
 opened_block schema None rest = refl
-opened_block schema (Some b) rest = ap (λ (block : Block). block ∷ []) (ap (block_of schema b) (inside_alike rest) ∙ block_alike schema b (inside rest))
+opened_block schema (Some b) rest = ap (λ (block : Block). block ∷ []) (ap (block_of schema b) (within_alike rest) ∙ made_alike schema b (inside rest))
 
 blocks_at_alike : (schema : Schema) (s : Statement) (rest : List LineReading) → blocks_at schema (plain_statement s) (plain_lines rest) ≡ blocks_at schema s rest
 blocks_at_alike schema s rest = opened_block schema (standing_of schema (plain_statement s)) rest ∙ ap (λ o. option_map_or (λ b. block_of schema b (inside rest) ∷ []) o []) (standing_alike schema s)
 
 -- lines and their plain forms have the same blocks
-pub blocks_plain : (schema : Schema) (lines : List LineReading) → blocks_of schema (plain_lines lines) ≡ blocks_of schema lines
-blocks_plain schema [] = refl
-blocks_plain schema (line.Statement held ∷ rest) = λ i. blocks_at_alike schema held.value rest i ++ blocks_plain schema rest i
-blocks_plain schema (x ∷ rest) = blocks_plain schema rest
+pub blocks_kept : (schema : Schema) (lines : List LineReading) → blocks_of schema (plain_lines lines) ≡ blocks_of schema lines
+blocks_kept schema [] = refl
+blocks_kept schema (line.Statement held ∷ rest) = λ i. blocks_at_alike schema held.value rest i ++ blocks_kept schema rest i
+blocks_kept schema (x ∷ rest) = blocks_kept schema rest

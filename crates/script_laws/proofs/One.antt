@@ -15,7 +15,7 @@ use Rattle.handler_script.specs.Faults.{IsFault}
 use Rattle.handler_script.specs.Plain.{plain_script}
 use Rattle.handler_script.specs.ScriptOf.{IsScriptOf, blocks_of}
 use Rattle.script_laws.specs.Laws.{OneAnswer}
-use Rattle.script_laws.proofs.Kept.{plain_lines, broken_plain, broken_again, blocks_plain}
+use Rattle.script_laws.proofs.Kept.{plain_lines, broken_plain, broken_again, blocks_kept}
 
 -- what is read of a text is one list of readings, up to where boxes lie
 read_alike : (lines : List (List ℕ)) (xs ys : List LineReading) → AreRead lines xs → AreRead lines ys → plain_lines xs ≡ plain_lines ys
@@ -35,7 +35,7 @@ broken_alike text schema top xs ys h k f broken =
 one_script : (text : List ℕ) (schema : Schema) (top : ℕ) (a b : Script) → IsScriptOf text schema top a → IsScriptOf text schema top b → plain_script a ≡ plain_script b
 one_script text schema top a b x y =
     let same : blocks_of schema x.readings ≡ blocks_of schema y.readings =
-    sym (blocks_plain schema x.readings) ∙ (ap (blocks_of schema) (read_alike (lines_of text) x.readings y.readings x.is_reading y.is_reading) ∙ blocks_plain schema y.readings)
+    sym (blocks_kept schema x.readings) ∙ (ap (blocks_of schema) (read_alike (lines_of text) x.readings y.readings x.is_reading y.is_reading) ∙ blocks_kept schema y.readings)
     in
     x.is ∙ (ap (λ (blocks : List Block). let s : Script = record { top = top; blocks = blocks } in s) same ∙ sym y.is)
 

@@ -50,7 +50,8 @@ impl BlockTable {
         index: u32,
         block: &Block,
     ) -> Result<(), AllocError>
-        ensures { OnOk result ((blocks : List ScriptBlock) → length blocks ≡ index → IsTableOf blocks side [] self.old → IsTableOf (blocks ++ block.now ∷ []) side [] self.new) }
+        ensures { OnOk result ((blocks : List ScriptBlock) → length blocks ≡ index → IsTableOf blocks side [] self.old
+            → IsTableOf (blocks ++ block.now ∷ []) side [] self.new) }
     {
         if !is_of(block, side) {
             return Ok(());
@@ -68,7 +69,8 @@ impl BlockTable {
 
     /// The main of the side, if it has one. It takes no memory.
     pub fn main(&self) -> Option<u32>
-        ensures { (blocks : List ScriptBlock) (side : EndSide) (taken : List ℕ) → IsTableOf blocks side taken self.now → option_and_then (slice_get blocks) result ≡ slice_get (filter (serves side None) blocks) 0 }
+        ensures { (blocks : List ScriptBlock) (side : EndSide) (taken : List ℕ) → IsTableOf blocks side taken self.now
+            → option_and_then (slice_get blocks) result ≡ slice_get (filter (serves side None) blocks) 0 }
     {
         self.main
     }
@@ -76,7 +78,8 @@ impl BlockTable {
     /// A request of the message of this number is taken: the block that serves it, if the message
     /// has one. Its time does not grow with the script. It takes no memory.
     pub fn take(&mut self, number: u32) -> Option<u32>
-        ensures { (blocks : List ScriptBlock) (side : EndSide) (taken : List ℕ) → IsTableOf blocks side taken self.old → IsTableOf blocks side (number ∷ taken) self.new × (option_and_then (slice_get blocks) result ≡ block_behind blocks side number taken) }
+        ensures { (blocks : List ScriptBlock) (side : EndSide) (taken : List ℕ) → IsTableOf blocks side taken self.old
+            → IsTableOf blocks side (number ∷ taken) self.new × (option_and_then (slice_get blocks) result ≡ block_behind blocks side number taken) }
     {
         take_block(number, &mut self.messages)
     }
@@ -114,7 +117,8 @@ fn list(
 fn take_block(number: u32, messages: &mut IndexMap<u32, MessageBlocks>) -> Option<u32>
     ensures taken { result ≡ slice_get (listed_in messages.old number) (next_in messages.old number) }
     ensures listed { (n : ℕ) → listed_in messages.new n ≡ listed_in messages.old n }
-    ensures next { (n : ℕ) → next_in messages.new n ≡ (if nat_eq n number then next_behind (length (listed_in messages.old n)) (next_in messages.old n) else next_in messages.old n) }
+    ensures next { (n : ℕ) → next_in messages.new n
+        ≡ (if nat_eq n number then next_behind (length (listed_in messages.old n)) (next_in messages.old n) else next_in messages.old n) }
 {
     let message = messages.get_mut(&number)?;
     let block = message.blocks.get(message.next).copied()?;

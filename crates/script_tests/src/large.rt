@@ -1,6 +1,7 @@
+ghost use Rattle.std.specs.Prelude.{IfOk};
 ghost use Rattle.ipdl_base.specs.Sound.{IsSound};
 
-use super::given::{broken, note, read, script, the_schema};
+use super::given::{broken, note, read, schema_of_top, script, the_schema};
 use super::pieces::{Pieces, joined};
 use handler_script::{Point, ScriptFault};
 use ipdl_base::{Findings, Rule, Schema, Side};
@@ -214,5 +215,35 @@ fn scripts_text(alloc: Global) -> Result<String, Fail> {
 fn scripts(rt: HostRuntime) -> Result<(), Fail> {
     let shown = scripts_text(rt.alloc())?;
     assert_eq!(rt; shown.as_str(), "1048576 true false\n1048557 52427\n");
+    Ok(())
+}
+
+/// A schema of one protocol with this many messages.
+fn schema_of_many(alloc: Global, count: u32) -> Result<Schema, Fail>
+    ensures { IfOk result IsSound }
+{
+    let mut text = String::from_str(alloc, "@ PT.ipdl\nprotocol PT {\nparent:\n")?;
+    for number in 0..count {
+        write!(&mut text, "  async M{number}();\n")?;
+    }
+    text.push_str("};\n")?;
+    schema_of_top(alloc, text.as_str(), "PT")
+}
+
+/// As many sends as there can be of the last of many messages: their bytes, and whether an action
+/// stands at two places.
+fn sends_of_many(alloc: Global) -> Result<String, Fail> {
+    let schema = schema_of_many(alloc, 8_192)?;
+    let pieces = ["child main\n", "send top PT.M8191()\n", "end\n", "", ""];
+    let text = joined(alloc, pieces, 52_428)?;
+    let script = script(alloc, &schema, text.as_slice())?;
+    let last = script.action(Side::Child, Point::Main(52_427)).is_some();
+    let next = script.action(Side::Child, Point::Main(52_428)).is_some();
+    Ok(format!(in alloc; "{} {last} {next}", text.len())?)
+}
+
+#[test]
+fn many_messages(rt: HostRuntime) -> Result<(), Fail> {
+    assert_eq!(rt; sends_of_many(rt.alloc())?.as_str(), "1048575 true false");
     Ok(())
 }

@@ -2,7 +2,7 @@ use super::given::{note, the_schema};
 use super::pieces::joined;
 use super::shows::push_terms;
 use handler_script::{
-    Term, Terms, each_fits, message_named, receives, replies, resolves, sends, terms_of,
+    MessageTable, Term, Terms, each_fits, receives, replies, resolves, sends, terms_of,
 };
 use ipdl_base::{Builtin, Direction, MessageRow, Name, ParamRow, Schema, Shape, Side};
 use script_reader::{LineReading, LineReadings, MessageName, Statement, WrittenValues, read_lines};
@@ -17,13 +17,13 @@ fn name(alloc: Global, text: &str) -> Result<Name, AllocError> {
 /// The message of this name; nothing where it is not there.
 fn named<'a>(
     alloc: Global,
-    schema: &'a Schema,
+    messages: &MessageTable<'a>,
     protocol: &str,
     message: &str,
 ) -> Result<Option<&'a MessageRow>, AllocError> {
     let protocol = name(alloc, protocol)?;
     let message = name(alloc, message)?;
-    Ok(message_named(schema, &MessageName { protocol, message }))
+    Ok(messages.find(&MessageName { protocol, message }))
 }
 
 /// Messages by their names, with the numbers of their requests, and the counts of what answers them
@@ -62,9 +62,10 @@ fn shown(alloc: Global, message: Option<&MessageRow>) -> Result<String, AllocErr
 /// Which of these messages are others.
 fn wrong_messages(alloc: Global) -> Result<String, Fail> {
     let schema = the_schema(alloc)?;
+    let messages = MessageTable::new(alloc, &schema)?;
     let mut wrong = String::new(alloc);
     for (protocol, name, wanted) in MESSAGES {
-        let found = shown(alloc, named(alloc, &schema, protocol, name)?)?;
+        let found = shown(alloc, named(alloc, &messages, protocol, name)?)?;
         note(name, found.as_str(), wanted, &mut wrong)?;
     }
     Ok(wrong)
@@ -162,8 +163,9 @@ fn check_fit(
     wanted: &str,
     wrong: &mut String,
 ) -> Result<(), Fail> {
-    let many = named(alloc, schema, "PT", "Many")?.ok_or("no message")?;
-    let message = named(alloc, schema, "PT", message)?.ok_or("no message")?;
+    let messages = MessageTable::new(alloc, schema)?;
+    let many = named(alloc, &messages, "PT", "Many")?.ok_or("no message")?;
+    let message = named(alloc, &messages, "PT", message)?.ok_or("no message")?;
     let (given, fields) = (many.params.as_slice(), message.params.as_slice());
     let readings = read_lines(alloc, line.as_bytes())?;
     let found = fitted(alloc, schema, values_in(&readings)?, given, fields)?;

@@ -1,7 +1,7 @@
 -- Findings at places where something holds.
-use Rattle.std.proofs.Common.{◌≡◌, List, [], ◌∷◌, ◌++◌, Option, Some, None, ◌⊎◌, inl, inr, subst, sym, arith}
-use Rattle.std.specs.Prelude.{◌↔◌, IsSomeAnd}
-use Rattle.std.specs.List.{Any, Contains}
+use Rattle.std.proofs.Common.{◌≡◌, List, [], ◌∷◌, ◌++◌, Option, Some, None, subst, sym, arith}
+use Rattle.std.specs.Prelude.{IsSomeAnd}
+use Rattle.std.specs.List.{Any}
 use Rattle.ipdl_base.specs.declared.finding.Finding.{Finding}
 use Rattle.ipdl_base.specs.declared.finding.Place.{Place}
 use Rattle.ipdl_base.specs.declared.finding.Rule.{Rule}
@@ -29,32 +29,3 @@ Adds-of_some {X} rule P o x old new e adds = let Q : Option X → Type 0 = λ o.
 pub Adds-of_none : {X : Type 0} (rule : Rule) (P : Place → X → Type 0) (o : Option X) (old new : List Finding) → o ≡ None → new ≡ old → Adds rule (λ place. IsSomeAnd o (P place)) old new
 Adds-of_none {X} rule P o old new e same =
     Adds-quiet rule (λ place. IsSomeAnd o (P place)) old new (λ place h. let Q : Option X → Type 0 = λ o. IsSomeAnd o (P place) in subst Q e h) same
-
--- what was added for four rules, to nothing
-pub Contains-four : (one two three four : Rule) (P Q R T : Place → Type 0) (none a b c d : List Finding) → none ≡ [] → Adds one P none a → Adds two Q a b → Adds three R b c → Adds four T c d
-    → (f : Finding) → Contains d f ↔ (((f.rule ≡ one) × P f.place) ⊎ (((f.rule ≡ two) × Q f.place) ⊎ (((f.rule ≡ three) × R f.place) ⊎ ((f.rule ≡ four) × T f.place))))
-Contains-four one two three four P Q R T none a b c d empty first second third fourth f = (
-  λ h. elim ((fourth.exact f).0 h) [
-    | inr x ↦ inr (inr (inr x))
-    | inl h3 ↦ elim ((third.exact f).0 h3) [
-      | inr x ↦ inr (inr (inl x))
-      | inl h2 ↦ elim ((second.exact f).0 h2) [
-        | inr x ↦ inr (inl x)
-        | inl h1 ↦ elim ((first.exact f).0 h1) [
-          | inr x ↦ inl x
-          | inl h0 ↦ absurd (let S : List Finding → Type 0 = λ fs. Contains fs f in let z = subst S empty h0 in let x : ⊥ = omega (arith, z.1) in x)
-        ]
-      ]
-    ]
-  ],
-  λ h. elim h [
-    | inl x ↦ (fourth.exact f).1 (inl ((third.exact f).1 (inl ((second.exact f).1 (inl ((first.exact f).1 (inr x)))))))
-    | inr h2 ↦ elim h2 [
-      | inl x ↦ (fourth.exact f).1 (inl ((third.exact f).1 (inl ((second.exact f).1 (inr x)))))
-      | inr h3 ↦ elim h3 [
-        | inl x ↦ (fourth.exact f).1 (inl ((third.exact f).1 (inr x)))
-        | inr x ↦ (fourth.exact f).1 (inr x)
-      ]
-    ]
-  ],
-)

@@ -10,7 +10,6 @@ use Rattle.ipdl_base.specs.declared.kinds.Semantics.TheVariants.{Async, Sync}
 use Rattle.ipdl_syntax.specs.declared.program.Entry.{Entry}
 use Rattle.ipdl_syntax.specs.declared.tree.MessageDecl.{MessageDecl}
 use Rattle.ipdl_syntax.specs.declared.tree.ProtocolDecl.{ProtocolDecl}
-use Rattle.findings.specs.Report as report
 use Rattle.sync_list.specs.declared.list.Section.{Section}
 
 -- the list has a section of the protocol and the message
@@ -68,7 +67,3 @@ BrokenAt program list f =
     ⊎ (((f.rule ≡ rule.LISTED_ASYNC) × AtSection (NamesAsync program) program list f.place)
     ⊎ (((f.rule ≡ rule.LISTED_ABSENT) × AtSection (NamesAbsent program) program list f.place)
     ⊎ ((f.rule ≡ rule.NO_DESCRIPTION) × AtSection HasNoDescription program list f.place)))
-
--- the report of a program and a list
-abbrev pub IsReport : List Entry → List Section → List Finding → Type 0
-IsReport program list findings = report.IsReport (BrokenAt program list) findings

@@ -12,4 +12,4 @@ mod report;
 pub use laws::one_list;
 pub use list::{ListFault, Section, SyncList};
 pub use reader::read_list;
-pub use report::sync_findings;
+pub use report::add_of_list;

@@ -1,5 +1,7 @@
-ghost use Rattle.std.specs.Prelude.{◌≡◌, false, ℕ, ◌+◌, ◌≤◌, ◌⊎◌, ◌&&◌, List, [], ◌∷◌, ◌++◌, length, Ok, Err, IfOk, IfErr, OnOk};
+ghost use Rattle.std.specs.Prelude.{◌≡◌, false, ℕ, ◌+◌, ◌≤◌, ◌⊎◌, ◌&&◌, List, [], ◌∷◌, ◌++◌, length};
+ghost use Rattle.std.specs.Prelude.{Ok, Err, IfOk, IfErr, OnOk};
 ghost use Rattle.std.specs.List.{Contains};
+ghost use Rattle.ipdl_base.specs.declared.files.TheConstants.{MOST_BYTES};
 ghost use Rattle.sync_list.specs.declared.list.ListFault.TheVariants.{NoMemory};
 ghost use Rattle.sync_list.specs.declared.list.ListFault.{ListFault};
 ghost use Rattle.sync_list.specs.declared.list.Section.{Section};
@@ -83,7 +85,8 @@ impl<'a> ListReader<'a> {
         ensures ok { OnOk result ((forms : List LineForm) → HasRead forms self.old → length forms + 1 ≡ number
             → Begins forms protocol.now message.now self.new) }
         ensures err { IfErr result (λ fault. (fault ≡ NoMemory)
-            ⊎ ((fault ≡ ListFault.Line number) × ((forms : List LineForm) → HasRead forms self.old → Contains forms (section protocol.now message.now)))) }
+            ⊎ ((fault ≡ ListFault.Line number)
+            × ((forms : List LineForm) → HasRead forms self.old → Contains forms (section protocol.now message.now)))) }
     {
         let names = (protocol, message);
         let is_new = self.seen.insert(names)?;
@@ -99,7 +102,8 @@ impl<'a> ListReader<'a> {
     /// Takes a line with a value of the word, or one that goes on with it; it is filled if the value
     /// has a byte there that is not blank.
     fn take_value(&mut self, word: &'a [u8], filled: bool)
-        ensures { (forms : List LineForm) (form : LineForm) → HasRead forms self.old → IsValueOf word.now filled form → HasRead (forms ++ form ∷ []) self.new }
+        ensures { (forms : List LineForm) (form : LineForm) → HasRead forms self.old → IsValueOf word.now filled form
+            → HasRead (forms ++ form ∷ []) self.new }
     {
         mark_last(&mut self.sections, describes(word, filled));
         self.unfinished = Some(word);
@@ -108,7 +112,8 @@ impl<'a> ListReader<'a> {
     /// Reads the next line, which has this number.
     fn read(&mut self, alloc: Global, line: &'a [u8], number: u32) -> Result<(), ListFault>
         ensures ok { OnOk result ((forms : List LineForm) → HasRead forms self.old → length forms + 1 ≡ number → ReadsLine forms line.now self.new) }
-        ensures err { IfErr result (λ fault. (fault ≡ NoMemory) ⊎ ((fault ≡ ListFault.Line number) × ((forms : List LineForm) → HasRead forms self.old → IsBad forms line.now))) }
+        ensures err { IfErr result (λ fault. (fault ≡ NoMemory)
+            ⊎ ((fault ≡ ListFault.Line number) × ((forms : List LineForm) → HasRead forms self.old → IsBad forms line.now))) }
     {
         match line_of(line) {
             ListLine::Blank | ListLine::Comment => {
@@ -137,7 +142,7 @@ impl<'a> ListReader<'a> {
 
 /// The sync list that a text spells, or the first line that is not of the format.
 fn read_lines(alloc: Global, text: &[u8]) -> Result<SyncList, ListFault>
-    requires { length text.now ≤ 1048576 }
+    requires { length text.now ≤ MOST_BYTES }
     ensures list { IfOk result (IsListOf text.now) }
     ensures fault { IfErr result (λ fault. (fault ≡ NoMemory) ⊎ IsFault text.now fault) }
 {
@@ -153,7 +158,7 @@ fn read_lines(alloc: Global, text: &[u8]) -> Result<SyncList, ListFault>
 /// The sync list that a text spells (docs/sync_list.md). `Line` gives the first line that is not of
 /// the format. Takes time in proportion to the text.
 pub fn read_list(alloc: Global, text: &[u8]) -> Result<SyncList, ListFault>
-    requires { length text.now ≤ 1048576 }
+    requires { length text.now ≤ MOST_BYTES }
     ensures list { IfOk result (IsListOf text.now) }
     ensures fault { IfErr result (λ fault. (fault ≡ NoMemory) ⊎ IsFault text.now fault) }
 

@@ -1,19 +1,18 @@
-ghost use Rattle.std.specs.Prelude.{◌≡◌, ◌≤◌, ◌↔◌, List, [], length, IfOk, OnOk, IsTrue};
-ghost use Rattle.std.specs.List.{Any, Contains};
-ghost use Rattle.ipdl_base.specs.declared.finding.Finding.{Finding};
+ghost use Rattle.std.specs.Prelude.{◌≡◌, ◌≤◌, ◌↔◌, List, length, OnOk, IsTrue};
+ghost use Rattle.std.specs.List.{Any};
 ghost use Rattle.ipdl_base.specs.declared.kinds.Semantics.TheVariants.{Sync};
 ghost use Rattle.findings.specs.Adds.{Adds};
+ghost use Rattle.findings.specs.Gains.{Gains};
 ghost use Rattle.ipdl_syntax.specs.declared.program.Entry.{Entry};
 ghost use Rattle.sync_list.specs.declared.list.Section.{Section};
-ghost use Rattle.sync_list.specs.Broken.{Lists, IsUnlistedAt, IsUnlistedSync, AtSection, BrokenAt, IsReport};
+ghost use Rattle.sync_list.specs.Broken.{Lists, IsUnlistedAt, IsUnlistedSync, AtSection, BrokenAt};
 ghost use Rattle.sync_list.specs.Breaches.{rule_of, Breaks};
 ghost use Rattle.sync_list.specs.Knowing.{Knows};
 ghost use Rattle.sync_list.specs.Sets.{same_pair, KeysAre};
 
 use crate::list::{Section, SyncList};
 use crate::names::{MessagePair, ProgramNames, listed};
-use findings::sort_findings;
-use ipdl_base::{Finding, Findings, Place, Rule, Semantics, short_name};
+use ipdl_base::{Finding, Place, Rule, Semantics, short_name};
 use ipdl_syntax::{Entry, MessageDecl, Program};
 use std::alloc::{AllocError, Global};
 use std::collections::HashSet;
@@ -140,47 +139,24 @@ fn add_breaches(
     Ok(())
 }
 
-/// Adds all findings that hold of the program and the list to those of an empty list.
-fn add_found(
+/// Adds the findings of the rules S1 to S4 that a program and a sync list break (docs/sync_list.md),
+/// in some order. The list counts as the file behind those of the program. Takes time in proportion
+/// to both. The only error is want of memory.
+pub fn add_of_list(
     alloc: Global,
-    program: &[Entry],
-    list: &[Section],
+    program: &Program,
+    list: &SyncList,
     found: &mut Vec<Finding>,
 ) -> Result<(), AllocError>
-    requires few { length program.now ≤ 4096 }
-    requires none { found.old.items ≡ [] }
-    ensures { OnOk result ((f : Finding) → Contains found.new.items f ↔ BrokenAt program.now list.now f) }
+    requires { length program.now ≤ 4096 }
+    ensures { OnOk result (Gains (BrokenAt program.now list.now) found.old.items found.new.items) }
 {
+    let program = program.as_slice();
+    let list = list.as_slice();
     add_unlisted(alloc, program, list, found)?;
     let file = program.len() as u32;
     let known = ProgramNames::of(alloc, program)?;
     add_breaches(file, &known, list, SectionBreach::Async, found)?;
     add_breaches(file, &known, list, SectionBreach::Absent, found)?;
     add_breaches(file, &known, list, SectionBreach::Undescribed, found)
-}
-
-/// All findings that hold of the program and the list, in some order.
-fn gathered(alloc: Global, program: &[Entry], list: &[Section]) -> Result<Vec<Finding>, AllocError>
-    requires { length program.now ≤ 4096 }
-    ensures { IfOk result (λ found. (f : Finding) → Contains found.items f ↔ BrokenAt program.now list.now f) }
-{
-    let mut found = Vec::new(alloc);
-    add_found(alloc, program, list, &mut found)?;
-    Ok(found)
-}
-
-/// The report of a program and a sync list: the rules S1 to S4 that they break, each once, in the
-/// order of their places (docs/sync_list.md). The list counts as the file behind those of the
-/// program, which has at most 4,096. Takes time in proportion to both, but for the sort of the
-/// findings.
-pub fn sync_findings(
-    alloc: Global,
-    program: &Program,
-    list: &SyncList,
-) -> Result<Findings, AllocError>
-    requires { length program.now ≤ 4096 }
-    ensures { IfOk result (IsReport program.now list.now) }
-{
-    let found = gathered(alloc, program.as_slice(), list.as_slice())?;
-    Ok(sort_findings(found))
 }

@@ -1,10 +1,6 @@
 -- The findings of all rules.
-use Rattle.std.proofs.Common.{◌≡◌, List, [], inl, inr, subst, arith}
-use Rattle.std.specs.Prelude.{◌↔◌}
-use Rattle.std.specs.List.{Contains}
+use Rattle.std.proofs.Common.{◌≡◌, List, inl, inr}
 use Rattle.ipdl_base.specs.declared.finding.Finding.{Finding}
-use Rattle.ipdl_base.specs.declared.finding.Place.{Place}
-use Rattle.ipdl_base.specs.declared.finding.Rule.{Rule}
 use Rattle.ipdl_base.specs.declared.finding.TheConstants.Rule as rule
 use Rattle.ipdl_syntax.specs.declared.program.Entry.{Entry}
 use Rattle.findings.specs.Adds.{Adds}
@@ -15,27 +11,15 @@ use Rattle.type_rules.specs.Broken.{BrokenAt}
 use Rattle.type_rules.specs.Declarations.{IsRepeatedDeclaration, IsRepeatedField}
 use Rattle.type_rules.specs.Defined.{IsUndefinedType}
 use Rattle.type_rules.specs.Written.{SomeType}
-use Rattle.findings.proofs.Gathers.{Gains-then, Gains-like}
+use Rattle.findings.proofs.Gathers.{Gains-then, Gains-like, Gains-rule}
 use Rattle.type_rules.proofs.Types.{types_break}
 
-gains_of_adds : (r : Rule) (P : Place → Type 0) (old new : List Finding) → Adds r P old new → Gains (λ f. (f.rule ≡ r) × P f.place) old new
-gains_of_adds r P old new adds = record { exact = adds.exact }
-
-from_nothing : (P : Finding → Type 0) (none found : List Finding) → none ≡ [] → Gains P none found → (f : Finding) → Contains found f ↔ P f
-from_nothing P none found empty gains f = (
-  λ h. elim ((gains.exact f).0 h) [
-    | inl old ↦ absurd (let Q : List Finding → Type 0 = λ l. Contains l f in let k = subst Q empty old in let x : ⊥ = omega (arith, k.1) in x)
-    | inr p ↦ p
-  ],
-  λ p. (gains.exact f).1 (inr p),
-)
-
 -- the findings on types, then those of the four other rules
-pub all_broken : (program : List Entry) (none a b c d found : List Finding) → none ≡ [] → Gains (λ f. SomeType (BreaksAt program f) program) none a → Gains (λ f. (f.rule ≡ rule.UNDEFINED_TYPE) × IsUndefinedType program f.place) a b
-    → Adds rule.REPEATED_DECLARATION (IsRepeatedDeclaration program) b c → Adds rule.REPEATED_FIELD (IsRepeatedField program) c d → Adds rule.BAD_ATTRIBUTE (IsBadAttribute program) d found → (f : Finding) → Contains found f ↔ BrokenAt program f
-all_broken program none a b c d found empty types undefined declarations fields attributes = from_nothing (BrokenAt program) none found empty
-    (Gains-like _ (BrokenAt program) none found
-    (Gains-then _ _ none a found types (Gains-then _ _ a b found undefined (Gains-then _ _ b c found (gains_of_adds _ _ b c declarations) (Gains-then _ _ c d found (gains_of_adds _ _ c d fields) (gains_of_adds _ _ d found attributes)))))
+pub all_broken : (program : List Entry) (old a b c d found : List Finding) → Gains (λ f. SomeType (BreaksAt program f) program) old a → Gains (λ f. (f.rule ≡ rule.UNDEFINED_TYPE) × IsUndefinedType program f.place) a b
+    → Adds rule.REPEATED_DECLARATION (IsRepeatedDeclaration program) b c → Adds rule.REPEATED_FIELD (IsRepeatedField program) c d → Adds rule.BAD_ATTRIBUTE (IsBadAttribute program) d found → Gains (BrokenAt program) old found
+all_broken program old a b c d found types undefined declarations fields attributes =
+    Gains-like _ (BrokenAt program) old found
+    (Gains-then _ _ old a found types (Gains-then _ _ a b found undefined (Gains-then _ _ b c found (Gains-rule _ _ b c declarations) (Gains-then _ _ c d found (Gains-rule _ _ c d fields) (Gains-rule _ _ d found attributes)))))
     (λ f h. elim h [
       | inl x ↦ elim ((types_break program f).0 x) [ inl one ↦ inl one | inr more ↦ elim more [ inl two ↦ inr (inl two) | inr five ↦ inr (inr (inr (inr (inl five)))) ] ]
       | inr h2 ↦ elim h2 [
@@ -61,4 +45,4 @@ all_broken program none a b c d found empty types undefined declarations fields 
           ]
         ]
       ]
-    ]))
+    ])

@@ -1,7 +1,7 @@
 pub mod Lists
 pub mod Placed
 pub mod Gains
-pub mod Named
+pub mod Places
 pub mod Firsts
 pub mod Broken
 pub mod Types

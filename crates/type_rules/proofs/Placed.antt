@@ -1,12 +1,12 @@
 -- Findings of one rule, at places where something holds.
-use Rattle.std.proofs.Common.{◌≡◌, ℕ, ◌+◌, ◌<◌, List, [], ◌∷◌, ◌++◌, length, take, get_or, Option, Some, None, subst, sym}
-use Rattle.std.specs.Prelude.{IsSomeAnd}
+use Rattle.std.proofs.Common.{◌≡◌, ℕ, ◌+◌, ◌<◌, List, [], ◌∷◌, ◌++◌, length, map, take, get_or, subst}
 use Rattle.std.specs.List.{Any}
 use Rattle.ipdl_base.specs.declared.finding.Finding.{Finding}
 use Rattle.ipdl_base.specs.declared.finding.Place.{Place}
 use Rattle.ipdl_base.specs.declared.finding.Rule.{Rule}
 use Rattle.findings.specs.Adds.{Adds}
 use Rattle.findings.proofs.Gains.{Adds-none, Adds-like, Adds-push, Adds-more}
+use Rattle.type_rules.proofs.Lists.{any_of_map, any_to_map}
 
 -- a finding where this holds
 pub Adds-found : (rule : Rule) (at : Place) (P : Type 0) (old new : List Finding) → P → new ≡ old ++ record { place = at; rule = rule } ∷ [] → Adds rule (λ place. P × (at ≡ place)) old new
@@ -17,17 +17,14 @@ Adds-found rule at P old new holds e =
 pub Adds-quiet : (rule : Rule) (P : Place → Type 0) (old new : List Finding) → ((place : Place) → ¬ P place) → new ≡ old → Adds rule P old new
 Adds-quiet rule P old new never e = rw e (Adds-none rule P old never)
 
--- the findings of what an option holds
-pub Adds-of_some : {X : Type 0} (rule : Rule) (P : Place → X → Type 0) (o : Option X) (x : X) (old new : List Finding) → o ≡ Some x → Adds rule (λ place. P place x) old new → Adds rule (λ place. IsSomeAnd o (P place)) old new
-Adds-of_some {X} rule P o x old new e adds = let Q : Option X → Type 0 = λ o. Adds rule (λ place. IsSomeAnd o (P place)) old new in subst Q (sym e) adds
-
--- or of nothing
-pub Adds-of_none : {X : Type 0} (rule : Rule) (P : Place → X → Type 0) (o : Option X) (old new : List Finding) → o ≡ None → new ≡ old → Adds rule (λ place. IsSomeAnd o (P place)) old new
-Adds-of_none {X} rule P o old new e same =
-    Adds-quiet rule (λ place. IsSomeAnd o (P place)) old new (λ place h. let Q : Option X → Type 0 = λ o. IsSomeAnd o (P place) in subst Q e h) same
-
 -- a turn of a loop over a list: those of the first elements, and then those of the next
 pub Adds-turn : {X : Type 0} (rule : Rule) (P : Place → X → Type 0) (xs : List X) (i : ℕ) (x : X) (a b c : List Finding) → i < length xs → x ≡ get_or xs i x → Adds rule (λ place. Any (P place) (take i xs)) a b → Adds rule (λ place. P place x) b c → Adds rule (λ place. Any (P place) (take (i + 1) xs)) a c
 Adds-turn {X} rule P xs i x a b c lt is one two =
     let Q : X → Type 0 = λ y. Adds rule (λ place. P place y) b c in
     Adds-more rule P xs i x a b c lt one (subst Q is two)
+
+-- the findings of a list, where the code has it as another
+pub Adds-listed : {Y Z : Type 0} (rule : Rule) (P : Place → Z → Type 0) (view : Y → Z) (ys : List Y) (zs : List Z) (old new : List Finding) → map view ys ≡ zs → Adds rule (λ place. Any (λ y. P place (view y)) ys) old new → Adds rule (λ place. Any (P place) zs) old new
+Adds-listed {Y} {Z} rule P view ys zs old new same adds =
+    let Q : List Z → Type 0 = λ l. Adds rule (λ place. Any (P place) l) old new in
+    subst Q same (Adds-like rule (λ place. Any (λ y. P place (view y)) ys) (λ place. Any (P place) (map view ys)) old new adds (λ place. any_to_map view (P place) ys) (λ place. any_of_map view (P place) ys))

@@ -1,9 +1,8 @@
--- The rules on types, names of declarations and attributes, where a program breaks them, and the report of them.
+-- The rules on types, names of declarations and attributes, and where a program breaks them.
 use Rattle.std.specs.Prelude.{◌≡◌, ◌⊎◌, List}
 use Rattle.ipdl_base.specs.declared.finding.Finding.{Finding}
 use Rattle.ipdl_base.specs.declared.finding.TheConstants.Rule as rule
 use Rattle.ipdl_syntax.specs.declared.program.Entry.{Entry}
-use Rattle.findings.specs.Report as report
 use Rattle.type_rules.specs.TypeNames.{IsUnknownType, IsAmbiguousType, IsNullableNonActor}
 use Rattle.type_rules.specs.Defined.{IsUndefinedType}
 use Rattle.type_rules.specs.Declarations.{IsRepeatedDeclaration, IsRepeatedField}
@@ -19,7 +18,3 @@ BrokenAt program f =
     ⊎ (((f.rule ≡ rule.NULLABLE_NON_ACTOR) × IsNullableNonActor program f.place)
     ⊎ (((f.rule ≡ rule.REPEATED_FIELD) × IsRepeatedField program f.place)
     ⊎ ((f.rule ≡ rule.BAD_ATTRIBUTE) × IsBadAttribute program f.place))))))
-
--- the report of a program
-abbrev pub IsReport : List Entry → List Finding → Type 0
-IsReport program findings = report.IsReport (BrokenAt program) findings

@@ -1,5 +1,4 @@
 pub mod Attributes
-pub mod Bearers
 pub mod Breaks
 pub mod Broken
 pub mod Compounds

@@ -3,7 +3,8 @@ ghost use Rattle.std.specs.List.{Any};
 ghost use Rattle.std.specs.Option.{option_copied};
 ghost use Rattle.ipdl_base.specs.declared.finding.Place.{Place as ThePlace};
 ghost use Rattle.findings.specs.Adds.{Adds};
-ghost use Rattle.type_rules.specs.Declarations.{Declaration as TheDeclaration, declarations, of_protocol, Repeats, IsTypeWord, TakesTypeWord, IsRepeatedDeclaration};
+ghost use Rattle.type_rules.specs.Declarations.{Declaration as TheDeclaration, declarations, of_protocol};
+ghost use Rattle.type_rules.specs.Declarations.{Repeats, IsTypeWord, TakesTypeWord, IsRepeatedDeclaration};
 ghost use Rattle.type_rules.specs.Firsts.{told, IsBefore, StandsBefore, IsEarlier, FirstsAre, IsRepeatedAmong};
 
 use ipdl_base::{Builtin, Finding, Place, Rule, short_name};
@@ -24,7 +25,8 @@ type Firsts<'p> = HashMap<&'p [u8], Place>;
 
 /// Lists the usings of a file.
 fn list_usings<'p>(usings: &'p [Using], all: &mut Vec<Declaration<'p>>) -> Result<(), AllocError>
-    ensures { OnOk result (map told all.new.items ≡ map told all.old.items ++ map (λ u. record { full = u.full; place = u.place; is_using = true }) usings.now) }
+    ensures { OnOk result (map told all.new.items
+        ≡ map told all.old.items ++ map (λ u. record { full = u.full; place = u.place; is_using = true }) usings.now) }
 {
     for item in usings {
         all.push(Declaration {
@@ -41,7 +43,8 @@ fn list_structs<'p>(
     structs: &'p [StructDecl],
     all: &mut Vec<Declaration<'p>>,
 ) -> Result<(), AllocError>
-    ensures { OnOk result (map told all.new.items ≡ map told all.old.items ++ map (λ s. record { full = s.full; place = s.place; is_using = false }) structs.now) }
+    ensures { OnOk result (map told all.new.items
+        ≡ map told all.old.items ++ map (λ s. record { full = s.full; place = s.place; is_using = false }) structs.now) }
 {
     for item in structs {
         all.push(Declaration {
@@ -58,7 +61,8 @@ fn list_unions<'p>(
     unions: &'p [UnionDecl],
     all: &mut Vec<Declaration<'p>>,
 ) -> Result<(), AllocError>
-    ensures { OnOk result (map told all.new.items ≡ map told all.old.items ++ map (λ u. record { full = u.full; place = u.place; is_using = false }) unions.now) }
+    ensures { OnOk result (map told all.new.items
+        ≡ map told all.old.items ++ map (λ u. record { full = u.full; place = u.place; is_using = false }) unions.now) }
 {
     for item in unions {
         all.push(Declaration {
@@ -106,7 +110,8 @@ fn is_before(one: Place, other: Place) -> bool
 
 /// The first of a place and another, where there is another.
 fn first_of(place: Place, other: Option<&Place>) -> Place
-    ensures { (later : ThePlace) → IsBefore result later ↔ (IsBefore place later ⊎ IsSomeAnd (option_copied other.entry) (λ there. IsBefore there later)) }
+    ensures { (later : ThePlace) → IsBefore result later
+        ↔ (IsBefore place later ⊎ IsSomeAnd (option_copied other.entry) (λ there. IsBefore there later)) }
 {
     match other {
         None => place,
@@ -209,7 +214,8 @@ fn add_repeated_among(
     found: &mut Vec<Finding>,
 ) -> Result<(), AllocError>
     ensures { OnOk result ((all : List TheDeclaration) → FirstsAre false all any.now → FirstsAre true all own.now
-        → Adds Rule.REPEATED_DECLARATION (λ place. Any (λ d. IsRepeatedAmong all (told d) × (d.place ≡ place)) these.now) found.old.items found.new.items) }
+        → Adds Rule.REPEATED_DECLARATION (λ place. Any (λ d. IsRepeatedAmong all (told d) × (d.place ≡ place)) these.now)
+        found.old.items found.new.items) }
 {
     for declaration in these {
         if is_repeated(any, own, declaration) {
@@ -228,7 +234,8 @@ fn add_repeated_of(
     all: &[Declaration<'_>],
     found: &mut Vec<Finding>,
 ) -> Result<(), AllocError>
-    ensures { OnOk result (Adds Rule.REPEATED_DECLARATION (λ place. Any (λ d. IsRepeatedAmong (map told all.now) (told d) × (d.place ≡ place)) all.now) found.old.items found.new.items) }
+    ensures { OnOk result (Adds Rule.REPEATED_DECLARATION
+        (λ place. Any (λ d. IsRepeatedAmong (map told all.now) (told d) × (d.place ≡ place)) all.now) found.old.items found.new.items) }
 {
     let any = firsts_of(alloc, false, all)?;
     let own = firsts_of(alloc, true, all)?;
@@ -237,7 +244,8 @@ fn add_repeated_of(
 
 /// The same for a file.
 fn add_repeated_in(alloc: Global, unit: &Unit, found: &mut Vec<Finding>) -> Result<(), AllocError>
-    ensures { OnOk result (Adds Rule.REPEATED_DECLARATION (λ place. Any (λ d. IsRepeatedAmong (declarations unit.now) d × (d.place ≡ place)) (declarations unit.now)) found.old.items found.new.items) }
+    ensures { OnOk result (Adds Rule.REPEATED_DECLARATION
+        (λ place. Any (λ d. IsRepeatedAmong (declarations unit.now) d × (d.place ≡ place)) (declarations unit.now)) found.old.items found.new.items) }
 {
     let mut all = Vec::new(alloc);
     list_declarations(unit, &mut all)?;

@@ -11,4 +11,4 @@ mod report;
 mod undefined;
 mod written;
 
-pub use report::type_findings;
+pub use report::add_of_types;

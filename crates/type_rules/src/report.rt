@@ -1,45 +1,33 @@
-ghost use Rattle.std.specs.Prelude.{◌≡◌, ◌≤◌, ◌↔◌, length, IfOk};
-ghost use Rattle.std.specs.List.{Contains};
-ghost use Rattle.ipdl_base.specs.declared.finding.Finding.{Finding};
-ghost use Rattle.type_rules.specs.Broken.{BrokenAt, IsReport};
+ghost use Rattle.std.specs.Prelude.{◌≡◌, ◌≤◌, length, OnOk};
+ghost use Rattle.findings.specs.Gains.{Gains};
+ghost use Rattle.type_rules.specs.Broken.{BrokenAt};
 
 use crate::attributes::add_bad_attributes;
 use crate::declarations::add_repeated_declarations;
 use crate::fields::add_repeated_fields;
 use crate::undefined::add_undefined_types;
 use crate::written::add_broken_types;
-use findings::sort_findings;
-use ipdl_base::{Finding, Findings};
-use ipdl_syntax::{Entry, Program};
+use ipdl_base::Finding;
+use ipdl_syntax::Program;
 use name_table::Names;
 use std::alloc::{AllocError, Global};
 
-/// All findings that hold of the program, in some order.
-fn gathered(alloc: Global, program: &[Entry], names: &Names<'_>) -> Result<Vec<Finding>, AllocError>
-    requires few { length program.now ≤ 4096 }
-    requires of_program { names.now ≡ program.now }
-    ensures { IfOk result (λ found. (f : Finding) → Contains found.items f ↔ BrokenAt program.now f) }
-{
-    let mut found = Vec::new(alloc);
-    add_broken_types(program, names, &mut found)?;
-    add_undefined_types(alloc, program, names, &mut found)?;
-    add_repeated_declarations(alloc, program, &mut found)?;
-    add_repeated_fields(alloc, program, &mut found)?;
-    add_bad_attributes(alloc, program, &mut found)?;
-    Ok(found)
-}
-
-/// The report of a program: the rules B1 to B7 that it breaks, each once, in the order of their
-/// places (docs/types.md). The names are those of the program. The only error is want of memory.
-pub fn type_findings(
+/// Adds the findings of the rules B1 to B7 that a program breaks (docs/types.md), in some order. The
+/// names are those of the program. The only error is want of memory.
+pub fn add_of_types(
     alloc: Global,
     program: &Program,
     names: &Names<'_>,
-) -> Result<Findings, AllocError>
+    found: &mut Vec<Finding>,
+) -> Result<(), AllocError>
     requires few { length program.now ≤ 4096 }
     requires of_program { names.now ≡ program.now }
-    ensures { IfOk result (IsReport program.now) }
+    ensures { OnOk result (Gains (BrokenAt program.now) found.old.items found.new.items) }
 {
-    let found = gathered(alloc, program.as_slice(), names)?;
-    Ok(sort_findings(found))
+    let program = program.as_slice();
+    add_broken_types(alloc, program, names, found)?;
+    add_undefined_types(alloc, program, names, found)?;
+    add_repeated_declarations(alloc, program, found)?;
+    add_repeated_fields(alloc, program, found)?;
+    add_bad_attributes(alloc, program, found)
 }

@@ -27,7 +27,9 @@ fn add_unmarked(
     marks: &[bool],
     found: &mut Vec<Finding>,
 ) -> Result<(), AllocError>
-    ensures { OnOk result (Gains (λ f. AtSome (λ k c. (f.rule ≡ Rule.UNDEFINED_TYPE) × (¬ (slice_get marks.now k ≡ Some true)) × (place_of (told c) ≡ f.place)) all.now) found.old.items found.new.items) }
+    ensures { OnOk result (Gains
+        (λ f. AtSome (λ k c. (f.rule ≡ Rule.UNDEFINED_TYPE) × (¬ (slice_get marks.now k ≡ Some true)) × (place_of (told c) ≡ f.place)) all.now)
+        found.old.items found.new.items) }
 {
     for (number, compound) in all.iter().enumerate() {
         if !is_marked(marks, number) {

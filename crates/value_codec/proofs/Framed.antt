@@ -14,7 +14,7 @@ use Rattle.value_codec.specs.declared.decoding.Decoded.{Decoded}
 use Rattle.value_codec.specs.declared.decoding.Decoded.TheVariants.{Frame, Short, Bad, NoMemory}
 use Rattle.value_codec.specs.declared.fault.Fault.{Fault}
 use Rattle.value_codec.specs.declared.header.Header.{Header}
-use Rattle.value_codec.specs.declared.rules.TheConstants.{BAD_MARK, PAYLOAD_TOO_LARGE, BAD_FLAGS, BAD_FIELD}
+use Rattle.ipdl_base.specs.declared.finding.TheConstants.Rule as rule
 use Rattle.value_codec.specs.Decoding.{whole_size, payload_in, contents_of_type, contents_behind, contents, message_from, with_contents, behind_sound_header, behind_header, begins, Yields, IsShort, FrameFault, FrameBegins, IsTrueOf, HasFitting, IsFrame, IsShortBy, IsBadAt}
 use Rattle.value_codec.specs.Frames.{FrameType, header_size, header_in, header_of, has_mark, type_of, are_flags, is_route, is_seq, is_transaction, type_fault, fault_of_type, fields_fault, behind_mark, header_fault}
 use Rattle.value_codec.specs.Spelling.{mark_of, fields_bytes, payload_bytes, body_flags, frame_bytes, FrameOf}
@@ -53,10 +53,10 @@ record IsUnbroken (layout : Layout) (schema : Schema) (bytes : List ℕ) (type :
 
 unbroken_type : (h : Header) (type : FrameType) → type_fault h type ≡ None → AreOfType h type
 unbroken_type h type e =
-    let flags = else_none (not (are_flags type h.flags)) (12, BAD_FLAGS) _ e in
-    let route = else_none (not (is_route type h.route)) (4, BAD_FIELD) _ flags.1 in
-    let seq = else_none (not (is_seq type h.seq)) (16, BAD_FIELD) _ route.1 in
-    let transaction = else_none (not (is_transaction type h.transaction)) (20, BAD_FIELD) None seq.1 in
+    let flags = else_none (not (are_flags type h.flags)) (12, (rule.BAD_FLAGS).number) _ e in
+    let route = else_none (not (is_route type h.route)) (4, (rule.BAD_FIELD).number) _ flags.1 in
+    let seq = else_none (not (is_seq type h.seq)) (16, (rule.BAD_FIELD).number) _ route.1 in
+    let transaction = else_none (not (is_transaction type h.transaction)) (20, (rule.BAD_FIELD).number) None seq.1 in
     record { flags = not_false _ flags.0; route = not_false _ route.0; seq = not_false _ seq.0; transaction = not_false _ transaction.0 }
 
 some_type : (h : Header) (o : Option FrameType) → fault_of_type h o ≡ None → (type : FrameType) × (o ≡ Some type) × AreOfType h type
@@ -66,15 +66,15 @@ some_type h (Some type) e = (type, refl, unbroken_type h type e)
 unbroken : (layout : Layout) (schema : Schema) (bytes : List ℕ) → header_fault layout schema bytes ≡ None → (type : FrameType) × IsUnbroken layout schema bytes type
 unbroken layout schema bytes e =
     let h = header_of layout bytes in
-    let mark = then_none (has_mark layout bytes) (behind_mark layout (fields_fault layout schema h)) (0, BAD_MARK) e in
+    let mark = then_none (has_mark layout bytes) (behind_mark layout (fields_fault layout schema h)) (0, (rule.BAD_MARK).number) e in
     let fields = behind_none layout (fields_fault layout schema h) mark.1 in
-    let small = else_none (ltb layout.most_payload h.size) (0, PAYLOAD_TOO_LARGE) (fault_of_type h (type_of schema h.number)) fields in
+    let small = else_none (ltb layout.most_payload h.size) (0, (rule.LARGE_PAYLOAD).number) (fault_of_type h (type_of schema h.number)) fields in
     let found = some_type h (type_of schema h.number) small.1 in
     (found.0, record { mark = mark.0; small = ltb-false layout.most_payload h.size small.0; of = found.1; are = found.2 })
 
 no_type_fault : (h : Header) (type : FrameType) → AreOfType h type → type_fault h type ≡ None
 no_type_fault h type are =
-    (λ i. cond (not (are.flags i)) (Some (12, BAD_FLAGS)) (cond (not (are.route i)) (Some (4, BAD_FIELD)) (cond (not (are.seq i)) (Some (16, BAD_FIELD)) (cond (not (are.transaction i)) (Some (20, BAD_FIELD)) None))))
+    (λ i. cond (not (are.flags i)) (Some (12, (rule.BAD_FLAGS).number)) (cond (not (are.route i)) (Some (4, (rule.BAD_FIELD).number)) (cond (not (are.seq i)) (Some (16, (rule.BAD_FIELD).number)) (cond (not (are.transaction i)) (Some (20, (rule.BAD_FIELD).number)) None))))
 
 -- What is read is spelled so
 
@@ -207,8 +207,8 @@ frame_again layout schema m rest sound small fits frame =
     let header_is : header_of layout bytes ≡ h = ap header_in behind ∙ header_again h (payload ++ rest) h_fits in
     let has : has_mark layout bytes ≡ true = subst (λ (xs : List ℕ). has_mark layout xs ≡ true) (sym marked) (mark_again layout (fields ++ (payload ++ rest))) in
     let are : AreOfType h s.type = record { flags = s.flags; route = s.route; seq = s.seq; transaction = s.transaction } in
-    let fields_ok : fields_fault layout schema h ≡ None = (λ i. cond (le-ltb layout.most_payload (length payload) few i) (Some (0, PAYLOAD_TOO_LARGE)) (fault_of_type h (s.of i))) ∙ no_type_fault h s.type are in
-    let header_ok : header_fault layout schema bytes ≡ None = (λ i. cond (has i) (behind_mark layout (fields_fault layout schema (header_is i))) (Some (0, BAD_MARK))) ∙ ap (behind_mark layout) fields_ok in
+    let fields_ok : fields_fault layout schema h ≡ None = (λ i. cond (le-ltb layout.most_payload (length payload) few i) (Some (0, (rule.LARGE_PAYLOAD).number)) (fault_of_type h (s.of i))) ∙ no_type_fault h s.type are in
+    let header_ok : header_fault layout schema bytes ≡ None = (λ i. cond (has i) (behind_mark layout (fields_fault layout schema (header_is i))) (Some (0, (rule.BAD_MARK).number))) ∙ ap (behind_mark layout) fields_ok in
     let size : length bytes ≡ (header_size layout + length payload) + length rest = ap length whole ∙ length-append (mark ++ fields) (payload ++ rest) ∙ (λ i. front i + length-append payload rest i) ∙ omega arith in
     let long : ltb (length bytes) (header_size layout) ≡ false = le-ltb (length bytes) (header_size layout) (omega (arith, size)) in
     let there : ltb (length bytes) (whole_size layout h) ≡ false = le-ltb (length bytes) (whole_size layout h) (omega (arith, size)) in

@@ -12,7 +12,7 @@ use Rattle.byteorder.specs.Numbers.{little_from-lt, little_number-reads_back}
 use Rattle.value_types.specs.declared.layout.Layout.{Layout}
 use Rattle.value_types.specs.Sizes.{padding}
 use Rattle.value_codec.specs.declared.fault.Fault.{Fault}
-use Rattle.value_codec.specs.declared.rules.TheConstants.{BAD_TAG, BAD_TEXT, BAD_VALUE}
+use Rattle.ipdl_base.specs.declared.finding.TheConstants.Rule as rule
 use Rattle.value_codec.specs.Reading.{◌>>=◌, at, short, zeros, word_at, field_at, flag_at, struct_at, may_stand, counted_at, is_id, id_at}
 use Rattle.value_codec.specs.Spelling.{part, word, signed_word, truth_byte, struct_byte, counted}
 use Rattle.value_codec.proofs.LittleEndian.{IsBytes, bytes_back}
@@ -177,7 +177,7 @@ pub struct_takes : (layout : Layout) (bytes rest : List ℕ) → IsBytes bytes �
 unfolding struct_at
 struct_takes layout [] rest fits e = absurd cc
 struct_takes layout (b ∷ bytes) rest fits e =
-    let g = then_ok (eqb b struct_byte) (at BAD_TAG (b ∷ bytes)) (zeros (padding layout 1) bytes) rest e in
+    let g = then_ok (eqb b struct_byte) (at rule.BAD_TAG (b ∷ bytes)) (zeros (padding layout 1) bytes) rest e in
     let z = zeros_takes (padding layout 1) bytes rest (λ i. fits (suc i)) g.1 in
     part_takes layout (b ∷ bytes) (struct_byte ∷ []) bytes rest (ap (λ (c : ℕ). c ∷ bytes) (eqb-true b struct_byte g.0)) z
 
@@ -190,13 +190,13 @@ struct_again layout rest = zeros_again (padding layout 1) rest
 pub counted_takes : (layout : Layout) (wants_text : Bool) (bytes text rest : List ℕ) → IsBytes bytes → counted_at layout wants_text bytes ≡ Ok (text, rest) → Takes bytes (counted layout text) rest × (may_stand wants_text text ≡ true)
 unfolding counted_at
 counted_takes layout wants_text bytes text rest fits e =
-    let b = bind_ok (word_at bytes) (λ n. cond (ltb (length n.1) n.0) (Err short) (cond (may_stand wants_text (take n.0 n.1)) (zeros (padding layout (4 + n.0)) (drop n.0 n.1) >>= λ r. Ok (take n.0 n.1, r)) (Err (at BAD_TEXT n.1)))) (text, rest) e in
+    let b = bind_ok (word_at bytes) (λ n. cond (ltb (length n.1) n.0) (Err short) (cond (may_stand wants_text (take n.0 n.1)) (zeros (padding layout (4 + n.0)) (drop n.0 n.1) >>= λ r. Ok (take n.0 n.1, r)) (Err (at rule.BAD_TEXT n.1)))) (text, rest) e in
     let n = b.0.0 in
     let behind = b.0.1 in
     let w = word_takes bytes n behind fits b.1 in
-    let g = else_ok (ltb (length behind) n) short (cond (may_stand wants_text (take n behind)) (zeros (padding layout (4 + n)) (drop n behind) >>= λ r. Ok (take n behind, r)) (Err (at BAD_TEXT behind))) (text, rest) b.2 in
+    let g = else_ok (ltb (length behind) n) short (cond (may_stand wants_text (take n behind)) (zeros (padding layout (4 + n)) (drop n behind) >>= λ r. Ok (take n behind, r)) (Err (at rule.BAD_TEXT behind))) (text, rest) b.2 in
     let long : n ≤ length behind = ltb-false _ _ g.0 in
-    let t = then_ok (may_stand wants_text (take n behind)) (at BAD_TEXT behind) (zeros (padding layout (4 + n)) (drop n behind) >>= λ r. Ok (take n behind, r)) (text, rest) g.1 in
+    let t = then_ok (may_stand wants_text (take n behind)) (at rule.BAD_TEXT behind) (zeros (padding layout (4 + n)) (drop n behind) >>= λ r. Ok (take n behind, r)) (text, rest) g.1 in
     let d = bind_ok (zeros (padding layout (4 + n)) (drop n behind)) (λ r. Ok (take n behind, r)) (text, rest) t.1 in
     let size : length (take n behind) ≡ n = omega (arith, length-take n behind) in
     let back : n ≡ length (take n behind) = omega (arith, size) in
@@ -214,7 +214,7 @@ counted_takes layout wants_text bytes text rest fits e =
 
 abbrev counted_behind : Layout → Bool → ℕ → List ℕ → Result (List ℕ × List ℕ) Fault
 counted_behind layout wants_text n behind =
-    cond (ltb (length behind) n) (Err short) (cond (may_stand wants_text (take n behind)) (zeros (padding layout (4 + n)) (drop n behind) >>= λ r. Ok (take n behind, r)) (Err (at BAD_TEXT behind)))
+    cond (ltb (length behind) n) (Err short) (cond (may_stand wants_text (take n behind)) (zeros (padding layout (4 + n)) (drop n behind) >>= λ r. Ok (take n behind, r)) (Err (at rule.BAD_TEXT behind)))
 
 pub counted_again : (layout : Layout) (wants_text : Bool) (text rest : List ℕ) → length text < 2 ^ 32 → may_stand wants_text text ≡ true → counted_at layout wants_text (counted layout text ++ rest) ≡ Ok (text, rest)
 unfolding counted_at
@@ -231,8 +231,8 @@ counted_again layout wants_text text rest small stands =
     let again : zeros (padding layout (4 + n)) behind ≡ Ok rest = subst (λ (m : ℕ). zeros (padding layout m) behind ≡ Ok rest) front_size (zeros_again (padding layout (length front)) rest) in
     ap (counted_at layout wants_text) regrouped
     ∙ ap (λ (w : Result (ℕ × List ℕ) Fault). w >>= λ x. counted_behind layout wants_text x.0 x.1) first
-    ∙ (λ i. cond (long i) (Err short) (cond (may_stand wants_text (taken i)) (zeros (padding layout (4 + n)) (dropped i) >>= λ r. Ok (taken i, r)) (Err (at BAD_TEXT (text ++ behind)))))
-    ∙ (λ i. cond (stands i) (again i >>= λ r. Ok (text, r)) (Err (at BAD_TEXT (text ++ behind))))
+    ∙ (λ i. cond (long i) (Err short) (cond (may_stand wants_text (taken i)) (zeros (padding layout (4 + n)) (dropped i) >>= λ r. Ok (taken i, r)) (Err (at rule.BAD_TEXT (text ++ behind)))))
+    ∙ (λ i. cond (stands i) (again i >>= λ r. Ok (text, r)) (Err (at rule.BAD_TEXT (text ++ behind))))
 
 -- Ids
 
@@ -244,11 +244,11 @@ pub record TakesId (nullable : Bool) (bytes : List ℕ) (id : ℤ) (rest : List 
 pub id_takes : (nullable : Bool) (bytes : List ℕ) (id : ℤ) (rest : List ℕ) → IsBytes bytes → id_at nullable bytes ≡ Ok (id, rest) → TakesId nullable bytes id rest
 unfolding id_at
 id_takes nullable bytes id rest fits e =
-    let b = bind_ok (word_at bytes) (λ n. cond (is_id nullable (cast_signed w32 n.0)) (Ok (cast_signed w32 n.0, n.1)) (Err (at BAD_VALUE bytes))) (id, rest) e in
+    let b = bind_ok (word_at bytes) (λ n. cond (is_id nullable (cast_signed w32 n.0)) (Ok (cast_signed w32 n.0, n.1)) (Err (at rule.BAD_VALUE bytes))) (id, rest) e in
     let n = b.0.0 in
     let behind = b.0.1 in
     let w = word_takes bytes n behind fits b.1 in
-    let t = then_ok (is_id nullable (cast_signed w32 n)) (at BAD_VALUE bytes) (Ok (cast_signed w32 n, behind)) (id, rest) b.2 in
+    let t = then_ok (is_id nullable (cast_signed w32 n)) (at rule.BAD_VALUE bytes) (Ok (cast_signed w32 n, behind)) (id, rest) b.2 in
     let same : word n ≡ signed_word (cast_signed w32 n) = ap word (sym (of_z-to_z w32 n w.1)) in
     let found : TakesId nullable bytes (cast_signed w32 n) behind = record { takes = subst (λ (xs : List ℕ). Takes bytes xs behind) same w.0; allowed = t.0; fits = word_fits n w.1 } in
     moved (λ (z : ℤ) (r : List ℕ). TakesId nullable bytes z r) (cast_signed w32 n) behind id rest t.1 found
@@ -258,6 +258,6 @@ unfolding id_at
 id_again nullable id rest fits allowed =
     let bytes : List ℕ = signed_word id ++ rest in
     let same : cast_signed w32 (cast_unsigned w32 id) ≡ id = to_z-of_z w32 id fits in
-    ap (λ (w : Result (ℕ × List ℕ) Fault). w >>= λ n. cond (is_id nullable (cast_signed w32 n.0)) (Ok (cast_signed w32 n.0, n.1)) (Err (at BAD_VALUE bytes))) (word_again (cast_unsigned w32 id) rest (unsigned_small id fits))
-    ∙ (λ i. cond (is_id nullable (same i)) (Ok (same i, rest)) (Err (at BAD_VALUE bytes)))
-    ∙ (λ i. cond (allowed i) (Ok (id, rest)) (Err (at BAD_VALUE bytes)))
+    ap (λ (w : Result (ℕ × List ℕ) Fault). w >>= λ n. cond (is_id nullable (cast_signed w32 n.0)) (Ok (cast_signed w32 n.0, n.1)) (Err (at rule.BAD_VALUE bytes))) (word_again (cast_unsigned w32 id) rest (unsigned_small id fits))
+    ∙ (λ i. cond (is_id nullable (same i)) (Ok (same i, rest)) (Err (at rule.BAD_VALUE bytes)))
+    ∙ (λ i. cond (allowed i) (Ok (id, rest)) (Err (at rule.BAD_VALUE bytes)))

@@ -3,6 +3,7 @@ use Rattle.std.specs.Prelude.{ℕ, ◌+◌, ◌==◌, ◌||◌, not, nat_lt, int
 use Rattle.std.specs.Int.{w32, cast_signed}
 use Rattle.std.specs.Ordering.{int_eq}
 use Rattle.byteorder.specs.Endian.{little_number}
+use Rattle.ipdl_base.specs.declared.finding.TheConstants.Rule as rule
 use Rattle.ipdl_base.specs.declared.kinds.Reason.{Reason}
 use Rattle.ipdl_base.specs.declared.kinds.Reason.TheVariants.{HandlerRejected, ActorDestroyed, ResolverDestroyed}
 use Rattle.ipdl_base.specs.declared.kinds.Semantics.{Semantics}
@@ -21,7 +22,6 @@ use Rattle.value_codec.specs.declared.fault.Fault.{Fault}
 use Rattle.value_codec.specs.declared.header.Header.{Header}
 use Rattle.value_codec.specs.declared.header.FrameType.{FrameType as FrameTypeRead}
 use Rattle.value_codec.specs.declared.header.FrameType.TheVariants as read
-use Rattle.value_codec.specs.declared.rules.TheConstants.{BAD_MARK, PAYLOAD_TOO_LARGE, UNKNOWN_TYPE, BAD_FLAGS, BAD_FIELD, PAYLOAD_TOO_LONG, BAD_VALUE}
 use Rattle.value_codec.specs.Reading.{◌>>=◌, at, short, zeros, id_at, Inside, values_at, value_at}
 use Rattle.value_codec.specs.Spelling.{mark_of, request_flags, reply_flags, fault_flags}
 
@@ -100,17 +100,17 @@ is_transaction (reply row) transaction = has_transaction row.semantics transacti
 -- The first rule that a header breaks, with its offset behind the mark.
 abbrev pub type_fault : Header → FrameType → Option (ℕ × ℕ)
 type_fault header type =
-    if not (are_flags type header.flags) then Some (12, BAD_FLAGS) else
-    (if not (is_route type header.route) then Some (4, BAD_FIELD) else
-    (if not (is_seq type header.seq) then Some (16, BAD_FIELD) else
-    (if not (is_transaction type header.transaction) then Some (20, BAD_FIELD) else None)))
+    if not (are_flags type header.flags) then Some (12, (rule.BAD_FLAGS).number) else
+    (if not (is_route type header.route) then Some (4, (rule.BAD_FIELD).number) else
+    (if not (is_seq type header.seq) then Some (16, (rule.BAD_FIELD).number) else
+    (if not (is_transaction type header.transaction) then Some (20, (rule.BAD_FIELD).number) else None)))
 
 abbrev pub fault_of_type : Header → Option FrameType → Option (ℕ × ℕ)
-fault_of_type header None = Some (8, UNKNOWN_TYPE)
+fault_of_type header None = Some (8, (rule.UNKNOWN_FRAME_TYPE).number)
 fault_of_type header (Some type) = type_fault header type
 
 abbrev pub fields_fault : Layout → Schema → Header → Option (ℕ × ℕ)
-fields_fault layout schema header = if nat_lt layout.most_payload header.size then Some (0, PAYLOAD_TOO_LARGE) else fault_of_type header (type_of schema header.number)
+fields_fault layout schema header = if nat_lt layout.most_payload header.size then Some (0, (rule.LARGE_PAYLOAD).number) else fault_of_type header (type_of schema header.number)
 
 -- behind a mark every offset is greater by its length
 abbrev pub behind_mark : Layout → Option (ℕ × ℕ) → Option (ℕ × ℕ)
@@ -119,14 +119,14 @@ behind_mark layout (Some (offset, rule)) = Some (length (mark_of layout) + offse
 
 -- the first rule that a whole header breaks, with its offset in the frame
 abbrev pub header_fault : Layout → Schema → List ℕ → Option (ℕ × ℕ)
-header_fault layout schema bytes = if has_mark layout bytes then behind_mark layout (fields_fault layout schema (header_of layout bytes)) else Some (0, BAD_MARK)
+header_fault layout schema bytes = if has_mark layout bytes then behind_mark layout (fields_fault layout schema (header_of layout bytes)) else Some (0, (rule.BAD_MARK).number)
 
 -- Payloads
 
 -- what a payload says, where nothing is left behind it: the id of a new actor, and the body
 unfoldable pub ended : ℤ → Body → List ℕ → Result (ℤ × Body) Fault
 ended made body [] = Ok (made, body)
-ended made body (b ∷ bytes) = Err (at PAYLOAD_TOO_LONG (b ∷ bytes))
+ended made body (b ∷ bytes) = Err (at rule.LONG_PAYLOAD (b ∷ bytes))
 
 -- the id of the actor that a constructor makes; of another message 0, which takes no bytes
 unfoldable pub made_at : Kind → List ℕ → Result (ℤ × List ℕ) Fault
@@ -143,7 +143,7 @@ abbrev pub reason_of : Semantics → ℕ → Option Reason
 reason_of semantics b = if b == 3 then Some HandlerRejected else (if b == 4 then Some ActorDestroyed else (if b == 5 then resolver_reason semantics else None))
 
 unfoldable pub reason_in : Layout → Option Reason → List ℕ → List ℕ → Result (Reason × List ℕ) Fault
-reason_in layout None bytes rest = Err (at BAD_VALUE bytes)
+reason_in layout None bytes rest = Err (at rule.BAD_VALUE bytes)
 reason_in layout (Some reason) bytes rest = zeros (padding layout 1) rest >>= λ behind. Ok (reason, behind)
 
 unfoldable pub reason_at : Layout → Semantics → List ℕ → Result (Reason × List ℕ) Fault

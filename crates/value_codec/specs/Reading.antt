@@ -5,6 +5,8 @@ use Rattle.std.specs.Str.{is_utf8}
 use Rattle.byteorder.specs.Endian.{little_number, twos_complement}
 use Rattle.ipdl_base.specs.declared.builtin.Builtin.{Builtin as BuiltinType}
 use Rattle.ipdl_base.specs.declared.builtin.Builtin.TheVariants as builtin
+use Rattle.ipdl_base.specs.declared.finding.Rule.{Rule}
+use Rattle.ipdl_base.specs.declared.finding.TheConstants.Rule as rule
 use Rattle.ipdl_base.specs.declared.schema.ParamRow.{ParamRow}
 use Rattle.ipdl_base.specs.declared.schema.Schema.{Schema}
 use Rattle.ipdl_base.specs.declared.schema.Shape.{Shape, Builtin, Using, Actor, Named, Array', Maybe', Unique', Endpoint}
@@ -21,7 +23,6 @@ use Rattle.value_types.specs.Sizes.{padding}
 use Rattle.value_codec.specs.declared.fault.Fault.{Fault}
 use Rattle.value_codec.specs.declared.fault.Refusal.{Refusal}
 use Rattle.value_codec.specs.declared.fault.Refusal.TheVariants as refusal
-use Rattle.value_codec.specs.declared.rules.TheConstants.{BAD_TAG, BAD_TEXT, PAYLOAD_TOO_SHORT, BAD_VALUE, BAD_PADDING}
 use Rattle.value_codec.specs.Spelling.{struct_byte}
 
 -- a step, and what is done with what it gives
@@ -40,19 +41,19 @@ Gives view (Ok x) read = read ≡ Ok (view x)
 Gives view (Err e) read = Fails e read
 
 -- a rule that is broken at the first of the bytes
-abbrev pub at : ℕ → List ℕ → Fault
-at rule bytes = record { rule = rule; left = length bytes }
+abbrev pub at : Rule → List ℕ → Fault
+at broken bytes = record { rule = broken.number; left = length bytes }
 
 -- a byte is wanted where none is left
 abbrev pub short : Fault
-short = at PAYLOAD_TOO_SHORT []
+short = at rule.SHORT_PAYLOAD []
 
 -- so many zeros: the bytes behind them
 unfoldable pub zeros : ℕ → List ℕ → Result (List ℕ) Fault
 zeros zero bytes = Ok bytes
 zeros (suc n) [] = Err short
 zeros (suc n) (zero ∷ bytes) = zeros n bytes
-zeros (suc n) (suc b ∷ bytes) = Err (at BAD_PADDING (suc b ∷ bytes))
+zeros (suc n) (suc b ∷ bytes) = Err (at rule.BAD_PADDING (suc b ∷ bytes))
 
 -- a number in four bytes
 abbrev pub word_at : List ℕ → Result (ℕ × List ℕ) Fault
@@ -69,12 +70,12 @@ unfoldable pub flag_at : Layout → List ℕ → Result (Bool × List ℕ) Fault
 flag_at layout [] = Err short
 flag_at layout (zero ∷ bytes) = zeros (padding layout 1) bytes >>= λ rest. Ok (false, rest)
 flag_at layout (suc zero ∷ bytes) = zeros (padding layout 1) bytes >>= λ rest. Ok (true, rest)
-flag_at layout (suc (suc b) ∷ bytes) = Err (at BAD_TAG (suc (suc b) ∷ bytes))
+flag_at layout (suc (suc b) ∷ bytes) = Err (at rule.BAD_TAG (suc (suc b) ∷ bytes))
 
 -- the byte in front of a struct
 unfoldable pub struct_at : Layout → List ℕ → Result (List ℕ) Fault
 struct_at layout [] = Err short
-struct_at layout (b ∷ bytes) = if b == struct_byte then zeros (padding layout 1) bytes else Err (at BAD_TAG (b ∷ bytes))
+struct_at layout (b ∷ bytes) = if b == struct_byte then zeros (padding layout 1) bytes else Err (at rule.BAD_TAG (b ∷ bytes))
 
 -- bytes may stand where text may be wanted
 abbrev pub may_stand : Bool → List ℕ → Bool
@@ -87,7 +88,7 @@ counted_at layout wants_text bytes = do
   if nat_lt (length n.1) n.0 then Err short else
       (if may_stand wants_text (take n.0 n.1) then
       (zeros (padding layout (4 + n.0)) (drop n.0 n.1) >>= λ rest. Ok (take n.0 n.1, rest))
-      else Err (at BAD_TEXT n.1))
+      else Err (at rule.BAD_TEXT n.1))
 
 -- an id may be that of an actor: it is positive, or 0 where null may stand
 abbrev pub is_id : Bool → ℤ → Bool
@@ -98,7 +99,7 @@ is_id nullable (negsuc n) = false
 unfoldable pub id_at : Bool → List ℕ → Result (ℤ × List ℕ) Fault
 id_at nullable bytes = do
   n ← word_at bytes
-  if is_id nullable (cast_signed w32 n.0) then Ok (cast_signed w32 n.0, n.1) else Err (at BAD_VALUE bytes)
+  if is_id nullable (cast_signed w32 n.0) then Ok (cast_signed w32 n.0, n.1) else Err (at rule.BAD_VALUE bytes)
 
 -- what reading takes the bytes of a builtin for; those of a builtin that is not carried are none
 unfoldable pub flag_value_at : Layout → List ℕ → Result (Value × List ℕ) Fault
@@ -137,7 +138,7 @@ actor_at nullable bytes = do
   Ok (value.Actor id.0, id.1)
 
 abbrev pub not_carried : List ℕ → Result (Value × List ℕ) Fault
-not_carried bytes = Err (at BAD_VALUE bytes)
+not_carried bytes = Err (at rule.BAD_VALUE bytes)
 
 abbrev pub builtin_at : Layout → BuiltinType → List ℕ → Result (Value × List ℕ) Fault
 builtin_at layout builtin.Bool bytes = flag_value_at layout bytes
@@ -210,7 +211,7 @@ fields_at inside layout fields bytes = do
 
 -- the component with the index, which has to be there
 unfoldable pub component_at : Inside → Option Shape → ℕ → List ℕ → List ℕ → Result (Value × List ℕ) Fault
-component_at inside None index bytes rest = Err (at BAD_TAG bytes)
+component_at inside None index bytes rest = Err (at rule.BAD_TAG bytes)
 component_at inside (Some shape) index bytes rest = do
   held ← inside shape rest
   Ok (boxed.Union' index one_box held.0, held.1)

@@ -23,7 +23,7 @@ pub enum Decoded {
     /// Less than a frame: so many bytes are wanted to the end of the header or, where the header is
     /// there, to the end of the frame.
     Short(usize),
-    /// No frame: at this offset this rule (`rules`) is the first that is broken.
+    /// No frame: at this offset the rule on frames of this number (`Rule`) is the first that is broken.
     Bad(usize, u8),
     /// There was no memory for the message.
     NoMemory,

@@ -49,7 +49,8 @@ pub fn new_frame(alloc: Global, schema: &Schema, message: &Message) -> Result<Ve
     ensures frame { IfOk result (λ frame. frame.items ≡ frame_bytes NEW schema.now message.now) }
     ensures spelling { OnOk result (FrameOf NEW schema.now message.now (frame_bytes NEW schema.now message.now)) }
     ensures refused { IfErr result (λ fault. IsRefused NEW.most_payload (size.payload_size NEW schema.now message.now) fault) }
-    ensures large { let payload = size.payload_size NEW schema.now message.now in NEW.most_payload < payload → result ≡ Err (EncodeFault.TooLarge (min payload size.greatest_size)) }
+    ensures large { let payload = size.payload_size NEW schema.now message.now in NEW.most_payload < payload
+        → result ≡ Err (EncodeFault.TooLarge (min payload size.greatest_size)) }
 {
     let size = payload_size(schema, NEW, message);
     if size > NEW.most_payload {
@@ -72,7 +73,8 @@ pub fn encode(
     ensures frame { OnOk result (out.new.items ≡ out.old.items ++ frame_bytes NEW schema.now message.now) }
     ensures spelling { OnOk result (FrameOf NEW schema.now message.now (frame_bytes NEW schema.now message.now)) }
     ensures refused { IfErr result (λ fault. IsRefused NEW.most_payload (size.payload_size NEW schema.now message.now) fault) }
-    ensures large { let payload = size.payload_size NEW schema.now message.now in NEW.most_payload < payload → result ≡ Err (EncodeFault.TooLarge (min payload size.greatest_size)) }
+    ensures large { let payload = size.payload_size NEW schema.now message.now in NEW.most_payload < payload
+        → result ≡ Err (EncodeFault.TooLarge (min payload size.greatest_size)) }
     ensures unchanged { OnErr result (out.new.items ≡ out.old.items) }
 {
     let frame = new_frame(alloc, schema, message)?;

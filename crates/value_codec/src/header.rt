@@ -8,9 +8,8 @@ ghost use Rattle.value_codec.specs.Frames as frames;
 ghost use Rattle.value_codec.specs.Frames.{seen};
 ghost use Rattle.value_codec.specs.Spelling as spelling;
 
-use crate::rules::{BAD_FIELD, BAD_FLAGS, BAD_MARK, PAYLOAD_TOO_LARGE, UNKNOWN_TYPE};
 use byteorder::{ByteOrder, LittleEndian};
-use ipdl_base::{Compress, MessageRow, Schema, Semantics};
+use ipdl_base::{Compress, MessageRow, Rule, Schema, Semantics};
 use value_types::{Layout, MARK};
 
 /// The number of the type of a goodbye.
@@ -246,16 +245,16 @@ fn type_fault(header: &Header, frame_type: &FrameType) -> Option<(usize, u8)>
     ensures few { IfSome result (λ fault. fault.0 ≤ 20) }
 {
     if !are_flags(frame_type, header.flags) {
-        return Some((12, BAD_FLAGS));
+        return Some((12, Rule::BAD_FLAGS.number));
     }
     if !is_route(frame_type, header.route) {
-        return Some((4, BAD_FIELD));
+        return Some((4, Rule::BAD_FIELD.number));
     }
     if !is_seq(frame_type, header.seq) {
-        return Some((16, BAD_FIELD));
+        return Some((16, Rule::BAD_FIELD.number));
     }
     if !is_transaction(frame_type, header.transaction) {
-        return Some((20, BAD_FIELD));
+        return Some((20, Rule::BAD_FIELD.number));
     }
     None
 }
@@ -267,10 +266,10 @@ fn fields_fault(layout: Layout, schema: &Schema, header: &Header) -> Option<(usi
     ensures few { IfSome result (λ fault. fault.0 ≤ 20) }
 {
     if layout.most_payload < header.size as usize {
-        return Some((0, PAYLOAD_TOO_LARGE));
+        return Some((0, Rule::LARGE_PAYLOAD.number));
     }
     match frame_type(schema, header.number) {
-        None => Some((8, UNKNOWN_TYPE)),
+        None => Some((8, Rule::UNKNOWN_FRAME_TYPE.number)),
         Some(frame_type) => type_fault(header, &frame_type),
     }
 }
@@ -288,7 +287,7 @@ pub(crate) fn header_fault(
     ensures { result ≡ frames.header_fault layout schema.now bytes.now }
 {
     if !has_mark(layout, bytes) {
-        return Some((0, BAD_MARK));
+        return Some((0, Rule::BAD_MARK.number));
     }
     match fields_fault(layout, schema, header) {
         None => None,

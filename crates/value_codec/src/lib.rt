@@ -11,7 +11,6 @@ mod laws;
 mod parts;
 mod payload;
 mod reading;
-pub mod rules;
 mod values;
 mod writing;
 

@@ -10,9 +10,8 @@ use crate::fault::Refusal;
 use crate::header::{FrameType, reply_flags};
 use crate::parts::padding;
 use crate::reading::{broken, id, short, zeros};
-use crate::rules::{BAD_VALUE, PAYLOAD_TOO_LONG};
 use crate::values::values;
-use ipdl_base::{Body, Kind, MessageRow, ParamRow, Reason, Schema, Semantics};
+use ipdl_base::{Body, Kind, MessageRow, ParamRow, Reason, Rule, Schema, Semantics};
 use std::alloc::Global;
 use value_types::Layout;
 
@@ -23,7 +22,7 @@ fn ended(made: i32, body: Body, bytes: &[u8]) -> Result<(i32, Body), Refusal>
 {
     match bytes {
         [] => Ok((made, body)),
-        [_, ..] => Err(broken(PAYLOAD_TOO_LONG, bytes)),
+        [_, ..] => Err(broken(Rule::LONG_PAYLOAD, bytes)),
     }
 }
 
@@ -71,7 +70,7 @@ fn reason(layout: Layout, semantics: Semantics, bytes: &[u8]) -> Result<(Reason,
     match bytes {
         [] => Err(short()),
         [first, rest @ ..] => match reason_of(semantics, *first) {
-            None => Err(broken(BAD_VALUE, bytes)),
+            None => Err(broken(Rule::BAD_VALUE, bytes)),
             Some(reason) => {
                 let rest = zeros(padding(layout, 1), rest)?;
                 Ok((reason, rest))

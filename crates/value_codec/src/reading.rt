@@ -8,19 +8,19 @@ ghost use Rattle.value_codec.specs.Reading.{Gives};
 
 use crate::fault::{Fault, Refusal};
 use crate::parts::padding;
-use crate::rules::{BAD_PADDING, BAD_TAG, BAD_TEXT, BAD_VALUE, PAYLOAD_TOO_SHORT};
 use byteorder::{ByteOrder, LittleEndian};
+use ipdl_base::Rule;
 use value_types::Layout;
 
 /// The byte in front of a struct.
 pub(crate) const STRUCT_BYTE: u8 = 0x53;
 
 /// That a rule is broken at the first of the bytes.
-pub(crate) fn broken(rule: u8, bytes: &[u8]) -> Refusal
+pub(crate) fn broken(rule: Rule, bytes: &[u8]) -> Refusal
     ensures { result ≡ refusal.Broken (reading.at rule bytes.now) }
 {
     Refusal::Broken(Fault {
-        rule,
+        rule: rule.number,
         left: bytes.len(),
     })
 }
@@ -30,7 +30,7 @@ pub(crate) fn short() -> Refusal
     ensures { result ≡ refusal.Broken reading.short }
 {
     Refusal::Broken(Fault {
-        rule: PAYLOAD_TOO_SHORT,
+        rule: Rule::SHORT_PAYLOAD.number,
         left: 0,
     })
 }
@@ -46,7 +46,7 @@ pub(crate) fn zeros(count: usize, bytes: &[u8]) -> Result<&[u8], Refusal>
         match rest {
             [] => return Err(short()),
             [0, behind @ ..] => rest = behind,
-            [_, ..] => return Err(broken(BAD_PADDING, rest)),
+            [_, ..] => return Err(broken(Rule::BAD_PADDING, rest)),
         }
         left -= 1;
     }
@@ -92,7 +92,7 @@ pub(crate) fn flag(layout: Layout, bytes: &[u8]) -> Result<(bool, &[u8]), Refusa
             let rest = zeros(padding(layout, 1), rest)?;
             Ok((true, rest))
         }
-        [_, ..] => Err(broken(BAD_TAG, bytes)),
+        [_, ..] => Err(broken(Rule::BAD_TAG, bytes)),
     }
 }
 
@@ -104,7 +104,7 @@ pub(crate) fn struct_byte(layout: Layout, bytes: &[u8]) -> Result<&[u8], Refusal
     match bytes {
         [] => Err(short()),
         [STRUCT_BYTE, rest @ ..] => zeros(padding(layout, 1), rest),
-        [_, ..] => Err(broken(BAD_TAG, bytes)),
+        [_, ..] => Err(broken(Rule::BAD_TAG, bytes)),
     }
 }
 
@@ -138,7 +138,7 @@ pub(crate) fn counted(
     }
     let (front, behind) = rest.split_at(count);
     if !may_stand(wants_text, front) {
-        return Err(broken(BAD_TEXT, rest));
+        return Err(broken(Rule::BAD_TEXT, rest));
     }
     let behind = zeros(padding(layout, 4 + count), behind)?;
     Ok((front, behind))
@@ -161,6 +161,6 @@ pub(crate) fn id(nullable: bool, bytes: &[u8]) -> Result<(i32, &[u8]), Refusal>
     if is_id(nullable, id) {
         Ok((id, rest))
     } else {
-        Err(broken(BAD_VALUE, bytes))
+        Err(broken(Rule::BAD_VALUE, bytes))
     }
 }

@@ -10,9 +10,8 @@ ghost use Rattle.value_codec.specs.Reading.{Gives, value_at};
 
 use crate::fault::Refusal;
 use crate::reading::{broken, counted, field, flag, id, short, struct_byte, word};
-use crate::rules::{BAD_TAG, BAD_VALUE};
 use byteorder::{ByteOrder, LittleEndian};
-use ipdl_base::{Builtin, Name, ParamRow, Schema, Shape, TypeRow, Value, Values};
+use ipdl_base::{Builtin, Name, ParamRow, Rule, Schema, Shape, TypeRow, Value, Values};
 use std::alloc::Global;
 use value_types::Layout;
 
@@ -111,7 +110,7 @@ fn builtin(
         Builtin::Double => bits(layout, 8, bytes),
         Builtin::NsString => text(alloc, layout, bytes),
         Builtin::NsCString | Builtin::ByteBuf => any_bytes(alloc, layout, bytes),
-        Builtin::Shmem | Builtin::FileDescriptor => Err(broken(BAD_VALUE, bytes)),
+        Builtin::Shmem | Builtin::FileDescriptor => Err(broken(Rule::BAD_VALUE, bytes)),
     }
 }
 
@@ -154,7 +153,7 @@ fn value_of_shape<'b>(
         Shape::Maybe(held) | Shape::Unique(held) => {
             maybe(alloc, layout, schema, held, depth, bytes)
         }
-        Shape::Endpoint(_, _) => Err(broken(BAD_VALUE, bytes)),
+        Shape::Endpoint(_, _) => Err(broken(Rule::BAD_VALUE, bytes)),
     }
 }
 
@@ -177,7 +176,7 @@ fn named<'b>(
         Some(TypeRow::Union(_, components)) => {
             union_value(alloc, layout, schema, components.as_slice(), depth, bytes)
         }
-        None => Err(broken(BAD_VALUE, bytes)),
+        None => Err(broken(Rule::BAD_VALUE, bytes)),
     }
 }
 
@@ -300,7 +299,7 @@ fn union_value<'b>(
 {
     let (index, rest) = word(bytes)?;
     match components.get(index as usize) {
-        None => Err(broken(BAD_TAG, bytes)),
+        None => Err(broken(Rule::BAD_TAG, bytes)),
         Some(component) => {
             let (held, rest) = value(alloc, layout, schema, component, depth, rest)?;
             Ok((Value::Union(index, Box::new(alloc, held)?), rest))

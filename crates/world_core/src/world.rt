@@ -168,10 +168,7 @@ impl<'s> World<'s> {
         let mut side = Side::Parent;
         let mut left = 2u32;
         while left > 0 {
-            let turn = Turn {
-                side,
-                only_deliver: false,
-            };
+            let turn = Turn::whole(side);
             side = other(side);
             match self.step(turn) {
                 StepAnswer::Did => left = 2,

@@ -2,7 +2,6 @@
 ghost use Rattle.std.specs.Prelude.{◌≡◌, ◌++◌, ◌≤◌, ◌<◌, ◌≢◌, [], ◌∷◌, true, List, IfOk, length};
 ghost use Rattle.std.specs.Bool.{Decides};
 ghost use Rattle.ipdl_base.specs.declared.line.Line.{Line as OfLine};
-ghost use Rattle.script_steps.specs.Turns.{whole_turn};
 
 use super::World;
 use crate::answers::StepAnswer;
@@ -167,7 +166,7 @@ impl<'s> World<'s> {
         ensures says { IfOk result (λ b. b ≡ is_quiet_at self.old.setting self.old.state side) }
         ensures same { IfOk result (λ b. b ≡ true → self.new ≡ self.old) }
     {
-        match self.step(turn_of_side(side)) {
+        match self.step(Turn::whole(side)) {
             StepAnswer::Nothing => Ok(true),
             StepAnswer::Did | StepAnswer::Spent(_) => Ok(false),
             StepAnswer::NoMemory => Err(AllocError),
@@ -179,7 +178,7 @@ impl<'s> World<'s> {
     fn is_spent(&mut self, side: Side) -> Result<bool, AllocError>
         ensures { IfOk result (λ b. Decides b (EndsAs self.old.setting self.old.state (at_limit side))) }
     {
-        match self.step(turn_of_side(side)) {
+        match self.step(Turn::whole(side)) {
             StepAnswer::Spent(_) => Ok(true),
             StepAnswer::Did | StepAnswer::Nothing => Ok(false),
             StepAnswer::NoMemory => Err(AllocError),
@@ -192,15 +191,5 @@ impl<'s> World<'s> {
         ensures small { self.now.setting.limit ≤ most_events }
     {
         let _limit = self.limit;
-    }
-}
-
-// A turn for the side's own step, or else a delivery.
-fn turn_of_side(side: Side) -> Turn
-    ensures { result ≡ whole_turn side }
-{
-    Turn {
-        side,
-        only_deliver: false,
     }
 }

@@ -1,6 +1,6 @@
 use Rattle.std.proofs.Common.{◌≡◌, ◌++◌, map, drop}
 use Rattle.std.specs.List.{filter_map}
-use Rattle.handler_script.specs.Knowing.{standing_in}
+use Rattle.handler_script.specs.Contexts.{standing_in}
 use Rattle.handler_script.specs.Plain.{plain_action}
 use Rattle.handler_script.specs.ScriptOf.{action_of, inside}
 use Rattle.handler_script.proofs.building.actions_in.Given as goal

@@ -1,6 +1,6 @@
 use Rattle.std.proofs.Common.{◌≡◌, drop}
 use Rattle.std.specs.List.{filter_map}
-use Rattle.handler_script.specs.Knowing.{standing_in}
+use Rattle.handler_script.specs.Contexts.{standing_in}
 use Rattle.handler_script.specs.ScriptOf.{reply_of, first_of, inside}
 use Rattle.handler_script.proofs.building.reply_in.Given as goal
 

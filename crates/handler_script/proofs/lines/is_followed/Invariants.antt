@@ -1,7 +1,7 @@
 use Rattle.std.proofs.Common.{◌≡◌, drop}
-use Rattle.handler_script.specs.Blocks.{is_followed}
+use Rattle.handler_script.specs.Blocks.{statements}
 use Rattle.handler_script.proofs.lines.is_followed.Given as goal
 
 -- no line so far is a statement
 abbrev pub invariant-loop-line : goal.invariant-loop-line
-invariant-loop-line l = is_followed (drop l.line-index l.lines) ≡ is_followed l.lines
+invariant-loop-line l = statements (drop l.line-index l.lines) ≡ statements l.lines

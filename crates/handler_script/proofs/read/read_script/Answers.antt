@@ -8,8 +8,8 @@ use Rattle.handler_script.proofs.Validity.{script_valid}
 use Rattle.handler_script.proofs.Whole.{few_lines, none_broken, script_is}
 use Rattle.handler_script.proofs.read.read_script.Goals as goal
 
-pub report_of-requires : goal.report_of-requires
-report_of-requires c =
+pub report_of-requires-clause-few : goal.report_of-requires-clause-few
+report_of-requires-clause-few c =
     let few : length c.in-Ok.readings ≤ length c.args.text.now + 1 = few_lines c.args.text.now c.in-Ok.readings c.in-Ok.ensures in
     let same : length c.as_slice.result.now ≡ length c.in-Ok.readings = ap length c.as_slice.ensures in
     omega (arith, few, same, c.requires.small)

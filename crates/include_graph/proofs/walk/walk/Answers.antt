@@ -1,4 +1,4 @@
-use Rattle.std.proofs.Common.{◌≡◌, ◌≤◌, ℕ, List, ◌∷◌, [], ◌++◌, length, map, sym, ◌∙◌, ap, subst, arith, string_bytes, Bor, refl, true≢false, inl, inr, if◌then◌else◌}
+use Rattle.std.proofs.Common.{◌≡◌, ◌≤◌, ℕ, List, ◌∷◌, [], ◌++◌, length, map, sym, ◌∙◌, ap, subst, arith, string_bytes, Bor, refl, true≢false, inl, inr}
 use Rattle.std.specs.Prelude.{Some, None, slice_get}
 use Rattle.std.specs.Option.{option_or, option_copied}
 use Rattle.std.specs.Str.{IsUtf8}
@@ -62,7 +62,7 @@ files-preserved g c =
     let read = c.in_ok-source.ensures.source in
     let here : ForMap told (λ m. IsSource n key m (option_or (word_of words key) (name_on_path m path key)) c.in_ok-source.source) = same_key path c.in_ok-source.source c.files.invariant.told again c.as_slice.ensures word read in
     let file : ReachedFile = record { source = c.in_ok-source.source; targets = c.in_ok-targets.targets } in
-    let all : c.push.new.self.items ≡ c.files.reached.items ++ file ∷ [] = subst (λ b. c.push.new.self.items ≡ (if b then c.files.reached.items ++ file ∷ [] else c.files.reached.items)) (sym c.in_ok-map_err.ensures.variant) c.push.ensures.items in
+    let all : c.push.new.self.items ≡ c.files.reached.items ++ file ∷ [] = c.in_ok-push.ensures.items in
     record {
       walking = walk_more c.words_hold.ensures c.names_hold.ensures told words path list c.add_named.new.keys.keys c.files.reached.items c.push.new.self.items key file w at here c.in_ok-targets.ensures.keys c.in_ok-targets.ensures.targets all;
       told = c.read_key.ensures.told ∙ c.files.invariant.told;

@@ -1,5 +1,6 @@
 use Rattle.std.proofs.Common.{map, string_bytes}
-use Rattle.std.specs.Prelude.{IfOk, option_map}
+use Rattle.std.specs.Option.{option_copied}
+use Rattle.std.specs.Prelude.{IfOk}
 use Rattle.std.proofs.lemmas.Result.{IfOk-weaker}
 use Rattle.ipdl_top.specs.CommandAnswer.{IsCompilation, SaysTables, given_by}
 use Rattle.ipdl_top.specs.FileViews.{FileViews}
@@ -12,7 +13,7 @@ pub returns-in-Ok-clause-answer : goal.returns-in-Ok-clause-answer
 returns-in-Ok-clause-answer g c =
     let path = map string_bytes c.args.path.now in
     let names = map string_bytes c.args.names.now in
-    let list = option_map string_bytes c.args.list.now in
+    let list = option_copied c.args.list in
     let checked = c.in-Ok.checked in
     let P : FileViews → Type 0 = λ seen. IsChecked (given_by seen.files path names) seen.list list checked in
     let R : FileViews → Type 0 = λ seen. IfOk c.tables_of.result (IsCompilation SaysTables (given_by seen.files path names) seen.list list) in

@@ -1,21 +1,15 @@
-use Rattle.std.proofs.Common.{◌≡◌, ◌⊎◌, [], ◌∷◌, ◌++◌, List, sym, subst}
-use Rattle.std.specs.List.{Contains}
+use Rattle.std.proofs.Common.{◌≡◌, ◌++◌, ◌∙◌, List, ℕ, ap}
+use Rattle.std.specs.Option.{option_copied}
+use Rattle.std.proofs.lemmas.Result.{IfOk-weaker}
 use Rattle.findings.proofs.Reports.{report_of}
-use Rattle.ipdl_base.specs.declared.finding.Finding.{Finding}
-use Rattle.ipdl_top.specs.declared.list.SyncListFile.TheVariants.{Broken}
-use Rattle.ipdl_top.proofs.Gathered.{Has, with_broken, without}
+use Rattle.ipdl_top.specs.Lists.{list_names}
 use Rattle.ipdl_top.proofs.compile.files_report.Goals as goal
 
-pub returns-in_ok-push-in-Broken : goal.returns-in_ok-push-in-Broken
-returns-in_ok-push-in-Broken c =
-    let findings = c.args.findings in
-    let finding = c.in-Broken.finding in
-    let items : c.push.new.self.items ≡ findings ++ finding ∷ [] = cc (c.in_ok-push-in-Broken.ensures.items, c.into_vec-found.ensures) in
-    let has = subst (λ (xs : List Finding). Has xs (λ f. Contains findings f ⊎ (Broken finding ≡ Broken f))) (sym items) (with_broken findings finding) in
-    rw c.in-Broken.is (report_of c.push.new.self.items c.sort_findings.result has c.sort_findings.ensures)
-
-pub returns-in-Sections : goal.returns-in-Sections
-returns-in-Sections c =
-    let findings = c.args.findings in
-    let has = subst (λ (xs : List Finding). Has xs (λ f. Contains findings f ⊎ (c.args.listed.now ≡ Broken f))) (sym c.into_vec-found.ensures) (without findings c.args.listed.now _ c.in-Sections.is) in
-    report_of c.into_vec-found.result.items c.sort_findings-in-Sections.result has c.sort_findings-in-Sections.ensures
+pub returns : goal.returns
+returns c =
+    IfOk-weaker c.report_of.result _ _
+    (λ report reports. record {
+      is_report = report_of c.in_ok-found.found.items report.findings c.in_ok-found.ensures reports.is_report;
+      called = reports.called ∙ ap (λ (names : List (List ℕ)). names ++ list_names (option_copied c.args.list)) c.into_vec.ensures;
+    })
+    c.report_of.ensures

@@ -1,7 +1,8 @@
 use Rattle.std.proofs.Common.{List, ℕ, [], ◌∷◌, inl, inr, map, refl, subst, rules}
-use Rattle.std.specs.Prelude.{Err, None, string_bytes, IfOk, option_map}
+use Rattle.std.specs.Option.{option_copied}
+use Rattle.std.specs.Prelude.{Err, None, Option, string_bytes, IfOk, option_map}
 use Rattle.std.proofs.lemmas.Result.{IfOk-weaker}
-use Rattle.ipdl_top.specs.declared.answer.Failure.TheVariants.{NoMemory}
+use Rattle.ipdl_base.specs.declared.files.Failure.TheVariants.{NoMemory}
 use Rattle.command_words.specs.Command.{CommandOf, Say, audit, compile, feed, frames, gen, relay, run, waits}
 use Rattle.command_words.specs.Feed.{FeedCourse}
 use Rattle.command_words.specs.Relay.{RelayCourse}
@@ -47,13 +48,15 @@ returns-in-Ok-Compile-clause-answer g c =
     let path = map string_bytes c.in-Ok-Compile.path.items in
     let names = map string_bytes c.in-Ok-Compile.names.items in
     let said : Say words (compile list path names) = subst (CommandOf words) c.in-Ok-Compile.field-0-is c.in-Ok-Compile.ensures.command in
-    let K : List (List ℕ) → List (List ℕ) → FileViews → Type 0 = λ p n seen. IfOk c.compile.result (IsCompilation SaysTables (given_by seen.files p n) seen.list list) in
+    let given = option_copied c.as_deref.result in
+    let K : Option (List ℕ) → List (List ℕ) → List (List ℕ) → FileViews → Type 0 = λ l p n seen. IfOk c.compile.result (IsCompilation SaysTables (given_by seen.files p n) seen.list l) in
     let R : FileViews → Type 0 = λ seen. IfOk c.compile.result (IsAnswer Gives Relays seen words) in
-    for_each_seen told (K path names) R
+    for_each_seen told (K list path names) R
     (λ seen h. IfOk-weaker c.compile.result (IsCompilation SaysTables (given_by seen.files path names) seen.list list) (IsAnswer Gives Relays seen words)
     (λ answer k. inl (record { command = compile list path names; said = said; answers = k })) h)
-    (subst (λ n. ForMap told (K path (map string_bytes n))) c.as_slice-in-Ok-Compile.ensures.value
-    (subst (λ p. ForMap told (K (map string_bytes p) (map string_bytes c.as_slice-in-Ok-Compile.result.now))) c.as_slice.ensures.value c.compile.ensures.answer))
+    (subst (λ (l : Option (List ℕ)). ForMap told (K l path names)) c.as_deref.ensures.value
+    (subst (λ n. ForMap told (K given path (map string_bytes n))) c.as_slice-in-Ok-Compile.ensures.value
+    (subst (λ p. ForMap told (K given (map string_bytes p) (map string_bytes c.as_slice-in-Ok-Compile.result.now))) c.as_slice.ensures.value c.compile.ensures.answer)))
 
 pub returns-in-Ok-Frames-clause-answer : goal.returns-in-Ok-Frames-clause-answer
 returns-in-Ok-Frames-clause-answer g c =
@@ -67,13 +70,15 @@ returns-in-Ok-Frames-clause-answer g c =
     let name = string_bytes c.in-Ok-Frames.name in
     let convert = c.in-Ok-Frames.convert in
     let said : Say words (frames list path file name convert) = subst (CommandOf words) c.in-Ok-Frames.field-0-is c.in-Ok-Frames.ensures.command in
-    let K : List ℕ → List (List ℕ) → FileViews → Type 0 = λ n p seen. IfOk c.frames.result (IsCompilation (SaysFrames n convert (seen.input n)) (given_by seen.files p (file ∷ [])) seen.list list) in
+    let given = option_copied c.as_deref-in-Ok-Frames.result in
+    let K : Option (List ℕ) → List ℕ → List (List ℕ) → FileViews → Type 0 = λ l n p seen. IfOk c.frames.result (IsCompilation (SaysFrames n convert (seen.input n)) (given_by seen.files p (file ∷ [])) seen.list l) in
     let R : FileViews → Type 0 = λ seen. IfOk c.frames.result (IsAnswer Gives Relays seen words) in
-    for_each_seen told (K name path) R
+    for_each_seen told (K list name path) R
     (λ seen h. IfOk-weaker c.frames.result (IsCompilation (SaysFrames name convert (seen.input name)) (given_by seen.files path (file ∷ [])) seen.list list) (IsAnswer Gives Relays seen words)
     (λ answer k. inl (record { command = frames list path file name convert; said = said; answers = k })) h)
-    (subst (λ (n : List ℕ). ForMap told (K n path)) c.as_str.ensures.value
-    (subst (λ p. ForMap told (K c.as_str.result.now (map string_bytes p))) c.as_slice-in-Ok-Frames.ensures.value c.frames.ensures.answer))
+    (subst (λ (l : Option (List ℕ)). ForMap told (K l name path)) c.as_deref-in-Ok-Frames.ensures.value
+    (subst (λ (n : List ℕ). ForMap told (K given n path)) c.as_str.ensures.value
+    (subst (λ p. ForMap told (K given c.as_str.result.now (map string_bytes p))) c.as_slice-in-Ok-Frames.ensures.value c.frames.ensures.answer)))
 
 pub returns-in-Ok-Waits-clause-answer : goal.returns-in-Ok-Waits-clause-answer
 returns-in-Ok-Waits-clause-answer g c =
@@ -85,12 +90,14 @@ returns-in-Ok-Waits-clause-answer g c =
     let path = map string_bytes c.in-Ok-Waits.path.items in
     let file = string_bytes c.in-Ok-Waits.file in
     let said : Say words (waits list path file) = subst (CommandOf words) c.in-Ok-Waits.field-0-is c.in-Ok-Waits.ensures.command in
-    let K : List (List ℕ) → FileViews → Type 0 = λ p seen. IfOk c.waits.result (IsCompilation (SaysWaits file) (given_by seen.files p (file ∷ [])) seen.list list) in
+    let given = option_copied c.as_deref-in-Ok-Waits.result in
+    let K : Option (List ℕ) → List (List ℕ) → FileViews → Type 0 = λ l p seen. IfOk c.waits.result (IsCompilation (SaysWaits file) (given_by seen.files p (file ∷ [])) seen.list l) in
     let R : FileViews → Type 0 = λ seen. IfOk c.waits.result (IsAnswer Gives Relays seen words) in
-    for_each_seen told (K path) R
+    for_each_seen told (K list path) R
     (λ seen h. IfOk-weaker c.waits.result (IsCompilation (SaysWaits file) (given_by seen.files path (file ∷ [])) seen.list list) (IsAnswer Gives Relays seen words)
     (λ answer k. inl (record { command = waits list path file; said = said; answers = k })) h)
-    (subst (λ p. ForMap told (K (map string_bytes p))) c.as_slice-in-Ok-Waits.ensures.value c.waits.ensures.answer)
+    (subst (λ (l : Option (List ℕ)). ForMap told (K l path)) c.as_deref-in-Ok-Waits.ensures.value
+    (subst (λ p. ForMap told (K given (map string_bytes p))) c.as_slice-in-Ok-Waits.ensures.value c.waits.ensures.answer))
 
 pub run-requires-clause-limit : goal.run-requires-clause-limit
 run-requires-clause-limit g c =
@@ -114,13 +121,15 @@ returns-in-Ok-Run-clause-answer g c =
     let script = string_bytes c.in-Ok-Run.script in
     let course : Course = record { schedule = option_map (λ turns. turns.items) c.in-Ok-Run.schedule; limit = c.in-Ok-Run.limit; death = c.in-Ok-Run.death } in
     let said : Say words (run list path course script file) = subst (CommandOf words) c.in-Ok-Run.field-0-is c.in-Ok-Run.ensures.command in
-    let K : List ℕ → List (List ℕ) → FileViews → Type 0 = λ n p seen. IfOk c.run.result (IsCompilation (SaysRun Gives Transcript course n (seen.script n) file) (given_by seen.files p (file ∷ [])) seen.list list) in
+    let given = option_copied c.as_deref-in-Ok-Run.result in
+    let K : Option (List ℕ) → List ℕ → List (List ℕ) → FileViews → Type 0 = λ l n p seen. IfOk c.run.result (IsCompilation (SaysRun Gives Transcript course n (seen.script n) file) (given_by seen.files p (file ∷ [])) seen.list l) in
     let R : FileViews → Type 0 = λ seen. IfOk c.run.result (IsAnswer Gives Relays seen words) in
-    for_each_seen told (K script path) R
+    for_each_seen told (K list script path) R
     (λ seen h. IfOk-weaker c.run.result (IsCompilation (SaysRun Gives Transcript course script (seen.script script) file) (given_by seen.files path (file ∷ [])) seen.list list) (IsAnswer Gives Relays seen words)
     (λ answer k. inl (record { command = run list path course script file; said = said; answers = k })) h)
-    (subst (λ (n : List ℕ). ForMap told (K n path)) c.as_str-in-Ok-Run.ensures.value
-    (subst (λ p. ForMap told (K c.as_str-in-Ok-Run.result.now (map string_bytes p))) c.as_slice-in-Ok-Run.ensures.value c.run.ensures.answer))
+    (subst (λ (l : Option (List ℕ)). ForMap told (K l script path)) c.as_deref-in-Ok-Run.ensures.value
+    (subst (λ (n : List ℕ). ForMap told (K given n path)) c.as_str-in-Ok-Run.ensures.value
+    (subst (λ p. ForMap told (K given c.as_str-in-Ok-Run.result.now (map string_bytes p))) c.as_slice-in-Ok-Run.ensures.value c.run.ensures.answer)))
 
 pub returns-in-Ok-Gen-clause-answer : goal.returns-in-Ok-Gen-clause-answer
 returns-in-Ok-Gen-clause-answer g c =
@@ -208,14 +217,16 @@ returns-in-Ok-Feed-clause-answer g c =
     let name = string_bytes c.in-Ok-Feed.name in
     let course : FeedCourse = record { side = c.in-Ok-Feed.side; limit = c.in-Ok-Feed.limit } in
     let said : Say words (feed list path course script file name) = subst (CommandOf words) c.in-Ok-Feed.field-0-is c.in-Ok-Feed.ensures.command in
-    let K : List ℕ → List ℕ → List (List ℕ) → FileViews → Type 0 = λ s n p seen. IfOk c.feed.result (IsCompilation (SaysFeed course s (seen.script s) n (seen.input n) file) (given_by seen.files p (file ∷ [])) seen.list list) in
+    let given = option_copied c.as_deref-in-Ok-Feed.result in
+    let K : Option (List ℕ) → List ℕ → List ℕ → List (List ℕ) → FileViews → Type 0 = λ l s n p seen. IfOk c.feed.result (IsCompilation (SaysFeed course s (seen.script s) n (seen.input n) file) (given_by seen.files p (file ∷ [])) seen.list l) in
     let R : FileViews → Type 0 = λ seen. IfOk c.feed.result (IsAnswer Gives Relays seen words) in
-    for_each_seen told (K script name path) R
+    for_each_seen told (K list script name path) R
     (λ seen h. IfOk-weaker c.feed.result (IsCompilation (SaysFeed course script (seen.script script) name (seen.input name) file) (given_by seen.files path (file ∷ [])) seen.list list) (IsAnswer Gives Relays seen words)
     (λ answer k. inl (record { command = feed list path course script file name; said = said; answers = k })) h)
-    (subst (λ (s : List ℕ). ForMap told (K s name path)) c.as_str-in-Ok-Feed.ensures.value
-    (subst (λ (n : List ℕ). ForMap told (K c.as_str-in-Ok-Feed.result.now n path)) c.as_str-in-Ok-Feed-2.ensures.value
-    (subst (λ p. ForMap told (K c.as_str-in-Ok-Feed.result.now c.as_str-in-Ok-Feed-2.result.now (map string_bytes p))) c.as_slice-in-Ok-Feed.ensures.value c.feed.ensures.answer)))
+    (subst (λ (l : Option (List ℕ)). ForMap told (K l script name path)) c.as_deref-in-Ok-Feed.ensures.value
+    (subst (λ (s : List ℕ). ForMap told (K given s name path)) c.as_str-in-Ok-Feed.ensures.value
+    (subst (λ (n : List ℕ). ForMap told (K given c.as_str-in-Ok-Feed.result.now n path)) c.as_str-in-Ok-Feed-2.ensures.value
+    (subst (λ p. ForMap told (K given c.as_str-in-Ok-Feed.result.now c.as_str-in-Ok-Feed-2.result.now (map string_bytes p))) c.as_slice-in-Ok-Feed.ensures.value c.feed.ensures.answer))))
 
 pub returns-in-Ok-Feed-clause-unread : goal.returns-in-Ok-Feed-clause-unread
 returns-in-Ok-Feed-clause-unread g c =
@@ -246,14 +257,16 @@ returns-in-Ok-Audit-clause-answer g c =
     let script = string_bytes c.in-Ok-Audit.script in
     let name = string_bytes c.in-Ok-Audit.transcript in
     let said : Say words (audit list path limit script file name) = subst (CommandOf words) c.in-Ok-Audit.field-0-is c.in-Ok-Audit.ensures.command in
-    let K : List ℕ → List ℕ → List (List ℕ) → FileViews → Type 0 = λ s n p seen. IfOk c.audit_transcript.result (IsCompilation (SaysAudit limit s (seen.script s) n (seen.input n) file) (given_by seen.files p (file ∷ [])) seen.list list) in
+    let given = option_copied c.as_deref-in-Ok-Audit.result in
+    let K : Option (List ℕ) → List ℕ → List ℕ → List (List ℕ) → FileViews → Type 0 = λ l s n p seen. IfOk c.audit_transcript.result (IsCompilation (SaysAudit limit s (seen.script s) n (seen.input n) file) (given_by seen.files p (file ∷ [])) seen.list l) in
     let R : FileViews → Type 0 = λ seen. IfOk c.audit_transcript.result (IsAnswer Gives Relays seen words) in
-    for_each_seen told (K script name path) R
+    for_each_seen told (K list script name path) R
     (λ seen h. IfOk-weaker c.audit_transcript.result (IsCompilation (SaysAudit limit script (seen.script script) name (seen.input name) file) (given_by seen.files path (file ∷ [])) seen.list list) (IsAnswer Gives Relays seen words)
     (λ answer k. inl (record { command = audit list path limit script file name; said = said; answers = k })) h)
-    (subst (λ (s : List ℕ). ForMap told (K s name path)) c.as_str-in-Ok-Audit.ensures.value
-    (subst (λ (n : List ℕ). ForMap told (K c.as_str-in-Ok-Audit.result.now n path)) c.as_str-in-Ok-Audit-2.ensures.value
-    (subst (λ p. ForMap told (K c.as_str-in-Ok-Audit.result.now c.as_str-in-Ok-Audit-2.result.now (map string_bytes p))) c.as_slice-in-Ok-Audit.ensures.value c.audit_transcript.ensures.answer)))
+    (subst (λ (l : Option (List ℕ)). ForMap told (K l script name path)) c.as_deref-in-Ok-Audit.ensures.value
+    (subst (λ (s : List ℕ). ForMap told (K given s name path)) c.as_str-in-Ok-Audit.ensures.value
+    (subst (λ (n : List ℕ). ForMap told (K given c.as_str-in-Ok-Audit.result.now n path)) c.as_str-in-Ok-Audit-2.ensures.value
+    (subst (λ p. ForMap told (K given c.as_str-in-Ok-Audit.result.now c.as_str-in-Ok-Audit-2.result.now (map string_bytes p))) c.as_slice-in-Ok-Audit.ensures.value c.audit_transcript.ensures.answer))))
 
 pub returns-in-Ok-Audit-clause-unread : goal.returns-in-Ok-Audit-clause-unread
 returns-in-Ok-Audit-clause-unread g c =
@@ -285,13 +298,15 @@ returns-in-Ok-Relay-clause-answer g c =
     let script = string_bytes c.in-Ok-Relay.script in
     let course : RelayCourse = record { limit = c.in-Ok-Relay.limit; death = c.in-Ok-Relay.death } in
     let said : Say words (relay list path course script file) = subst (CommandOf words) c.in-Ok-Relay.field-0-is c.in-Ok-Relay.ensures.command in
-    let K : List ℕ → List (List ℕ) → FileViews → Type 0 = λ n p seen. IfOk c.relay_script.result (IsCompilation (SaysRelay Relays course n (seen.script n) file) (given_by seen.files p (file ∷ [])) seen.list list) in
+    let given = option_copied c.as_deref-in-Ok-Relay.result in
+    let K : Option (List ℕ) → List ℕ → List (List ℕ) → FileViews → Type 0 = λ l n p seen. IfOk c.relay_script.result (IsCompilation (SaysRelay Relays course n (seen.script n) file) (given_by seen.files p (file ∷ [])) seen.list l) in
     let R : FileViews → Type 0 = λ seen. IfOk c.relay_script.result (IsAnswer Gives Relays seen words) in
-    for_each_seen told (K script path) R
+    for_each_seen told (K list script path) R
     (λ seen h. IfOk-weaker c.relay_script.result (IsCompilation (SaysRelay Relays course script (seen.script script) file) (given_by seen.files path (file ∷ [])) seen.list list) (IsAnswer Gives Relays seen words)
     (λ answer k. inl (record { command = relay list path course script file; said = said; answers = k })) h)
-    (subst (λ (n : List ℕ). ForMap told (K n path)) c.as_str-in-Ok-Relay.ensures.value
-    (subst (λ p. ForMap told (K c.as_str-in-Ok-Relay.result.now (map string_bytes p))) c.as_slice-in-Ok-Relay.ensures.value c.relay_script.ensures.answer))
+    (subst (λ (l : Option (List ℕ)). ForMap told (K l script path)) c.as_deref-in-Ok-Relay.ensures.value
+    (subst (λ (n : List ℕ). ForMap told (K given n path)) c.as_str-in-Ok-Relay.ensures.value
+    (subst (λ p. ForMap told (K given c.as_str-in-Ok-Relay.result.now (map string_bytes p))) c.as_slice-in-Ok-Relay.ensures.value c.relay_script.ensures.answer)))
 
 pub returns-in-Ok-Relay-clause-unread : goal.returns-in-Ok-Relay-clause-unread
 returns-in-Ok-Relay-clause-unread g c =

@@ -1,4 +1,4 @@
-use Rattle.std.proofs.Common.{◌≡◌, ℕ, List, [], ◌∷◌, ◌++◌, codes, subst, ◌∙◌, ap, append_assoc, map, rules}
+use Rattle.std.proofs.Common.{◌≡◌, ℕ, List, [], ◌∷◌, ◌++◌, codes, subst, ◌∙◌, ap, append_assoc, rules}
 use Rattle.std.specs.Prelude.{OnOk}
 use Rattle.std.specs.Fmt.{decimal}
 use Rattle.ipdl_base.specs.Rules.{rule_line}
@@ -23,7 +23,7 @@ returns c =
     let rule = rule_line f.rule in
     let P : List ℕ → Type 0 = λ all. OnOk c.extend_from_slice-2.result (c.extend_from_slice-2.new.self.items ≡ all) in
     let pushed : P (c.extend_from_slice.new.self.items ++ c.as_bytes.result.now) = search rules in
-    let e : c.extend_from_slice.new.self.items ++ c.as_bytes.result.now ≡ text ++ finding_line (map (λ n. n.now) c.args.names.now) f =
+    let e : c.extend_from_slice.new.self.items ++ c.as_bytes.result.now ≡ text ++ finding_line c.args.names.now f =
     ap (λ (xs : List ℕ). xs ++ c.as_bytes.result.now) c.in_ok-extend_from_slice.ensures.items
     ∙ ap (λ (xs : List ℕ). (text ++ name) ++ xs) (c.as_bytes.ensures.value ∙ c.in_ok-printed.ensures.ok)
     ∙ regrouped text name line column rule

@@ -1,34 +1,27 @@
-use Rattle.std.proofs.Common.{◌≡◌, ◌++◌, List, sym, subst}
-use Rattle.std.specs.Prelude.{◌↔◌, IsSomeAnd}
-use Rattle.std.specs.List.{Contains}
+use Rattle.std.proofs.Common.{List, refl}
+use Rattle.std.specs.Prelude.{IsSomeAnd}
+use Rattle.std.specs.Option.{option_copied}
+use Rattle.findings.proofs.Gathers.{Gains-of_none, Gains-of_some}
 use Rattle.ipdl_base.specs.declared.finding.Finding.{Finding}
-use Rattle.sync_list.specs.Broken as sync
-use Rattle.type_rules.specs.Broken as types
 use Rattle.proto_rules.specs.Broken as protocols
-use Rattle.ipdl_top.specs.CommandAnswer.{BreaksRules}
-use Rattle.ipdl_top.proofs.Gathered.{Has, of_two_alone, of_three}
+use Rattle.sync_list.specs.Broken as sync
+use Rattle.sync_list.specs.declared.list.Section.{Section}
+use Rattle.type_rules.specs.Broken as types
+use Rattle.ipdl_top.proofs.Gathered.{of_three}
 use Rattle.ipdl_top.proofs.rules.gathered.Goals as goal
 
-pub returns-in_ok-extend_from_slice-in-Some : goal.returns-in_ok-extend_from_slice-in-Some
-returns-in_ok-extend_from_slice-in-Some c =
+pub returns-in_ok-add_of_list : goal.returns-in_ok-add_of_list
+returns-in_ok-add_of_list c =
     let program = c.args.program.now in
-    let S : Finding → Type 0 = λ f. IsSomeAnd c.args.list.now (λ list. sync.BrokenAt program list f) in
-    let one = c.in_ok-type_findings.field-0 in
-    let two = c.in_ok-proto_findings.field-0 in
-    let three = c.in_ok-sync_findings-in-Some.field-0 in
-    let listed : (f : Finding) → Contains three f ↔ S f = rw c.in-Some.is c.in_ok-sync_findings-in-Some.ensures.exact in
-    let items : c.extend_from_slice-in-Some.new.self.items ≡ (one ++ two) ++ three =
-    cc (c.in_ok-extend_from_slice-in-Some.ensures.items, c.in_ok-extend_from_slice.ensures.items, c.into_vec-found.ensures, c.as_slice-2.ensures, c.as_slice-in-Some-2.ensures) in
-    subst (λ (xs : List Finding). Has xs (BreaksRules program c.args.list.now)) (sym items)
-    (of_three (types.BrokenAt program) (protocols.BrokenAt program) S one two three c.in_ok-type_findings.ensures.exact c.in_ok-proto_findings.ensures.exact listed)
+    let S : Finding → List Section → Type 0 = λ f list. sync.BrokenAt program list f in
+    of_three (types.BrokenAt program) (protocols.BrokenAt program) (λ f. IsSomeAnd (option_copied c.args.list) (S f))
+    c.new-found.result.items c.add_of_types.new.found.items c.add_of_protocols.new.found.items c.add_of_list.new.found.items c.new-found.ensures.items c.in_ok-add_of_types.ensures c.in_ok-add_of_protocols.ensures
+    (Gains-of_some S (option_copied c.args.list) c.in-Some.list _ _ c.in-Some.is c.in_ok-add_of_list.ensures)
 
-pub returns-in-None : goal.returns-in-None
-returns-in-None c =
+pub returns-in_default : goal.returns-in_default
+returns-in_default c =
     let program = c.args.program.now in
-    let S : Finding → Type 0 = λ f. IsSomeAnd c.args.list.now (λ list. sync.BrokenAt program list f) in
-    let one = c.in_ok-type_findings.field-0 in
-    let two = c.in_ok-proto_findings.field-0 in
-    let items : c.extend_from_slice.new.self.items ≡ one ++ two = cc (c.in_ok-extend_from_slice.ensures.items, c.into_vec-found.ensures, c.as_slice-2.ensures) in
-    let none : (f : Finding) → ¬ S f = rw c.in-None.is (λ f h. h) in
-    subst (λ (xs : List Finding). Has xs (BreaksRules program c.args.list.now)) (sym items)
-    (of_two_alone (types.BrokenAt program) (protocols.BrokenAt program) S one two c.in_ok-type_findings.ensures.exact c.in_ok-proto_findings.ensures.exact none)
+    let S : Finding → List Section → Type 0 = λ f list. sync.BrokenAt program list f in
+    of_three (types.BrokenAt program) (protocols.BrokenAt program) (λ f. IsSomeAnd (option_copied c.args.list) (S f))
+    c.new-found.result.items c.add_of_types.new.found.items c.add_of_protocols.new.found.items c.add_of_protocols.new.found.items c.new-found.ensures.items c.in_ok-add_of_types.ensures c.in_ok-add_of_protocols.ensures
+    (Gains-of_none S (option_copied c.args.list) _ _ c.in_default.is refl)

@@ -1,5 +1,6 @@
 use Rattle.std.proofs.Common.{◌≡◌, ℕ, List, [], ◌∷◌, sym, ap, map, string_bytes, subst}
-use Rattle.std.specs.Prelude.{IfOk, option_map}
+use Rattle.std.specs.Option.{option_copied}
+use Rattle.std.specs.Prelude.{IfOk}
 use Rattle.std.proofs.lemmas.Result.{IfOk-weaker}
 use Rattle.ipdl_top.specs.Audit.{SaysAudit}
 use Rattle.ipdl_top.specs.CommandAnswer.{IsCompilation, given_by}
@@ -13,7 +14,7 @@ use Rattle.ipdl_top.proofs.transcript_audit.audit_transcript.Goals as goal
 pub answer_with-requires-clause-top : goal.answer_with-requires-clause-top
 answer_with-requires-clause-top g c =
     let path = map string_bytes c.args.path.now in
-    let list = option_map string_bytes c.args.list.now in
+    let list = option_copied c.args.list in
     let words = map string_bytes c.from_ref.result.now in
     let file = string_bytes c.args.file.now in
     let one : words ≡ file ∷ [] = ap (map string_bytes) c.from_ref.ensures.value in
@@ -25,7 +26,7 @@ answer_with-requires-clause-top g c =
 pub returns-in-Ok-clause-answer : goal.returns-in-Ok-clause-answer
 returns-in-Ok-clause-answer g c =
     let path = map string_bytes c.args.path.now in
-    let list = option_map string_bytes c.args.list.now in
+    let list = option_copied c.args.list in
     let words = map string_bytes c.from_ref.result.now in
     let file = string_bytes c.args.file.now in
     let script = c.args.wanted.now.script.now in

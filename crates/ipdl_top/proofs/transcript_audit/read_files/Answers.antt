@@ -1,9 +1,10 @@
-use Rattle.ipdl_base.specs.Outside.{FileMap}
+use Rattle.ipdl_base.specs.Outside.{FileMap, IsHeldWithin}
 use Rattle.transcript_reader.specs.Compared.{most_text_bytes}
 use Rattle.ipdl_top.specs.AuditSteps.{AreHeld}
 use Rattle.ipdl_top.specs.FileViews.{FileViews}
-use Rattle.ipdl_top.specs.Steps.{IsHeld, IsHeldWithin}
-use Rattle.ipdl_top.proofs.Maps.{for_all_seen, for_script, none_ok}
+use Rattle.ipdl_top.specs.Steps.{IsHeld}
+use Rattle.include_graph.proofs.Readings.{none_ok}
+use Rattle.ipdl_top.proofs.Maps.{for_all_seen, for_script}
 use Rattle.ipdl_top.proofs.transcript_audit.read_files.Goals as goal
 
 pub returns-clause-held : goal.returns-clause-held
@@ -13,7 +14,7 @@ returns-clause-held g c =
     let P : FileMap → Type 0 = λ map. IsHeld (map script) c.in_ok-script.script in
     let Q : FileMap → Type 0 = λ map. IsHeldWithin most_text_bytes (map transcript) c.in_ok-text.text in
     let R : FileViews → Type 0 = λ seen. AreHeld (seen.script script) (seen.input transcript) (record { script = c.in_ok-script.script; text = c.in_ok-text.text }) in
-    for_script (g.F.Files.told c.args.files.now) (g.F.Files.told c.read_held.new.files) P Q R c.in_ok-script.ensures.told (λ map again h k. record { script_is = h; text_is = k }) c.in_ok-script.ensures.held c.in_ok-text.ensures.held
+    for_script (g.F.Files.told c.args.files.now) (g.F.Files.told c.read_file.new.files) P Q R c.in_ok-script.ensures.told (λ map again h k. record { script_is = h; text_is = k }) c.in_ok-script.ensures.held c.in_ok-text.ensures.held
 
 pub returns-in_err-script-clause-held : goal.returns-in_err-script-clause-held
 returns-in_err-script-clause-held g c = for_all_seen _ _ (λ seen. none_ok c.from_residual.result _ _ c.from_residual.ensures.1)

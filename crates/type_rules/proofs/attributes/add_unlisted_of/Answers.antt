@@ -3,7 +3,7 @@ use Rattle.std.proofs.lemmas.Bool.{true≢false}
 use Rattle.std.proofs.lemmas.List.{take_all}
 use Rattle.ipdl_base.specs.declared.finding.TheConstants.Rule as rule
 use Rattle.ipdl_syntax.specs.declared.tree.Attribute.{Attribute}
-use Rattle.type_rules.specs.Bearers.{IsUnlistedOf}
+use Rattle.type_rules.specs.Attributes.{IsUnlistedOf}
 use Rattle.type_rules.proofs.Placed.{Adds-turn, Adds-found, Adds-quiet}
 use Rattle.type_rules.proofs.attributes.add_unlisted_of.Goals as goal
 use Rattle.type_rules.proofs.attributes.add_unlisted_of.Goals.{then-is_unlisted+in_ok-push, else-is_unlisted}

@@ -3,7 +3,7 @@ use Rattle.std.proofs.lemmas.List.{take_all}
 use Rattle.ipdl_syntax.specs.declared.tree.UnionDecl.{UnionDecl}
 use Rattle.type_rules.specs.Declarations.{Declaration}
 use Rattle.type_rules.specs.Firsts.{told}
-use Rattle.type_rules.proofs.Named.{map-turn}
+use Rattle.written_parts.proofs.Appending.{map-turn}
 use Rattle.type_rules.proofs.declarations.list_unions.Goals as goal
 
 abbrev seen : UnionDecl → Declaration

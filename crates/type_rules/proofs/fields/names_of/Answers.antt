@@ -1,7 +1,7 @@
 use Rattle.std.proofs.Common.{ap, []}
 use Rattle.ipdl_syntax.specs.declared.tree.Param.{Param}
 use Rattle.type_rules.specs.Steps.{name_place}
-use Rattle.type_rules.proofs.Named.{map-turn}
+use Rattle.written_parts.proofs.Appending.{map-turn}
 use Rattle.type_rules.proofs.fields.names_of.Goals as goal
 
 pub loop-field-preserved : goal.loop-field-preserved

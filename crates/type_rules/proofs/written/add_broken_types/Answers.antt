@@ -1,13 +1,24 @@
+use Rattle.std.proofs.Common.{map, ap, ◌∙◌}
 use Rattle.std.proofs.lemmas.List.{take_all}
-use Rattle.ipdl_syntax.specs.declared.program.Entry.{Entry}
+use Rattle.ipdl_base.specs.declared.finding.Finding.{Finding}
+use Rattle.findings.proofs.Gathers.{Gains-at_none}
+use Rattle.written_parts.specs.Types.{TypeInFile, told, written_types}
+use Rattle.written_parts.specs.declared.types.WrittenType.{WrittenType}
 use Rattle.type_rules.specs.Breaks.{BreaksAt}
-use Rattle.type_rules.specs.Written.{InUnit}
-use Rattle.type_rules.proofs.Gains.{Gains-at_turn}
+use Rattle.type_rules.proofs.Gains.{Gains-turn, Gains-listed}
 use Rattle.type_rules.proofs.written.add_broken_types.Goals as goal
 
-pub loop-file-preserved : goal.loop-file-preserved
-loop-file-preserved c =
-    Gains-at_turn (λ f file (e : Entry). InUnit (BreaksAt c.args.names.now f file) e.unit) c.args.program.now c.loop-file.file c.index-program-file.result _ _ _ c.loop-file-test.true c.index-program-file.is c.loop-file.invariant c.in_ok-add_unit.ensures
+pub loop-written-init : goal.loop-written-init
+loop-written-init c =
+    Gains-at_none (λ (f : Finding) (w : WrittenType). BreaksAt c.args.names.now f w.file w.spec.now.nullable w.spec.now.base w.spec.now.place) c.args.found.now.items
+
+pub loop-written-preserved : goal.loop-written-preserved
+loop-written-preserved c =
+    Gains-turn (λ (f : Finding) (w : WrittenType). BreaksAt c.args.names.now f w.file w.spec.now.nullable w.spec.now.base w.spec.now.place) c.deref-written-items.result.now c.loop-written.written-index c.written-item.result _ _ _
+    c.loop-written-test.true c.written-item.is c.loop-written.invariant c.in_ok-add_broken.ensures
 
 pub returns : goal.returns
-returns c = rw (take_all c.loop-file.file c.args.program.now c.loop-file-test.false) at c.loop-file.invariant
+returns c =
+    let all = c.deref-written-items.result.now in
+    Gains-listed (λ (f : Finding) (w : TypeInFile). BreaksAt c.args.names.now f w.file w.spec.nullable w.spec.base w.spec.place) told all (written_types c.args.program.now) _ _
+    (ap (map told) c.deref-written-items.ensures.value ∙ c.in_ok-types.ensures) (rw (take_all c.loop-written.written-index all c.loop-written-test.false) at c.loop-written.invariant)

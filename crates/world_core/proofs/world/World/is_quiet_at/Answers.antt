@@ -7,7 +7,7 @@ use Rattle.world_core.proofs.world.World.is_quiet_at.Goals as goal
 pub returns-in-Nothing-clause-says : goal.returns-in-Nothing-clause-says
 returns-in-Nothing-clause-says c =
     let w = c.args.self.now in
-    sym (idle-quiet w.setting w.state c.args.side (subst (λ (t : Turn). outcome w.setting t w.state ≡ idles) c.turn_of_side.ensures c.in-Nothing.ensures.gives.0))
+    sym (idle-quiet w.setting w.state c.args.side (subst (λ (t : Turn). outcome w.setting t w.state ≡ idles) c.whole.ensures c.in-Nothing.ensures.gives.0))
 
 pub returns-in-Did-clause-says : goal.returns-in-Did-clause-says
-returns-in-Did-clause-says c = sym (did-or-spent c.args.self.now c.step.new.self c.turn_of_side.result c.args.side c.step.result c.turn_of_side.ensures c.step.ensures.gives c.in-Did.is)
+returns-in-Did-clause-says c = sym (did-or-spent c.args.self.now c.step.new.self c.whole.result c.args.side c.step.result c.whole.ensures c.step.ensures.gives c.in-Did.is)
