@@ -36,7 +36,9 @@ fn numbers_of_names(
 ) -> Result<Vec<u32>, AllocError>
     requires source { IsSource source.now }
     requires sole { NamesFindSole source.now.program.now file names.now }
-    ensures { IfOk result (λ numbers. AllZip (λ n m. IsNumberOfName source.now.program.now (numbering_of source.now.numbers) file n.name m) names.now numbers.items) }
+    ensures { IfOk result (λ numbers. AllZip
+        (λ n m. IsNumberOfName source.now.program.now (numbering_of source.now.numbers) file n.name m)
+        names.now numbers.items) }
 {
     let mut numbers = Vec::new(alloc);
     for name in names {
@@ -66,7 +68,9 @@ fn row_kind(
 /// Whether a channel can carry these parameters and returns.
 fn are_carried(types: &MarkedTypes, params: &[ParamRow], returns: Option<&ParamRows>) -> bool
     requires { AreMarked types.now }
-    ensures { IsTrue result ↔ ¬ (Any (λ p. MentionsUncarried types.now.rows.items p.shape) params.now ⊎ IsSomeAnd (option_copied returns.entry) (λ rows. Any (λ p. MentionsUncarried types.now.rows.items p.shape) rows)) }
+    ensures { IsTrue result ↔ ¬ (Any (λ p. MentionsUncarried types.now.rows.items p.shape) params.now
+        ⊎ IsSomeAnd (option_copied returns.entry)
+        (λ rows. Any (λ p. MentionsUncarried types.now.rows.items p.shape) rows)) }
 {
     if types.mentions_any(params) {
         return false;
@@ -91,7 +95,9 @@ fn message_row(
     requires low { of.now.number < 4096 }
     requires few { index < 32768 }
     requires sole { MessageFindsSole source.now.program.now of.now.file of.now.protocol.now message.now }
-    ensures { IfOk result (IsMessageRow source.now.program.now (numbering_of source.now.numbers) types.now.rows.items of.now.number of.now.file of.now.protocol.now index message.now) }
+    ensures { IfOk result
+        (IsMessageRow source.now.program.now (numbering_of source.now.numbers) types.now.rows.items
+        of.now.number of.now.file of.now.protocol.now index message.now) }
 {
     let params = param_rows(alloc, source, of.file, message.params.as_slice())?;
     let returns = return_rows(alloc, source, of.file, message.returns.as_ref())?;
@@ -122,7 +128,9 @@ fn message_rows(
     requires marked { AreMarked types.now }
     requires low { of.now.number < 4096 }
     requires sole { ProtocolFindsSole source.now.program.now of.now.file of.now.protocol.now }
-    ensures { IfOk result (λ rows. AreRows (IsMessageRow source.now.program.now (numbering_of source.now.numbers) types.now.rows.items of.now.number of.now.file of.now.protocol.now) 0 of.now.protocol.now.messages rows.items) }
+    ensures { IfOk result (λ rows. AreRows
+        (IsMessageRow source.now.program.now (numbering_of source.now.numbers) types.now.rows.items
+        of.now.number of.now.file of.now.protocol.now) 0 of.now.protocol.now.messages rows.items) }
 {
     let mut rows = Vec::with_capacity(alloc, of.protocol.messages.len())?;
     for (index, message) in of.protocol.messages.as_slice().iter().enumerate() {
@@ -142,7 +150,9 @@ fn protocol_row(
     requires marked { AreMarked types.now }
     requires low { of.now.number < 4096 }
     requires sole { ProtocolFindsSole source.now.program.now of.now.file of.now.protocol.now }
-    ensures { IfOk result (IsProtocolRow source.now.program.now (numbering_of source.now.numbers) types.now.rows.items of.now.number of.now.file of.now.protocol.now) }
+    ensures { IfOk result
+        (IsProtocolRow source.now.program.now (numbering_of source.now.numbers) types.now.rows.items
+        of.now.number of.now.file of.now.protocol.now) }
 {
     let protocol = of.protocol;
     let managers = numbers_of_names(alloc, source, of.file, protocol.managers.as_slice())?;
@@ -171,7 +181,9 @@ fn row_of_file(
     requires marked { AreMarked types.now }
     requires low { number < 4096 }
     requires there { IsSome (the_protocol_of source.now.program.now file) }
-    ensures { IfOk result (λ row. IsSomeAnd (the_protocol_of source.now.program.now file) (λ p. IsProtocolRow source.now.program.now (numbering_of source.now.numbers) types.now.rows.items number file p row)) }
+    ensures { IfOk result (λ row. IsSomeAnd (the_protocol_of source.now.program.now file)
+        (λ p. IsProtocolRow source.now.program.now (numbering_of source.now.numbers)
+        types.now.rows.items number file p row)) }
 {
     let Some(protocol) = protocol_of(source.program, file) else {
         unreachable!();
@@ -193,7 +205,10 @@ pub fn protocol_rows(
     requires source { IsSource source.now }
     requires clean { IsClean source.now.program.now }
     requires marked { AreMarked types.now }
-    ensures { IfOk result (λ rows. AreRows (λ number file row. IsSomeAnd (the_protocol_of source.now.program.now file) (λ p. IsProtocolRow source.now.program.now (numbering_of source.now.numbers) types.now.rows.items number file p row)) 0 source.now.numbers.files.items rows.items) }
+    ensures { IfOk result (λ rows. AreRows
+        (λ number file row. IsSomeAnd (the_protocol_of source.now.program.now file)
+        (λ p. IsProtocolRow source.now.program.now (numbering_of source.now.numbers)
+        types.now.rows.items number file p row)) 0 source.now.numbers.files.items rows.items) }
 {
     let mut rows = Vec::with_capacity(alloc, source.numbers.files.len())?;
     for (number, file) in source.numbers.files.as_slice().iter().enumerate() {

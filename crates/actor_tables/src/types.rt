@@ -144,7 +144,9 @@ fn type_row(alloc: Global, source: &SchemaSource<'_, '_>, id: TypeId) -> Result<
 pub fn type_rows(alloc: Global, source: &SchemaSource<'_, '_>) -> Result<Vec<TypeRow>, AllocError>
     requires source { IsSource source.now }
     requires clean { IsClean source.now.program.now }
-    ensures { IfOk result (λ rows. AllZip (λ id. IsTypeRow source.now.program.now (numbering_of source.now.numbers) (decl_of id)) source.now.numbers.types.items rows.items) }
+    ensures { IfOk result (λ rows. AllZip
+        (λ id. IsTypeRow source.now.program.now (numbering_of source.now.numbers) (decl_of id))
+        source.now.numbers.types.items rows.items) }
 {
     let mut rows = Vec::with_capacity(alloc, source.numbers.types.len())?;
     for id in source.numbers.types.as_slice() {

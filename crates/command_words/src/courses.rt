@@ -52,7 +52,8 @@ fn turns_of(alloc: Global, letters: &[u8]) -> Result<Vec<Turn>, WordsFault>
 /// The turns of the value of `--schedule`, where it is given.
 pub fn schedule_of(alloc: Global, word: Option<&str>) -> Result<Option<Vec<Turn>>, WordsFault>
     ensures schedule { IfOk result (λ schedule. IsSchedule (option_map (λ w. w.now) word.entry) (option_map (λ turns. turns.items) schedule)) }
-    ensures usage { IfErr result (λ fault. fault ≡ WordsFault.Usage → (schedule : Option (List OneTurn)) → ¬ IsSchedule (option_map (λ w. w.now) word.entry) schedule) }
+    ensures usage { IfErr result (λ fault. fault ≡ WordsFault.Usage → (schedule : Option (List OneTurn))
+        → ¬ IsSchedule (option_map (λ w. w.now) word.entry) schedule) }
 {
     let Some(word) = word else {
         return Ok(None);

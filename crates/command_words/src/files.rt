@@ -16,7 +16,8 @@ fn note_file<'a>(files: &mut IndexMap<&'a [u8], &'a str>, word: &'a str) -> Resu
     requires { IsKeyed files.old }
     ensures keyed { OnOk result (IsKeyed files.new) }
     ensures noted { OnOk result ((seen : List (List ℕ)) → AreListed seen (names_of files.old) → AreListed (seen ++ word.entry.now ∷ []) (names_of files.new)) }
-    ensures usage { IfErr result (λ fault. fault ≡ WordsFault.Usage → (seen more all : List (List ℕ)) → AreListed seen (names_of files.old) → ¬ AreListed (seen ++ word.entry.now ∷ more) all) }
+    ensures usage { IfErr result (λ fault. fault ≡ WordsFault.Usage → (seen more all : List (List ℕ))
+        → AreListed seen (names_of files.old) → ¬ AreListed (seen ++ word.entry.now ∷ more) all) }
 {
     let bytes = word.as_bytes();
     if !is_file_word(bytes) {

@@ -17,8 +17,10 @@ pub struct ScriptOperands {
 
 /// SCRIPT, FILE and the input file, where the words are these.
 pub fn script_operands_of(alloc: Global, words: &[&str]) -> Result<ScriptOperands, WordsFault>
-    ensures operands { IfOk result (λ found. AreScriptOperands (map (λ w. w.now) words.entry.now) (string_bytes found.script) (string_bytes found.file) (string_bytes found.input)) }
-    ensures usage { IfErr result (λ fault. fault ≡ WordsFault.Usage → (script file input : List ℕ) → ¬ AreScriptOperands (map (λ w. w.now) words.entry.now) script file input) }
+    ensures operands { IfOk result (λ found. AreScriptOperands (map (λ w. w.now) words.entry.now)
+        (string_bytes found.script) (string_bytes found.file) (string_bytes found.input)) }
+    ensures usage { IfErr result (λ fault. fault ≡ WordsFault.Usage → (script file input : List ℕ)
+        → ¬ AreScriptOperands (map (λ w. w.now) words.entry.now) script file input) }
 {
     let [script, file, input] = words else {
         return Err(WordsFault::Usage);

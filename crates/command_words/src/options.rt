@@ -55,7 +55,8 @@ pub fn read_options<'a>(
 ) -> Result<ArgMatches<'a>, WordsFault>
     requires { IsTable (choices_of options.now) }
     ensures read { IfOk result (λ found. IsFound (choices_of options.entry.now) (map string_bytes words.entry.now) found) }
-    ensures usage { IfErr result (λ fault. fault ≡ WordsFault.Usage → (said : List WordUse) → Reads (choices_of options.entry.now) (map string_bytes words.entry.now) said → ¬ EachOnce said) }
+    ensures usage { IfErr result (λ fault. fault ≡ WordsFault.Usage → (said : List WordUse)
+        → Reads (choices_of options.entry.now) (map string_bytes words.entry.now) said → ¬ EachOnce said) }
 {
     let command = form(alloc, options)?;
     Ok(command.try_get_matches_from(words)?)

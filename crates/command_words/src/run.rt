@@ -46,7 +46,8 @@ pub struct RunOperands {
 /// SCRIPT and FILE, where the words are these.
 pub fn run_operands_of(alloc: Global, words: &[&str]) -> Result<RunOperands, WordsFault>
     ensures operands { IfOk result (λ found. AreRunOperands (map (λ w. w.now) words.entry.now) (string_bytes found.script) (string_bytes found.file)) }
-    ensures usage { IfErr result (λ fault. fault ≡ WordsFault.Usage → (script file : List ℕ) → ¬ AreRunOperands (map (λ w. w.now) words.entry.now) script file) }
+    ensures usage { IfErr result (λ fault. fault ≡ WordsFault.Usage → (script file : List ℕ)
+        → ¬ AreRunOperands (map (λ w. w.now) words.entry.now) script file) }
 {
     let [script, file] = words else {
         return Err(WordsFault::Usage);

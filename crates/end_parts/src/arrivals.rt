@@ -166,8 +166,11 @@ pub fn receive_request(
     out: &mut EndOutput,
 ) -> Result<(), AllocError>
     requires sound { IsSound schema.now }
-    requires fits { MayAnswerReplaced schema.now row.now (replaced_request (replaced row.now.compress (item_of row.now (plain_message message)) (map plain_item pending.old.items))) }
-    ensures ok { OnOk result (HasReceivedRequest schema.now side row.now (plain_message message) (map plain_item pending.old.items) out.old (map plain_item pending.new.items) out.new) }
+    requires fits { MayAnswerReplaced schema.now row.now
+        (replaced_request (replaced row.now.compress (item_of row.now (plain_message message))
+        (map plain_item pending.old.items))) }
+    ensures ok { OnOk result (HasReceivedRequest schema.now side row.now (plain_message message)
+        (map plain_item pending.old.items) out.old (map plain_item pending.new.items) out.new) }
     ensures same_items { OnErr result (pending.new.items ≡ pending.old.items) }
     ensures same_out { OnErr result (KeepsRoom out.old out.new) }
 {
@@ -208,7 +211,8 @@ pub fn receive_reply(
     pending: &mut Pending,
     out: &mut EndOutput,
 ) -> Result<(), AllocError>
-    ensures ok { OnOk result (HasReceivedReply side row.now (plain_message message) (map plain_item pending.old.items) out.old (map plain_item pending.new.items) out.new) }
+    ensures ok { OnOk result (HasReceivedReply side row.now (plain_message message)
+        (map plain_item pending.old.items) out.old (map plain_item pending.new.items) out.new) }
     ensures same_items { OnErr result (pending.new.items ≡ pending.old.items) }
     ensures same_out { OnErr result (KeepsRoom out.old out.new) }
 {

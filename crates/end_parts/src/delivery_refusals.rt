@@ -88,7 +88,9 @@ pub fn delivery_refusal(
     message: &Message,
 ) -> Option<DeliveryRefusal>
     requires { receiver.delivered < 268435456 }
-    ensures { option_map refusal_of result ≡ body_refusal schema.now (receiving_end receiver tree.now stack.now promises.now) (plain_message message.now) (plain_body message.now.body) row.now }
+    ensures { option_map refusal_of result
+        ≡ body_refusal schema.now (receiving_end receiver tree.now stack.now promises.now)
+        (plain_message message.now) (plain_body message.now.body) row.now }
 {
     match &message.body {
         Body::Request(_) => request_refusal(receiver, schema, tree, row, message),
@@ -149,7 +151,9 @@ fn reply_refusal(
     row: &MessageRow,
     message: &Message,
 ) -> Option<DeliveryRefusal>
-    ensures { option_map refusal_of result ≡ reply_refusal_by schema.now tree.now (is_expected_in stack.now promises.now message.now row.now) message.now row.now }
+    ensures { option_map refusal_of result
+        ≡ reply_refusal_by schema.now tree.now
+        (is_expected_in stack.now promises.now message.now row.now) message.now row.now }
 {
     if is_expected_reply(stack, promises, row, message) {
         actor_refusal(schema, tree, row, message)

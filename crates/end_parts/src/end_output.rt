@@ -64,7 +64,17 @@ impl Model for EndOutput {
 impl EndOutput {
     /// Nothing, with room for the lines that an end with one actor owes, and for one packet.
     pub fn new(alloc: Global, goodbye: Items<u8>) -> Result<EndOutput, AllocError>
-        ensures made { IfOk result (λ out. out ≡ record { lines = []; line_spare = out.line_spare; lines_owed = 3; packets = []; packet_spare = out.packet_spare; outbox = []; outbox_spare = out.outbox_spare; frames = []; goodbye = Some (Packet.Bytes goodbye) }) }
+        ensures made { IfOk result (λ out. out ≡ record {
+          lines = [];
+          line_spare = out.line_spare;
+          lines_owed = 3;
+          packets = [];
+          packet_spare = out.packet_spare;
+          outbox = [];
+          outbox_spare = out.outbox_spare;
+          frames = [];
+          goodbye = Some (Packet.Bytes goodbye);
+        }) }
         ensures line_spare { IfOk result (λ out. 3 ≤ out.line_spare) }
         ensures packet_spare { IfOk result (λ out. 1 ≤ out.packet_spare) }
     {
@@ -167,7 +177,10 @@ impl EndOutput {
     /// Moves what waits in the outbox to the packets.
     pub fn flush(&mut self)
         requires { length self.old.frames ≤ self.old.packet_spare }
-        ensures { self.new ≡ record (without_outbox self.old) { packets = self.old.packets ++ self.old.frames; packet_spare = self.old.packet_spare - length self.old.frames } }
+        ensures { self.new ≡ record (without_outbox self.old) {
+          packets = self.old.packets ++ self.old.frames;
+          packet_spare = self.old.packet_spare - length self.old.frames;
+        } }
     {
         move_frames(&mut self.outbox, &mut self.packets);
     }
@@ -207,7 +220,8 @@ impl EndOutput {
     /// Moves the lines to a history. Want of memory moves none, and does not come where the history
     /// has room for them.
     pub fn drain(&mut self, into: &mut History) -> Result<(), AllocError>
-        ensures ok { OnOk result ((self.new ≡ record self.old { lines = []; line_spare = self.new.line_spare }) × (self.old.line_spare ≤ self.new.line_spare) × HasMoved self.old.lines into.old into.new) }
+        ensures ok { OnOk result ((self.new ≡ record self.old { lines = []; line_spare = self.new.line_spare })
+            × (self.old.line_spare ≤ self.new.line_spare) × HasMoved self.old.lines into.old into.new) }
         ensures err { OnErr result ((self.new ≡ self.old) × (into.new.lines ≡ into.old.lines)) }
         ensures room { length self.old.lines ≤ into.old.spare → IsOk result }
     {
@@ -218,7 +232,9 @@ impl EndOutput {
 
     /// The oldest packet; `None` where there is none.
     pub fn take_packet(&mut self) -> Option<Packet>
-        ensures { MatchOption result ((self.old.packets ≡ []) × (self.new ≡ self.old)) (λ packet. (self.old.packets ≡ packet ∷ self.new.packets) × (self.new ≡ record self.old { packets = self.new.packets; packet_spare = self.old.packet_spare + 1 })) }
+        ensures { MatchOption result ((self.old.packets ≡ []) × (self.new ≡ self.old))
+            (λ packet. (self.old.packets ≡ packet ∷ self.new.packets)
+            × (self.new ≡ record self.old { packets = self.new.packets; packet_spare = self.old.packet_spare + 1 })) }
     {
         self.packets.pop_front()
     }

@@ -30,7 +30,10 @@ fn reply_by_values(
 ) -> Result<Message, AllocError>
     requires sound { IsSound schema.now }
     requires number { request.now.number < 4294967295 }
-    ensures { IfOk result (λ m. plain_message m ≡ reply_to (answered_of request.now) (body_of (answer_by_values schema.now tree.now row.now (answered_of request.now) (option_map (λ vs. plain_values vs.now) values.entry)))) }
+    ensures { IfOk result (λ m. plain_message m
+        ≡ reply_to (answered_of request.now)
+        (body_of (answer_by_values schema.now tree.now row.now (answered_of request.now)
+        (option_map (λ vs. plain_values vs.now) values.entry)))) }
 {
     boxes_say_nothing();
     match values {
@@ -57,7 +60,10 @@ fn sync_reply(
 ) -> Result<Message, AllocError>
     requires sound { IsSound schema.now }
     requires number { request.now.number < 4294967295 }
-    ensures { IfOk result (λ m. plain_message m ≡ reply_to (answered_of request.now) (body_of (return_answer_by schema.now tree.now row.now (answered_of request.now) (option_map (λ vs. plain_values vs.now) values.entry)))) }
+    ensures { IfOk result (λ m. plain_message m
+        ≡ reply_to (answered_of request.now)
+        (body_of (return_answer_by schema.now tree.now row.now (answered_of request.now)
+        (option_map (λ vs. plain_values vs.now) values.entry)))) }
 {
     if row.returns.is_none() {
         Ok(reply_to(request, Body::Reply(Values::Nothing)))
@@ -80,8 +86,11 @@ pub fn return_packet(
 ) -> Result<Option<AnswerPacket>, AllocError>
     requires sound { IsSound schema.now }
     requires number { entry.now.number < 4294967295 }
-    requires fits { FitsOwed schema.now (owed_by_return schema.now tree.now row.now (dispatch_entry entry.now) (option_map (λ vs. plain_values vs.now) values)) }
-    ensures { IfOk result (λ packet. IsPacketFor schema.now (owed_if is_open (owed_by_return schema.now tree.now row.now (dispatch_entry entry.now) (option_map (λ vs. plain_values vs.now) values.entry))) packet) }
+    requires fits { FitsOwed schema.now (owed_by_return schema.now tree.now row.now (dispatch_entry entry.now)
+        (option_map (λ vs. plain_values vs.now) values)) }
+    ensures { IfOk result (λ packet. IsPacketFor schema.now
+        (owed_if is_open (owed_by_return schema.now tree.now row.now (dispatch_entry entry.now)
+        (option_map (λ vs. plain_values vs.now) values.entry))) packet) }
 {
     if !is_open {
         Ok(None)
@@ -105,8 +114,15 @@ fn sync_packet(
 ) -> Result<Option<AnswerPacket>, AllocError>
     requires sound { IsSound schema.now }
     requires number { entry.now.number < 4294967295 }
-    requires fits { Fits schema.now (reply_to (dispatch_answered (dispatch_entry entry.now)) (body_of (return_answer_by schema.now tree.now row.now (dispatch_answered (dispatch_entry entry.now)) (option_map (λ vs. plain_values vs.now) values)))) }
-    ensures { IfOk result (λ packet. IsPacketFor schema.now (Some (record { request = dispatch_answered (dispatch_entry entry.now); given = return_answer_by schema.now tree.now row.now (dispatch_answered (dispatch_entry entry.now)) (option_map (λ vs. plain_values vs.now) values.entry) })) packet) }
+    requires fits { Fits schema.now (reply_to (dispatch_answered (dispatch_entry entry.now))
+        (body_of (return_answer_by schema.now tree.now row.now (dispatch_answered (dispatch_entry entry.now))
+        (option_map (λ vs. plain_values vs.now) values)))) }
+    ensures { IfOk result (λ packet. IsPacketFor schema.now
+        (Some (record {
+          request = dispatch_answered (dispatch_entry entry.now);
+          given = return_answer_by schema.now tree.now row.now (dispatch_answered (dispatch_entry entry.now))
+              (option_map (λ vs. plain_values vs.now) values.entry);
+        })) packet) }
 {
     boxes_say_nothing();
     let reply = sync_reply(alloc, schema, tree, row, &entry.answered(), values)?;

@@ -76,7 +76,8 @@ fn add_in_block(
     found: &mut Vec<Finding>,
 ) -> Result<(), AllocError>
     ensures { OnOk result (Gains (λ f. (place ≡ f.place)
-        × broken.BlockBreaks schema.now f.rule (option_map (λ m. m.now) message.entry) answered (standing_in context.entry) statement.now (statements after.now))
+        × broken.BlockBreaks schema.now f.rule (option_map (λ m. m.now) message.entry) answered
+        (standing_in context.entry) statement.now (statements after.now))
         found.old.items found.new.items) }
 {
     let sent = sent(statement, message);

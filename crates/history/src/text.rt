@@ -135,7 +135,8 @@ fn push_returned(
     between: &[u8],
     values: &Values,
 ) -> Result<(), AllocError>
-    ensures { OnOk result (out.new.items ≡ out.old.items ++ (text.numbered word.now number ++ between.now ++ text.listed_values schema.now types.now values.now)) }
+    ensures { OnOk result (out.new.items ≡ out.old.items
+        ++ (text.numbered word.now number ++ between.now ++ text.listed_values schema.now types.now values.now)) }
 {
     push_numbered(out, word, number)?;
     out.extend_from_slice(between)?;
@@ -280,7 +281,8 @@ fn push_what(
     what: &What,
 ) -> Result<(), AllocError>
     requires { IsSound schema.now }
-    ensures { OnOk result (out.new.items ≡ out.old.items ++ text.what_text schema.now (λ n. text.returns_named schema.now (noted_at messages.now side n)) what.now) }
+    ensures { OnOk result (out.new.items ≡ out.old.items ++ text.what_text schema.now
+        (λ n. text.returns_named schema.now (noted_at messages.now side n)) what.now) }
 {
     match what {
         What::Send(n, route, message, values) => {
@@ -366,7 +368,8 @@ pub(crate) fn push_line(
     line: &Line,
 ) -> Result<(), AllocError>
     requires { IsSound schema.now }
-    ensures { OnOk result (out.new.items ≡ out.old.items ++ text.line_saying schema.now (λ n. text.returns_named schema.now (noted_at messages.now line.now.side n)) line.now) }
+    ensures { OnOk result (out.new.items ≡ out.old.items ++ text.line_saying schema.now
+        (λ n. text.returns_named schema.now (noted_at messages.now line.now.side n)) line.now) }
 {
     push_begin(out, line)?;
     push_what(out, schema, messages, line.side, &line.what)?;

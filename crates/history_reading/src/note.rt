@@ -68,7 +68,9 @@ impl<'h> EndReading<'h> {
         values: &'h Values,
     ) -> Result<(), AllocError>
         requires { IsSound schema.now }
-        ensures { OnOk result (end_view self.new ≡ read.begun (event.Sends seq route) (delete_cause schema.now number route) (read.sending schema.now seq (pos 0) route number values.now (end_view self.old))) }
+        ensures { OnOk result (end_view self.new
+            ≡ read.begun (event.Sends seq route) (delete_cause schema.now number route)
+            (read.sending schema.now seq (pos 0) route number values.now (end_view self.old))) }
     {
         self.send(schema, seq, 0, route, number, values)?;
         self.begin(
@@ -86,7 +88,9 @@ impl<'h> EndReading<'h> {
         values: &'h Values,
     ) -> Result<(), AllocError>
         requires { IsSound schema.now }
-        ensures { OnOk result (end_view self.new ≡ read.begun (event.Sends call.seq route) cause.Nobody (read.pushing (frame.Unanswered call) (read.sending schema.now call.seq call.transaction route call.number values.now (end_view self.old)))) }
+        ensures { OnOk result (end_view self.new ≡ read.begun (event.Sends call.seq route) cause.Nobody
+            (read.pushing (frame.Unanswered call)
+            (read.sending schema.now call.seq call.transaction route call.number values.now (end_view self.old)))) }
     {
         self.send(
             schema,
@@ -171,7 +175,8 @@ impl<'h> EndReading<'h> {
     }
 
     fn note_take(&mut self, handled: HandledRequest) -> Result<(), AllocError>
-        ensures { OnOk result (end_view self.new ≡ read.begun (event.Takes handled.seq handled.route) cause.Nobody (read.pushing (frame.Dispatch handled) (read.going handled.seq (end_view self.old)))) }
+        ensures { OnOk result (end_view self.new ≡ read.begun (event.Takes handled.seq handled.route) cause.Nobody
+            (read.pushing (frame.Dispatch handled) (read.going handled.seq (end_view self.old)))) }
     {
         self.go(handled.seq)?;
         self.push(CallFrame::Dispatch(handled))?;

@@ -229,7 +229,9 @@ fn answer_with<F: Files, D: Driver>(
     requires top { HasTop file.now checked }
     requires limit { wanted.now.limit ≤ most_events }
     requires ready { D.ready driver.old }
-    ensures answer { load.ForMap (F.told files.old) (λ map'. IfOk result (IsToldOf (run_says (D.Gives driver.old) wanted.now (map' wanted.now.script.now) file.now) checked)) }
+    ensures answer { load.ForMap (F.told files.old)
+        (λ map'. IfOk result (IsToldOf (run_says (D.Gives driver.old) wanted.now
+        (map' wanted.now.script.now) file.now) checked)) }
     ensures read_fault { result ≡ Err Failure.ReadFault → Rose (F.faults files.old) (F.faults files.new) }
 {
     let held = read_file(alloc, files, wanted.script, MOST_BYTES)?;

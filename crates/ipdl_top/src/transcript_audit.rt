@@ -226,7 +226,9 @@ pub fn audit_transcript<F: Files>(
     requires ending { (front : List ℕ) × (string_bytes file.now ≡ front ++ codes ".ipdl") }
     requires limit { wanted.now.limit ≤ most_events }
     ensures answer { ForMap (F.told files.old) (λ seen. IfOk result
-        (IsFileAnswer (audit_says wanted.now (seen.script wanted.now.script.now) (seen.input wanted.now.transcript.now) (string_bytes file.now)) seen (map string_bytes path.now) (string_bytes file.now) (option_copied list.entry))) }
+        (IsFileAnswer (audit_says wanted.now (seen.script wanted.now.script.now)
+        (seen.input wanted.now.transcript.now) (string_bytes file.now)) seen (map string_bytes path.now)
+        (string_bytes file.now) (option_copied list.entry))) }
     ensures read_fault { result ≡ Err Failure.ReadFault → Rose (F.faults files.old) (F.faults files.new) }
 {
     match checked(alloc, files, list, path, from_ref(file)) {

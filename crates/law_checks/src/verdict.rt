@@ -18,7 +18,9 @@ use std::alloc::{AllocError, Global};
 /// The test of a law of a line, before the lines behind it.
 fn line_test(law: Law, schema: &Schema, reading: &Reading<'_>, line: &Line, behind: &[Line]) -> bool
     requires { IsSound schema.now }
-    ensures { result ≡ the.line_test law schema.now line.now.side (end_reading_of line.now.side (reading_view reading.now)) (other_of line.now.side (reading_view reading.now)) line.now.what behind.now }
+    ensures { result ≡ the.line_test law schema.now line.now.side
+        (end_reading_of line.now.side (reading_view reading.now))
+        (other_of line.now.side (reading_view reading.now)) line.now.what behind.now }
 {
     let own = reading.end(line.side);
     let other = reading.other(line.side);

@@ -64,7 +64,9 @@ fn is_unanswered(
     side: Relation,
 ) -> bool
     requires known { IsKnown known.now }
-    ensures { IsTrue result ↔ FindsWith (λ other q. ¬ NamesOn (other_side side) known.now.program.now other q subject.now.file) known.now.program.now subject.now.file name.now }
+    ensures { IsTrue result ↔ FindsWith
+        (λ other q. ¬ NamesOn (other_side side) known.now.program.now other q subject.now.file)
+        known.now.program.now subject.now.file name.now }
 {
     match known.find(subject.file, name) {
         Some((other, _)) => !known.has_bond(side.other(), other, subject.file),
@@ -75,7 +77,9 @@ fn is_unanswered(
 /// Whether a name finds a manager to which the subject does not convert.
 fn is_stronger(known: &ManagementGraph<'_, '_>, subject: &Subject<'_>, name: &Name) -> bool
     requires known { IsKnown known.now }
-    ensures { IsTrue result ↔ FindsWith (λ other m. ¬ Converts (strength_of_protocol subject.now.protocol.now) (strength_of_protocol m)) known.now.program.now subject.now.file name.now }
+    ensures { IsTrue result ↔ FindsWith
+        (λ other m. ¬ Converts (strength_of_protocol subject.now.protocol.now) (strength_of_protocol m))
+        known.now.program.now subject.now.file name.now }
 {
     match known.find(subject.file, name) {
         Some((_, manager)) => {
@@ -102,7 +106,9 @@ fn is_unconstructed(known: &ManagementGraph<'_, '_>, subject: &Subject<'_>, name
 pub fn is_unmanaged(known: &ManagementGraph<'_, '_>, subject: &Subject<'_>, name: &Name) -> bool
     requires known { IsKnown known.now }
     requires subject { IsSubject known.now.program.now subject.now }
-    ensures { IsTrue result ↔ FindsWith (λ other q. ¬ Manages known.now.program.now subject.now.file subject.now.protocol.now other) known.now.program.now subject.now.file name.now }
+    ensures { IsTrue result ↔ FindsWith
+        (λ other q. ¬ Manages known.now.program.now subject.now.file subject.now.protocol.now other)
+        known.now.program.now subject.now.file name.now }
 {
     match known.find(subject.file, name) {
         Some((other, _)) => !known.has_bond(Relation::Managed, subject.file, other),

@@ -82,8 +82,11 @@ impl<'a, 'p> ManagementGraph<'a, 'p> {
     /// The protocol that a name finds in a file, with the number of its own file, where it finds exactly one.
     pub fn find(&self, file: u32, name: &Name) -> Option<(u32, &'a ProtocolDecl)>
         requires { IsKnown self.now }
-        ensures some { IfSome result (λ found. FindsOneProtocol self.now.program.now file name.now found.0 × (protocol_of self.now.program.now found.0 ≡ Some found.1.now)) }
-        ensures none { IfNone result ((other : ℕ) (q : ProtocolDecl) → FindsOneProtocol self.now.program.now file name.now other → protocol_of self.now.program.now other ≢ Some q) }
+        ensures some { IfSome result (λ found. FindsOneProtocol self.now.program.now file name.now found.0
+            × (protocol_of self.now.program.now found.0 ≡ Some found.1.now)) }
+        ensures none { IfNone result ((other : ℕ) (q : ProtocolDecl)
+            → FindsOneProtocol self.now.program.now file name.now other
+            → protocol_of self.now.program.now other ≢ Some q) }
     {
         let other = find_one(self.names, file, name)?;
         let protocol = protocol_of(self.program, other)?;

@@ -29,7 +29,9 @@ fn add_breaches(
 ) -> Result<(), AllocError>
     requires known { IsKnown known.now }
     requires subject { IsSubject known.now.program.now subject.now }
-    ensures { OnOk result (Adds (rule_of breach) (BreaksAt breach known.now.program.now subject.now.file subject.now.protocol.now) found.old.items found.new.items) }
+    ensures { OnOk result (Adds (rule_of breach)
+        (BreaksAt breach known.now.program.now subject.now.file subject.now.protocol.now)
+        found.old.items found.new.items) }
 {
     let names = breach.side().names_of(subject.protocol);
     for name in names {
@@ -52,7 +54,9 @@ fn add_unmanaged(
 ) -> Result<(), AllocError>
     requires known { IsKnown known.now }
     requires subject { IsSubject known.now.program.now subject.now }
-    ensures { OnOk result (Adds Rule.UNMANAGED_CONSTRUCTOR (UnmanagedIn known.now.program.now subject.now.file subject.now.protocol.now messages.now) found.old.items found.new.items) }
+    ensures { OnOk result (Adds Rule.UNMANAGED_CONSTRUCTOR
+        (UnmanagedIn known.now.program.now subject.now.file subject.now.protocol.now messages.now)
+        found.old.items found.new.items) }
 {
     for message in messages {
         if is_unmanaged(known, subject, &message.name) {
@@ -68,7 +72,8 @@ fn add_unmanaged(
 /// Adds a finding at the subject's name where it has managers and no destructor.
 fn add_undestroyed(subject: &Subject<'_>, found: &mut Vec<Finding>) -> Result<(), AllocError>
     requires { HasNames subject.now.protocol.now.messages subject.now.messages }
-    ensures { OnOk result (Adds Rule.MISSING_DESTRUCTOR (UndestroyedIn subject.now.protocol.now) found.old.items found.new.items) }
+    ensures { OnOk result (Adds Rule.MISSING_DESTRUCTOR (UndestroyedIn subject.now.protocol.now)
+        found.old.items found.new.items) }
 {
     if subject.lacks_destructor() {
         found.push(Finding {
@@ -88,7 +93,8 @@ fn add_cycle(
 ) -> Result<(), AllocError>
     requires known { IsKnown known.now }
     requires subject { IsSubject known.now.program.now subject.now }
-    ensures { OnOk result (Adds Rule.MANAGER_CYCLE (CycleIn known.now.program.now subject.now.file subject.now.protocol.now) found.old.items found.new.items) }
+    ensures { OnOk result (Adds Rule.MANAGER_CYCLE (CycleIn known.now.program.now subject.now.file subject.now.protocol.now)
+        found.old.items found.new.items) }
 {
     if is_in_cycle(alloc, known, subject.file)? {
         found.push(Finding {
@@ -169,7 +175,8 @@ fn add_of_names(
 ) -> Result<(), AllocError>
     requires known { IsKnown known.now }
     requires subject { IsSubject known.now.program.now subject.now }
-    ensures { OnOk result (Gains (NamesBroken known.now.program.now subject.now.file subject.now.protocol.now) found.old.items found.new.items) }
+    ensures { OnOk result (Gains (NamesBroken known.now.program.now subject.now.file subject.now.protocol.now)
+        found.old.items found.new.items) }
 {
     add_breaches(
         known,
@@ -208,7 +215,8 @@ fn add_of_rest(
 ) -> Result<(), AllocError>
     requires known { IsKnown known.now }
     requires subject { IsSubject known.now.program.now subject.now }
-    ensures { OnOk result (Gains (RestBroken known.now.program.now subject.now.file subject.now.protocol.now) found.old.items found.new.items) }
+    ensures { OnOk result (Gains (RestBroken known.now.program.now subject.now.file subject.now.protocol.now)
+        found.old.items found.new.items) }
 {
     add_cycle(alloc, known, subject, found)?;
     add_undestroyed(subject, found)?;

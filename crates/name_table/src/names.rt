@@ -267,7 +267,8 @@ impl<'p> Names<'p> {
 
     /// Whether a full name is the word of an endpoint, or of a managed one, with an argument that finds a protocol.
     fn names_endpoint(&self, file: u32, full: &[u8], managed: bool) -> bool
-        ensures { IsTrue result ↔ ((inner : List ℕ) × (p : ℕ) × (full.now ≡ whole_name (endpoint_word managed) (Some inner)) × FindsProtocol self.now file inner p) }
+        ensures { IsTrue result ↔ ((inner : List ℕ) × (p : ℕ)
+            × (full.now ≡ whole_name (endpoint_word managed) (Some inner)) × FindsProtocol self.now file inner p) }
     {
         match inner_of(full, word_of(managed)) {
             Some(inner) => match self.protocols(file, inner) {

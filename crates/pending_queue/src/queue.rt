@@ -156,7 +156,8 @@ impl Queue {
     // The oldest item of a class that is not deferred.
     fn candidate(&self, holding: &Holding, class: Class) -> Option<usize>
         requires { IsQueue self.now }
-        ensures { result ≡ head (chosen_keys (is_free holding.now) (queue_item self.now) (chosen_keys (is_class class) (queue_item self.now) (keys_of self.now))) }
+        ensures { result ≡ head (chosen_keys (is_free holding.now) (queue_item self.now)
+            (chosen_keys (is_class class) (queue_item self.now) (keys_of self.now))) }
     {
         if defers_class(holding, class) {
             return None;

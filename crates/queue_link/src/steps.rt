@@ -26,7 +26,8 @@ fn push_next<R: Wait>(
     requires pass { MayPush queue.now.queue pass.old }
     requires hands { (popped : List OfPacket) × HandsOver at.0 at.1 (view_of pass.old).pushed popped half.old }
     ensures pass { HasPushed queue.now.queue pass.old pass.new }
-    ensures hands { (popped : List OfPacket) → HandsOver at.0 at.1 (view_of pass.old).pushed popped half.old → IfOk result (λ more. PushGives at.0 at.1 (view_of pass.new).pushed popped more half.new) }
+    ensures hands { (popped : List OfPacket) → HandsOver at.0 at.1 (view_of pass.old).pushed popped half.old
+        → IfOk result (λ more. PushGives at.0 at.1 (view_of pass.new).pushed popped more half.new) }
 {
     let Some(packet) = half.put() else {
         return Ok(false);
@@ -46,7 +47,8 @@ fn hand_over<R: Wait>(
     requires pass { MayPush queue.now.queue pass.old }
     requires hands { (popped : List OfPacket) × HandsOver at.0 at.1 (view_of pass.old).pushed popped half.old }
     ensures pass { HasPushed queue.now.queue pass.old pass.new }
-    ensures work { (popped : List OfPacket) → HandsOver at.0 at.1 (view_of pass.old).pushed popped half.old → OnOk result (IsAtWork at.0 at.1 (view_of pass.new).pushed popped half.new) }
+    ensures work { (popped : List OfPacket) → HandsOver at.0 at.1 (view_of pass.old).pushed popped half.old
+        → OnOk result (IsAtWork at.0 at.1 (view_of pass.new).pushed popped half.new) }
 {
     for _ in rt.forever() {
         if !push_next(rt, queue, pass, half)? {
@@ -80,7 +82,8 @@ fn accept(half: &mut Half<'_>, packet: &Packet) -> StepAnswer
     ghost at: { Setting × EndSide }
     requires rests { (pushed : List OfPacket) × (popped : List OfPacket) × HasNoStep at.0 at.1 pushed popped half.old }
     requires opened { is_open half.old.end.end.state ≡ true }
-    ensures { (pushed popped : List OfPacket) → HasNoStep at.0 at.1 pushed popped half.old → DeliveryGives at.0 at.1 pushed (popped ++ packet.now ∷ []) result half.new }
+    ensures { (pushed popped : List OfPacket) → HasNoStep at.0 at.1 pushed popped half.old
+        → DeliveryGives at.0 at.1 pushed (popped ++ packet.now ∷ []) result half.new }
 {
     turn_answer(half.accept(packet))
 }
@@ -98,7 +101,8 @@ fn deliver<R: Wait>(
     requires rests { (popped : List OfPacket) × HasNoStep at.0 at.1 (view_of pass.old).pushed popped half.old }
     requires opened { is_open half.old.end.end.state ≡ true }
     ensures pass { HasPushed queue.now.queue pass.old pass.new }
-    ensures gives { (popped : List OfPacket) → HasNoStep at.0 at.1 (view_of pass.old).pushed popped half.old → TakeGives at.0 at.1 (view_of pass.new).pushed (popped ++ packet.now ∷ []) result half.new }
+    ensures gives { (popped : List OfPacket) → HasNoStep at.0 at.1 (view_of pass.old).pushed popped half.old
+        → TakeGives at.0 at.1 (view_of pass.new).pushed (popped ++ packet.now ∷ []) result half.new }
 {
     match accept(half, packet) {
         StepAnswer::Did => done(hand_over(rt, queue, pass, half)),

@@ -88,7 +88,8 @@ impl<'t> Comparison<'t> {
         requires sound { IsSound schema.now }
         requires within { IsWithin self.old }
         ensures within { OnOk result (IsWithin self.new) }
-        ensures compared { IfOk result (λ found. (before : List OfLine) → HasPassed before self.old → HasCompared schema.now before (line.now ∷ []) self.old found self.new) }
+        ensures compared { IfOk result (λ found. (before : List OfLine) → HasPassed before self.old
+            → HasCompared schema.now before (line.now ∷ []) self.old found self.new) }
     {
         if self.left.is_empty() {
             return Ok(Alike::Over);

@@ -62,8 +62,10 @@ fn add_struct(
     attributes: Attributes,
 ) -> Result<(), TreeRefusal>
     requires { first_symbol reader.old ≡ symbols.Struct }
-    ensures read { OnOk result ((kind : FileKind) (tokens : List Token) → IsHeadedDraft kind tokens attributes draft.old reader.old → IsDraft kind tokens draft.new reader.new) }
-    ensures stops { IfErr result (λ e. (kind : FileKind) (tokens : List Token) → IsHeadedDraft kind tokens attributes draft.old reader.old → FileStops kind tokens e) }
+    ensures read { OnOk result ((kind : FileKind) (tokens : List Token)
+        → IsHeadedDraft kind tokens attributes draft.old reader.old → IsDraft kind tokens draft.new reader.new) }
+    ensures stops { IfErr result (λ e. (kind : FileKind) (tokens : List Token)
+        → IsHeadedDraft kind tokens attributes draft.old reader.old → FileStops kind tokens e) }
     ensures less { OnOk result (length reader.new < length reader.old) }
 {
     reader.pass();
@@ -80,8 +82,10 @@ fn add_union(
     attributes: Attributes,
 ) -> Result<(), TreeRefusal>
     requires { first_symbol reader.old ≡ symbols.Union }
-    ensures read { OnOk result ((kind : FileKind) (tokens : List Token) → IsHeadedDraft kind tokens attributes draft.old reader.old → IsDraft kind tokens draft.new reader.new) }
-    ensures stops { IfErr result (λ e. (kind : FileKind) (tokens : List Token) → IsHeadedDraft kind tokens attributes draft.old reader.old → FileStops kind tokens e) }
+    ensures read { OnOk result ((kind : FileKind) (tokens : List Token)
+        → IsHeadedDraft kind tokens attributes draft.old reader.old → IsDraft kind tokens draft.new reader.new) }
+    ensures stops { IfErr result (λ e. (kind : FileKind) (tokens : List Token)
+        → IsHeadedDraft kind tokens attributes draft.old reader.old → FileStops kind tokens e) }
     ensures less { OnOk result (length reader.new < length reader.old) }
 {
     reader.pass();
@@ -99,8 +103,10 @@ fn add_using(
 ) -> Result<(), TreeRefusal>
     requires using { first_symbol reader.old ≡ symbols.Using }
     requires outside { length draft.old.scope.items ≡ 0 }
-    ensures read { OnOk result ((kind : FileKind) (tokens : List Token) → IsHeadedDraft kind tokens attributes draft.old reader.old → IsDraft kind tokens draft.new reader.new) }
-    ensures stops { IfErr result (λ e. (kind : FileKind) (tokens : List Token) → IsHeadedDraft kind tokens attributes draft.old reader.old → FileStops kind tokens e) }
+    ensures read { OnOk result ((kind : FileKind) (tokens : List Token)
+        → IsHeadedDraft kind tokens attributes draft.old reader.old → IsDraft kind tokens draft.new reader.new) }
+    ensures stops { IfErr result (λ e. (kind : FileKind) (tokens : List Token)
+        → IsHeadedDraft kind tokens attributes draft.old reader.old → FileStops kind tokens e) }
     ensures less { OnOk result (length reader.new < length reader.old) }
 {
     reader.pass();
@@ -113,7 +119,9 @@ fn add_using(
 /// they are async.
 fn protocol_semantics(reader: &mut TokenReader) -> Semantics
     requires { begins_protocol (first_symbol reader.old) ≡ true }
-    ensures drafted { (kind : FileKind) (tokens : List Token) (list : List Attribute) (draft : Draft) → may_come kind draft.protocol ≡ true → IsHeadedDraft kind tokens list draft reader.old → IsProtocolDraft kind tokens list result draft reader.new }
+    ensures drafted { (kind : FileKind) (tokens : List Token) (list : List Attribute) (draft : Draft)
+        → may_come kind draft.protocol ≡ true → IsHeadedDraft kind tokens list draft reader.old
+        → IsProtocolDraft kind tokens list result draft reader.new }
     ensures fewer { length reader.new ≤ length reader.old }
 {
     if reader.skips(Symbol::Sync) {
@@ -131,8 +139,11 @@ fn add_protocol(
     attributes: Attributes,
     semantics: Semantics,
 ) -> Result<(), TreeRefusal>
-    ensures read { OnOk result ((kind : FileKind) (tokens : List Token) → IsProtocolDraft kind tokens attributes semantics draft.old reader.old → IsDraft kind tokens draft.new reader.new) }
-    ensures stops { IfErr result (λ e. (kind : FileKind) (tokens : List Token) → IsProtocolDraft kind tokens attributes semantics draft.old reader.old → FileStops kind tokens e) }
+    ensures read { OnOk result ((kind : FileKind) (tokens : List Token)
+        → IsProtocolDraft kind tokens attributes semantics draft.old reader.old
+        → IsDraft kind tokens draft.new reader.new) }
+    ensures stops { IfErr result (λ e. (kind : FileKind) (tokens : List Token)
+        → IsProtocolDraft kind tokens attributes semantics draft.old reader.old → FileStops kind tokens e) }
     ensures less { OnOk result (length reader.new < length reader.old) }
 {
     reader.take(Symbol::Protocol)?;

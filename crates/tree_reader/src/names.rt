@@ -87,7 +87,8 @@ pub(crate) fn name_with_argument(
     reader: &mut TokenReader,
 ) -> Result<QualifiedName, TreeRefusal>
     ensures read { IfOk result (λ n. at n.place (named n.name n.inner) reader.old reader.new) }
-    ensures turns { OnOk result ((f : Form) (others : List Form) → IsNaming f → MayHaveArgument f others → Turns (take Word ∷ f ∷ []) reader.old others reader.new) }
+    ensures turns { OnOk result ((f : Form) (others : List Form) → IsNaming f → MayHaveArgument f others
+        → Turns (take Word ∷ f ∷ []) reader.old others reader.new) }
     ensures stops { IfErr result (λ e. (f : Form) (others : List Form) → IsNaming f → MayHaveArgument f others → Stops (take Word ∷ f ∷ []) reader.old e) }
     ensures less { OnOk result (length reader.new < length reader.old) }
 {

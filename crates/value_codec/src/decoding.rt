@@ -52,7 +52,9 @@ fn contents(
     payload: &[u8],
 ) -> Result<(i32, Body), Refusal>
     requires { IsSound schema.now }
-    ensures { Gives (λ x. (x.0, plain_body x.1)) result (decoding.contents_of_type layout schema.now header.now (frames.type_of schema.now header.now.number) payload.now) }
+    ensures { Gives (λ x. (x.0, plain_body x.1)) result
+        (decoding.contents_of_type layout schema.now header.now
+        (frames.type_of schema.now header.now.number) payload.now) }
 {
     match frame_type(schema, header.number) {
         None => Err(Refusal::Broken(Fault { rule: 0, left: 0 })),
@@ -73,7 +75,9 @@ fn whole(
 ) -> Decoded
     requires sound { IsSound schema.now }
     requires size { size ≡ whole_size layout header.now }
-    ensures { Yields result (with_contents layout header.now (decoding.contents_of_type layout schema.now header.now (frames.type_of schema.now header.now.number) payload.now)) }
+    ensures { Yields result (with_contents layout header.now
+        (decoding.contents_of_type layout schema.now header.now
+        (frames.type_of schema.now header.now.number) payload.now)) }
 {
     match contents(alloc, layout, schema, header, payload) {
         Ok((made, body)) => Decoded::Frame(message_from(header, made, body), size),

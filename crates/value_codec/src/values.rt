@@ -167,7 +167,8 @@ fn named<'b>(
     depth: usize,
     bytes: &'b [u8],
 ) -> Result<(Value, &'b [u8]), Refusal>
-    ensures { Gives (λ x. (plain x.0, x.1.now)) result (reading.row_at (value_at depth layout schema.now) layout (slice_get schema.now.types number) bytes.now) }
+    ensures { Gives (λ x. (plain x.0, x.1.now)) result
+        (reading.row_at (value_at depth layout schema.now) layout (slice_get schema.now.types number) bytes.now) }
 {
     match schema.types.as_slice().get(number as usize) {
         Some(TypeRow::Struct(_, fields)) => {

@@ -188,7 +188,9 @@ impl Counts {
 
     /// The block that is the side's main, by its place in the script.
     pub(crate) fn main_block(&self) -> Option<u32>
-        ensures { (blocks : List ScriptBlock) (side : EndSide) (taken : List ℕ) → IsTableOf blocks side taken self.now.table → option_and_then (slice_get blocks) result ≡ slice_get (filter (serves side None) blocks) 0 }
+        ensures { (blocks : List ScriptBlock) (side : EndSide) (taken : List ℕ)
+            → IsTableOf blocks side taken self.now.table
+            → option_and_then (slice_get blocks) result ≡ slice_get (filter (serves side None) blocks) 0 }
     {
         self.table.main()
     }

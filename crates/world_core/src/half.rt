@@ -94,7 +94,16 @@ impl<'s> Half<'s> {
         requires sound { IsSound schema.now }
         requires top { script.now.top < length schema.now.protocols }
         requires few { length script.now.blocks < 2 ^ 32 }
-        ensures made { IfOk result (λ half. half ≡ record { end = opened side schema.entry.now script.entry.now.top; script = script.entry.now; stop = stop; limit = limit; counts = half.counts; history = half.history; spare = half.spare }) }
+        ensures made { IfOk result (λ half. half
+            ≡ record {
+              end = opened side schema.entry.now script.entry.now.top;
+              script = script.entry.now;
+              stop = stop;
+              limit = limit;
+              counts = half.counts;
+              history = half.history;
+              spare = half.spare;
+            }) }
         ensures counted { IfOk result (λ half. IsCountedBy half no_progress) }
     {
         Ok(Half {

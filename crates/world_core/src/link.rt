@@ -45,7 +45,14 @@ impl Link {
     /// An empty link with room for so many lines, and so many packets toward each side. The only
     /// error is want of memory.
     pub(crate) fn open(alloc: Global, lines: usize, packets: usize) -> Result<Link, AllocError>
-        ensures empty { IfOk result (λ link. link ≡ record { lines = []; spare = link.spare; to_parent = []; parent_room = link.parent_room; to_child = []; child_room = link.child_room }) }
+        ensures empty { IfOk result (λ link. link ≡ record {
+          lines = [];
+          spare = link.spare;
+          to_parent = [];
+          parent_room = link.parent_room;
+          to_child = [];
+          child_room = link.child_room;
+        }) }
         ensures lines { IfOk result (λ link. lines ≤ link.spare) }
         ensures parent { IfOk result (λ link. packets ≤ link.parent_room) }
         ensures child { IfOk result (λ link. packets ≤ link.child_room) }

@@ -220,8 +220,12 @@ fn open_halves<'s>(
 ) -> Result<(Half<'s>, Half<'s>), AllocError>
     requires sound { IsSound schema.now }
     requires valid { IsValid schema.now script.now }
-    ensures parent { IfOk result (λ halves. IsOpening (record { schema = schema.entry.now; script = script.entry.now; stop = stop; limit = limit }) sides.Parent halves.0) }
-    ensures child { IfOk result (λ halves. IsOpening (record { schema = schema.entry.now; script = script.entry.now; stop = stop; limit = limit }) sides.Child halves.1) }
+    ensures parent { IfOk result (λ halves. IsOpening
+        (record { schema = schema.entry.now; script = script.entry.now; stop = stop; limit = limit })
+        sides.Parent halves.0) }
+    ensures child { IfOk result (λ halves. IsOpening
+        (record { schema = schema.entry.now; script = script.entry.now; stop = stop; limit = limit })
+        sides.Child halves.1) }
 {
     let parent = Half::open(alloc, Side::Parent, schema, script, stop, limit)?;
     let child = Half::open(alloc, Side::Child, schema, script, stop, limit)?;

@@ -96,7 +96,9 @@ impl<'s> End<'s> {
     ) -> Result<ReplyCheck, AllocError>
         requires row { IsSome (message_of self.now.schema number) }
         requires small { IfSome request (λ q. q.now.number < 4294967295) }
-        ensures { IfOk result (λ check. IsReplyCheck self.now number (option_map (λ q. answered_of q.now) request.entry) (option_map (λ vs. plain_values vs.now) values.entry) check) }
+        ensures { IfOk result (λ check. IsReplyCheck self.now number
+            (option_map (λ q. answered_of q.now) request.entry)
+            (option_map (λ vs. plain_values vs.now) values.entry) check) }
     {
         let schema = self.schema;
         let Some(row) = schema.message(number) else {
@@ -244,7 +246,9 @@ fn reply_by(
     values: Option<&Values>,
 ) -> Result<Option<Message>, AllocError>
     requires { IfSome request (λ q. q.now.number < 4294967295) }
-    ensures { IfOk result (λ reply. option_map plain_message reply ≡ reply_by (option_map (λ q. answered_of q.now) request.entry) (option_map (λ vs. plain_values vs.now) values.entry)) }
+    ensures { IfOk result (λ reply. option_map plain_message reply
+        ≡ reply_by (option_map (λ q. answered_of q.now) request.entry)
+        (option_map (λ vs. plain_values vs.now) values.entry)) }
 {
     match request {
         None => Ok(None),

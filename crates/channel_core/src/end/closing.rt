@@ -154,7 +154,8 @@ impl<'s> End<'s> {
 
     /// The oldest packet that was not handed out; `None` where there is none. It takes no memory.
     pub fn outgoing(&mut self) -> Option<Packet>
-        ensures { MatchOption result ((self.old.packets ≡ []) × (self.new ≡ self.old)) (λ packet. self.old ≡ record self.new { packets = packet ∷ self.new.packets }) }
+        ensures { MatchOption result ((self.old.packets ≡ []) × (self.new ≡ self.old))
+            (λ packet. self.old ≡ record self.new { packets = packet ∷ self.new.packets }) }
     {
         self.out.take_packet()
     }

@@ -366,7 +366,9 @@ fn push_dispatch(row: &MessageRow, message: &Message, stack: &mut StackEntries)
 // A request as it is handled, behind the building of its actor.
 fn handling_of(schema: &Schema, tree: &Tree, row: &MessageRow, message: Message) -> Handling
     requires { is_request message.body ≡ true }
-    ensures { (given : OfValues) → plain_body message.body ≡ request.Request given → IsHandling (plain_message message) row.now (nulled schema.now (without message.made tree.now) row.now.params given) result }
+    ensures { (given : OfValues) → plain_body message.body ≡ request.Request given
+        → IsHandling (plain_message message) row.now
+        (nulled schema.now (without message.made tree.now) row.now.params given) result }
 {
     let Message {
         route,
@@ -390,7 +392,8 @@ fn handling_of(schema: &Schema, tree: &Tree, row: &MessageRow, message: Message)
 // built its own.
 fn handled_values(schema: &Schema, tree: &Tree, row: &MessageRow, made: i32, body: Body) -> Values
     requires { is_request body ≡ true }
-    ensures { (given : OfValues) → plain_body body ≡ request.Request given → plain_values result ≡ nulled schema.now (without made tree.now) row.now.params given }
+    ensures { (given : OfValues) → plain_body body ≡ request.Request given
+        → plain_values result ≡ nulled schema.now (without made tree.now) row.now.params given }
 {
     match body {
         Body::Request(values) => {

@@ -23,7 +23,8 @@ impl<'s> Half<'s> {
         requires allowed { IsAllowed self.old.end.schema self.old.end.end (event_of (context_in self.old) seq action.now) }
         requires few { self.old.end.end.sent < 268435456 }
         requires room { self.old.counts.events < 4294967295 }
-        ensures { EventGives self.old (event_of (context_in self.old) seq action.now) (counting_of self.old (event_of (context_in self.old) seq action.now)) result self.new }
+        ensures { EventGives self.old (event_of (context_in self.old) seq action.now)
+            (counting_of self.old (event_of (context_in self.old) seq action.now)) result self.new }
     {
         match action {
             Action::Send {
@@ -55,10 +56,13 @@ impl<'s> Half<'s> {
     // Sends a request, and names the actor that it makes.
     fn send(&mut self, who: &Who, number: u32, terms: &Terms, name: Option<&Name>) -> StepAnswer
         requires on_top { IsOnTop self.old }
-        requires allowed { IsAllowed self.old.end.schema self.old.end.end (event.send (id_of (context_in self.old) who.now) number (values_of (context_in self.old) terms.now) (option_map (λ n. n.now) name)) }
+        requires allowed { IsAllowed self.old.end.schema self.old.end.end
+            (event.send (id_of (context_in self.old) who.now) number (values_of (context_in self.old) terms.now)
+            (option_map (λ n. n.now) name)) }
         requires few { self.old.end.end.sent < 268435456 }
         requires room { self.old.counts.events < 4294967295 }
-        ensures { EventGives self.old (event.send (id_of (context_in self.old) who.now) number (values_of (context_in self.old) terms.now) (option_map (λ n. n.now) name.entry)) with_act result self.new }
+        ensures { EventGives self.old (event.send (id_of (context_in self.old) who.now) number
+            (values_of (context_in self.old) terms.now) (option_map (λ n. n.now) name.entry)) with_act result self.new }
     {
         let route = self.id_of(who);
         let Ok(values) = self.values_of(terms) else {
@@ -95,7 +99,8 @@ impl<'s> Half<'s> {
         ghost seq: { ℤ }
         requires own { HasOwn self.old seq }
         requires on_top { IsOnTop self.old }
-        requires allowed { IsAllowed self.old.end.schema self.old.end.end (event.answer (event.handled seq) (Some (values_of (context_in self.old) terms.now))) }
+        requires allowed { IsAllowed self.old.end.schema self.old.end.end
+            (event.answer (event.handled seq) (Some (values_of (context_in self.old) terms.now))) }
         requires room { self.old.counts.events < 4294967295 }
         ensures { HandledGives self.old seq (Some (values_of (context_in self.old) terms.now)) result self.new }
     {
@@ -150,7 +155,8 @@ impl<'s> Half<'s> {
     // Answers by values with a resolver that a name holds.
     fn resolve_named(&mut self, name: &Name, number: u32, terms: &Terms) -> StepAnswer
         requires on_top { IsOnTop self.old }
-        requires allowed { IsAllowed self.old.end.schema self.old.end.end (event.answer (event.kept name.now number) (Some (values_of (context_in self.old) terms.now))) }
+        requires allowed { IsAllowed self.old.end.schema self.old.end.end
+            (event.answer (event.kept name.now number) (Some (values_of (context_in self.old) terms.now))) }
         requires room { self.old.counts.events < 4294967295 }
         ensures { EventGives self.old (event.answer (event.kept name.now number) (Some (values_of (context_in self.old) terms.now))) with_act result self.new }
     {

@@ -57,8 +57,11 @@ impl<'s> Half<'s> {
     pub fn accept(&mut self, packet: &Packet) -> AcceptAnswer
         requires apart { IsApart self.old }
         requires rests { next_of self.old (own_progress self.old) ≡ None }
-        ensures gives { InEach self.old (λ setting side state handed. AcceptGives setting side state handed (packet_read setting.schema packet.now) result self.new) }
-        ensures reads { (carries : ends.Packet) → IsFramed self.old.end.schema carries → packet.now ≡ packet_of self.old.end.schema carries → packet_read self.old.end.schema packet.now ≡ carried carries }
+        ensures gives { InEach self.old (λ setting side state handed. AcceptGives setting side state handed
+            (packet_read setting.schema packet.now) result self.new) }
+        ensures reads { (carries : ends.Packet) → IsFramed self.old.end.schema carries
+            → packet.now ≡ packet_of self.old.end.schema carries
+            → packet_read self.old.end.schema packet.now ≡ carried carries }
     {
         holds_bytes(packet);
         if !self.is_open() {

@@ -35,7 +35,14 @@ impl Model for HalfParts {
 
     ghost coded = { Prim.hlevel (codes, hash_map_code, values.the_row.coded) };
 
-    ghost view = { λ a. record { end = a.end; stop = a.stop; limit = a.limit; counts = a.counts; history = map plain_line a.history.lines; spare = a.history.spare } };
+    ghost view = { λ a. record {
+      end = a.end;
+      stop = a.stop;
+      limit = a.limit;
+      counts = a.counts;
+      history = map plain_line a.history.lines;
+      spare = a.history.spare;
+    } };
 }
 
 impl<'s> Half<'s> {

@@ -44,7 +44,8 @@ impl<'s> Half<'s> {
     // The values that the innermost handler returns. The only error is want of memory.
     fn returned(&self) -> Result<Option<Values>, AllocError>
         requires { IsOnTop self.now }
-        ensures { IfOk result (λ vs. option_map plain_values vs ≡ option_map (values_of (context_in self.now)) (reply_by self.now.script self.now.counts.running)) }
+        ensures { IfOk result (λ vs. option_map plain_values vs
+            ≡ option_map (values_of (context_in self.now)) (reply_by self.now.script self.now.counts.running)) }
     {
         match self.reply() {
             None => Ok(None),

@@ -107,7 +107,9 @@ impl<'s> World<'s> {
     fn compare(&self, comparison: &mut Comparison<'_>) -> Result<Alike, AllocError>
         requires within { IsWithin comparison.old }
         requires there { comparison.old.lines ≤ length self.now.state.lines }
-        ensures { IfOk result (λ found. (before more : List OfLine) → self.now.state.lines ≡ before ++ more → HasPassed before comparison.old → HasCompared self.now.setting.schema before more comparison.old found comparison.new) }
+        ensures { IfOk result (λ found. (before more : List OfLine) → self.now.state.lines ≡ before ++ more
+            → HasPassed before comparison.old
+            → HasCompared self.now.setting.schema before more comparison.old found comparison.new) }
     {
         self.is_lawful();
         boxes_say_nothing();
