@@ -1,5 +1,6 @@
 ghost use Rattle.std.specs.Prelude.{◌≡◌, ◌++◌, if◌then◌else◌, [], List, map, IfOk, OnOk, codes};
 ghost use Rattle.std.specs.List.{flat_map};
+ghost use Rattle.std.specs.Option.{option_copied};
 ghost use Rattle.std.specs.Fmt.{decimal};
 ghost use Rattle.actor_tables.specs.TableText as text;
 
@@ -145,9 +146,9 @@ fn push_params(out: &mut Vec<u8>, schema: &Schema, params: &[ParamRow]) -> Resul
 fn push_returns(
     out: &mut Vec<u8>,
     schema: &Schema,
-    returns: &Option<ParamRows>,
+    returns: Option<&ParamRows>,
 ) -> Result<(), AllocError>
-    ensures { OnOk result (out.new.items ≡ out.old.items ++ text.returns_text schema.now returns.now) }
+    ensures { OnOk result (out.new.items ≡ out.old.items ++ text.returns_text schema.now (option_copied returns.entry)) }
 {
     match returns {
         None => Ok(()),
@@ -199,8 +200,8 @@ fn push_handling(out: &mut Vec<u8>, message: &MessageRow) -> Result<(), AllocErr
 /// Appends what a message's line has before the name.
 fn push_message_head(out: &mut Vec<u8>, message: &MessageRow) -> Result<(), AllocError>
     ensures { OnOk result (out.new.items ≡ out.old.items ++ (
-        codes "message " ++ decimal message.now.number ++ codes " " ++ text.direction_text message.now.direction ++ codes " " ++ text.semantics_text message.now.semantics
-        ++ codes " " ++ text.level_text message.now.level ++ codes " " ++ text.compress_text message.now.compress ++ codes " "
+        codes "message " ++ decimal message.now.number ++ codes " " ++ text.direction_text message.now.direction
+        ++ codes " " ++ text.semantics_text message.now.semantics ++ codes " " ++ text.level_text message.now.level ++ codes " " ++ text.compress_text message.now.compress ++ codes " "
         ++ text.kind_text message.now.kind message.now.lazy ++ codes " "
         )) }
 {
@@ -217,7 +218,7 @@ fn push_message(out: &mut Vec<u8>, schema: &Schema, message: &MessageRow) -> Res
     push_message_head(out, message)?;
     out.extend_from_slice(message.name.as_slice())?;
     push_params(out, schema, message.params.as_slice())?;
-    push_returns(out, schema, &message.returns)?;
+    push_returns(out, schema, message.returns.as_ref())?;
     out.extend_from_slice(b"\n")
 }
 

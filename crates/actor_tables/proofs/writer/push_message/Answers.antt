@@ -11,4 +11,5 @@ returns c =
     c.in_ok-push_message_head.ensures
     (c.in_ok-extend_from_slice.ensures.items ∙ ap (λ name. c.push_message_head.new.out.items ++ name) c.as_slice.ensures)
     (c.in_ok-push_params.ensures ∙ ap (λ params. c.extend_from_slice.new.self.items ++ params_text c.args.schema.now params) c.as_slice-2.ensures)
-    c.in_ok-push_returns.ensures c.extend_from_slice-2.ensures.items
+    (c.in_ok-push_returns.ensures ∙ ap (λ returns. c.push_params.new.out.items ++ returns_text c.args.schema.now returns) c.as_ref.ensures.value)
+    c.extend_from_slice-2.ensures.items
