@@ -201,7 +201,8 @@ fn push_handling(out: &mut Vec<u8>, message: &MessageRow) -> Result<(), AllocErr
 fn push_message_head(out: &mut Vec<u8>, message: &MessageRow) -> Result<(), AllocError>
     ensures { OnOk result (out.new.items ≡ out.old.items ++ (
         codes "message " ++ decimal message.now.number ++ codes " " ++ text.direction_text message.now.direction
-        ++ codes " " ++ text.semantics_text message.now.semantics ++ codes " " ++ text.level_text message.now.level ++ codes " " ++ text.compress_text message.now.compress ++ codes " "
+        ++ codes " " ++ text.semantics_text message.now.semantics ++ codes " " ++ text.level_text message.now.level
+        ++ codes " " ++ text.compress_text message.now.compress ++ codes " "
         ++ text.kind_text message.now.kind message.now.lazy ++ codes " "
         )) }
 {
