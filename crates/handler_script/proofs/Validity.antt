@@ -1,5 +1,6 @@
 -- The script of a text is valid for its schema.
 use Rattle.std.proofs.Common.{◌≡◌, ℕ, ◌+◌, ◌<◌, ◌≤◌, List, length, map, inl, refl, sym, ap, subst, arith}
+use Rattle.ipdl_base.specs.declared.files.TheConstants.{MOST_BYTES}
 use Rattle.ipdl_base.specs.declared.finding.TheConstants.Rule as rule
 use Rattle.ipdl_base.specs.declared.schema.Schema.{Schema}
 use Rattle.ipdl_base.specs.Sound.{IsSound}
@@ -11,7 +12,7 @@ use Rattle.handler_script.specs.Valid.{IsValid}
 use Rattle.handler_script.proofs.ValidBlocks.{blocks_valid, few_blocks}
 use Rattle.handler_script.proofs.Whole.{few_lines}
 
-pub script_valid : (text : List ℕ) (schema : Schema) (top : ℕ) (script : Script) → length text ≤ 1048576 → IsSound schema → top < length schema.protocols → IsScriptOf text schema top script → IsValid schema script
+pub script_valid : (text : List ℕ) (schema : Schema) (top : ℕ) (script : Script) → length text ≤ MOST_BYTES → IsSound schema → top < length schema.protocols → IsScriptOf text schema top script → IsValid schema script
 script_valid text schema top script small sound there is =
     let same_top : script.top ≡ top = ap (λ (s : Script). s.top) is.is in
     let same : map plain_block script.blocks ≡ blocks_of schema is.readings = ap (λ (s : Script). s.blocks) is.is in

@@ -1,4 +1,5 @@
 ghost use Rattle.std.specs.Prelude.{◌≡◌, ◌<◌, ◌≤◌, length, IfOk, IfErr};
+ghost use Rattle.ipdl_base.specs.declared.files.TheConstants.{MOST_BYTES};
 ghost use Rattle.ipdl_base.specs.Sound.{IsSound};
 ghost use Rattle.handler_script.specs.Faults.{IsFault};
 ghost use Rattle.handler_script.specs.ScriptOf.{IsScriptOf};
@@ -21,7 +22,7 @@ pub fn read_script(
     schema: &Schema,
     top: u32,
 ) -> Result<Script, ScriptFault>
-    requires small { length text.now ≤ 1048576 }
+    requires small { length text.now ≤ MOST_BYTES }
     requires sound { IsSound schema.now }
     requires protocol { top < length schema.now.protocols }
     ensures script { IfOk result (IsScriptOf text.now schema.now top) }
