@@ -1,5 +1,6 @@
 -- What a delivery answers, for any bytes.
 use Rattle.std.specs.Prelude.{◌≡◌, true, false, [], ◌∷◌, Option, Some, None}
+use Rattle.ipdl_base.specs.declared.finding.TheConstants.Rule as rule
 use Rattle.ipdl_base.specs.declared.message.Message.{Message}
 use Rattle.ipdl_base.specs.declared.schema.MessageRow.{MessageRow}
 use Rattle.ipdl_base.specs.declared.schema.Schema.{Schema}
@@ -20,9 +21,9 @@ use Rattle.channel_core.specs.Steps.{IsStepBy}
 -- the answer for a refusal: the offsets are those of the message's number, of its own number and of the new id
 abbrev pub told_refusal : Option DeliveryRefusal → DeliverAnswer
 told_refusal None = answer.Done
-told_refusal (Some wrong_direction) = answer.Bad 12 11
-told_refusal (Some wrong_number) = answer.Bad 20 12
-told_refusal (Some wrong_new_id) = answer.Bad 28 13
+told_refusal (Some wrong_direction) = answer.Bad 12 rule.UNSENT_REQUEST.number
+told_refusal (Some wrong_number) = answer.Bad 20 rule.WRONG_NUMBER.number
+told_refusal (Some wrong_new_id) = answer.Bad 28 rule.WRONG_ID.number
 told_refusal (Some (stray seq)) = answer.Stray seq
 told_refusal (Some (wrong_actor id number)) = answer.WrongActor id number
 

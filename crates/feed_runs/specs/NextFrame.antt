@@ -1,6 +1,7 @@
 -- What bytes are to an end that reads them: a frame that it takes, or a fault.
 use Rattle.std.specs.Prelude.{ℕ, ◌+◌, List, drop}
 use Rattle.std.specs.Option.{option_map_or}
+use Rattle.ipdl_base.specs.declared.finding.TheConstants.Rule as rule
 use Rattle.ipdl_base.specs.declared.message.Message.{Message}
 use Rattle.ipdl_base.specs.declared.schema.Schema.{Schema}
 use Rattle.value_types.specs.declared.layout.TheConstants.{NEW}
@@ -19,9 +20,9 @@ pub data NextFrame : Type 0 where
 
 -- the fault of a frame at a place that the end refuses: where the refusal is of a field, the place of that
 abbrev pub fault_of : ℕ → DeliveryRefusal → FeedFault
-fault_of place wrong_direction = fault.Bad (place + 12) 11
-fault_of place wrong_number = fault.Bad (place + 20) 12
-fault_of place wrong_new_id = fault.Bad (place + 28) 13
+fault_of place wrong_direction = fault.Bad (place + 12) rule.UNSENT_REQUEST.number
+fault_of place wrong_number = fault.Bad (place + 20) rule.WRONG_NUMBER.number
+fault_of place wrong_new_id = fault.Bad (place + 28) rule.WRONG_ID.number
 fault_of place (stray seq) = fault.Stray place seq
 fault_of place (wrong_actor id number) = fault.WrongActor place id
 

@@ -22,7 +22,7 @@ use end_parts::{
     DeliveryRefusal, Packet, PacketReading, Receiver, answer_call, delivery_refusal,
     is_constructor, read_packet, receive_end, receive_reply, receive_request,
 };
-use ipdl_base::{Body, EndState, Kind, Level, Message, MessageRow, Semantics, What};
+use ipdl_base::{Body, EndState, Kind, Level, Message, MessageRow, Rule, Semantics, What};
 use pending_queue::Item;
 use std::alloc::AllocError;
 
@@ -33,13 +33,6 @@ const NUMBER_OFFSET: usize = 12;
 const SEQ_OFFSET: usize = 20;
 
 const MADE_OFFSET: usize = 28;
-
-/// The rules that a request breaks of the wrong direction, number or new id (docs/frames.md).
-const DIRECTION_RULE: u8 = 11;
-
-const SEQ_RULE: u8 = 12;
-
-const MADE_RULE: u8 = 13;
 
 impl<'s> End<'s> {
     ghost use Rattle.channel_core.specs.Delivered.{DeliverGives};
@@ -242,9 +235,12 @@ fn told_refusal(refusal: DeliveryRefusal) -> DeliverAnswer
     ensures { result ≡ told_refusal (Some (refusal_of refusal)) }
 {
     match refusal {
-        DeliveryRefusal::WrongDirection => DeliverAnswer::Bad(NUMBER_OFFSET, DIRECTION_RULE),
-        DeliveryRefusal::WrongNumber => DeliverAnswer::Bad(SEQ_OFFSET, SEQ_RULE),
-        DeliveryRefusal::WrongNewId => DeliverAnswer::Bad(MADE_OFFSET, MADE_RULE),
+        DeliveryRefusal::WrongDirection => DeliverAnswer::Bad(
+            NUMBER_OFFSET,
+            Rule::UNSENT_REQUEST.number,
+        ),
+        DeliveryRefusal::WrongNumber => DeliverAnswer::Bad(SEQ_OFFSET, Rule::WRONG_NUMBER.number),
+        DeliveryRefusal::WrongNewId => DeliverAnswer::Bad(MADE_OFFSET, Rule::WRONG_ID.number),
         DeliveryRefusal::Stray(seq) => DeliverAnswer::Stray(seq),
         DeliveryRefusal::WrongActor(id, number) => DeliverAnswer::WrongActor(id, number),
     }
