@@ -17,8 +17,6 @@ use Rattle.ipdl_syntax.specs.declared.tree.ProtocolDecl.{ProtocolDecl}
 use Rattle.ipdl_syntax.specs.declared.tree.Unit.{Unit as FileUnit}
 use Rattle.ipdl_syntax.specs.Programs.{ending, named_key, named_keys, BearTheirNames, IsEntry, IsProgram}
 use Rattle.grammar_laws.specs.Laws.{FilesHold, NamesHold, PlacesHold}
-use Rattle.findings.specs.Report.{IsReport}
-use Rattle.findings.proofs.Reports.{report_of}
 use Rattle.include_graph.specs.declared.content.Content.{Content}
 use Rattle.include_graph.specs.declared.content.Content.TheVariants.{Absent, Large, BadToken, SyntaxFault, Read}
 use Rattle.include_graph.specs.declared.walk.ReachedFile.{ReachedFile}
@@ -27,7 +25,7 @@ use Rattle.include_graph.specs.declared.walk.Target.TheVariants.{Nothing, LeftOu
 use Rattle.include_graph.specs.Additions.{finding_at, IsFoundOf}
 use Rattle.include_graph.specs.Growth.{HasWords}
 use Rattle.include_graph.specs.Keys.{is_same}
-use Rattle.include_graph.specs.Load.{keys_of, IsEntryOf, IsProgramOf, IsReportOf}
+use Rattle.include_graph.specs.Load.{keys_of, IsEntryOf, IsProgramOf, AreBrokenFiles}
 use Rattle.include_graph.specs.Reading.{IsContent, IsTarget, AreTargets, AreRead, IsGathered, IsReached, IsOfTree, IsEntryFrom, AreEntriesFrom, row_of, rows_of, numbers_of}
 use Rattle.include_graph.specs.Reach.{IsUnitOf, Names, AreNamed, IsReach, all_named}
 use Rattle.include_graph.specs.Rules.{whole_file, IsBroken}
@@ -314,17 +312,13 @@ clean_of laws given count keys files g found is none f b =
     let k = c.1 in
     omega arith
 
--- where some are found the report has these
-pub report_is : Laws → (given : LoadInput) (count : ℕ) (keys : List (List ℕ)) (files : List ReachedFile) → IsGathered given count keys files → (found : List Finding) → ((f : Finding) → Contains found f ↔ ((n : ℕ) × IsFoundOf count keys files n f))
-    → 0 < length found → (report : List Finding) → IsReport (Contains found) report → IsReportOf given report (map (λ (f : ReachedFile). f.source.text) files)
-report_is laws given count keys files g found is some report sorted = record {
+-- where some are found the files are broken by these
+pub broken_are : Laws → (given : LoadInput) (count : ℕ) (keys : List (List ℕ)) (files : List ReachedFile) → IsGathered given count keys files → (found : List Finding) → ((f : Finding) → Contains found f ↔ ((n : ℕ) × IsFoundOf count keys files n f))
+    → 0 < length found → AreBrokenFiles given (record { findings = found; names = map (λ (f : ReachedFile). f.source.text) files })
+broken_are laws given count keys files g found is some = record {
   keys = keys;
   reach = the_reach laws given keys files g.first g.firsts g.words g.read;
-  report = report_of found report (exact laws given count keys files g found is) sorted;
-  some = λ none.
-      let f = there_is found 0 some in
-      let c : Contains [] f.0 = subst (λ (fs : List Finding). Contains fs f.0) none ((sorted.exact f.0).1 (0, some, get_or_from_slice_get found 0 f.0 f.0 f.1)) in
-      let k = c.1 in
-      omega arith;
+  exact = exact laws given count keys files g found is;
+  some = λ none. let empty : length found ≡ 0 = ap length none in omega (arith, some, empty);
   called = texts_are laws given keys files g.first g.firsts g.words g.read;
 }

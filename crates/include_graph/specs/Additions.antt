@@ -22,10 +22,6 @@ use Rattle.include_graph.specs.Rules.{whole_file}
 abbrev pub finding_at : Rule → Place → Finding
 finding_at rule place = record { place = place; rule = rule }
 
--- the list gains exactly the findings of which this holds
-pub record Gains (Holds : Finding → Type 0) (old new : List Finding) : Type 0 where
-  pub exact : (f : Finding) → Contains new f ↔ (Contains old f ⊎ Holds f)
-
 -- this holds at a number below the bound
 abbrev pub Below : ℕ → (ℕ → Finding → Type 0) → Finding → Type 0
 Below bound Holds f = (number : ℕ) × (number < bound) × Holds number f

@@ -1,10 +1,11 @@
 -- What a load answers.
-use Rattle.std.specs.Prelude.{◌≡◌, ◌≢◌, ℕ, ◌≤◌, List, [], length, map, slice_get, Option, Some, None}
+use Rattle.std.specs.Prelude.{◌≡◌, ◌≢◌, ◌↔◌, ℕ, ◌≤◌, List, [], length, map, slice_get, Option, Some, None}
+use Rattle.std.specs.List.{Contains}
 use Rattle.ipdl_base.specs.declared.finding.Finding.{Finding}
 use Rattle.ipdl_base.specs.Outside.{FileMap}
 use Rattle.ipdl_syntax.specs.declared.program.Entry.{Entry}
 use Rattle.ipdl_syntax.specs.Programs.{IsProgram, BearTheirNames}
-use Rattle.findings.specs.Report.{IsReport}
+use Rattle.include_graph.specs.declared.loader.BrokenFiles.{BrokenFiles}
 use Rattle.include_graph.specs.declared.loader.LoadResult.{LoadResult}
 use Rattle.include_graph.specs.declared.loader.LoadResult.TheVariants.{Whole, Broken}
 use Rattle.include_graph.specs.Sources.{LoadInput, IsReadUnder, content, text_of}
@@ -31,20 +32,20 @@ pub record IsProgramOf (given : LoadInput) (program : List Entry) : Type 0 where
   pub clean : (f : Finding) → ¬ IsBroken given (keys_of program) f
   pub entries : (number : ℕ) (entry : Entry) → slice_get program number ≡ Some entry → IsEntryOf given number entry
 
--- The report, which is not empty, on the files of the reach, and how it calls each of them.
-pub record IsReportOf (given : LoadInput) (findings : List Finding) (texts : List (List ℕ)) : Type 0 where
+-- What the files of the reach break, which is something, and how each of them is called.
+pub record AreBrokenFiles (given : LoadInput) (files : BrokenFiles) : Type 0 where
   pub keys : List (List ℕ)
   pub reach : IsReach given keys
-  pub report : IsReport (IsBroken given keys) findings
-  pub some : findings ≢ []
-  pub called : texts ≡ map (text_of given) keys
+  pub exact : (f : Finding) → Contains files.findings f ↔ IsBroken given keys f
+  pub some : files.findings ≢ []
+  pub called : files.names ≡ map (text_of given) keys
 
--- What was loaded: the program where no rule is broken, and else the report.
+-- What was loaded: the program where no rule is broken, and else what is.
 abbrev pub IsAnswer : LoadInput → LoadResult → Type 0
 IsAnswer given (Whole program) = IsProgramOf given program
-IsAnswer given (Broken report) = IsReportOf given report.findings report.names
+IsAnswer given (Broken files) = AreBrokenFiles given files
 
--- a program that is one, of protocols that bear the names of their files; or a report on at most 4,096 files
+-- a program that is one, of protocols that bear the names of their files; or at most 4,096 files
 abbrev pub IsGood : LoadResult → Type 0
 IsGood (Whole program) = IsProgram program × BearTheirNames program
-IsGood (Broken report) = length report.names ≤ 4096
+IsGood (Broken files) = length files.names ≤ 4096

@@ -13,4 +13,4 @@ mod walk;
 
 pub use keys::are_file_words;
 pub use laws::one_reach;
-pub use loader::{LoadResult, load};
+pub use loader::{BrokenFiles, LoadResult, load};

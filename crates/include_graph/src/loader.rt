@@ -1,8 +1,6 @@
 ghost use Rattle.std.specs.Prelude.{◌≡◌, ◌≤◌, Err, IfOk, List, length, map, string_bytes};
-ghost use Rattle.std.specs.List.{AllByRecursion, Contains};
-ghost use Rattle.findings.specs.Report.{IsReport};
+ghost use Rattle.std.specs.List.{AllByRecursion};
 ghost use Rattle.ipdl_base.specs.Outside.{Rose};
-ghost use Rattle.ipdl_base.specs.declared.finding.Finding.{Finding as TheFinding};
 ghost use Rattle.ipdl_syntax.specs.declared.program.Entry.{Entry};
 ghost use Rattle.include_graph.specs.Keys.{AreFileWords};
 ghost use Rattle.include_graph.specs.Load.{ForMap, IsAnswer, IsGood};
@@ -13,9 +11,8 @@ ghost use Rattle.include_graph.specs.Sources.{LoadInput};
 use crate::program::{names_of, program_of};
 use crate::rules::found_in;
 use crate::walk::{FileSet, ReachedFile, gather};
-use findings::sort_findings;
 use grammar_laws::{files_hold, names_hold, one_tree, places_hold};
-use ipdl_base::{Failure, Files, Finding, Report};
+use ipdl_base::{Failure, Files, Finding, Findings, Items, Texts};
 use ipdl_lex::{one_answer, words_hold};
 use ipdl_syntax::Program;
 use std::alloc::{AllocError, Global};
@@ -25,8 +22,17 @@ use std::alloc::{AllocError, Global};
 pub enum LoadResult {
     /// Their program, where they break no rule by how they are read and named.
     Whole(Program),
-    /// The report on the rules that they break so.
-    Broken(Report),
+    /// What they break so.
+    Broken(BrokenFiles),
+}
+
+/// Files that break rules by how they are read and named.
+#[derive(Drop)]
+pub struct BrokenFiles {
+    /// What they break, in no order.
+    pub findings: Findings,
+    /// How each file is called, by its number.
+    pub names: Texts,
 }
 
 /// The program of the files that are reached, each of which has a tree.
@@ -39,19 +45,17 @@ fn whole(alloc: Global, gathered: FileSet) -> Result<LoadResult, AllocError>
     Ok(LoadResult::Whole(program))
 }
 
-/// The report of what was found in the files that are reached.
-fn report(
+/// What was found in the files that are reached.
+fn broken(
     alloc: Global,
     files: Vec<ReachedFile>,
     found: Vec<Finding>,
 ) -> Result<LoadResult, AllocError>
-    ensures { IfOk result (λ made. (findings : List TheFinding)
-        × (made ≡ Broken (record { findings = findings; names = map (λ f. f.source.text) files.items }))
-        × IsReport (Contains found.items) findings) }
+    ensures { IfOk result (λ made. made ≡ Broken (record { findings = found.items; names = map (λ f. f.source.text) files.items })) }
 {
     let names = names_of(alloc, files)?;
-    Ok(LoadResult::Broken(Report {
-        findings: sort_findings(found),
+    Ok(LoadResult::Broken(BrokenFiles {
+        findings: Items::from_vec(found),
         names,
     }))
 }
@@ -78,14 +82,14 @@ fn result_of(alloc: Global, gathered: FileSet) -> Result<LoadResult, AllocError>
     if found.is_empty() {
         whole(alloc, gathered)
     } else {
-        report(alloc, gathered.files, found)
+        broken(alloc, gathered.files, found)
     }
 }
 
 /// Loads the files that the names reach, which are looked for in the directories of the path (docs/reach.md).
 ///
-/// They are `LoadResult::Broken` exactly where they break a rule: with the findings, in order, and for
-/// each file of the reach the name under which it was read, or its key where there is no such file.
+/// They are `LoadResult::Broken` exactly where they break a rule: with the findings, in no order, and
+/// for each file of the reach the name under which it was read, or its key where there is no such file.
 pub fn load<F: Files>(
     alloc: Global,
     files: &mut F,
@@ -94,7 +98,7 @@ pub fn load<F: Files>(
 ) -> Result<LoadResult, Failure>
     requires { AreFileWords (map string_bytes names.now) }
 
-    // The program of the reach where no rule is broken, and else the report; for some map where the files tell none.
+    // The program of the reach where no rule is broken, and else what is; for some map where the files tell none.
     ensures answer { ForMap (F.told files.old) (λ files'. IfOk result
         (IsAnswer (record { files = files'; words = map string_bytes names.now; path = map string_bytes path.now }))) }
 

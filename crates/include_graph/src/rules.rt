@@ -1,7 +1,8 @@
 ghost use Rattle.std.specs.Prelude.{◌≡◌, ◌↔◌, ◌≤◌, ℕ, IfOk, OnOk, IsTrue, length};
 ghost use Rattle.std.specs.List.{Contains};
 ghost use Rattle.ipdl_base.specs.declared.finding.Finding.{Finding};
-ghost use Rattle.include_graph.specs.Additions.{finding_at, Gains, is_absent_at, IsFoundFor, IsFoundAmong, IsFoundOfName, IsFoundIn, IsFoundOf};
+ghost use Rattle.findings.specs.Gains.{Gains};
+ghost use Rattle.include_graph.specs.Additions.{finding_at, is_absent_at, IsFoundFor, IsFoundAmong, IsFoundOfName, IsFoundIn, IsFoundOf};
 ghost use Rattle.include_graph.specs.Rules.{whole_file as the_whole_file};
 
 use crate::content::Content;

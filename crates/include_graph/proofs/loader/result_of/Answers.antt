@@ -8,7 +8,7 @@ use Rattle.ipdl_base.specs.declared.finding.Finding.{Finding}
 use Rattle.include_graph.specs.declared.walk.ReachedFile.{ReachedFile}
 use Rattle.include_graph.specs.Additions.{IsFoundOf}
 use Rattle.include_graph.specs.Load.{IsAnswer, IsGood}
-use Rattle.include_graph.proofs.Loaded.{Laws, clean_of, trees, the_program, a_program, bear, report_is}
+use Rattle.include_graph.proofs.Loaded.{Laws, clean_of, trees, the_program, a_program, bear, broken_are}
 use Rattle.include_graph.proofs.loader.result_of.Goals as goal
 
 -- what is found, told of the keys and the files themselves
@@ -56,12 +56,12 @@ returns-else-is_empty-clause-answer c =
     let laws : Laws = record { answer = record { one = record { tokens = c.one_answer.ensures.tokens; tree = c.one_tree.ensures }; fault = c.one_answer.ensures.fault; never_both = c.one_answer.ensures.never_both }; words = c.words_hold.ensures; files = c.files_hold.ensures; names = c.names_hold.ensures; places = c.places_hold.ensures } in
     let found = same a.words c.in_ok-found.found.items c.as_slice.result.now a.keys.keys c.as_slice-2.result.now a.files.items c.as_slice.ensures.keys c.as_slice-2.ensures.value c.in_ok-found.ensures in
     let some : 0 < length c.in_ok-found.found.items = omega (arith, eqb-false (vec_len c.in_ok-found.found) 0 (sym c.is_empty.ensures ∙ c.if-is_empty.false), c.in_ok-found.found.ok.0) in
-    IfOk-weaker c.report.result _ _ (λ answer made given g.
-    subst (IsAnswer given) (sym made.1) (report_is laws given a.words a.keys.keys a.files.items g c.in_ok-found.found.items found some made.0 made.2)) c.report.ensures
+    IfOk-weaker c.broken.result _ _ (λ answer made given g.
+    subst (IsAnswer given) (sym made) (broken_are laws given a.words a.keys.keys a.files.items g c.in_ok-found.found.items found some)) c.broken.ensures
 
 pub returns-else-is_empty-clause-good : goal.returns-else-is_empty-clause-good
 returns-else-is_empty-clause-good c =
     let files = c.args.gathered.files.items in
     let size = c.requires.1.read.size in
     let few = c.requires.1.read.reached.few in
-    IfOk-weaker c.report.result _ _ (λ answer made. subst IsGood (sym made.1) (omega (arith, length-map files (λ (f : ReachedFile). f.source.text)))) c.report.ensures
+    IfOk-weaker c.broken.result _ _ (λ answer made. subst IsGood (sym made) (omega (arith, length-map files (λ (f : ReachedFile). f.source.text)))) c.broken.ensures

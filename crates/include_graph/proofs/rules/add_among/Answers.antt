@@ -2,7 +2,8 @@ use Rattle.std.proofs.Common.{length, sym, subst, refl, arith}
 use Rattle.std.proofs.lemmas.List.{length_push}
 use Rattle.std.proofs.lemmas.Option.{slice_get_read, slice_get_within}
 use Rattle.std.proofs.lemmas.Slice.Zip.{zip_turn, zip_end}
-use Rattle.include_graph.specs.Additions.{Gains, Below, IsFoundAt}
+use Rattle.findings.specs.Gains.{Gains}
+use Rattle.include_graph.specs.Additions.{Below, IsFoundAt}
 use Rattle.include_graph.proofs.Gaining.{below_more, below_all, found_at}
 use Rattle.include_graph.proofs.rules.add_among.Goals as goal
 

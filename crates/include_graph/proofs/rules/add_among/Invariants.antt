@@ -1,5 +1,6 @@
 use Rattle.std.proofs.Common.{length}
-use Rattle.include_graph.specs.Additions.{Gains, Below, IsFoundAt}
+use Rattle.findings.specs.Gains.{Gains}
+use Rattle.include_graph.specs.Additions.{Below, IsFoundAt}
 use Rattle.include_graph.proofs.rules.add_among.Given as goal
 
 -- what comes of the includes so far

@@ -1,7 +1,8 @@
 use Rattle.std.proofs.Common.{length, refl, subst, arith, nat_lt}
 use Rattle.std.proofs.lemmas.Bool.{ltb-true, lt-ltb}
 use Rattle.std.proofs.lemmas.Option.{slice_get_read, slice_get_within}
-use Rattle.include_graph.specs.Additions.{Gains, IsFoundIn}
+use Rattle.findings.specs.Gains.{Gains}
+use Rattle.include_graph.specs.Additions.{IsFoundIn}
 use Rattle.include_graph.proofs.Gaining.{below_more, below_all, found_of, from_nothing}
 use Rattle.include_graph.proofs.rules.found_in.Goals as goal
 

@@ -1,5 +1,6 @@
 use Rattle.std.proofs.Common.{[]}
-use Rattle.include_graph.specs.Additions.{Gains, Below, IsFoundOf}
+use Rattle.findings.specs.Gains.{Gains}
+use Rattle.include_graph.specs.Additions.{Below, IsFoundOf}
 use Rattle.include_graph.proofs.rules.found_in.Given as goal
 
 -- what comes of the files so far
