@@ -1,7 +1,8 @@
 use super::given::{NotedFiles, files, note, push_finding, strings, text};
 use super::load_rows::LOADS;
-use include_graph::{LoadResult, are_file_words, load, one_reach};
-use ipdl_base::{Failure, Finding, MemoryFiles, Report, Texts as Names, key_of};
+use findings::sort_findings;
+use include_graph::{BrokenFiles, LoadResult, are_file_words, load, one_reach};
+use ipdl_base::{Failure, Finding, MemoryFiles, Texts as Names, key_of};
 use ipdl_syntax::{Entry, Program};
 use std::alloc::{AllocError, Global};
 use std::test::Fail;
@@ -31,19 +32,21 @@ fn push_named(finding: &Finding, names: &Names, out: &mut String) -> Result<(), 
     out.push('\n')
 }
 
-/// Appends the findings of a report, each on a line.
-fn push_report(report: &Report, out: &mut String) -> Result<(), AllocError> {
-    for finding in report.findings.as_slice() {
-        push_named(finding, &report.names, out)?;
+/// Appends what files break, in order, each on a line.
+fn push_broken(files: BrokenFiles, out: &mut String) -> Result<(), AllocError> {
+    let BrokenFiles { findings, names } = files;
+    let sorted = sort_findings(findings.into_vec());
+    for finding in sorted.as_slice() {
+        push_named(finding, &names, out)?;
     }
     Ok(())
 }
 
 /// Appends what a load gives.
-fn push_answer(answer: &Result<LoadResult, Failure>, out: &mut String) -> Result<(), AllocError> {
+fn push_answer(answer: Result<LoadResult, Failure>, out: &mut String) -> Result<(), AllocError> {
     match answer {
-        Ok(LoadResult::Whole(program)) => push_program(program, out),
-        Ok(LoadResult::Broken(report)) => push_report(report, out),
+        Ok(LoadResult::Whole(program)) => push_program(&program, out),
+        Ok(LoadResult::Broken(files)) => push_broken(files, out),
         Err(Failure::ReadFault) => out.push_str("read fault\n"),
         Err(Failure::NoMemory) => out.push_str("no memory\n"),
     }
@@ -64,7 +67,7 @@ fn load_all(
     let mut files = NotedFiles::new(alloc, files);
     let mut shown = String::new(alloc);
     let answer = load(alloc, &mut files, words.as_slice(), path.as_slice());
-    push_answer(&answer, &mut shown)?;
+    push_answer(answer, &mut shown)?;
     Ok((shown, files.asked))
 }
 

@@ -5,6 +5,7 @@ use Rattle.std.specs.List.{flat_map}
 use Rattle.std.proofs.lemmas.Option.{same_Some}
 use Rattle.ipdl_base.specs.Outside.{FileMap}
 use Rattle.ipdl_base.specs.declared.finding.Finding.{Finding}
+use Rattle.ipdl_base.specs.declared.finding.Report.{Report}
 use Rattle.ipdl_syntax.specs.declared.program.Entry.{Entry}
 use Rattle.command_words.specs.Command.{CommandView, OneCommand, Say}
 use Rattle.command_words.specs.Command as command
@@ -34,7 +35,8 @@ use Rattle.sync_list.specs.declared.list.Section.{Section}
 use Rattle.sync_list.specs.Lists.{IsListOf}
 use Rattle.sync_list.specs.Laws.{OneList}
 use Rattle.ipdl_top.specs.declared.answer.CommandAnswer.{CommandAnswer}
-use Rattle.ipdl_top.specs.CommandAnswer.{IsBrokenFile, BreaksRules, IsFileReport, IsReading, IsRuleReport, IsSaidOf, IsCompilation, AnswersTo, SaysTables, given_by, report_answer, table_answer}
+use Rattle.ipdl_top.specs.CommandAnswer.{IsBrokenFile, BreaksRules, IsFileReport, IsReading, IsRuleReport, IsSaidOf, IsCompilation, AnswersTo, SaysTables, given_by, table_answer}
+use Rattle.ipdl_top.specs.declared.status.Status.TheVariants.{Broken}
 use Rattle.ipdl_top.specs.Audit.{SaysAudit}
 use Rattle.ipdl_top.specs.Feed.{SaysFeed}
 use Rattle.ipdl_top.specs.Frames.{SaysBytes, SaysFrames, frames_answer, frames_out}
@@ -46,11 +48,13 @@ use Rattle.ipdl_top.specs.Run.{Driving, SaysRun}
 use Rattle.ipdl_top.specs.Waits.{SaysWaits, pair_line, waits_text}
 use Rattle.ipdl_top.specs.Lists.{AreSections, list_names}
 use Rattle.ipdl_top.specs.FileViews.{FileViews}
+use Rattle.ipdl_top.specs.Report.{broken_answer}
 use Rattle.ipdl_top.proofs.Alike.{alike, same_keys}
 use Rattle.ipdl_top.proofs.Compilations.{names_called, no_fault}
 use Rattle.ipdl_top.proofs.TableTexts.{one_text}
 use Rattle.ipdl_top.proofs.OneAudit.{AuditLaws, audit_one}
 use Rattle.ipdl_top.proofs.OneFeed.{FeedLaws, feed_one}
+use Rattle.ipdl_top.proofs.OneReport.{told_alike}
 use Rattle.ipdl_top.proofs.OneRun.{RunLaws, run_one}
 use Rattle.ipdl_top.proofs.OneTop.{one_top}
 
@@ -93,20 +97,19 @@ empty [] none h = refl
 empty (f ∷ report) none h = absurd (none f ((h.exact f).0 (zero, omega arith, refl)))
 
 -- files that break rules are not read as a program
-not_read : TheLaws → (given : LoadInput) (lists : FileMap) (list : Option (List ℕ)) (answer : CommandAnswer) (program : List Entry) (sections : Option (List Section)) → IsFileReport given lists list answer → IsReading given lists list program sections → ⊥
-not_read laws given lists list answer program sections x y =
+not_read : TheLaws → (given : LoadInput) (lists : FileMap) (list : Option (List ℕ)) (report : Report) (program : List Entry) (sections : Option (List Section)) → IsFileReport given lists list report → IsReading given lists list program sections → ⊥
+not_read laws given lists list report program sections x y =
     let keys : x.keys ≡ keys_of program = one_reach laws.texts given x.keys (keys_of program) x.reach y.is_program.reach in
     let none : (f : Finding) → ¬ IsBrokenFile given lists list (keys_of program) f =
     λ f h. elim h [ inl broken ↦ y.is_program.clean f broken | inr fault ↦ no_fault lists list sections (length (keys_of program)) f y.are_sections fault ] in
-    x.some (empty x.report none (subst (λ (ks : List (List ℕ)). IsReport (IsBrokenFile given lists list ks) x.report) keys x.is_report))
+    x.some (empty report.findings none (subst (λ (ks : List (List ℕ)). IsReport (IsBrokenFile given lists list ks) report.findings) keys x.is_report))
 
 -- files have one report
-file_reports : TheLaws → (given : LoadInput) (lists : FileMap) (list : Option (List ℕ)) (one other : CommandAnswer) → IsFileReport given lists list one → IsFileReport given lists list other → one ≡ other
+file_reports : TheLaws → (given : LoadInput) (lists : FileMap) (list : Option (List ℕ)) (one other : Report) → IsFileReport given lists list one → IsFileReport given lists list other → broken_answer Broken one ≡ broken_answer Broken other
 file_reports laws given lists list one other x y =
     let keys : y.keys ≡ x.keys = one_reach laws.texts given y.keys x.keys y.reach x.reach in
-    let report : x.report ≡ y.report = same_report x.report y.report x.is_report (subst (λ (ks : List (List ℕ)). IsReport (IsBrokenFile given lists list ks) y.report) keys y.is_report) in
-    x.says ∙ ap (λ (r : List Finding). report_answer (map (text_of given) x.keys ++ list_names list) r) report
-    ∙ ap (λ (ks : List (List ℕ)). report_answer (map (text_of given) ks ++ list_names list) y.report) (sym keys) ∙ sym y.says
+    let findings = same_report one.findings other.findings x.is_report (subst (λ (ks : List (List ℕ)). IsReport (IsBrokenFile given lists list ks) other.findings) keys y.is_report) in
+    told_alike Broken one other findings (x.called ∙ ap (λ (ks : List (List ℕ)). map (text_of given) ks ++ list_names list) (sym keys) ∙ sym y.called)
 
 -- Programs
 
@@ -125,28 +128,27 @@ read_alike laws given lists list p q s t x y f h =
     subst (λ (o : Option (List Section)). BreaksRules q o f) same (breaks_alike laws p q s f (alike laws.texts given p q x.is_program y.is_program x.whole y.whole) h)
 
 -- a program has one report
-rule_reports : TheLaws → (given : LoadInput) (lists : FileMap) (list : Option (List ℕ)) (one other : CommandAnswer) → IsRuleReport given lists list one → IsRuleReport given lists list other → one ≡ other
+rule_reports : TheLaws → (given : LoadInput) (lists : FileMap) (list : Option (List ℕ)) (one other : Report) → IsRuleReport given lists list one → IsRuleReport given lists list other → broken_answer Broken one ≡ broken_answer Broken other
 rule_reports laws given lists list one other x y =
     let to = read_alike laws given lists list x.program y.program x.sections y.sections x.reading y.reading in
     let back = read_alike laws given lists list y.program x.program y.sections x.sections y.reading x.reading in
-    let moved : IsReport (BreaksRules x.program x.sections) y.report = record {
+    let moved : IsReport (BreaksRules x.program x.sections) other.findings = record {
       ordered = y.is_report.ordered;
       exact = λ f. (λ c. back f ((y.is_report.exact f).0 c), λ b. (y.is_report.exact f).1 (to f b));
     } in
-    let report : x.report ≡ y.report = same_report x.report y.report x.is_report moved in
+    let findings = same_report one.findings other.findings x.is_report moved in
     let keys : keys_of x.program ≡ keys_of y.program = same_keys laws.texts given x.program y.program x.reading.is_program y.reading.is_program in
     let names : map (λ (e : Entry). e.name) x.program ≡ map (λ (e : Entry). e.name) y.program =
     sym (names_called given x.program (λ number entry at. (x.reading.is_program.entries number entry at).name)) ∙ ap (map (text_of given)) keys
     ∙ names_called given y.program (λ number entry at. (y.reading.is_program.entries number entry at).name) in
-    x.says ∙ ap (λ (r : List Finding). report_answer (map (λ (e : Entry). e.name) x.program ++ list_names list) r) report
-    ∙ ap (λ (ns : List (List ℕ)). report_answer (ns ++ list_names list) y.report) names ∙ sym y.says
+    told_alike Broken one other findings (x.called ∙ ap (λ (ns : List (List ℕ)). ns ++ list_names list) names ∙ sym y.called)
 
 -- a program of whose schema something is said breaks no rule
-not_said : TheLaws → (Says : Schema → CommandAnswer → Type 0) (given : LoadInput) (lists : FileMap) (list : Option (List ℕ)) (one other : CommandAnswer) → IsRuleReport given lists list one → IsSaidOf Says given lists list other → ⊥
-not_said laws Says given lists list one other x y =
+not_said : TheLaws → (Says : Schema → CommandAnswer → Type 0) (given : LoadInput) (lists : FileMap) (list : Option (List ℕ)) (report : Report) (other : CommandAnswer) → IsRuleReport given lists list report → IsSaidOf Says given lists list other → ⊥
+not_said laws Says given lists list report other x y =
     let read = y.read in
     let to = read_alike laws given lists list x.program read.program x.sections read.sections x.reading read.reading in
-    x.some (empty x.report (λ f h. read.clean f (to f h)) x.is_report)
+    x.some (empty report.findings (λ f h. read.clean f (to f h)) x.is_report)
 
 -- one thing is said of schemas that are the same up to boxes
 abbrev SaysOne : (Schema → CommandAnswer → Type 0) → Type 0
@@ -204,14 +206,14 @@ said laws Says unique given lists list one other x y =
 
 -- a compilation has one answer
 compilations : TheLaws → (Says : Schema → CommandAnswer → Type 0) → SaysOne Says → (given : LoadInput) (lists : FileMap) (list : Option (List ℕ)) (one other : CommandAnswer) → IsCompilation Says given lists list one → IsCompilation Says given lists list other → one ≡ other
-compilations laws Says unique given lists list one other (inl x) (inl y) = file_reports laws given lists list one other x y
-compilations laws Says unique given lists list one other (inl x) (inr (inl y)) = absurd (not_read laws given lists list one y.program y.sections x y.reading)
-compilations laws Says unique given lists list one other (inl x) (inr (inr y)) = absurd (not_read laws given lists list one y.read.program y.read.sections x y.read.reading)
-compilations laws Says unique given lists list one other (inr (inl x)) (inl y) = absurd (not_read laws given lists list other x.program x.sections y x.reading)
-compilations laws Says unique given lists list one other (inr (inr x)) (inl y) = absurd (not_read laws given lists list other x.read.program x.read.sections y x.read.reading)
-compilations laws Says unique given lists list one other (inr (inl x)) (inr (inl y)) = rule_reports laws given lists list one other x y
-compilations laws Says unique given lists list one other (inr (inl x)) (inr (inr y)) = absurd (not_said laws Says given lists list one other x y)
-compilations laws Says unique given lists list one other (inr (inr x)) (inr (inl y)) = absurd (not_said laws Says given lists list other one y x)
+compilations laws Says unique given lists list one other (inl x) (inl y) = x.says ∙ file_reports laws given lists list x.report y.report x.holds y.holds ∙ sym y.says
+compilations laws Says unique given lists list one other (inl x) (inr (inl y)) = absurd (not_read laws given lists list x.report y.holds.program y.holds.sections x.holds y.holds.reading)
+compilations laws Says unique given lists list one other (inl x) (inr (inr y)) = absurd (not_read laws given lists list x.report y.read.program y.read.sections x.holds y.read.reading)
+compilations laws Says unique given lists list one other (inr (inl x)) (inl y) = absurd (not_read laws given lists list y.report x.holds.program x.holds.sections y.holds x.holds.reading)
+compilations laws Says unique given lists list one other (inr (inr x)) (inl y) = absurd (not_read laws given lists list y.report x.read.program x.read.sections y.holds x.read.reading)
+compilations laws Says unique given lists list one other (inr (inl x)) (inr (inl y)) = x.says ∙ rule_reports laws given lists list x.report y.report x.holds y.holds ∙ sym y.says
+compilations laws Says unique given lists list one other (inr (inl x)) (inr (inr y)) = absurd (not_said laws Says given lists list x.report other x.holds y)
+compilations laws Says unique given lists list one other (inr (inr x)) (inr (inl y)) = absurd (not_said laws Says given lists list y.report one y.holds x)
 compilations laws Says unique given lists list one other (inr (inr x)) (inr (inr y)) = said laws Says unique given lists list one other x y
 
 -- what a command leaves to nobody: all but a run without a word of turns, and a relay

@@ -10,10 +10,10 @@ use Rattle.ipdl_base.specs.declared.finding.Report.{Report}
 use Rattle.ipdl_base.specs.declared.schema.Schema.{Schema}
 use Rattle.ipdl_syntax.specs.declared.program.Entry.{Entry}
 use Rattle.ipdl_syntax.specs.Programs.{IsProgram}
-use Rattle.findings.specs.Report.{IsReport}
+use Rattle.include_graph.specs.declared.loader.BrokenFiles.{BrokenFiles}
 use Rattle.include_graph.specs.declared.loader.LoadResult.{LoadResult}
 use Rattle.include_graph.specs.declared.loader.LoadResult.TheVariants as load
-use Rattle.include_graph.specs.Load.{IsAnswer, IsGood, IsProgramOf, IsReportOf, keys_of}
+use Rattle.include_graph.specs.Load.{AreBrokenFiles, IsAnswer, IsGood, IsProgramOf, keys_of}
 use Rattle.include_graph.specs.Sources.{LoadInput, IsReadUnder, text_of}
 use Rattle.sync_list.specs.declared.list.Section.{Section}
 use Rattle.sync_list.specs.declared.list.ListFault.TheVariants.{Line}
@@ -24,9 +24,9 @@ use Rattle.ipdl_top.specs.declared.list.SyncListFile.{SyncListFile}
 use Rattle.ipdl_top.specs.declared.list.SyncListFile.TheVariants as list
 use Rattle.ipdl_top.specs.declared.checked.CheckResult.{CheckResult}
 use Rattle.ipdl_top.specs.declared.checked.CheckResult.TheVariants.{Broken, Clean}
-use Rattle.ipdl_top.specs.CommandAnswer.{IsCompilation, IsFileReport, IsRuleReport, report_answer}
+use Rattle.ipdl_top.specs.CommandAnswer.{IsCompilation, IsFileReport}
 use Rattle.ipdl_top.specs.Lists.{IsListFault, IsFaultOfList, AreSections, list_names}
-use Rattle.ipdl_top.specs.Steps.{IsChecked, IsFilesReport, IsListed, IsListedChecked, IsLoadedChecked, IsRuleChecked, IsToldOf, Reports, answer_of_report, file_count, names_of}
+use Rattle.ipdl_top.specs.Steps.{IsChecked, IsListed, IsListedChecked, IsLoadedChecked, IsRuleChecked, IsToldOf, Reports, ReportsWithList, file_count, names_of}
 
 -- Lists
 
@@ -86,7 +86,7 @@ names_called given (entry ∷ program) h =
 -- Answers
 
 -- the report on the program of the reach, where the list breaks a rule
-of_broken : (given : LoadInput) (lists : FileMap) (word : Option (List ℕ)) (program : List Entry) (finding : Finding) (report : Report) → IsProgramOf given program → IsFaultOfList lists word (length program) finding → Reports (λ f. f ≡ finding) (names_of program) word report → IsFileReport given lists word (answer_of_report report)
+of_broken : (given : LoadInput) (lists : FileMap) (word : Option (List ℕ)) (program : List Entry) (finding : Finding) (report : Report) → IsProgramOf given program → IsFaultOfList lists word (length program) finding → Reports (λ f. f ≡ finding) (names_of program) word report → IsFileReport given lists word report
 of_broken given lists word program finding report p broken r =
     let keys = keys_of program in
     let long : length keys ≡ length program = length-map program (λ (e : Entry). e.key) in
@@ -95,7 +95,6 @@ of_broken given lists word program finding report p broken r =
     record {
       keys = keys;
       reach = p.reach;
-      report = report.findings;
       is_report = record {
         ordered = r.is_report.ordered;
         exact = λ f. (
@@ -107,7 +106,7 @@ of_broken given lists word program finding report p broken r =
         );
       };
       some = some_element report.findings finding ((r.is_report.exact finding).1 refl);
-      says = ap (λ (ns : List (List ℕ)). report_answer ns report.findings) (r.called ∙ ap (λ (ns : List (List ℕ)). ns ++ list_names word) (sym names));
+      called = r.called ∙ ap (λ (ns : List (List ℕ)). ns ++ list_names word) (sym names);
     }
 
 -- and what is found where it has sections
@@ -116,10 +115,9 @@ of_sections given lists word program sections (Broken report) p whole are r = in
   program = program;
   sections = sections;
   reading = record { is_program = p; whole = whole; are_sections = are };
-  report = report.findings;
   is_report = r.reports.is_report;
   some = r.some;
-  says = ap (λ (ns : List (List ℕ)). report_answer ns report.findings) r.reports.called;
+  called = r.reports.called;
 })
 of_sections given lists word program sections (Clean schema) p whole are t = (
   record {
@@ -140,8 +138,8 @@ of_program given lists word program (list.Broken finding) (Clean schema) p whole
 
 -- an answer by what was found is that of the compilation
 pub of_told : (Says : Schema → CommandAnswer → Type 0) (given : LoadInput) (lists : FileMap) (list : Option (List ℕ)) (checked : CheckResult) (answer : CommandAnswer) → IsChecked given lists list checked → IsToldOf Says checked answer → IsCompilation Says given lists list answer
-of_told Says given lists list (Broken report) answer (inl h) e = inl (subst (IsFileReport given lists list) (sym e) h)
-of_told Says given lists list (Broken report) answer (inr h) e = inr (inl (subst (IsRuleReport given lists list) (sym e) h))
+of_told Says given lists list (Broken report) answer (inl h) e = inl (record { report = report; holds = h; says = e })
+of_told Says given lists list (Broken report) answer (inr h) e = inr (inl (record { report = report; holds = h; says = e }))
 of_told Says given lists list (Clean schema) answer h says = inr (inr (record { schema = schema; read = h.0; says = says }))
 
 -- what was found of the list is what the list breaks
@@ -158,29 +156,28 @@ some_of [] report some to = absurd (some refl)
 some_of (f ∷ findings) report some to = some_element report f (to f (zero, omega arith, refl))
 
 -- the report on the files of the reach, where they break rules
-of_files : (given : LoadInput) (lists : FileMap) (word : Option (List ℕ)) (files : Report) (listed : SyncListFile) (report : Report) → IsReportOf given files.findings files.names → IsListed lists word (length files.names) listed → IsFilesReport files listed word report → IsFileReport given lists word (answer_of_report report)
+of_files : (given : LoadInput) (lists : FileMap) (word : Option (List ℕ)) (files : BrokenFiles) (listed : SyncListFile) (report : Report) → AreBrokenFiles given files → IsListed lists word (length files.names) listed → ReportsWithList files listed word report → IsFileReport given lists word report
 of_files given lists word files listed report r is h =
     let long : length files.names ≡ length r.keys = ap length r.called ∙ length-map r.keys (text_of given) in
     let behind : IsListed lists word (length r.keys) listed = subst (λ n. IsListed lists word n listed) long is in
     record {
       keys = r.keys;
       reach = r.reach;
-      report = report.findings;
       is_report = record {
         ordered = h.is_report.ordered;
         exact = λ f. (
           λ c. elim ((h.is_report.exact f).0 c) [
-            | inl a ↦ inl ((r.report.exact f).0 a)
+            | inl a ↦ inl ((r.exact f).0 a)
             | inr e ↦ inr ((listed_fault lists word (length r.keys) listed f behind).1 e)
           ],
           λ b. (h.is_report.exact f).1 (elim b [
-            | inl broken ↦ inl ((r.report.exact f).1 broken)
+            | inl broken ↦ inl ((r.exact f).1 broken)
             | inr fault ↦ inr ((listed_fault lists word (length r.keys) listed f behind).0 fault)
           ]),
         );
       };
       some = some_of files.findings report.findings r.some (λ f c. (h.is_report.exact f).1 (inl c));
-      says = ap (λ (ns : List (List ℕ)). report_answer ns report.findings) (h.called ∙ ap (λ (ns : List (List ℕ)). ns ++ list_names word) r.called);
+      called = h.called ∙ ap (λ (ns : List (List ℕ)). ns ++ list_names word) r.called;
     }
 
 -- what is found of what was loaded is found of the files

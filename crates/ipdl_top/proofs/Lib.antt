@@ -11,6 +11,7 @@ pub mod Found
 pub mod Tops
 pub mod Runs
 pub mod OneTop
+pub mod OneReport
 pub mod OneScript
 pub mod OneRun
 pub mod OneFeed

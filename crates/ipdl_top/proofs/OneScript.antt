@@ -1,5 +1,5 @@
 -- A script has one answer where the command says one thing of it.
-use Rattle.std.proofs.Common.{◌≡◌, ◌∙◌, ℕ, List, sym, ap, subst, arith, inl, inr}
+use Rattle.std.proofs.Common.{◌≡◌, ◌∙◌, ℕ, List, sym, subst, arith, inl, inr}
 use Rattle.std.specs.Prelude.{Option, None, Some}
 use Rattle.ipdl_base.specs.declared.schema.Schema.{Schema}
 use Rattle.handler_script.specs.declared.script.Script.{Script}
@@ -7,7 +7,9 @@ use Rattle.handler_script.specs.Plain.{plain_script}
 use Rattle.schema_laws.specs.Frames.{AreSchemasAlike}
 use Rattle.schema_laws.specs.Runs.{ScriptsAlike}
 use Rattle.ipdl_top.specs.declared.answer.CommandAnswer.{CommandAnswer}
-use Rattle.ipdl_top.specs.Scripts.{SaysByScript, SaysOfHeld, SaysOfText, bad_script_answer}
+use Rattle.ipdl_top.specs.Scripts.{SaysByScript, SaysOfHeld, SaysOfText}
+use Rattle.ipdl_top.specs.declared.status.Status.TheVariants.{BadScript}
+use Rattle.ipdl_top.proofs.OneReport.{told_alike}
 use Rattle.ipdl_top.proofs.OneTop.{one_top}
 
 -- one thing is said of scripts that are the same up to boxes, under schemas that are so
@@ -17,9 +19,10 @@ SaysOneOfScripts Says =
 
 text_one : ScriptsAlike → (Says : Schema → Script → CommandAnswer → Type 0) → SaysOneOfScripts Says → (name text : List ℕ) (a b : Schema) → AreSchemasAlike a b → (top : ℕ) (one other : CommandAnswer)
     → SaysOfText (Says a) name text a top one → SaysOfText (Says b) name text b top other → one ≡ other
-text_one scripts Says unique name text a b alike top one other (inl x) (inl y) = x.says ∙ ap (bad_script_answer name) (scripts.report a b alike text top x.findings y.findings x.report y.report) ∙ sym y.says
-text_one scripts Says unique name text a b alike top one other (inl x) (inr y) = absurd (scripts.either b a (sym alike) text top y.script x.findings y.script_of (x.report, x.some))
-text_one scripts Says unique name text a b alike top one other (inr x) (inl y) = absurd (scripts.either a b alike text top x.script y.findings x.script_of (y.report, y.some))
+text_one scripts Says unique name text a b alike top one other (inl x) (inl y) =
+    x.says ∙ told_alike BadScript x.report y.report (scripts.report a b alike text top x.report.findings y.report.findings x.holds.is_report y.holds.is_report) (x.holds.called ∙ sym y.holds.called) ∙ sym y.says
+text_one scripts Says unique name text a b alike top one other (inl x) (inr y) = absurd (scripts.either b a (sym alike) text top y.script x.report.findings y.script_of (x.holds.is_report, x.holds.some))
+text_one scripts Says unique name text a b alike top one other (inr x) (inl y) = absurd (scripts.either a b alike text top x.script y.report.findings x.script_of (y.holds.is_report, y.holds.some))
 text_one scripts Says unique name text a b alike top one other (inr x) (inr y) =
     unique a b alike x.script y.script (scripts.script a b alike text top x.script y.script x.script_of y.script_of) one other x.says y.says
 

@@ -1,5 +1,5 @@
 -- What a command says by a script, from what was found of the script.
-use Rattle.std.proofs.Common.{◌≡◌, ℕ, List, inl, inr, subst, sym}
+use Rattle.std.proofs.Common.{◌≡◌, ℕ, List, ap, inl, inr, refl, subst, sym}
 use Rattle.std.specs.Prelude.{Option, Some, None}
 use Rattle.ipdl_base.specs.declared.finding.Report.{Report}
 use Rattle.ipdl_base.specs.declared.schema.Schema.{Schema}
@@ -13,9 +13,9 @@ use Rattle.ipdl_top.specs.ScriptSteps.{IsHeldChecked, IsScriptChecked}
 
 broken_held : (Says : Script → CommandAnswer → Type 0) (name : List ℕ) (held : Option (List ℕ)) (schema : Schema) (top : ℕ) (report : Report)
     → IsHeldChecked name held schema top (Broken report) → SaysOfHeld Says name held schema top (broken_answer BadScript report)
-broken_held Says name None schema top report found = found
-broken_held Says name (Some text) schema top report (inl larger) = inl larger
-broken_held Says name (Some text) schema top report (inr (small, broken)) = inr (small, inl broken)
+broken_held Says name None schema top report found = ap (broken_answer BadScript) found
+broken_held Says name (Some text) schema top report (inl (larger, found)) = inl (larger, ap (broken_answer BadScript) found)
+broken_held Says name (Some text) schema top report (inr (small, broken)) = inr (small, inl (record { report = report; holds = broken; says = refl }))
 
 valid_held : (Says : Script → CommandAnswer → Type 0) (name : List ℕ) (held : Option (List ℕ)) (schema : Schema) (top : ℕ) (script : Script) (answer : CommandAnswer)
     → IsHeldChecked name held schema top (Valid script) → Says script answer → SaysOfHeld Says name held schema top answer

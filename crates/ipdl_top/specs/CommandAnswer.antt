@@ -2,6 +2,7 @@
 use Rattle.std.specs.Prelude.{◌≡◌, ◌≢◌, ◌⊎◌, ℕ, List, [], ◌∷◌, ◌++◌, map, length, Option, None, IsSomeAnd}
 use Rattle.ipdl_base.specs.Outside.{FileMap}
 use Rattle.ipdl_base.specs.declared.finding.Finding.{Finding}
+use Rattle.ipdl_base.specs.declared.finding.Report.{Report}
 use Rattle.ipdl_base.specs.declared.schema.Schema.{Schema}
 use Rattle.ipdl_syntax.specs.declared.program.Entry.{Entry}
 use Rattle.ipdl_syntax.specs.Programs.{IsProgram}
@@ -27,7 +28,7 @@ use Rattle.ipdl_top.specs.Frames.{SaysFrames}
 use Rattle.ipdl_top.specs.Gen.{SaysGen, case_files, case_path, holder_name}
 use Rattle.ipdl_top.specs.Lists.{IsFaultOfList, AreSections, list_names}
 use Rattle.ipdl_top.specs.Relay.{Relaying, SaysRelay}
-use Rattle.ipdl_top.specs.Report.{report_text}
+use Rattle.ipdl_top.specs.Report.{TellsReport}
 use Rattle.ipdl_top.specs.Run.{Driving, SaysRun}
 use Rattle.ipdl_top.specs.FileViews.{FileViews}
 use Rattle.ipdl_top.specs.Waits.{SaysWaits}
@@ -35,10 +36,6 @@ use Rattle.ipdl_top.specs.Waits.{SaysWaits}
 -- the answer that is a table
 abbrev pub table_answer : List ℕ → CommandAnswer
 table_answer text = record { status = Done; out = text; err = [] }
-
--- the answer that is a report on files that are called so
-abbrev pub report_answer : List (List ℕ) → List Finding → CommandAnswer
-report_answer names report = record { status = Broken; out = []; err = report_text names report }
 
 -- the answer to words that are no command
 abbrev pub usage_answer : CommandAnswer
@@ -50,14 +47,13 @@ usage_answer = record { status = Usage; out = []; err = usage_text }
 abbrev pub IsBrokenFile : LoadInput → FileMap → Option (List ℕ) → List (List ℕ) → Finding → Type 0
 IsBrokenFile given lists list keys f = IsBroken given keys f ⊎ IsFaultOfList lists list (length keys) f
 
--- The answer is the report on the files and the list, which is not empty.
-pub record IsFileReport (given : LoadInput) (lists : FileMap) (list : Option (List ℕ)) (answer : CommandAnswer) : Type 0 where
+-- The report on the files and the list, which is not empty, and which calls each file by its name.
+pub record IsFileReport (given : LoadInput) (lists : FileMap) (list : Option (List ℕ)) (report : Report) : Type 0 where
   pub keys : List (List ℕ)
   pub reach : IsReach given keys
-  pub report : List Finding
-  pub is_report : IsReport (IsBrokenFile given lists list keys) report
-  pub some : report ≢ []
-  pub says : answer ≡ report_answer (map (text_of given) keys ++ list_names list) report
+  pub is_report : IsReport (IsBrokenFile given lists list keys) report.findings
+  pub some : report.findings ≢ []
+  pub called : report.names ≡ map (text_of given) keys ++ list_names list
 
 -- Rules of the language
 
@@ -72,15 +68,14 @@ abbrev pub BreaksRules : List Entry → Option (List Section) → Finding → Ty
 BreaksRules program sections f =
     types.BrokenAt program f ⊎ (protocols.BrokenAt program f ⊎ IsSomeAnd sections (λ list. sync.BrokenAt program list f))
 
--- The answer is the report on the program and the list, which is not empty.
-pub record IsRuleReport (given : LoadInput) (lists : FileMap) (list : Option (List ℕ)) (answer : CommandAnswer) : Type 0 where
+-- The report on the program and the list, which is not empty, and which calls each file by its name.
+pub record IsRuleReport (given : LoadInput) (lists : FileMap) (list : Option (List ℕ)) (report : Report) : Type 0 where
   pub program : List Entry
   pub sections : Option (List Section)
   pub reading : IsReading given lists list program sections
-  pub report : List Finding
-  pub is_report : IsReport (BreaksRules program sections) report
-  pub some : report ≢ []
-  pub says : answer ≡ report_answer (map (λ e. e.name) program ++ list_names list) report
+  pub is_report : IsReport (BreaksRules program sections) report.findings
+  pub some : report.findings ≢ []
+  pub called : report.names ≡ map (λ e. e.name) program ++ list_names list
 
 -- No rule is broken: this is the schema of the program that is read.
 pub record IsSchemaRead (given : LoadInput) (lists : FileMap) (list : Option (List ℕ)) (schema : Schema) : Type 0 where
@@ -99,7 +94,8 @@ pub record IsSaidOf (Says : Schema → CommandAnswer → Type 0) (given : LoadIn
 -- The answer of a command that compiles files: the report on them, or else the report on their program, or else what the
 -- command says of its schema.
 abbrev pub IsCompilation : (Schema → CommandAnswer → Type 0) → LoadInput → FileMap → Option (List ℕ) → CommandAnswer → Type 0
-IsCompilation Says given lists list answer = IsFileReport given lists list answer ⊎ (IsRuleReport given lists list answer ⊎ IsSaidOf Says given lists list answer)
+IsCompilation Says given lists list answer =
+    TellsReport Broken (IsFileReport given lists list) answer ⊎ (TellsReport Broken (IsRuleReport given lists list) answer ⊎ IsSaidOf Says given lists list answer)
 
 -- what the command that compiles says of a schema: its tables
 abbrev pub SaysTables : Schema → CommandAnswer → Type 0

@@ -2,7 +2,6 @@
 use Rattle.std.specs.Prelude.{◌≡◌, ℕ, ◌≤◌, ◌<◌, ◌⊎◌, Bool, true, false, if◌then◌else◌, List, [], ◌++◌, length, Option, Some, None, codes}
 use Rattle.std.specs.Fmt.{decimal}
 use Rattle.ipdl_base.specs.declared.files.TheConstants.{MOST_BYTES}
-use Rattle.ipdl_base.specs.declared.finding.Rule.{Rule}
 use Rattle.ipdl_base.specs.declared.kinds.Side.{Side}
 use Rattle.ipdl_base.specs.declared.line.Line.{Line}
 use Rattle.ipdl_base.specs.declared.schema.Schema.{Schema}
@@ -13,6 +12,7 @@ use Rattle.feed_runs.specs.declared.fault.FeedFault.{FeedFault}
 use Rattle.feed_runs.specs.declared.fault.FeedFault.TheVariants as fault
 use Rattle.feed_runs.specs.FeedTurns.{Feed, FeedSetting}
 use Rattle.frame_list.specs.declared.list.FrameListFault.TheVariants as unread
+use Rattle.frame_list.specs.Frames.{frame_rule}
 use Rattle.frame_list.specs.Lines.{fault_line}
 use Rattle.handler_script.specs.declared.script.Script.{Script}
 use Rattle.history.specs.Text.{numbered, transcript_text}
@@ -39,10 +39,6 @@ feed_status false None = status.Done
 -- how the feed ended, as its last line says it
 abbrev pub feed_ending : Side → Bool → RunEnding
 feed_ending side spent = if spent then at_limit side else at_rest
-
--- the rule on frames of a number
-abbrev pub frame_rule : ℕ → Rule
-frame_rule number = record { letter = 70; number = number }
 
 -- the line that says why the bytes that were left of a file of this name were not read
 abbrev pub kept_line : List ℕ → FeedFault → List ℕ

@@ -1,5 +1,5 @@
 -- The text of a report.
-use Rattle.std.specs.Prelude.{ℕ, List, [], ◌++◌, codes, slice_get, unwrap_or}
+use Rattle.std.specs.Prelude.{◌≡◌, ℕ, List, [], ◌++◌, codes, slice_get, unwrap_or}
 use Rattle.std.specs.List.{flat_map}
 use Rattle.std.specs.Fmt.{decimal}
 use Rattle.ipdl_base.specs.declared.finding.Finding.{Finding}
@@ -20,3 +20,9 @@ report_text names report = flat_map (finding_line names) report
 -- the answer that is a report, with this status
 abbrev pub broken_answer : Status → Report → CommandAnswer
 broken_answer status report = record { status = status; out = []; err = report_text report.names report.findings }
+
+-- The answer is a report of which this holds, with this status.
+pub record TellsReport (status : Status) (Holds : Report → Type 0) (answer : CommandAnswer) : Type 0 where
+  pub report : Report
+  pub holds : Holds report
+  pub says : answer ≡ broken_answer status report

@@ -6,19 +6,17 @@ use Rattle.handler_script.specs.ScriptOf.{IsScriptOf}
 use Rattle.handler_script.specs.Valid.{IsValid}
 use Rattle.ipdl_top.specs.declared.scripts.ScriptCheck.{ScriptCheck}
 use Rattle.ipdl_top.specs.declared.scripts.ScriptCheck.TheVariants.{Broken, Valid}
-use Rattle.ipdl_top.specs.declared.status.Status.TheVariants.{BadScript}
-use Rattle.ipdl_top.specs.Report.{broken_answer}
-use Rattle.ipdl_top.specs.Scripts.{SaysBroken, unreadable_answer}
+use Rattle.ipdl_top.specs.Scripts.{IsScriptReport, unreadable_report}
 use Rattle.ipdl_top.specs.Waits.{IsTop}
 
 -- what the text of a script was found to be
 abbrev pub IsTextChecked : List ℕ → List ℕ → Schema → ℕ → ScriptCheck → Type 0
-IsTextChecked name text schema top (Broken report) = SaysBroken name text schema top (broken_answer BadScript report)
+IsTextChecked name text schema top (Broken report) = IsScriptReport name text schema top report
 IsTextChecked name text schema top (Valid script) = IsScriptOf text schema top script
 
 -- a script that is absent or has more bytes than are read
 abbrev pub IsUnreadable : List ℕ → ScriptCheck → Type 0
-IsUnreadable name (Broken report) = broken_answer BadScript report ≡ unreadable_answer name
+IsUnreadable name (Broken report) = report ≡ unreadable_report name
 IsUnreadable name (Valid script) = ⊥
 
 -- what a script of which this is held was found to be

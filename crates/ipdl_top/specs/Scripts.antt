@@ -1,7 +1,7 @@
 -- What a command that goes by a script says of the script, before it does what is its own.
 use Rattle.std.specs.Prelude.{◌≡◌, ◌≢◌, ℕ, ◌≤◌, ◌<◌, ◌⊎◌, List, [], ◌∷◌, length, Option, Some, None}
 use Rattle.ipdl_base.specs.declared.files.TheConstants.{MOST_BYTES}
-use Rattle.ipdl_base.specs.declared.finding.Finding.{Finding}
+use Rattle.ipdl_base.specs.declared.finding.Report.{Report}
 use Rattle.ipdl_base.specs.declared.finding.TheConstants.Rule as rule
 use Rattle.ipdl_base.specs.declared.schema.Schema.{Schema}
 use Rattle.handler_script.specs.declared.script.Script.{Script}
@@ -11,23 +11,22 @@ use Rattle.include_graph.specs.Rules.{whole_file}
 use Rattle.ipdl_top.specs.declared.answer.CommandAnswer.{CommandAnswer}
 use Rattle.ipdl_top.specs.declared.status.Status.TheVariants.{BadScript}
 use Rattle.ipdl_top.specs.Lists.{finding_at}
-use Rattle.ipdl_top.specs.Report.{report_text}
+use Rattle.ipdl_top.specs.Report.{TellsReport, broken_answer}
 use Rattle.ipdl_top.specs.Waits.{IsTop}
 
--- the answer that a script of this name breaks rules
-abbrev pub bad_script_answer : List ℕ → List Finding → CommandAnswer
-bad_script_answer name findings = record { status = BadScript; out = []; err = report_text (name ∷ []) findings }
+-- the report on a script of this name that is not there, or has too many bytes
+abbrev pub unreadable_report : List ℕ → Report
+unreadable_report name = record { findings = finding_at rule.UNREADABLE_SCRIPT (whole_file 0) ∷ []; names = name ∷ [] }
 
--- the answer for a script that is not there, or has too many bytes
+-- the answer for such a script
 abbrev pub unreadable_answer : List ℕ → CommandAnswer
-unreadable_answer name = bad_script_answer name (finding_at rule.UNREADABLE_SCRIPT (whole_file 0) ∷ [])
+unreadable_answer name = broken_answer BadScript (unreadable_report name)
 
--- The answer lists the rules that the text of a script breaks.
-pub record SaysBroken (name text : List ℕ) (schema : Schema) (top : ℕ) (answer : CommandAnswer) : Type 0 where
-  pub findings : List Finding
-  pub report : IsReport text schema top findings
-  pub some : findings ≢ []
-  pub says : answer ≡ bad_script_answer name findings
+-- The report on the text of a script of this name, which is not empty.
+pub record IsScriptReport (name text : List ℕ) (schema : Schema) (top : ℕ) (report : Report) : Type 0 where
+  pub is_report : IsReport text schema top report.findings
+  pub some : report.findings ≢ []
+  pub called : report.names ≡ name ∷ []
 
 -- The text of a script breaks none, and the answer is what the command says of the script.
 pub record SaysOfScript (Says : Script → CommandAnswer → Type 0) (text : List ℕ) (schema : Schema) (top : ℕ) (answer : CommandAnswer) : Type 0 where
@@ -36,7 +35,7 @@ pub record SaysOfScript (Says : Script → CommandAnswer → Type 0) (text : Lis
   pub says : Says script answer
 
 abbrev pub SaysOfText : (Script → CommandAnswer → Type 0) → List ℕ → List ℕ → Schema → ℕ → CommandAnswer → Type 0
-SaysOfText Says name text schema top answer = SaysBroken name text schema top answer ⊎ SaysOfScript Says text schema top answer
+SaysOfText Says name text schema top answer = TellsReport BadScript (IsScriptReport name text schema top) answer ⊎ SaysOfScript Says text schema top answer
 
 -- the same for a script of this name, of which this is held
 abbrev pub SaysOfHeld : (Script → CommandAnswer → Type 0) → List ℕ → Option (List ℕ) → Schema → ℕ → CommandAnswer → Type 0

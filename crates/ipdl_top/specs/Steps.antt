@@ -8,6 +8,7 @@ use Rattle.ipdl_base.specs.declared.finding.Report.{Report}
 use Rattle.ipdl_base.specs.declared.schema.Schema.{Schema}
 use Rattle.ipdl_base.specs.Outside.{FileMap, HasAtMost, IsHeldWithin}
 use Rattle.ipdl_base.specs.Sound.{IsSound}
+use Rattle.include_graph.specs.declared.loader.BrokenFiles.{BrokenFiles}
 use Rattle.include_graph.specs.declared.loader.LoadResult.{LoadResult}
 use Rattle.include_graph.specs.declared.loader.LoadResult.TheVariants as load
 use Rattle.include_graph.specs.Sources.{LoadInput}
@@ -42,7 +43,7 @@ IsSmall file = HasAtMost MOST_BYTES file
 -- how many files were read
 abbrev pub file_count : LoadResult → ℕ
 file_count (load.Whole program) = length program
-file_count (load.Broken report) = length report.names
+file_count (load.Broken files) = length files.names
 
 -- The sync list
 
@@ -90,29 +91,25 @@ IsListedChecked program (list.Sections sections) word checked = IsRuleChecked pr
 IsListedChecked program (list.Broken finding) word (Broken report) = Reports (λ f. f ≡ finding) (names_of program) word report
 IsListedChecked program (list.Broken finding) word (Clean schema) = ⊥
 
--- the report on files by that on how they were read, and by what was found of the list behind them
-abbrev pub IsFilesReport : Report → SyncListFile → Option (List ℕ) → Report → Type 0
-IsFilesReport files listed word report = Reports (λ f. Contains files.findings f ⊎ (listed ≡ list.Broken f)) files.names word report
+-- the report on files that break rules by how they are read and named, and on the list behind them
+abbrev pub ReportsWithList : BrokenFiles → SyncListFile → Option (List ℕ) → Report → Type 0
+ReportsWithList files listed word report = Reports (λ f. Contains files.findings f ⊎ (listed ≡ list.Broken f)) files.names word report
 
 -- what was found of what was loaded, by what was found of the list behind its files
 abbrev pub IsLoadedChecked : LoadResult → SyncListFile → Option (List ℕ) → CheckResult → Type 0
 IsLoadedChecked (load.Whole program) listed word checked = IsListedChecked program listed word checked
-IsLoadedChecked (load.Broken files) listed word (Broken report) = IsFilesReport files listed word report
+IsLoadedChecked (load.Broken files) listed word (Broken report) = ReportsWithList files listed word report
 IsLoadedChecked (load.Broken files) listed word (Clean schema) = ⊥
-
--- the answer that files or their program break rules
-abbrev pub answer_of_report : Report → CommandAnswer
-answer_of_report report = broken_answer status.Broken report
 
 -- what was found of the files of a command: a report on them or on their program, or the sound schema of a program that
 -- breaks no rule
 abbrev pub IsChecked : LoadInput → FileMap → Option (List ℕ) → CheckResult → Type 0
-IsChecked given lists word (Broken report) = IsFileReport given lists word (answer_of_report report) ⊎ IsRuleReport given lists word (answer_of_report report)
+IsChecked given lists word (Broken report) = IsFileReport given lists word report ⊎ IsRuleReport given lists word report
 IsChecked given lists word (Clean schema) = IsSchemaRead given lists word schema × IsSound schema
 
 -- an answer by what was found: the report, or what is said of the schema
 abbrev pub IsToldOf : (Schema → CommandAnswer → Type 0) → CheckResult → CommandAnswer → Type 0
-IsToldOf Says (Broken report) answer = answer ≡ answer_of_report report
+IsToldOf Says (Broken report) answer = answer ≡ broken_answer status.Broken report
 IsToldOf Says (Clean schema) answer = Says schema answer
 
 -- a schema that was found is sound

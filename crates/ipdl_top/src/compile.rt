@@ -8,7 +8,7 @@ ghost use Rattle.include_graph.specs.Keys.{AreFileWords};
 ghost use Rattle.include_graph.specs.Load.{IsGood};
 ghost use Rattle.ipdl_top.specs.CommandAnswer.{IsCompilation, SaysTables, given_by};
 ghost use Rattle.ipdl_top.specs.FileViews.{ForMap};
-ghost use Rattle.ipdl_top.specs.Steps.{IsChecked, IsFilesReport, IsListedChecked, IsLoadedChecked, IsToldOf, file_count};
+ghost use Rattle.ipdl_top.specs.Steps.{IsChecked, ReportsWithList, IsListedChecked, IsLoadedChecked, IsToldOf, file_count};
 
 use crate::answer::CommandAnswer;
 use crate::checked::CheckResult;
@@ -16,7 +16,7 @@ use crate::list::{SyncListFile, read_listed};
 use crate::rules::{names_of, report_of, rule_checked};
 use crate::status::Status;
 use actor_tables::table_text;
-use include_graph::{LoadResult, load};
+use include_graph::{BrokenFiles, LoadResult, load};
 use ipdl_base::{Failure, Files, Finding, Findings, Report};
 use ipdl_syntax::Program;
 use std::alloc::{AllocError, Global};
@@ -35,7 +35,7 @@ fn number_behind(loaded: &LoadResult) -> u32
 {
     match loaded {
         LoadResult::Whole(program) => program.len() as u32,
-        LoadResult::Broken(report) => report.names.len() as u32,
+        LoadResult::Broken(broken) => broken.names.len() as u32,
     }
 }
 
@@ -44,25 +44,22 @@ fn with_listed(findings: Findings, listed: &SyncListFile) -> Result<Vec<Finding>
     ensures { IfOk result (λ found. (f : TheFinding) → Contains found.items f ↔ (Contains findings f ⊎ (listed.now ≡ SyncListFile.Broken f))) }
 {
     let mut found = findings.into_vec();
-    match listed {
-        SyncListFile::Broken(finding) => {
-            found.push(*finding)?;
-            Ok(found)
-        }
-        SyncListFile::Sections(_) => Ok(found),
+    if let SyncListFile::Broken(finding) = listed {
+        found.push(*finding)?;
     }
+    Ok(found)
 }
 
-/// The report on files by that on how they were read, and by what was found of the list behind them.
+/// The report on files that break rules by how they are read and named, and on the list behind them.
 fn files_report(
     alloc: Global,
-    report: Report,
+    files: BrokenFiles,
     listed: &SyncListFile,
     list: Option<&str>,
 ) -> Result<Report, AllocError>
-    ensures { IfOk result (IsFilesReport report listed.now (option_copied list.entry)) }
+    ensures { IfOk result (ReportsWithList files listed.now (option_copied list.entry)) }
 {
-    let Report { findings, names } = report;
+    let BrokenFiles { findings, names } = files;
     let found = with_listed(findings, listed)?;
     report_of(alloc, found, names.into_vec(), list)
 }
@@ -106,8 +103,8 @@ fn loaded_checked(
             leave(program);
             found
         }
-        LoadResult::Broken(report) => {
-            Ok(CheckResult::Broken(files_report(alloc, report, listed, list)?))
+        LoadResult::Broken(files) => {
+            Ok(CheckResult::Broken(files_report(alloc, files, listed, list)?))
         }
     }
 }

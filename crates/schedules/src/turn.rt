@@ -1,3 +1,5 @@
+ghost use Rattle.std.specs.Prelude.{◌≡◌, false};
+
 use ipdl_base::Side;
 
 /// A turn of a side: the next step of its own, or else a delivery to it; or a delivery alone.

@@ -8,7 +8,7 @@ pub returns-in-Err-Broken-clause-found : goal.returns-in-Err-Broken-clause-found
 returns-in-Err-Broken-clause-found c =
     let IsIt = IsTextChecked c.args.name.now c.args.text.now c.args.schema.now c.args.top in
     let told = subst (IsFault c.args.text.now c.args.schema.now c.args.top) c.in-Err-Broken.field-0-is c.in-Err-Broken.ensures.fault in
-    IfOk-weaker c.broken_script.result _ IsIt (λ checked is. subst IsIt (sym is) (record { findings = c.in-Err-Broken.findings; report = told.0; some = told.1; says = refl })) c.broken_script.ensures
+    IfOk-weaker c.broken_script.result _ IsIt (λ checked is. subst IsIt (sym is) (record { is_report = told.0; some = told.1; called = refl })) c.broken_script.ensures
 
 pub returns-in-Err-Broken-clause-valid : goal.returns-in-Err-Broken-clause-valid
 returns-in-Err-Broken-clause-valid c =
