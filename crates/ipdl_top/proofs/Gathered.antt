@@ -2,7 +2,6 @@
 use Rattle.std.proofs.Common.{◌≡◌, ◌≢◌, ◌<◌, ◌⊎◌, List, [], ◌∷◌, ◌++◌, Option, inl, inr, ap, length, refl, subst, sym, arith}
 use Rattle.std.specs.Prelude.{◌↔◌}
 use Rattle.std.specs.List.{Contains}
-use Rattle.std.proofs.lemmas.List.Elements.{Contains-append_left, Contains-append_right, Contains-append_cases}
 use Rattle.std.proofs.lemmas.List.Elements.{Contains-push, Contains-push_cases}
 use Rattle.ipdl_base.specs.declared.finding.Finding.{Finding}
 use Rattle.ipdl_syntax.specs.declared.program.Entry.{Entry}
@@ -12,8 +11,6 @@ use Rattle.findings.specs.Report.{IsReport}
 use Rattle.findings.proofs.Gathers.{Gains-then}
 use Rattle.program_schema.specs.Clean.{IsClean}
 use Rattle.sync_list.specs.declared.list.Section.{Section}
-use Rattle.ipdl_top.specs.declared.list.SyncListFile.{SyncListFile}
-use Rattle.ipdl_top.specs.declared.list.SyncListFile.TheVariants.{Sections, Broken}
 use Rattle.ipdl_top.specs.CommandAnswer.{BreaksRules}
 
 -- the list has exactly the findings of which this holds
@@ -54,20 +51,6 @@ clean_of program sections found whole named none has =
       managers = λ f h. clean f (inr (inl (inl h)));
       messages = λ f h. clean f (inr (inl (inr h)));
     }
-
--- the findings and what a broken list adds
-pub with_broken : (findings : List Finding) (finding : Finding) → Has (findings ++ finding ∷ []) (λ f. Contains findings f ⊎ (Broken finding ≡ Broken f))
-with_broken findings finding f = (
-  λ h. elim (Contains-push_cases findings finding f h) [ inl x ↦ inl x | inr e ↦ inr (ap Broken e) ],
-  λ h. elim h [
-    | inl x ↦ Contains-append_left findings (finding ∷ []) f x
-    | inr e ↦ (let same : finding ≡ f = cc in subst (λ (g : Finding). Contains (findings ++ finding ∷ []) g) same (Contains-push findings finding))
-  ],
-)
-
--- a list with sections adds none
-pub without : (findings : List Finding) (listed : SyncListFile) (sections : Option (List Section)) → listed ≡ Sections sections → Has findings (λ f. Contains findings f ⊎ (listed ≡ Broken f))
-without findings listed sections is f = (λ h. inl h, λ h. elim h [ inl x ↦ x | inr e ↦ absurd (let no : ⊥ = cc in no) ])
 
 -- one finding
 pub of_one : (finding : Finding) → Has (finding ∷ []) (λ f. f ≡ finding)

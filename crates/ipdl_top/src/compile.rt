@@ -161,8 +161,6 @@ pub fn compile<F: Files>(
         (IsCompilation SaysTables (given_by seen.files (map string_bytes path.now) (map string_bytes names.now)) seen.list (option_copied list.entry))) }
     ensures read_fault { result ≡ Err Failure.ReadFault → Rose (F.faults files.old) (F.faults files.new) }
 {
-    match checked(alloc, files, list, path, names) {
-        Ok(checked) => tables_of(alloc, checked),
-        Err(failure) => Err(failure),
-    }
+    let found = checked(alloc, files, list, path, names)?;
+    tables_of(alloc, found)
 }
