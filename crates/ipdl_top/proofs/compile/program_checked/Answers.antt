@@ -28,5 +28,5 @@ returns-in_ok-report_of-in-Broken c =
     let has : Has found (λ f. f ≡ finding) = subst (λ (xs : List Finding). Has xs (λ f. f ≡ finding)) (sym c.in_ok-found-in-Broken.ensures.items) (of_one finding) in
     subst (λ (listed : SyncListFile). IsListedChecked program listed word (checked.Broken report)) (sym c.in-Broken.is) (record {
       is_report = report_of found report.findings has c.in_ok-report_of-in-Broken.ensures.is_report;
-      called = c.in_ok-report_of-in-Broken.ensures.called ∙ ap (λ (names : List (List ℕ)). names ++ list_names word) (c.in_ok-names-in-Broken.ensures ∙ ap names_of c.as_slice-in-Broken.ensures.value);
+      called = c.in_ok-report_of-in-Broken.ensures.called ∙ ap (λ (names : List (List ℕ)). names ++ list_names word) (c.in_ok-names-in-Broken.ensures ∙ ap names_of c.as_slice.ensures);
     })

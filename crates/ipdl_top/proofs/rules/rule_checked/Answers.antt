@@ -28,7 +28,7 @@ returns c =
     record {
       reports = record {
         is_report = report_of found.items report.findings c.in_ok-found.ensures c.in_ok-report_of.ensures.is_report;
-        called = c.in_ok-report_of.ensures.called ∙ ap (λ (names : List (List ℕ)). names ++ list_names (option_copied c.args.list)) (c.in_ok-called.ensures ∙ ap names_of c.as_slice.ensures.value);
+        called = c.in_ok-report_of.ensures.called ∙ ap (λ (names : List (List ℕ)). names ++ list_names (option_copied c.args.list)) (c.in_ok-called.ensures ∙ ap names_of c.as_slice.ensures);
       };
       some = some_reported found.items report.findings some c.in_ok-report_of.ensures.is_report;
     }

@@ -13,23 +13,23 @@ loop-left-smaller-in-Did c = less-did c.loop-left.self c.step.new.self c.loop-le
 pub loop-left-preserved-in-Did : goal.loop-left-preserved-in-Did
 loop-left-preserved-in-Did c =
     subst (λ (s : Side). RestsSo c.args.self.now c.step.new.self s 2) (sym c.other-side.ensures)
-    (rests-did c.args.self.now c.loop-left.self c.step.new.self c.loop-left.side c.loop-left.left c.loop-left-test.true c.loop-left.invariant (rw c.whole.ensures at c.in-Did.ensures.gives.0) c.in-Did.ensures.gives.1 c.in-Did.ensures.gives.2 c.in-Did.ensures.case c.in-Did.ensures.laws)
+    (rests-did c.args.self.now c.loop-left.self c.step.new.self c.loop-left.side c.loop-left.left c.loop-left-test.true c.loop-left.invariant (rw c.whole-turn.ensures at c.in-Did.ensures.gives.0) c.in-Did.ensures.gives.1 c.in-Did.ensures.gives.2 c.in-Did.ensures.case c.in-Did.ensures.laws)
 
 pub loop-left-preserved : goal.loop-left-preserved
 loop-left-preserved c =
     subst (λ (s : Side). RestsSo c.args.self.now c.step.new.self s (c.loop-left.left - 1)) (sym c.other-side.ensures)
-    (rests-idle c.args.self.now c.loop-left.self c.step.new.self c.loop-left.side c.loop-left.left c.loop-left-test.true c.loop-left.invariant (rw c.whole.ensures at c.in-Nothing.ensures.gives.0) c.in-Nothing.ensures.gives.1)
+    (rests-idle c.args.self.now c.loop-left.self c.step.new.self c.loop-left.side c.loop-left.left c.loop-left-test.true c.loop-left.invariant (rw c.whole-turn.ensures at c.in-Nothing.ensures.gives.0) c.in-Nothing.ensures.gives.1)
 
 pub returns-in-Spent-clause-gives : goal.returns-in-Spent-clause-gives
 returns-in-Spent-clause-gives c =
     subst (λ (w : WorldView). Picks c.args.self.now.setting [] c.args.self.now.state w.state (at_limit c.in-Spent.at)) (sym c.in-Spent.ensures.gives.2)
     (subst (λ (s : Side). Picks c.args.self.now.setting [] c.args.self.now.state c.loop-left.self.state (at_limit s)) (sym c.in-Spent.ensures.gives.1)
-    (rests-spent c.args.self.now c.loop-left.self c.loop-left.side c.loop-left.left c.loop-left-test.true c.loop-left.invariant (rw c.whole.ensures at c.in-Spent.ensures.gives.0)))
+    (rests-spent c.args.self.now c.loop-left.self c.loop-left.side c.loop-left.left c.loop-left-test.true c.loop-left.invariant (rw c.whole-turn.ensures at c.in-Spent.ensures.gives.0)))
 
 pub returns-in-Spent-clause-spent : goal.returns-in-Spent-clause-spent
 returns-in-Spent-clause-spent c =
     subst (λ (w : WorldView). IsSpent w c.in-Spent.at) (sym c.in-Spent.ensures.gives.2)
-    (subst (λ (s : Side). IsSpent c.loop-left.self s) (sym c.in-Spent.ensures.gives.1) (exceeds-spent c.loop-left.self (whole_turn c.loop-left.side) (rw c.whole.ensures at c.in-Spent.ensures.gives.0)))
+    (subst (λ (s : Side). IsSpent c.loop-left.self s) (sym c.in-Spent.ensures.gives.1) (exceeds-spent c.loop-left.self (whole_turn c.loop-left.side) (rw c.whole-turn.ensures at c.in-Spent.ensures.gives.0)))
 
 pub returns-in-NoMemory-clause-gives : goal.returns-in-NoMemory-clause-gives
 returns-in-NoMemory-clause-gives c =
