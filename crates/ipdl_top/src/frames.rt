@@ -153,8 +153,6 @@ pub fn frames<F: Files>(
         seen (map string_bytes path.now) (string_bytes file.now) (option_copied list.entry))) }
     ensures read_fault { result ≡ Err Failure.ReadFault → Rose (F.faults files.old) (F.faults files.new) }
 {
-    match checked(alloc, files, list, path, from_ref(file)) {
-        Ok(checked) => answer_with(alloc, files, checked, wanted),
-        Err(failure) => Err(failure),
-    }
+    let found = checked(alloc, files, list, path, from_ref(file))?;
+    answer_with(alloc, files, found, wanted)
 }

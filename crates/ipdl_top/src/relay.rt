@@ -210,8 +210,6 @@ pub fn relay_script<F: Files, Q: Relay>(
         seen (map string_bytes path.now) (string_bytes file.now) (option_copied list.entry))) }
     ensures read_fault { result ≡ Err Failure.ReadFault → Rose (F.faults files.old) (F.faults files.new) }
 {
-    match checked(alloc, files, list, path, from_ref(file)) {
-        Ok(checked) => answer_with(alloc, files, checked, file.as_str(), wanted, relay),
-        Err(failure) => Err(failure),
-    }
+    let found = checked(alloc, files, list, path, from_ref(file))?;
+    answer_with(alloc, files, found, file.as_str(), wanted, relay)
 }

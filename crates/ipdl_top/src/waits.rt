@@ -127,8 +127,6 @@ pub fn waits<F: Files>(
         (IsFileAnswer (SaysWaits (string_bytes file.now)) seen (map string_bytes path.now) (string_bytes file.now) (option_copied list.entry))) }
     ensures read_fault { result ≡ Err Failure.ReadFault → Rose (F.faults files.old) (F.faults files.new) }
 {
-    match checked(alloc, files, list, path, from_ref(file)) {
-        Ok(checked) => checked_answer(alloc, checked, file.as_str()),
-        Err(failure) => Err(failure),
-    }
+    let found = checked(alloc, files, list, path, from_ref(file))?;
+    checked_answer(alloc, found, file.as_str())
 }

@@ -2,12 +2,13 @@ use Rattle.std.proofs.Common.{◌≡◌, ℕ, List, [], ◌∷◌, sym, ap, map,
 use Rattle.std.specs.Option.{option_copied}
 use Rattle.std.specs.Prelude.{IfOk}
 use Rattle.std.proofs.lemmas.Result.{IfOk-weaker}
+use Rattle.include_graph.proofs.Readings.{none_ok}
 use Rattle.ipdl_top.specs.Audit.{SaysAudit}
 use Rattle.ipdl_top.specs.CommandAnswer.{IsCompilation, given_by}
 use Rattle.ipdl_top.specs.FileViews.{FileViews, ForMap}
 use Rattle.ipdl_top.specs.Steps.{HasTop, IsChecked, IsToldOf}
 use Rattle.ipdl_top.proofs.Compilations.{of_told}
-use Rattle.ipdl_top.proofs.Maps.{for_rest, some_seen}
+use Rattle.ipdl_top.proofs.Maps.{for_all_seen, for_rest, some_seen}
 use Rattle.ipdl_top.proofs.Tops.{has_top}
 use Rattle.ipdl_top.proofs.transcript_audit.audit_transcript.Goals as goal
 
@@ -18,13 +19,13 @@ answer_with-requires-clause-top g c =
     let words = map string_bytes c.from_ref.result.now in
     let file = string_bytes c.args.file.now in
     let one : words ≡ file ∷ [] = ap (map string_bytes) c.from_ref.ensures.value in
-    let P : FileViews → Type 0 = λ seen. IsChecked (given_by seen.files path words) seen.list list c.in-Ok.checked in
-    let found = some_seen (g.F.Files.told c.args.files.now) P c.in-Ok.ensures.found in
-    subst (λ (name : List ℕ). HasTop name c.in-Ok.checked) (sym c.as_str.ensures.value)
-    (has_top (given_by found.0.files path words) found.0.list list file c.requires.ending.0 one c.requires.ending.1 c.in-Ok.checked found.1)
+    let P : FileViews → Type 0 = λ seen. IsChecked (given_by seen.files path words) seen.list list c.in_ok-found.found in
+    let found = some_seen (g.F.Files.told c.args.files.now) P c.in_ok-found.ensures.found in
+    subst (λ (name : List ℕ). HasTop name c.in_ok-found.found) (sym c.as_str.ensures.value)
+    (has_top (given_by found.0.files path words) found.0.list list file c.requires.ending.0 one c.requires.ending.1 c.in_ok-found.found found.1)
 
-pub returns-in-Ok-clause-answer : goal.returns-in-Ok-clause-answer
-returns-in-Ok-clause-answer g c =
+pub returns-clause-answer : goal.returns-clause-answer
+returns-clause-answer g c =
     let path = map string_bytes c.args.path.now in
     let list = option_copied c.args.list in
     let words = map string_bytes c.from_ref.result.now in
@@ -32,14 +33,17 @@ returns-in-Ok-clause-answer g c =
     let script = c.args.wanted.now.script.now in
     let transcript = c.args.wanted.now.transcript.now in
     let limit = c.args.wanted.now.limit in
-    let checked = c.in-Ok.checked in
+    let checked = c.in_ok-found.found in
     let one : words ≡ file ∷ [] = ap (map string_bytes) c.from_ref.ensures.value in
     let P : FileViews → Type 0 = λ seen. IsChecked (given_by seen.files path words) seen.list list checked in
     let Q : List ℕ → FileViews → Type 0 = λ top behind. IfOk c.answer_with.result (IsToldOf (SaysAudit limit script (behind.script script) transcript (behind.input transcript) top) checked) in
     let R : FileViews → Type 0 = λ seen. IfOk c.answer_with.result (IsCompilation (SaysAudit limit script (seen.script script) transcript (seen.input transcript) file) (given_by seen.files path (file ∷ [])) seen.list list) in
-    for_rest (g.F.Files.told c.args.files.now) (g.F.Files.told c.checked.new.files) P (Q file) R c.in-Ok.ensures.told
+    for_rest (g.F.Files.told c.args.files.now) (g.F.Files.told c.checked.new.files) P (Q file) R c.in_ok-found.ensures.told
     (λ seen behind h k. IfOk-weaker c.answer_with.result (IsToldOf (SaysAudit limit script (behind.script script) transcript (behind.input transcript) file) checked)
     (IsCompilation (SaysAudit limit script (behind.script script) transcript (behind.input transcript) file) (given_by seen.files path (file ∷ [])) seen.list list)
     (λ answer told. of_told (SaysAudit limit script (behind.script script) transcript (behind.input transcript) file) (given_by seen.files path (file ∷ [])) seen.list list checked answer
     (subst (λ (ws : List (List ℕ)). IsChecked (given_by seen.files path ws) seen.list list checked) one h) told) k)
-    c.in-Ok.ensures.found (subst (λ (top : List ℕ). ForMap (g.F.Files.told c.checked.new.files) (Q top)) c.as_str.ensures.value c.answer_with.ensures.answer)
+    c.in_ok-found.ensures.found (subst (λ (top : List ℕ). ForMap (g.F.Files.told c.checked.new.files) (Q top)) c.as_str.ensures.value c.answer_with.ensures.answer)
+
+pub returns-in_err-found-clause-answer : goal.returns-in_err-found-clause-answer
+returns-in_err-found-clause-answer g c = for_all_seen _ _ (λ seen. none_ok c.from_residual.result _ _ c.from_residual.ensures.1)
