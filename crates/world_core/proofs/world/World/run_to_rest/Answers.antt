@@ -1,6 +1,7 @@
 use Rattle.std.proofs.Common.{◌-◌, [], subst, sym}
 use Rattle.ipdl_base.specs.declared.kinds.Side.{Side}
-use Rattle.script_steps.specs.Turns.{Picks, at_limit, whole_turn}
+use Rattle.schedules.specs.declared.turn.Turn.{Turn}
+use Rattle.script_steps.specs.Turns.{Picks, at_limit}
 use Rattle.world_core.proofs.RestLoop.{RestsSo, exceeds-spent, less-did, rests-did, rests-end, rests-idle, rests-spent}
 use Rattle.world_core.proofs.world.World.run_to_rest.Goals as goal
 use Rattle.world_core.specs.Turns.{IsSpent, PicksInPart, RestsInPart}
@@ -24,12 +25,13 @@ pub returns-in-Spent-clause-gives : goal.returns-in-Spent-clause-gives
 returns-in-Spent-clause-gives c =
     subst (λ (w : WorldView). Picks c.args.self.now.setting [] c.args.self.now.state w.state (at_limit c.in-Spent.at)) (sym c.in-Spent.ensures.gives.2)
     (subst (λ (s : Side). Picks c.args.self.now.setting [] c.args.self.now.state c.loop-left.self.state (at_limit s)) (sym c.in-Spent.ensures.gives.1)
-    (rests-spent c.args.self.now c.loop-left.self c.loop-left.side c.loop-left.left c.loop-left-test.true c.loop-left.invariant (rw c.whole-turn.ensures at c.in-Spent.ensures.gives.0)))
+    (subst (λ (t : Turn). Picks c.args.self.now.setting [] c.args.self.now.state c.loop-left.self.state (at_limit t.side)) (sym c.whole-turn.ensures)
+    (rests-spent c.args.self.now c.loop-left.self c.loop-left.side c.loop-left.left c.loop-left-test.true c.loop-left.invariant (rw c.whole-turn.ensures at c.in-Spent.ensures.gives.0))))
 
 pub returns-in-Spent-clause-spent : goal.returns-in-Spent-clause-spent
 returns-in-Spent-clause-spent c =
     subst (λ (w : WorldView). IsSpent w c.in-Spent.at) (sym c.in-Spent.ensures.gives.2)
-    (subst (λ (s : Side). IsSpent c.loop-left.self s) (sym c.in-Spent.ensures.gives.1) (exceeds-spent c.loop-left.self (whole_turn c.loop-left.side) (rw c.whole-turn.ensures at c.in-Spent.ensures.gives.0)))
+    (subst (λ (s : Side). IsSpent c.loop-left.self s) (sym c.in-Spent.ensures.gives.1) (exceeds-spent c.loop-left.self c.whole-turn.result c.in-Spent.ensures.gives.0))
 
 pub returns-in-NoMemory-clause-gives : goal.returns-in-NoMemory-clause-gives
 returns-in-NoMemory-clause-gives c =
