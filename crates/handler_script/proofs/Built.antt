@@ -1,5 +1,5 @@
 -- How a script is built from lines.
-use Rattle.std.proofs.Common.{◌≡◌, ℕ, ◌+◌, ◌<◌, Bool, true, false, not, List, ◌∷◌, length, drop, get_or, Option, Some, None, [], ◌++◌, refl, sym, ap, ◌∙◌}
+use Rattle.std.proofs.Common.{◌≡◌, ℕ, ◌+◌, ◌<◌, Bool, false, not, List, ◌∷◌, length, drop, get_or, Option, Some, None, [], ◌++◌, refl, sym, ap, ◌∙◌}
 use Rattle.std.specs.Prelude.{◌↔◌, IsTrue}
 use Rattle.std.specs.List.{cons_option}
 use Rattle.std.proofs.lemmas.Bool.{not-true, not_from_false}

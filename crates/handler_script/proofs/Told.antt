@@ -6,7 +6,6 @@ use Rattle.std.specs.Option.{option_map}
 use Rattle.ipdl_base.specs.declared.finding.Rule.{Rule}
 use Rattle.ipdl_base.specs.declared.schema.Schema.{Schema}
 use Rattle.script_reader.specs.declared.statement.Statement.{Statement}
-use Rattle.handler_script.specs.declared.context.Context.{Context}
 use Rattle.handler_script.specs.declared.lines.OpenBlock.{OpenBlock}
 use Rattle.handler_script.specs.Blocks.{answers, BlockContext, standing_of}
 use Rattle.handler_script.specs.Broken.{IsInside, BlockBreaks, InsideBreaks}
@@ -34,26 +33,19 @@ told_inside schema r before s after block knows =
       (λ h. subst P (sym knows) ((mapped_back (told_by schema) (ToldBreaks schema r s after) (place_of before)).1 (at_place before Holds h))),
     )
 
--- where a block is open and its lines are tested, and where none is, or they are not
+-- where a block is open, and where none is
 
-pub breaks_inside : (schema : Schema) (r : Rule) (before : List Statement) (s : Statement) (after : List Statement) (block : Option OpenBlock) (open_block : OpenBlock) (context : Context) → block ≡ Some open_block → open_block.context ≡ Some context
-    → KnowsBlock schema before block → BlockBreaks schema r (named schema s) open_block.answered (standing_in context) s after ↔ InsideBreaks schema r before s after
-breaks_inside schema r before s after block open_block context is in_context knows =
+pub breaks_inside : (schema : Schema) (r : Rule) (before : List Statement) (s : Statement) (after : List Statement) (block : Option OpenBlock) (open_block : OpenBlock) → block ≡ Some open_block
+    → KnowsBlock schema before block → IsSomeAnd (option_map standing_in open_block.context) (λ b. BlockBreaks schema r (named schema s) open_block.answered b s after) ↔ InsideBreaks schema r before s after
+breaks_inside schema r before s after block open_block is knows =
     let P : Option OpenBlock → Type 0 = λ o. IsSomeAnd (option_map told_of o) (ToldBreaks schema r s after) in
-    let Q : Option Context → Type 0 = λ o. IsSomeAnd (option_map standing_in o) (λ b. BlockBreaks schema r (named schema s) open_block.answered b s after) in
     let told = told_inside schema r before s after block knows in
-    ((λ h. told.0 (subst P (sym is) (subst Q (sym in_context) h))), (λ h. subst Q in_context (subst P is (told.1 h))))
+    ((λ h. told.0 (subst P (sym is) h)), (λ h. subst P is (told.1 h)))
 
 pub none_inside : (schema : Schema) (r : Rule) (before : List Statement) (s : Statement) (after : List Statement) (block : Option OpenBlock) → block ≡ None → KnowsBlock schema before block → ¬ InsideBreaks schema r before s after
 none_inside schema r before s after block is knows h =
     let P : Option OpenBlock → Type 0 = λ o. IsSomeAnd (option_map told_of o) (ToldBreaks schema r s after) in
     subst P is ((told_inside schema r before s after block knows).1 h)
-
-pub untested_inside : (schema : Schema) (r : Rule) (before : List Statement) (s : Statement) (after : List Statement) (block : Option OpenBlock) (open_block : OpenBlock) → block ≡ Some open_block → open_block.context ≡ None → KnowsBlock schema before block → ¬ InsideBreaks schema r before s after
-untested_inside schema r before s after block open_block is none knows h =
-    let P : Option OpenBlock → Type 0 = λ o. IsSomeAnd (option_map told_of o) (ToldBreaks schema r s after) in
-    let Q : Option Context → Type 0 = λ o. IsSomeAnd (option_map standing_in o) (λ b. BlockBreaks schema r (named schema s) open_block.answered b s after) in
-    subst Q none (subst P is ((told_inside schema r before s after block knows).1 h))
 
 some_told : {X Y : Type 0} (f : X → Y) (o : Option X) → is_some (option_map f o) ≡ is_some o
 some_told f None = refl

@@ -20,7 +20,7 @@ use Rattle.script_reader.specs.declared.written.WrittenValues.{WrittenValues}
 use Rattle.script_reader.specs.Lines.{IsReading}
 use Rattle.findings.specs.Gains.{AtSome}
 use Rattle.findings.specs.Report as report
-use Rattle.handler_script.specs.Blocks.{opens, closes, answers, statements, IsInBlock, IsFollowed, BlockContext, in_main, in_handler, standing_by, standing_of, side_of, given_in, handled_in}
+use Rattle.handler_script.specs.Blocks.{opens, closes, answers, statements, IsInBlock, IsFollowed, BlockContext, in_main, in_handler, standing_of, side_of, given_in, handled_in}
 use Rattle.handler_script.specs.Mentions.{any_mentions, values_of, who_of, message_of, speaks_of}
 use Rattle.handler_script.specs.Messages.{named, receives, sends, resolves, replies, is_constructor}
 use Rattle.handler_script.specs.Served.{is_side}
@@ -201,8 +201,3 @@ pub record IsReport (text : List ℕ) (schema : Schema) (top : ℕ) (findings : 
   pub readings : List LineReading
   pub is_reading : IsReading text readings
   pub report : report.IsReport (IsBroken schema top readings) findings
-
--- What a command says of a script that is absent or too large: it reads none, and tests the top alone.
-abbrev pub IsBrokenUnread : Schema → ℕ → Finding → Type 0
-IsBrokenUnread schema top f =
-    (whole_place ≡ f.place) × ((f.rule ≡ rule.UNREADABLE_SCRIPT) ⊎ ((f.rule ≡ rule.NOT_A_TOP_PROTOCOL) × HasManager schema top))

@@ -10,7 +10,7 @@ ghost use Rattle.handler_script.specs.Terms as terms;
 
 use crate::action::{Action, Actions, Block, Blocks};
 use crate::context::{Context, context_of, handled_in, side_of};
-use crate::lines::{closes, lines_behind, said};
+use crate::lines::{closes, lines_behind, opens, said};
 use crate::rules::{replies_in, types_of};
 use crate::table::MessageTable;
 use crate::term::Terms;
@@ -195,9 +195,10 @@ fn add_block(
     ensures { OnOk result (map plain_block blocks.new.items ≡ map plain_block blocks.old.items ++ blocks_of_line schema.now line.now rest.now) }
 {
     if let Some(statement) = said(line) {
-        let message = messages.message_of(statement);
-        if let Some(context) = context_of(statement, message) {
-            blocks.push(block_of(alloc, schema, messages, context, rest)?)?;
+        if opens(statement) {
+            if let Some(context) = context_of(statement, messages.message_of(statement)) {
+                blocks.push(block_of(alloc, schema, messages, context, rest)?)?;
+            }
         }
     }
     Ok(())

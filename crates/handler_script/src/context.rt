@@ -61,18 +61,12 @@ pub fn handled_in<'a>(context: Context<'a>) -> Option<&'a MessageRow>
 pub fn is_misdirected(opened: Option<Context<'_>>) -> bool
     ensures { result ≡ broken.is_misdirected (option_map standing_in opened.entry) }
 {
-    match opened {
-        Some(Context::Handler(side, message)) => !receives(side, message.direction),
-        _ => false,
-    }
+    matches!(opened, Some(Context::Handler(side, message)) if !receives(side, message.direction))
 }
 
 /// Whether no channel carries the message whose block is opened.
 pub fn is_uncarried(opened: Option<Context<'_>>) -> bool
     ensures { result ≡ broken.is_uncarried (option_map standing_in opened.entry) }
 {
-    match opened {
-        Some(Context::Handler(_, message)) => !message.carried,
-        _ => false,
-    }
+    matches!(opened, Some(Context::Handler(_, message)) if !message.carried)
 }

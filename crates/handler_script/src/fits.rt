@@ -19,10 +19,7 @@ pub fn param_at(params: &[ParamRow], n: u32) -> Option<&ParamRow>
 pub fn is_actor(shape: &Shape) -> bool
     ensures { result ≡ terms.is_actor shape.now }
 {
-    match shape {
-        Shape::Actor(_, _) => true,
-        _ => false,
-    }
+    matches!(shape, Shape::Actor(_, _))
 }
 
 /// Whether a parameter of the one type stands in the place of a value of the other.

@@ -49,30 +49,24 @@ pub fn lines_behind(lines: &[LineReading], index: usize) -> &[LineReading]
 pub fn opens(statement: &Statement) -> bool
     ensures { result ≡ blocks.opens statement.now }
 {
-    match statement {
-        Statement::Main(_) | Statement::On(_, _) => true,
-        _ => false,
-    }
+    matches!(statement, Statement::Main(_) | Statement::On(_, _))
 }
 
 /// Whether a statement closes the block that it stands in.
 pub fn closes(statement: &Statement) -> bool
     ensures { result ≡ blocks.closes statement.now }
 {
-    match statement {
-        Statement::Main(_) | Statement::On(_, _) | Statement::End => true,
-        _ => false,
-    }
+    opens(statement) || matches!(statement, Statement::End)
 }
 
 /// Whether a statement answers the handled message, or keeps its resolver.
 pub fn answers(statement: &Statement) -> bool
     ensures { result ≡ blocks.answers statement.now }
 {
-    match statement {
-        Statement::Resolve(_) | Statement::Reject | Statement::Keep(_) => true,
-        _ => false,
-    }
+    matches!(
+        statement,
+        Statement::Resolve(_) | Statement::Reject | Statement::Keep(_)
+    )
 }
 
 /// Whether another action, or another `return`, of the same block follows in these lines.
@@ -105,10 +99,7 @@ pub fn is_closed(lines: &[LineReading]) -> bool
 fn is_main(statement: &Statement, side: Side) -> bool
     ensures { result ≡ broken.is_main side statement.now }
 {
-    match statement {
-        Statement::Main(other) => *other == side,
-        _ => false,
-    }
+    matches!(statement, Statement::Main(other) if *other == side)
 }
 
 impl<'a> OpenBlock<'a> {

@@ -29,20 +29,12 @@ pub fn read_script(
     ensures valid { IfOk result (IsValid schema.now) }
     ensures fault { IfErr result (IsFault text.now schema.now top) }
 {
-    let Ok(readings) = read_lines(alloc, text) else {
-        return Err(ScriptFault::NoMemory);
-    };
-    let Ok(messages) = MessageTable::new(alloc, schema) else {
-        return Err(ScriptFault::NoMemory);
-    };
-    let Ok(findings) = report_of(alloc, schema, &messages, top, readings.as_slice()) else {
-        return Err(ScriptFault::NoMemory);
-    };
+    let readings = read_lines(alloc, text)?;
+    let messages = MessageTable::new(alloc, schema)?;
+    let findings = report_of(alloc, schema, &messages, top, readings.as_slice())?;
     if !findings.as_slice().is_empty() {
         return Err(ScriptFault::Broken(findings));
     }
-    match blocks_of(alloc, schema, &messages, readings.as_slice()) {
-        Ok(blocks) => Ok(Script { top, blocks }),
-        Err(_) => Err(ScriptFault::NoMemory),
-    }
+    let blocks = blocks_of(alloc, schema, &messages, readings.as_slice())?;
+    Ok(Script { top, blocks })
 }

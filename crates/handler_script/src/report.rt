@@ -1,6 +1,4 @@
-ghost use Rattle.std.specs.Prelude.{◌≡◌, ◌↔◌, ◌<◌, ◌^◌, ◌∷◌, [], ◌++◌, List, length, IsTrue, OnOk, IfOk, option_map};
-ghost use Rattle.std.specs.List.{Contains};
-ghost use Rattle.ipdl_base.specs.declared.finding.Finding.{Finding as FindingType};
+ghost use Rattle.std.specs.Prelude.{◌≡◌, ◌↔◌, ◌<◌, ◌^◌, ◌∷◌, [], ◌++◌, List, length, IsTrue, IsSomeAnd, OnOk, IfOk, option_map};
 ghost use Rattle.findings.specs.Gains.{Gains};
 ghost use Rattle.findings.specs.Report as report;
 ghost use Rattle.script_reader.specs.declared.statement.Statement.{Statement as StatementType};
@@ -60,37 +58,36 @@ fn add_opening(
     let misdirected = is_misdirected(opened);
     let uncarried = is_uncarried(opened);
     add_if(Rule::WRONG_DIRECTION, place, misdirected, found)?;
-    add_if(Rule::UNCARRIED_TYPE, place, uncarried, found)?;
-    Ok(())
+    add_if(Rule::UNCARRIED_TYPE, place, uncarried, found)
 }
 
-/// Adds the findings of the rules that a statement breaks in a block.
+/// Adds the findings of the rules that a statement breaks in this block, if its lines are tested.
 fn add_in_block(
     schema: &Schema,
-    context: Context<'_>,
-    answered: bool,
+    block: OpenBlock<'_>,
     statement: &Statement,
     message: Option<&MessageRow>,
     after: &[LineReading],
     place: Place,
     found: &mut Vec<Finding>,
 ) -> Result<(), AllocError>
-    ensures { OnOk result (Gains (λ f. (place ≡ f.place)
-        × broken.BlockBreaks schema.now f.rule (option_map (λ m. m.now) message.entry) answered
-        (standing_in context.entry) statement.now (statements after.now))
+    ensures { OnOk result (Gains (λ f. (place ≡ f.place) × IsSomeAnd (option_map standing_in block.entry.context) (λ context.
+        broken.BlockBreaks schema.now f.rule (option_map (λ m. m.now) message.entry) block.entry.answered context statement.now (statements after.now)))
         found.old.items found.new.items) }
 {
+    let Some(context) = block.context else {
+        return Ok(());
+    };
     let sent = sent(statement, message);
     let direction = is_missent(context, sent);
     let carried = is_unsent(sent);
     let types = types_of(context, statement, message);
     let values = values_break(schema, given_in(context), types, statement);
-    let allowed = is_not_allowed(context, answered, statement, message, after);
+    let allowed = is_not_allowed(context, block.answered, statement, message, after);
     add_if(Rule::WRONG_DIRECTION, place, direction, found)?;
     add_if(Rule::UNFIT_VALUES, place, values, found)?;
     add_if(Rule::NOT_ALLOWED_HERE, place, allowed, found)?;
-    add_if(Rule::UNCARRIED_TYPE, place, carried, found)?;
-    Ok(())
+    add_if(Rule::UNCARRIED_TYPE, place, carried, found)
 }
 
 /// Adds the findings of the rules that a statement breaks in the block in which it stands.
@@ -107,21 +104,10 @@ fn add_inside(
         → option_map (λ m. m.now) message.entry ≡ named schema.now statement.now
         → Gains (λ f. (place ≡ f.place) × broken.InsideBreaks schema.now f.rule before statement.now (statements after.now)) found.old.items found.new.items) }
 {
-    if let Some(block) = block {
-        if let Some(context) = block.context {
-            add_in_block(
-                schema,
-                context,
-                block.answered,
-                statement,
-                message,
-                after,
-                place,
-                found,
-            )?;
-        }
+    match block {
+        Some(block) => add_in_block(schema, block, statement, message, after, place, found),
+        None => Ok(()),
     }
-    Ok(())
 }
 
 /// Adds the findings of the rules that a statement breaks by its message and in its block.
@@ -139,12 +125,10 @@ fn add_named(
         → Gains (λ f. (place ≡ f.place) × broken.MessageBreaks schema.now f.rule before statement.now (statements after.now)) found.old.items found.new.items) }
 {
     if names_none(statement, message) {
-        add_if(Rule::UNKNOWN_MESSAGE, place, true, found)?;
-        return Ok(());
+        return add_if(Rule::UNKNOWN_MESSAGE, place, true, found);
     }
     add_opening(context_of(statement, message), place, found)?;
-    add_inside(schema, block, statement, message, after, place, found)?;
-    Ok(())
+    add_inside(schema, block, statement, message, after, place, found)
 }
 
 /// Adds the findings of the rules that a statement breaks, and gives what is known behind it.
@@ -198,8 +182,7 @@ fn add_line<'a>(
     match reading {
         LineReading::Silent => Ok(reached),
         LineReading::Statement(statement) => {
-            let behind = add_statement(schema, messages, reached, statement, after, place, found)?;
-            Ok(behind)
+            add_statement(schema, messages, reached, statement, after, place, found)
         }
         LineReading::NoStatement => {
             add_if(Rule::NOT_A_STATEMENT, place, true, found)?;
@@ -231,8 +214,7 @@ fn add_lines(
     for (i, reading) in readings.iter().enumerate() {
         let place = line_place(i as u32 + 1);
         let after = lines_behind(readings, i);
-        let behind = add_line(schema, messages, reached, reading, after, place, found)?;
-        reached = behind;
+        reached = add_line(schema, messages, reached, reading, after, place, found)?;
     }
     Ok(())
 }
@@ -247,30 +229,6 @@ fn has_manager(schema: &Schema, top: u32) -> bool
     }
 }
 
-/// All findings that hold of the top and of what lines say, in some order.
-fn gathered(
-    alloc: Global,
-    schema: &Schema,
-    messages: &MessageTable<'_>,
-    top: u32,
-    readings: &[LineReading],
-) -> Result<Vec<Finding>, AllocError>
-    requires table { IsTableOf schema.now messages.now }
-    requires few { length readings.now < 2 ^ 32 }
-    ensures { IfOk result (λ found. (f : FindingType) → Contains found.items f ↔ broken.IsBroken schema.now top readings.now f) }
-{
-    let mut found = Vec::new(alloc);
-    let whole = Place {
-        file: 0,
-        line: 0,
-        column: 0,
-    };
-    let managed = has_manager(schema, top);
-    add_if(Rule::NOT_A_TOP_PROTOCOL, whole, managed, &mut found)?;
-    add_lines(schema, messages, readings, &mut found)?;
-    Ok(found)
-}
-
 /// The report on what lines say, for a schema, the table of its messages and its top protocol.
 pub fn report_of(
     alloc: Global,
@@ -283,6 +241,14 @@ pub fn report_of(
     requires few { length readings.now < 2 ^ 32 }
     ensures { IfOk result (report.IsReport (broken.IsBroken schema.now top readings.now)) }
 {
-    let found = gathered(alloc, schema, messages, top, readings)?;
+    let mut found = Vec::new(alloc);
+    let whole = Place {
+        file: 0,
+        line: 0,
+        column: 0,
+    };
+    let managed = has_manager(schema, top);
+    add_if(Rule::NOT_A_TOP_PROTOCOL, whole, managed, &mut found)?;
+    add_lines(schema, messages, readings, &mut found)?;
     Ok(sort_findings(found))
 }

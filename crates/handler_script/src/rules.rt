@@ -209,11 +209,5 @@ pub fn breaks_blocks(
     if !opens(statement) {
         return reached.block.is_none();
     }
-    if reached.block.is_some() {
-        return true;
-    }
-    if is_second_main(reached, statement) {
-        return true;
-    }
-    !is_closed(after)
+    reached.block.is_some() || is_second_main(reached, statement) || !is_closed(after)
 }

@@ -1,6 +1,7 @@
 use crate::action::{Action, Blocks, block_at, serves};
 use crate::term::Terms;
 use ipdl_base::{Findings, Side};
+use std::alloc::AllocError;
 
 /// A script that breaks no rule, for the schema that it was read with.
 #[derive(Drop)]
@@ -77,4 +78,15 @@ pub enum ScriptFault {
     /// These rules are broken, in order. Their places are in file 0.
     Broken(Findings),
     NoMemory,
+}
+
+impl From<AllocError> for ScriptFault {
+    ghost use Rattle.std.specs.Prelude.{◌≡◌};
+    ghost use Rattle.handler_script.specs.declared.script.ScriptFault.TheVariants.{NoMemory};
+
+    ghost from_gives = { λ _ fault. fault ≡ NoMemory };
+
+    fn from(_: AllocError) -> ScriptFault {
+        ScriptFault::NoMemory
+    }
 }

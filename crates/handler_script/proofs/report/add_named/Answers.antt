@@ -1,6 +1,7 @@
-use Rattle.std.proofs.Common.{◌≡◌, Bool, true, Option, ◌⊎◌, refl, sym, ◌∙◌, subst}
+use Rattle.std.proofs.Common.{◌≡◌, true, Option, ◌⊎◌, refl, sym, ◌∙◌, subst}
 use Rattle.std.specs.Prelude.{◌↔◌, IsTrue}
 use Rattle.std.specs.Option.{option_map}
+use Rattle.std.proofs.lemmas.Result.{on_ok_weaker}
 use Rattle.std.proofs.lemmas.Bool.{true≢false}
 use Rattle.ipdl_base.specs.declared.finding.Finding.{Finding}
 use Rattle.ipdl_base.specs.declared.finding.TheConstants.Rule as rule
@@ -14,7 +15,7 @@ use Rattle.handler_script.proofs.Gathered.{gains_if, gains_or, gains_absent, gai
 use Rattle.handler_script.proofs.report.add_named.Goals as goal
 
 pub returns-then-names_none : goal.returns-then-names_none
-returns-then-names_none c before k named_is =
+returns-then-names_none c = on_ok_weaker c.add_if.result (λ one before k named_is.
     let schema = c.args.schema.now in
     let s = c.args.statement.now in
     let place = c.args.place in
@@ -23,10 +24,10 @@ returns-then-names_none c before k named_is =
     let K : Finding → Type 0 = λ f. OpeningBreaks f.rule (standing_of schema s) ⊎ InsideBreaks schema f.rule before s (statements c.args.after.now) in
     let P : Option MessageRow → Type 0 = λ o. NamesNone o s in
     let none : N = subst P named_is (c.names_none.ensures.0 c.if-names_none.true) in
-    gains_absent place U K N _ _ (gains_if rule.UNKNOWN_MESSAGE place true N _ _ c.in_ok-add_if.ensures ((λ h. none), (λ h. refl))) none
+    gains_absent place U K N _ _ (gains_if rule.UNKNOWN_MESSAGE place true N _ _ one ((λ h. none), (λ h. refl))) none) c.add_if.ensures
 
 pub returns : goal.returns
-returns c before k named_is =
+returns c = on_ok_weaker c.add_inside.result (λ inside before k named_is.
     let schema = c.args.schema.now in
     let s = c.args.statement.now in
     let place = c.args.place in
@@ -39,4 +40,4 @@ returns c before k named_is =
     let R : Option MessageRow → Type 0 = λ o. option_map standing_in c.context_of.result ≡ standing_by o s in
     let opened = subst Q (subst R named_is c.context_of.ensures) c.in_ok-add_opening.ensures in
     let is = subst P named_is c.names_none.ensures in
-    gains_known place U (λ f. O f ⊎ I f) N _ _ (gains_or place O I _ _ _ opened (c.in_ok-add_inside.ensures before k named_is)) (λ n. true≢false (sym (is.1 n) ∙ c.if-names_none.false))
+    gains_known place U (λ f. O f ⊎ I f) N _ _ (gains_or place O I _ _ _ opened (inside before k named_is)) (λ n. true≢false (sym (is.1 n) ∙ c.if-names_none.false))) c.add_inside.ensures
