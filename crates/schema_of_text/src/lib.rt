@@ -7,7 +7,6 @@ ghost use Rattle.ipdl_base.specs.Sound.{IsSound};
 ghost use Rattle.ipdl_syntax.specs.Programs.{IsProgram, BearTheirNames};
 
 use actor_tables::schema;
-use findings::sort_findings;
 use include_graph::{LoadResult, are_file_words, load};
 use ipdl_base::{MemoryFiles, Schema};
 use ipdl_syntax::Program;
@@ -43,8 +42,7 @@ fn clean_schema(alloc: Global, program: &Program) -> Result<Schema, Fail>
     let mut found = Vec::new(alloc);
     add_of_types(alloc, program, &names, &mut found)?;
     add_of_protocols(alloc, program, &names, &mut found)?;
-    let report = sort_findings(found);
-    if !report.is_empty() {
+    if !found.is_empty() {
         return Err("a program that breaks rules".into());
     }
     Ok(schema(alloc, program, &names)?)
