@@ -47,7 +47,7 @@ impl<'s> MessageTable<'s> {
         Ok(MessageTable { protocols })
     }
 
-    /// The message of this name.
+    /// The message of this name, where the schema has one; of those of one name, the first.
     pub fn find(&self, name: &MessageName) -> Option<&'s MessageRow>
         ensures { option_map (λ m. m.now) result ≡ found_in self.now name.now }
     {
@@ -56,7 +56,7 @@ impl<'s> MessageTable<'s> {
     }
 
     /// The message that a statement names, where it is there.
-    pub fn message_of(&self, statement: &Statement) -> Option<&'s MessageRow>
+    pub(crate) fn message_of(&self, statement: &Statement) -> Option<&'s MessageRow>
         ensures { (schema : SchemaType) → IsTableOf schema self.now → option_map (λ m. m.now) result ≡ named schema statement.now }
     {
         self.find(message_of(statement)?)

@@ -19,7 +19,8 @@ pub enum FileBytes {
 impl FileBytes {
     ghost use Rattle.ipdl_base.specs.Outside.{HasAtMost, IsHeldWithin};
 
-    /// What is read of a file of these bytes.
+    /// What is read of a file of these bytes, of which no more than `limit` are given. The only error is
+    /// want of memory.
     pub fn of_bytes(alloc: Global, bytes: &[u8], limit: usize) -> Result<FileBytes, AllocError>
         ensures small { IfOk result (HasAtMost limit) }
         ensures held { IfOk result (IsHeldWithin limit (Some bytes.now)) }
