@@ -19,8 +19,8 @@ pub mod FailedWaits
 pub mod StillWorlds
 pub mod GivingWay
 pub mod EndsTold
-mod WorkedSchema
-mod Worked
+pub mod WorkedSchema
+pub mod Worked
 pub mod NulledAlike
 pub mod MissingAlike
 pub mod StandsFor

@@ -5,7 +5,8 @@ use super::frame_rows::{FLAG, FRAMES};
 use super::relay_rows::RELAYS;
 use super::run_rows::{RACE, RUNS};
 use super::wait_rows::WAITS;
-use ipdl_base::{MemoryFiles, MemorySink};
+use file_log::RecordedFiles;
+use ipdl_base::{Failure, FileBytes, Files, MemoryFiles, MemorySink};
 use ipdl_top::{Status, ipdl};
 use std::alloc::{AllocError, Global};
 use std::test::Fail;
@@ -37,12 +38,34 @@ struct Row {
     err: &'static str,
 }
 
-/// What a call leaves.
+/// What a call leaves, and how many files it read.
 #[derive(Drop)]
 struct Left {
     status: Status,
     out: MemorySink,
     err: MemorySink,
+    reads: u64,
+}
+
+/// Files in memory that count their reads.
+#[derive(Drop)]
+struct CountedFiles {
+    files: MemoryFiles,
+    reads: u64,
+}
+
+impl Files for CountedFiles {
+    ghost use Rattle.std.specs.Prelude.{Some};
+    ghost use Rattle.ipdl_base.specs.Memory as memory;
+
+    ghost told = { λ f. Some (memory.file_named f.files.files) };
+
+    ghost faults = { λ f. f.files.faults };
+
+    fn read(&mut self, alloc: Global, name: &str, limit: usize) -> Result<FileBytes, Failure> {
+        self.reads = self.reads.saturating_add(1);
+        self.files.read(alloc, name, limit)
+    }
 }
 
 /// Strings of the words of a text.
@@ -80,11 +103,12 @@ fn sink(alloc: Global, piece: usize, failing: u64) -> Result<MemorySink, AllocEr
 fn call(
     alloc: Global,
     words: &str,
-    mut files: MemoryFiles,
+    files: MemoryFiles,
     piece: usize,
     failing: u64,
 ) -> Result<Left, AllocError> {
     let words = strings(alloc, words)?;
+    let mut files = RecordedFiles::new(CountedFiles { files, reads: 0 });
     let mut out = sink(alloc, piece, failing)?;
     let mut err = sink(alloc, 1000, 0)?;
     let mut driver = OneThread::new(Vec::new(alloc));
@@ -98,7 +122,13 @@ fn call(
         &mut driver,
         &mut relay,
     );
-    Ok(Left { status, out, err })
+    let reads = files.files().reads;
+    Ok(Left {
+        status,
+        out,
+        err,
+        reads,
+    })
 }
 
 /// Notes what a call leaves, where it is not this.
@@ -355,8 +385,8 @@ fn fronts(alloc: Global) -> Result<String, Fail> {
     Ok(shown)
 }
 
-/// The statuses of a call with these words and files, where each of its first reads fails, up to so many, and whether it
-/// wrote anything.
+/// The statuses of a call with these words and files, where each of its first reads fails, up to so many, whether it wrote
+/// anything, and how many files it read.
 fn unread(alloc: Global, words: &str, shared: &str, reads: u64) -> Result<String, Fail> {
     let mut shown = String::new(alloc);
     for failing in 1..=reads {
@@ -365,7 +395,7 @@ fn unread(alloc: Global, words: &str, shared: &str, reads: u64) -> Result<String
         let files = MemoryFiles::new(all, vec![in alloc; failing]?);
         let left = call(alloc, words, files, 1000, 0)?;
         let wrote = !left.out.written().is_empty() || !left.err.written().is_empty();
-        write!(shown, "{} {wrote} ", left.status.code())?;
+        write!(shown, "{} {wrote} {}, ", left.status.code(), left.reads)?;
     }
     Ok(shown)
 }
@@ -392,14 +422,17 @@ fn unread_audits(alloc: Global) -> Result<String, Fail> {
 fn failing_runs(rt: HostRuntime) -> Result<(), Fail> {
     let alloc = rt.alloc();
     assert_eq!(rt; fronts(alloc)?.as_str(), "0 50 100 150 200 250 300 350 ");
-    assert_eq!(rt; unread_runs(alloc)?.as_str(), "3 false 3 false 0 true ");
+    assert_eq!(rt;
+        unread_runs(alloc)?.as_str(),
+        "3 false 1, 3 false 2, 0 true 2, "
+    );
     assert_eq!(rt;
         unread_feeds(alloc)?.as_str(),
-        "3 false 3 false 3 false 7 true "
+        "3 false 1, 3 false 2, 3 false 3, 7 true 3, "
     );
     assert_eq!(rt;
         unread_audits(alloc)?.as_str(),
-        "3 false 3 false 3 false 7 true "
+        "3 false 1, 3 false 2, 3 false 3, 7 true 3, "
     );
     Ok(())
 }

@@ -1,6 +1,7 @@
 ghost use Rattle.std.specs.Prelude.{◌≤◌};
 
 use super::calls::strings;
+use file_log::RecordedFiles;
 use generated_case::generate;
 use ipdl_base::{MemoryFiles, MemorySink};
 use ipdl_top::{Status, ipdl};
@@ -12,8 +13,9 @@ use world_core::OneThread;
 const ROOM: usize = 4_000_000;
 
 /// What a call with these words prints, where it is done and says nothing else.
-fn printed(alloc: Global, words: &str, mut files: MemoryFiles) -> Result<String, Fail> {
+fn printed(alloc: Global, words: &str, files: MemoryFiles) -> Result<String, Fail> {
     let words = strings(alloc, words)?;
+    let mut files = RecordedFiles::new(files);
     let mut out = MemorySink::new(alloc, ROOM, ROOM, Vec::new(alloc))?;
     let mut err = MemorySink::new(alloc, 1000, 1000, Vec::new(alloc))?;
     let mut driver = OneThread::new(Vec::new(alloc));

@@ -1,6 +1,7 @@
 ghost use Rattle.std.specs.Prelude.{IfOk};
 ghost use Rattle.ipdl_syntax.specs.Programs.{IsProgram, BearTheirNames};
 
+use file_log::RecordedFiles;
 use include_graph::{LoadResult, are_file_words, load};
 use ipdl_base::{Failure, FileBytes, Files, Finding, Findings, MemoryFiles, Name};
 use ipdl_syntax::Program;
@@ -45,7 +46,7 @@ pub fn text(name: &Name) -> &str {
 }
 
 /// The program of these files, which breaks no rule of files.
-pub fn program(alloc: Global, mut files: MemoryFiles, words: &str) -> Result<Program, Fail>
+pub fn program(alloc: Global, files: MemoryFiles, words: &str) -> Result<Program, Fail>
     ensures program { IfOk result IsProgram }
     ensures names { IfOk result BearTheirNames }
 {
@@ -54,6 +55,7 @@ pub fn program(alloc: Global, mut files: MemoryFiles, words: &str) -> Result<Pro
     if !are_file_words(words.as_slice()) || words.len() > 4096 {
         return Err("no words of files".into());
     }
+    let mut files = RecordedFiles::new(files);
     match load(alloc, &mut files, words.as_slice(), path.as_slice()) {
         Ok(LoadResult::Whole(program)) => Ok(program),
         _ => Err("no program".into()),

@@ -51,15 +51,32 @@ protocol PB { };
 @ PB.ipdl
 protocol PWrong { };
 ====
-An entry of the path that stands twice is tried twice.
+A directory that stands twice in the path is searched once, at its first place.
 PA.ipdl
 d d
 0
-PA.ipdl d/PB.ipdl d/PB.ipdl 
+PA.ipdl d/PB.ipdl 
 PA.ipdl:1:18 A3
 @ PA.ipdl
 include protocol PB;
 protocol PA { };
+====
+
+PA.ipdl
+d . e d . e/
+0
+PA.ipdl d/PB.ipdl PB.ipdl e/PB.ipdl e//PB.ipdl d/H.ipdlh H.ipdlh 
+PA.ipdl PA.ipdl 1 2
+PB.ipdl e//PB.ipdl
+H.ipdlh H.ipdlh
+@ PA.ipdl
+include protocol PB;
+include H;
+protocol PA { };
+@ e//PB.ipdl
+protocol PB { };
+@ H.ipdlh
+struct S { };
 ====
 Keys come file by file and statement by statement; a quoted include names none, and a file may include itself.
 PB.ipdl PA.ipdl

@@ -1,5 +1,6 @@
 use super::given::{NotedFiles, files, note, push_finding, strings, text};
 use super::load_rows::LOADS;
+use file_log::RecordedFiles;
 use findings::sort_findings;
 use include_graph::{BrokenFiles, LoadResult, are_file_words, load, one_reach};
 use ipdl_base::{Failure, Finding, MemoryFiles, Texts as Names, key_of};
@@ -64,11 +65,11 @@ fn load_all(
     if !are_file_words(words.as_slice()) || words.len() > 4096 {
         return Err("no words of files".into());
     }
-    let mut files = NotedFiles::new(alloc, files);
+    let mut files = RecordedFiles::new(NotedFiles::new(alloc, files));
     let mut shown = String::new(alloc);
     let answer = load(alloc, &mut files, words.as_slice(), path.as_slice());
     push_answer(answer, &mut shown)?;
-    Ok((shown, files.asked))
+    Ok((shown, files.files().asked.clone()?))
 }
 
 /// Notes a load of something else, or where other names are read.

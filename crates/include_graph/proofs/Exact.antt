@@ -27,10 +27,9 @@ use Rattle.include_graph.specs.Reading.{IsContent, IsTarget, AreTargets, AreRead
 use Rattle.include_graph.specs.Reach.{IsUnitOf}
 use Rattle.include_graph.specs.Rules.{whole_file, HasBadToken, HasSyntaxFault, IncludesAt, IsMisnamedAt, IsBroken, OfUnit}
 use Rattle.include_graph.specs.Sources.{LoadInput, word_of, content, IsAbsent}
-use Rattle.include_graph.proofs.Combined.{there_is}
 use Rattle.include_graph.proofs.Contents.{OneAnswer, absent_is, large_is, bad_is, fault_is, unit_is}
 use Rattle.include_graph.proofs.Places.{the_one}
-use Rattle.include_graph.proofs.WalkEnds.{contains_at, zip_at, first_word}
+use Rattle.include_graph.proofs.WalkEnds.{contains_at, zip_at, first_word, there_is}
 
 -- a list of which an element is known, as what holds of some element
 any_at : {X : Type 0} (P : X → Type 0) (xs : List X) (n : ℕ) (x : X) → slice_get xs n ≡ Some x → P x → Any P xs

@@ -1,10 +1,11 @@
-pub mod Combined
 pub mod Contents
+pub mod Directories
 pub mod Ends
 pub mod Entries
 pub mod Exact
 pub mod Gaining
 pub mod Grown
+pub mod Inserted
 pub mod Loaded
 pub mod OneReach
 pub mod OneUnit

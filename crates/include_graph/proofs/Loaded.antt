@@ -30,13 +30,12 @@ use Rattle.include_graph.specs.Reading.{IsContent, IsTarget, AreTargets, AreRead
 use Rattle.include_graph.specs.Reach.{IsUnitOf, Names, AreNamed, IsReach, all_named}
 use Rattle.include_graph.specs.Rules.{whole_file, IsBroken}
 use Rattle.include_graph.specs.Sources.{LoadInput, word_of, read_name, content, text_of, IsAbsent}
-use Rattle.include_graph.proofs.Combined.{there_is}
 use Rattle.include_graph.proofs.Contents.{OneAnswer, unit_is}
 use Rattle.ipdl_base.proofs.Ends.{by_test, same_is}
 use Rattle.include_graph.proofs.Ends.{other_is}
 use Rattle.include_graph.proofs.Exact.{file_of, found_for, sound, complete}
 use Rattle.include_graph.proofs.Places.{in_none}
-use Rattle.include_graph.proofs.WalkEnds.{contains_at, zip_at}
+use Rattle.include_graph.proofs.WalkEnds.{contains_at, zip_at, there_is}
 
 -- the laws of texts and trees
 pub record Laws : Type 0 where

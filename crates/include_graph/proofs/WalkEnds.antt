@@ -12,17 +12,20 @@ use Rattle.ipdl_base.specs.Outside.{FileMap}
 use Rattle.include_graph.specs.declared.walk.ReachedFile.{ReachedFile}
 use Rattle.include_graph.specs.Growth.{HasWords}
 use Rattle.ipdl_base.specs.FileNames.{key_of, IsFileWord}
-use Rattle.include_graph.specs.Keys.{word_keys, AreFileWords}
-use Rattle.include_graph.specs.Load.{ForMap}
-use Rattle.include_graph.specs.Reach.{IsReachBy}
+use Rattle.include_graph.specs.Keys.{different, word_keys, AreFileWords}
 use Rattle.include_graph.specs.declared.read.SourceFile.{SourceFile}
-use Rattle.include_graph.specs.Reading.{AreRead, IsSource, rows_of}
-use Rattle.include_graph.specs.Sources.{word_of, name_on_path}
-use Rattle.include_graph.proofs.Combined.{together, there_is}
+use Rattle.include_graph.specs.Reading.{AreRead, IsSource}
+use Rattle.include_graph.specs.Sources.{LoadInput, word_of, name_on_path}
+use Rattle.include_graph.proofs.Directories.{on_different}
 use Rattle.include_graph.proofs.Places.{in_none}
-use Rattle.include_graph.proofs.Walks.{Walking}
+use Rattle.include_graph.proofs.Walks.{AreReached, Walking}
 use Rattle.include_graph.proofs.WholeKeys.{IsWhole, whole_word}
 use Rattle.include_graph.proofs.WordKeys.{word_found, no_word, different_has}
+
+pub there_is : {X : Type 0} (xs : List X) (n : ℕ) → n < length xs → (x : X) × (slice_get xs n ≡ Some x)
+there_is [] n h = absurd (let none : ⊥ = omega arith in none)
+there_is (x ∷ xs) zero h = (x, refl)
+there_is (x ∷ xs) (suc n) h = there_is xs n (omega arith)
 
 pub contains_at : (xs : List (List ℕ)) (n : ℕ) (x : List ℕ) → slice_get xs n ≡ Some x → Contains xs x
 contains_at xs n x e = (n, slice_get_within xs n x e, get_or_from_slice_get xs n x x e)
@@ -44,8 +47,8 @@ copied_is xs i None h = sym (slice_get_past (map (λ (f : Bor (List ℕ)). f.now
 copied_is xs i (Some x) h = sym (slice_get-map (λ (f : Bor (List ℕ)). f.now) xs i ∙ ap (option_map (λ (f : Bor (List ℕ)). f.now)) (slice_get_read xs (length xs) i x.now refl h.0 (h.1 x.now)))
 
 -- at the start the keys are those of the words, and no file is read
-pub walk_start : (told : Option FileMap) (words path list firsts : List (List ℕ)) → AreFileWords words → HasWords words list firsts → Walking told words path list []
-walk_start told words path list firsts files h = record {
+pub walk_start : (words list firsts : List (List ℕ)) → AreFileWords words → HasWords words list firsts → Walking words list []
+walk_start words list firsts files h = record {
   grown = record {
     few = (let a = h.few in let b = files.few in omega arith);
     once = h.once;
@@ -57,13 +60,15 @@ walk_start told words path list firsts files h = record {
   };
   earlier = λ number key e. inl (subst (λ ks. Contains ks key) h.keys (contains_at list number key e));
   room = omega arith;
-  each = λ number key file e none. absurd (let no : ⊥ = cc in no);
   whole = λ number key e.
       let z = zip_at (λ k w. word_of words k ≡ Some w) list firsts number key h.first e in
       let found = word_found words key z.0 z.2 in
       subst IsWhole found.1 (whole_word z.0 (All-contains IsFileWord words z.0 (All-from_recursion IsFileWord words files.files) found.0));
   plain = λ number key e past. (let a = slice_get_within list number key e in let b = ap length h.keys in absurd (omega arith));
 }
+
+pub none_reached : (given : LoadInput) (list : List (List ℕ)) → AreReached given list []
+none_reached given list number key file e none = absurd (let no : ⊥ = cc in no)
 
 -- the word of a key, where it has one, stands beside it
 pub first_word : (words first list further firsts : List (List ℕ)) (number : ℕ) (key : List ℕ) → HasWords words first firsts → list ≡ word_keys words ++ further → AllPairs (λ one other. one ≢ other) list
@@ -104,44 +109,49 @@ past_first words first firsts n h none =
     clash : {x : List ℕ} → slice_get firsts n ≡ Some x → ⊥
     clash e = cc
 
--- where all keys have their files, these are read, by the map that is told or by some map
-pub walk_end : (told : Option FileMap) (words path list : List (List ℕ)) (files : List ReachedFile) → Walking told words path list files → length list ≤ length files
-    → ForMap told (λ m. AreRead (record { files = m; words = words; path = path }) list files)
-walk_end told words path list files w all = whole told w
-  where
-    reached : (t : Option FileMap) → Walking t words path list files → IsReachBy words list (rows_of files)
-    reached t v = record {
-      few = v.grown.few;
-      once = v.grown.once;
-      further = v.grown.further;
-      begins = v.grown.begins;
-      earlier = v.earlier;
-      ordered = v.grown.ordered;
-      whole = λ key c. elim (v.grown.whole key c) [ inl there ↦ inl there | inr left ↦ inr left ];
-    }
+-- where all keys have their files, these are read
+pub walk_end : (given : LoadInput) (list : List (List ℕ)) (files : List ReachedFile) → Walking given.words list files → length list ≤ length files → AreReached given list files → AreRead given list files
+walk_end given list files w all each = let r = w.room in record {
+  size = omega arith;
+  each = each;
+  reached = record {
+    few = w.grown.few;
+    once = w.grown.once;
+    further = w.grown.further;
+    begins = w.grown.begins;
+    earlier = w.earlier;
+    ordered = w.grown.ordered;
+    whole = λ key c. elim (w.grown.whole key c) [ inl there ↦ inl there | inr left ↦ inr left ];
+  };
+}
 
-    whole : (t : Option FileMap) → Walking t words path list files → ForMap t (λ m. AreRead (record { files = m; words = words; path = path }) list files)
-    whole None v =
-        let r = v.room in
-        let one = together words path list files v.room v.grown.once v.whole (λ number key file a b. (v.each number key file a b).source) (length files) (omega arith) in (
-          one.0,
-          record {
-            size = omega arith;
-            each = λ number key file a b. record { source = one.1 number key file (slice_get_within files number file b) a b; targets = (v.each number key file a b).targets };
-            reached = reached None v;
-          },
-        )
-    whole (Some m) v = let r = v.room in record {
-      size = omega arith;
-      each = λ number key file a b. record { source = (v.each number key file a b).source; targets = (v.each number key file a b).targets };
-      reached = reached (Some m) v;
-    }
+-- files that are looked for in the different directories of a path are looked for on it
+pub on_whole_path : (files : FileMap) (words path list : List (List ℕ)) (reached : List ReachedFile)
+    → AreRead (record { files = files; words = words; path = different path }) list reached → AreRead (record { files = files; words = words; path = path }) list reached
+on_whole_path files words path list reached read = record {
+  size = read.size;
+  each = λ number key file a b.
+      let r = read.each number key file a b in
+      record {
+        source = subst (λ o. IsSource number key files (option_or (word_of words key) o) file.source) (on_different files key path) r.source;
+        targets = r.targets;
+      };
+  reached = read.reached;
+}
+
+-- a key that stands before another in the list is another
+pub apart : (list : List (List ℕ)) (i j : ℕ) (one other : List ℕ) → AllPairs (λ x y. x ≢ y) list → i < j → slice_get list i ≡ Some one → slice_get list j ≡ Some other → one ≢ other
+apart list i j one other once before a b e =
+    once i j one before (slice_get_within list j other b) (get_or_from_slice_get list i one one a ∙ (e ∙ sym (get_or_from_slice_get list j other one b)))
+
+-- a key that has a number below this one
+abbrev pub IsBefore : List (List ℕ) → ℕ → List ℕ → Type 0
+IsBefore list n key = (number : ℕ) × (number < n) × (slice_get list number ≡ Some key)
 
 -- what came of a key, told of the same key in other words
-pub same_key : {t t' : Option FileMap} {n n' : ℕ} {k k' : List ℕ} {o o' : Option (List ℕ)} (path : List (List ℕ)) (source : SourceFile) → t ≡ t' → n ≡ n' → k ≡ k' → o ≡ o'
-    → ForMap t (λ m. IsSource n k m (option_or o (name_on_path m path k)) source) → ForMap t' (λ m. IsSource n' k' m (option_or o' (name_on_path m path k')) source)
-same_key {t} {t'} {n} {n'} {k} {k'} {o} {o'} path source a b c d h =
-    subst (λ x. ForMap t' (λ m. IsSource n' k' m (option_or x (name_on_path m path k')) source)) d
-    (subst (λ x. ForMap t' (λ m. IsSource n' x m (option_or o (name_on_path m path x)) source)) c
-    (subst (λ x. ForMap t' (λ m. IsSource x k m (option_or o (name_on_path m path k)) source)) b
-    (subst (λ (x : Option FileMap). ForMap x (λ m. IsSource n k m (option_or o (name_on_path m path k)) source)) a h)))
+pub same_key : {n n' : ℕ} {k k' : List ℕ} {o o' : Option (List ℕ)} (path : List (List ℕ)) (source : SourceFile) → n ≡ n' → k ≡ k' → o ≡ o'
+    → (m : FileMap) → IsSource n k m (option_or o (name_on_path m path k)) source → IsSource n' k' m (option_or o' (name_on_path m path k')) source
+same_key {n} {n'} {k} {k'} {o} {o'} path source b c d m h =
+    subst (λ x. IsSource n' k' m (option_or x (name_on_path m path k')) source) d
+    (subst (λ x. IsSource n' x m (option_or o (name_on_path m path x)) source) c
+    (subst (λ x. IsSource x k m (option_or o (name_on_path m path k)) source) b h))

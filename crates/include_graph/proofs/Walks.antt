@@ -8,7 +8,6 @@ use Rattle.std.proofs.lemmas.List.{map-append, append-nil, length-map, take_all}
 use Rattle.std.proofs.lemmas.List.Concat.{flat_map-append}
 use Rattle.std.proofs.lemmas.List.Elements.{Contains-append_left, Contains-append_right, Contains-append_cases}
 use Rattle.std.proofs.lemmas.Option.{slice_get_within, same_Some}
-use Rattle.ipdl_base.specs.Outside.{FileMap}
 use Rattle.ipdl_lex.specs.Laws.{WordsHold}
 use Rattle.grammar_laws.specs.Laws.{NamesHold}
 use Rattle.include_graph.specs.declared.content.Content.{Content}
@@ -17,30 +16,26 @@ use Rattle.include_graph.specs.declared.walk.ReachedFile.{ReachedFile}
 use Rattle.include_graph.specs.declared.walk.Target.{Target}
 use Rattle.include_graph.specs.Growth.{add_key, add_keys}
 use Rattle.include_graph.specs.Keys.{is_same, word_keys}
-use Rattle.include_graph.specs.Load.{ForMap}
 use Rattle.include_graph.specs.Reach.{all_named}
-use Rattle.include_graph.specs.Reading.{IsContent, IsSource, AreTargets, row_of, rows_of}
-use Rattle.include_graph.specs.Sources.{word_of, name_on_path}
+use Rattle.include_graph.specs.Reading.{IsContent, IsReached, IsSource, AreTargets, row_of, rows_of}
+use Rattle.include_graph.specs.Sources.{LoadInput, word_of, name_on_path}
 use Rattle.ipdl_base.proofs.Ends.{by_test}
 use Rattle.include_graph.proofs.Grown.{Grown, add_old, add_new, add_past, grown_more}
 use Rattle.include_graph.proofs.Places.{in_head, in_more, in_none}
-use Rattle.include_graph.proofs.Readings.{for_some}
 use Rattle.include_graph.proofs.Targets.{get_append, targets_more}
 use Rattle.include_graph.proofs.WholeKeys.{IsWhole, keys_whole}
 
--- what came of the key of a number
-pub record IsWalked (told : Option FileMap) (words path list : List (List ℕ)) (number : ℕ) (key : List ℕ) (file : ReachedFile) : Type 0 where
-  pub source : ForMap told (λ files. IsSource number key files (option_or (word_of words key) (name_on_path files path key)) file.source)
-  pub targets : AreTargets list file.source.content file.targets.items
-
--- The files of the first keys are read, and the keys are those that these name.
-pub record Walking (told : Option FileMap) (words path list : List (List ℕ)) (files : List ReachedFile) : Type 0 where
+-- The keys are those that the words and the files of the first keys name.
+pub record Walking (words list : List (List ℕ)) (files : List ReachedFile) : Type 0 where
   pub grown : Grown (word_keys words) list (all_named (rows_of files))
   pub earlier : (number : ℕ) (key : List ℕ) → slice_get list number ≡ Some key → Contains (word_keys words) key ⊎ Contains (all_named (take number (rows_of files))) key
   pub room : length files ≤ length list
-  pub each : (number : ℕ) (key : List ℕ) (file : ReachedFile) → slice_get list number ≡ Some key → slice_get files number ≡ Some file → IsWalked told words path list number key file
   pub whole : (number : ℕ) (key : List ℕ) → slice_get list number ≡ Some key → IsWhole key
   pub plain : (number : ℕ) (key : List ℕ) → slice_get list number ≡ Some key → length (word_keys words) ≤ number → IsAscii key
+
+-- the files of the first keys are read
+abbrev pub AreReached : LoadInput → List (List ℕ) → List ReachedFile → Type 0
+AreReached given list files = (number : ℕ) (key : List ℕ) (file : ReachedFile) → slice_get list number ≡ Some key → slice_get files number ≡ Some file → IsReached given list number key file
 
 -- an element of a list with one more is one of the list, or that one
 got_last : {X : Type 0} (xs : List X) (y : X) (n : ℕ) (x : X) → slice_get (xs ++ y ∷ []) n ≡ Some x → (slice_get xs n ≡ Some x) ⊎ ((n ≡ length xs) × (y ≡ x))
@@ -82,7 +77,7 @@ key_one list k n key e = by_test (list_any (is_same k) list)
     (λ b. subst (λ ks. slice_get ks n ≡ Some key) (sym (add_new list k a b)) (get_append list (k ∷ []) n key e))
     (λ b. subst (λ ks. slice_get ks n ≡ Some key) (sym (add_past list k a b)) e))
 
-key_more : (list row : List (List ℕ)) (n : ℕ) (key : List ℕ) → slice_get list n ≡ Some key → slice_get (add_keys list row) n ≡ Some key
+pub key_more : (list row : List (List ℕ)) (n : ℕ) (key : List ℕ) → slice_get list n ≡ Some key → slice_get (add_keys list row) n ≡ Some key
 key_more list [] n key e = e
 key_more list (k ∷ row) n key e = key_more (add_key list k) row n key (key_one list k n key e)
 
@@ -122,53 +117,58 @@ take_named (row ∷ rows) more (suc n) key c = elim (Contains-append_cases row (
   | inr there ↦ Contains-append_right row (all_named (take n (rows ++ more))) key (take_named rows more n key there)
 ]
 
--- one more file is read
-pub walk_more : WordsHold → NamesHold → (told : Option FileMap) (words path list new : List (List ℕ)) (files all : List ReachedFile) (key : List ℕ) (file : ReachedFile)
-    → Walking told words path list files → slice_get list (length files) ≡ Some key
-    → ForMap told (λ map'. IsSource (length files) key map' (option_or (word_of words key) (name_on_path map' path key)) file.source)
-    → new ≡ add_keys list (row_of file.source.content) → AreTargets new file.source.content file.targets.items → all ≡ files ++ file ∷ []
-    → Walking told words path new all
-walk_more words_law names_law told words path list new files all key file w at source grows targets is =
-    subst (λ (fs : List ReachedFile). Walking told words path new fs) (sym is) (subst (λ ks. Walking told words path ks (files ++ file ∷ [])) (sym grows) step)
-  where
-    row : List (List ℕ)
-    row = row_of file.source.content
+module _ (list new : List (List ℕ)) (files all : List ReachedFile) (key : List ℕ) (file : ReachedFile)
+    (at : slice_get list (length files) ≡ Some key) (grows : new ≡ add_keys list (row_of file.source.content)) (is : all ≡ files ++ file ∷ []) where
+  abbrev row : List (List ℕ)
+  row = row_of file.source.content
 
-    whole_row : (k : List ℕ) → Contains row k → IsWhole k × IsAscii k
-    whole_row k c = let f = for_some told source in row_whole words_law names_law (length files) key _ file.source.content f.1.content k c
+  within : length files < length list
+  within = slice_get_within list (length files) key at
 
-    within : length files < length list
-    within = slice_get_within list (length files) key at
+  -- the keys once one more file is read
+  pub walk_more : WordsHold → NamesHold → (words : List (List ℕ)) (number : ℕ) (k : List ℕ) (held : Option (List ℕ)) → IsContent number k held file.source.content → Walking words list files → Walking words new all
+  walk_more words_law names_law words number other held content w = subst (λ (fs : List ReachedFile). Walking words new fs) (sym is) (subst (λ ks. Walking words ks (files ++ file ∷ [])) (sym grows) step)
+    where
+      whole_row : (k : List ℕ) → Contains row k → IsWhole k × IsAscii k
+      whole_row k c = row_whole words_law names_law number other held file.source.content content k c
 
-    last_walked : (number : ℕ) (k : List ℕ) (f : ReachedFile) → number ≡ length files → file ≡ f → slice_get (add_keys list row) number ≡ Some k → IsWalked told words path (add_keys list row) number k f
-    last_walked number k f n same e =
-        let k_is : key ≡ k = same_Some _ _ (sym (key_more list row (length files) key at) ∙ (ap (slice_get (add_keys list row)) (sym n) ∙ e)) in
-        let here : IsWalked told words path (add_keys list row) (length files) key file = record { source = source; targets = subst (λ ks. AreTargets ks file.source.content file.targets.items) grows targets } in
-        subst (λ (g : ReachedFile). IsWalked told words path (add_keys list row) number k g) same
-        (subst (λ m. IsWalked told words path (add_keys list row) m k file) (sym n)
-        (subst (λ x. IsWalked told words path (add_keys list row) (length files) x file) k_is here))
+      step : Walking words (add_keys list row) (files ++ file ∷ [])
+      step = record {
+        grown = subst (Grown (word_keys words) (add_keys list row)) (sym (named_push files file)) (grown_more (word_keys words) list (all_named (rows_of files)) row w.grown);
+        earlier = λ number k e. elim (added list row number k e) [
+          | inl old ↦ elim (w.earlier number k old) [
+            | inl word ↦ inl word
+            | inr named ↦ inr (subst (λ rs. Contains (all_named (take number rs)) k) (sym (rows_push files file)) (take_named (rows_of files) (row ∷ []) number k named))
+          ]
+          | inr late ↦ inr (
+              let past : length (rows_of (files ++ file ∷ [])) ≤ number = (let a = late.0 in omega (arith, within, length-map (files ++ file ∷ []) (λ (f : ReachedFile). row_of f.source.content), length-append files (file ∷ []))) in
+              subst (λ rs. Contains (all_named rs) k) (sym (take_all number (rows_of (files ++ file ∷ [])) past))
+              (subst (λ ks. Contains ks k) (sym (named_push files file)) (Contains-append_right (all_named (rows_of files)) row k late.1)))
+        ];
+        room = (let a = long_more list row in omega (arith, within, length-append files (file ∷ [])));
+        whole = λ number k e. elim (added list row number k e) [ inl old ↦ w.whole number k old | inr late ↦ (whole_row k late.1).0 ];
+        plain = λ number k e past. elim (added list row number k e) [ inl old ↦ w.plain number k old past | inr late ↦ (whole_row k late.1).1 ];
+      }
 
-    step : Walking told words path (add_keys list row) (files ++ file ∷ [])
-    step = record {
-      grown = subst (Grown (word_keys words) (add_keys list row)) (sym (named_push files file)) (grown_more (word_keys words) list (all_named (rows_of files)) row w.grown);
-      earlier = λ number k e. elim (added list row number k e) [
-        | inl old ↦ elim (w.earlier number k old) [
-          | inl word ↦ inl word
-          | inr named ↦ inr (subst (λ rs. Contains (all_named (take number rs)) k) (sym (rows_push files file)) (take_named (rows_of files) (row ∷ []) number k named))
-        ]
-        | inr late ↦ inr (
-            let past : length (rows_of (files ++ file ∷ [])) ≤ number = (let a = late.0 in omega (arith, within, length-map (files ++ file ∷ []) (λ (f : ReachedFile). row_of f.source.content), length-append files (file ∷ []))) in
-            subst (λ rs. Contains (all_named rs) k) (sym (take_all number (rows_of (files ++ file ∷ [])) past))
-            (subst (λ ks. Contains ks k) (sym (named_push files file)) (Contains-append_right (all_named (rows_of files)) row k late.1)))
-      ];
-      room = (let a = long_more list row in omega (arith, within, length-append files (file ∷ [])));
-      each = λ number k f e h. elim (got_last files file number f h) [
+  -- and the files with it
+  pub reached_more : (given : LoadInput) → AreTargets new file.source.content file.targets.items
+      → IsSource (length files) key given.files (option_or (word_of given.words key) (name_on_path given.files given.path key)) file.source
+      → AreReached given list files → AreReached given new all
+  reached_more given targets source each = subst (λ (fs : List ReachedFile). AreReached given new fs) (sym is) (subst (λ ks. AreReached given ks (files ++ file ∷ [])) (sym grows) step)
+    where
+      last_reached : (number : ℕ) (k : List ℕ) (f : ReachedFile) → number ≡ length files → file ≡ f → slice_get (add_keys list row) number ≡ Some k → IsReached given (add_keys list row) number k f
+      last_reached number k f n same e =
+          let k_is : key ≡ k = same_Some _ _ (sym (key_more list row (length files) key at) ∙ (ap (slice_get (add_keys list row)) (sym n) ∙ e)) in
+          let here : IsReached given (add_keys list row) (length files) key file = record { source = source; targets = subst (λ ks. AreTargets ks file.source.content file.targets.items) grows targets } in
+          subst (λ (g : ReachedFile). IsReached given (add_keys list row) number k g) same
+          (subst (λ m. IsReached given (add_keys list row) m k file) (sym n)
+          (subst (λ x. IsReached given (add_keys list row) (length files) x file) k_is here))
+
+      step : AreReached given (add_keys list row) (files ++ file ∷ [])
+      step number k f e h = elim (got_last files file number f h) [
         | inl old ↦ elim (added list row number k e) [
-          | inl here ↦ (let before = w.each number k f here old in record { source = before.source; targets = still_targets list row f.source.content f.targets.items before.targets })
-          | inr late ↦ (let a = late.0 in let b = slice_get_within files number f old in let r = w.room in absurd (omega arith))
+          | inl here ↦ (let before = each number k f here old in record { source = before.source; targets = still_targets list row f.source.content f.targets.items before.targets })
+          | inr late ↦ (let a = late.0 in let b = slice_get_within files number f old in absurd (omega (arith, within)))
         ]
-        | inr last ↦ last_walked number k f last.0 last.1 e
-      ];
-      whole = λ number k e. elim (added list row number k e) [ inl old ↦ w.whole number k old | inr late ↦ (whole_row k late.1).0 ];
-      plain = λ number k e past. elim (added list row number k e) [ inl old ↦ w.plain number k old past | inr late ↦ (whole_row k late.1).1 ];
-    }
+        | inr last ↦ last_reached number k f last.0 last.1 e
+      ]

@@ -9,7 +9,7 @@ use Rattle.std.proofs.lemmas.List.Folds.{find-append}
 use Rattle.std.proofs.lemmas.List.Quantifiers.{all_pairs_push}
 use Rattle.std.proofs.lemmas.Option.{same_Some}
 use Rattle.std.proofs.lemmas.Slice.Zip.{all_zipped_more}
-use Rattle.include_graph.specs.Growth.{HasWords}
+use Rattle.include_graph.specs.Growth.{AreDifferent, HasWords}
 use Rattle.ipdl_base.specs.FileNames.{key_of}
 use Rattle.include_graph.specs.Keys.{is_same, different, word_keys}
 use Rattle.include_graph.specs.Sources.{word_of}
@@ -18,7 +18,7 @@ use Rattle.include_graph.proofs.Ends.{other_is}
 use Rattle.include_graph.proofs.Places.{in_head, in_more, in_none, in_tail, among, not_among}
 
 -- a key that is in a list is its head or in its tail
-head_or_tail : (x : List ℕ) (xs : List (List ℕ)) (k : List ℕ) → Contains (x ∷ xs) k → (x ≡ k) ⊎ Contains xs k
+pub head_or_tail : (x : List ℕ) (xs : List (List ℕ)) (k : List ℕ) → Contains (x ∷ xs) k → (x ≡ k) ⊎ Contains xs k
 head_or_tail x xs k (zero, below, is) = inl is
 head_or_tail x xs k (suc i, below, is) = inr (i, omega arith, is)
 
@@ -72,6 +72,22 @@ different_old (x ∷ xs) k c = by_test (list_any (is_same k) (different xs))
     ap (λ ys. x ∷ filter (λ y. not (is_same x y)) ys) (different_new xs k fresh)
     ∙ ap (λ ys. x ∷ ys) (filter-append (λ y. not (is_same x y)) (different xs) (k ∷ []) ∙ rw test (append-nil (filter (λ y. not (is_same x y)) (different xs)))))
 
+-- one more that is there
+pub still_different : (xs list : List (List ℕ)) (k : List ℕ) → AreDifferent xs list → list_any (is_same k) list ≡ true → AreDifferent (xs ++ k ∷ []) list
+still_different xs list k h e = record {
+  are = h.are ∙ sym (different_old xs k (subst (λ ks. Contains ks k) h.are (among list k e)));
+  once = h.once;
+}
+
+-- one more that is new
+pub more_different : (xs list : List (List ℕ)) (k : List ℕ) → AreDifferent xs list → list_any (is_same k) list ≡ false → AreDifferent (xs ++ k ∷ []) (list ++ k ∷ [])
+more_different xs list k h e =
+    let fresh = not_among list k e in
+    record {
+      are = ap (λ ks. ks ++ k ∷ []) h.are ∙ sym (different_new xs k (subst (λ ks. ¬ Contains ks k) h.are fresh));
+      once = all_pairs_push (λ one other. one ≢ other) list k h.once (λ i d within same. fresh (subst (Contains list) same (Contains-get_or list i d within)));
+    }
+
 -- a word that is found is among the words, and has the key
 pub word_found : (words : List (List ℕ)) (k w : List ℕ) → word_of words k ≡ Some w → Contains words w × (key_of w ≡ k)
 word_found [] k w e = absurd (let none : ⊥ = cc in none)
@@ -103,28 +119,31 @@ module _ (words list firsts : List (List ℕ)) (w : List ℕ) (h : HasWords word
   keys_more : word_keys (words ++ w ∷ []) ≡ different (map key_of words ++ key_of w ∷ [])
   keys_more = ap different (map-append key_of words (w ∷ []))
 
+  keys_are : AreDifferent (map key_of words) list
+  keys_are = record { are = h.keys; once = h.once }
+
   -- one more word whose key is there
   pub words_old : list_any (is_same (key_of w)) list ≡ true → HasWords (words ++ w ∷ []) list firsts
   words_old e =
-      let there = subst (λ ks. Contains ks (key_of w)) h.keys (among list (key_of w) e) in
       let few = h.few in
+      let more = still_different (map key_of words) list (key_of w) keys_are e in
       record {
-        keys = h.keys ∙ sym (keys_more ∙ different_old (map key_of words) (key_of w) there);
+        keys = more.are ∙ sym keys_more;
         few = omega (arith, length-append words (w ∷ []));
-        once = h.once;
+        once = more.once;
         first = all_still words w list firsts h.first;
       }
 
   -- one more word with a new key
   pub words_new : list_any (is_same (key_of w)) list ≡ false → HasWords (words ++ w ∷ []) (list ++ key_of w ∷ []) (firsts ++ w ∷ [])
   words_new e =
-      let fresh = not_among list (key_of w) e in
-      let unnamed : ¬ Contains (word_keys words) (key_of w) = subst (λ ks. ¬ Contains ks (key_of w)) h.keys fresh in
-      let none = no_word words (key_of w) (λ c. unnamed (different_has (map key_of words) (key_of w) c)) in
       let few = h.few in
+      let more = more_different (map key_of words) list (key_of w) keys_are e in
+      let unnamed : ¬ Contains (word_keys words) (key_of w) = subst (λ ks. ¬ Contains ks (key_of w)) h.keys (not_among list (key_of w) e) in
+      let none = no_word words (key_of w) (λ c. unnamed (different_has (map key_of words) (key_of w) c)) in
       record {
-        keys = ap (λ ks. ks ++ key_of w ∷ []) h.keys ∙ sym (keys_more ∙ different_new (map key_of words) (key_of w) unnamed);
+        keys = more.are ∙ sym keys_more;
         few = omega (arith, length-append words (w ∷ []), length-append list (key_of w ∷ []));
-        once = all_pairs_push (λ one other. one ≢ other) list (key_of w) h.once (λ i d within same. fresh (subst (Contains list) same (Contains-get_or list i d within)));
+        once = more.once;
         first = all_zipped_more (λ key word. word_of (words ++ w ∷ []) key ≡ Some word) list firsts (key_of w) w (all_still words w list firsts h.first) (new_found words w none);
       }

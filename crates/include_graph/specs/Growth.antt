@@ -1,7 +1,7 @@
 -- How the list of keys grows.
 use Rattle.std.specs.Prelude.{◌≡◌, ◌≢◌, ℕ, ◌≤◌, if◌then◌else◌, nat_lt, List, [], ◌∷◌, ◌++◌, length, fold, Some}
 use Rattle.std.specs.List.{AllPairs, AllZip, list_any}
-use Rattle.include_graph.specs.Keys.{is_same, word_keys}
+use Rattle.include_graph.specs.Keys.{different, is_same, word_keys}
 use Rattle.include_graph.specs.Sources.{word_of}
 
 -- the keys after this one is named: a new one goes last where there is room
@@ -18,3 +18,8 @@ pub record HasWords (words list firsts : List (List ℕ)) : Type 0 where
   pub few : length list ≤ length words
   pub once : AllPairs (λ one other. one ≢ other) list
   pub first : AllZip (λ key word. word_of words key ≡ Some word) list firsts
+
+-- The list has each of these once, in the order in which they come first.
+pub record AreDifferent (xs list : List (List ℕ)) : Type 0 where
+  pub are : list ≡ different xs
+  pub once : AllPairs (λ one other. one ≢ other) list

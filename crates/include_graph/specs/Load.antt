@@ -1,8 +1,7 @@
 -- What a load answers.
-use Rattle.std.specs.Prelude.{◌≡◌, ◌≢◌, ◌↔◌, ℕ, ◌≤◌, List, [], length, map, slice_get, Option, Some, None}
+use Rattle.std.specs.Prelude.{◌≡◌, ◌≢◌, ◌↔◌, ℕ, ◌≤◌, List, [], length, map, slice_get, Some}
 use Rattle.std.specs.List.{Contains}
 use Rattle.ipdl_base.specs.declared.finding.Finding.{Finding}
-use Rattle.ipdl_base.specs.Outside.{FileMap}
 use Rattle.ipdl_syntax.specs.declared.program.Entry.{Entry}
 use Rattle.ipdl_syntax.specs.Programs.{IsProgram, BearTheirNames}
 use Rattle.include_graph.specs.declared.loader.BrokenFiles.{BrokenFiles}
@@ -11,11 +10,6 @@ use Rattle.include_graph.specs.declared.loader.LoadResult.TheVariants.{Whole, Br
 use Rattle.include_graph.specs.Sources.{LoadInput, IsReadUnder, content, text_of}
 use Rattle.include_graph.specs.Reach.{IsUnitOf, IsReach}
 use Rattle.include_graph.specs.Rules.{IsBroken}
-
--- for the map of the files where it is told, and else for some map
-abbrev pub ForMap : Option FileMap → (FileMap → Type 0) → Type 0
-ForMap None P = (files : FileMap) × P files
-ForMap (Some files) P = P files
 
 -- the keys of a program's files, in their order
 abbrev pub keys_of : List Entry → List (List ℕ)

@@ -1,9 +1,9 @@
 -- What is kept of a file that was looked for.
-use Rattle.std.specs.Prelude.{◌≡◌, ℕ, List, [], ◌∷◌, length, map, slice_get, Option, Some, None, unwrap_or}
+use Rattle.std.specs.Prelude.{◌≡◌, ℕ, List, [], ◌∷◌, length, map, slice_get, Option, Some, None, string_bytes, unwrap_or}
 use Rattle.std.specs.List.{AllZip, Contains, filter_map}
 use Rattle.std.specs.Option.{option_and_then, option_or}
 use Rattle.ipdl_base.specs.declared.files.TheConstants.{MOST_BYTES}
-use Rattle.ipdl_base.specs.Outside.{FileMap, HasMore}
+use Rattle.ipdl_base.specs.Outside.{FileMap, HasMore, IsHeldWithin}
 use Rattle.ipdl_lex.specs.declared.token.Lexed.{Lexed}
 use Rattle.ipdl_syntax.specs.declared.program.Entry.{Entry}
 use Rattle.ipdl_syntax.specs.declared.tree.FileKind.{FileKind}
@@ -14,6 +14,7 @@ use Rattle.ipdl_syntax.specs.Programs.{named_key, named_keys}
 use Rattle.ipdl_parse.specs.Place.{HasTree, IsSyntaxPlace, IsPlaceAt}
 use Rattle.include_graph.specs.declared.content.Content.{Content}
 use Rattle.include_graph.specs.declared.content.Content.TheVariants.{Absent, Large, BadToken, SyntaxFault, Read}
+use Rattle.include_graph.specs.declared.read.FoundFile.{FoundFile}
 use Rattle.include_graph.specs.declared.read.SourceFile.{SourceFile}
 use Rattle.include_graph.specs.declared.walk.ReachedFile.{ReachedFile}
 use Rattle.include_graph.specs.declared.walk.Target.{Target}
@@ -43,6 +44,11 @@ IsContent number key held (Read unit) = IsUnitOf number key held unit
 pub record IsSource (number : ℕ) (key : List ℕ) (files : FileMap) (name : Option (List ℕ)) (source : SourceFile) : Type 0 where
   pub called : source.text ≡ unwrap_or name key
   pub content : IsContent number key (option_and_then files name) source.content
+
+-- the first file of the key on the path, if there is one: its name, and what was read of it
+abbrev pub IsFirstOnPath : FileMap → List (List ℕ) → List ℕ → Option FoundFile → Type 0
+IsFirstOnPath files path key None = name_on_path files path key ≡ None
+IsFirstOnPath files path key (Some file) = (name_on_path files path key ≡ Some (string_bytes file.name)) × IsHeldWithin MOST_BYTES (files (string_bytes file.name)) file.found
 
 -- what an include leads to among the files of these keys
 abbrev pub IsTarget : List (List ℕ) → Include → Target → Type 0

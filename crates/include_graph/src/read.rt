@@ -1,13 +1,18 @@
-ghost use Rattle.std.specs.Prelude.{◌≡◌, ◌≤◌, ◌++◌, Err, IfOk, Some, None, Option, List, ℕ, map, string_bytes};
+//! Reads the file of a key: under the word that has it, or in the first directory of the path that has such a file.
+ghost use Rattle.std.specs.Prelude.{◌≡◌, ◌≢◌, ◌≤◌, ◌++◌, Err, IfOk, IfSome, OnOk, Some, None, Option, List, ℕ, map, string_bytes};
+ghost use Rattle.std.specs.List.{AllPairs};
 ghost use Rattle.std.specs.Option.{option_copied, option_or};
 ghost use Rattle.std.specs.Str.{IsUtf8};
 ghost use Rattle.ipdl_base.specs.Outside.{HasAtMost, IsHeldWithin, Rose};
-ghost use Rattle.ipdl_base.specs.FileNames.{IsFileWord};
-ghost use Rattle.include_graph.specs.Load.{ForMap};
+ghost use Rattle.ipdl_base.specs.FileNames.{IsFileWord, key_of};
+ghost use Rattle.file_log.specs.Log.{EndsWithReads, ForReads, HaveNames};
+ghost use Rattle.file_log.specs.Recorded.{files_of, reads_of};
 ghost use Rattle.include_graph.specs.Sources.{in_directory as the_name_in, name_on_path};
-ghost use Rattle.include_graph.specs.Reading.{IsContent, IsSource};
+ghost use Rattle.include_graph.specs.Reading.{IsContent, IsFirstOnPath, IsSource};
+ghost use Rattle.include_graph.specs.declared.content.Content.TheVariants.{Absent};
 
 use crate::content::{Content, content_of_bytes};
+use file_log::RecordedFiles;
 use ipdl_base::{Failure, FileBytes, Files, MOST_BYTES, Name};
 use std::alloc::{AllocError, Global};
 
@@ -40,16 +45,19 @@ fn content_of_found(
 /// What comes of a key that is read under this word.
 fn read_word<F: Files>(
     alloc: Global,
-    files: &mut F,
+    files: &mut RecordedFiles<F>,
     word: &str,
     key: &[u8],
     number: u32,
 ) -> Result<SourceFile, Failure>
-    requires { IsFileWord key.now }
-    ensures source { IfOk result (λ source. ForMap (F.told files.old) (λ files'. IsSource number key.now files' (Some word.now) source)) }
-    ensures told { F.told files.new ≡ F.told files.old }
-    ensures count { F.faults files.old ≤ F.faults files.new }
-    ensures read_fault { result ≡ Err Failure.ReadFault → Rose (F.faults files.old) (F.faults files.new) }
+    requires word { IsFileWord key.now }
+    requires named { key_of word.now ≡ key.now }
+    ensures source { IfOk result (λ source. ForReads (F.told (files_of files.old)) (reads_of files.old) (reads_of files.new) (λ files'. IsSource number key.now files' (Some word.now) source)) }
+    ensures names { OnOk result (HaveNames (λ name. key_of name ≡ key.now) (reads_of files.old) (reads_of files.new)) }
+    ensures ended { EndsWithReads result (reads_of files.old) (reads_of files.new) }
+    ensures told { F.told (files_of files.new) ≡ F.told (files_of files.old) }
+    ensures count { F.faults (files_of files.old) ≤ F.faults (files_of files.new) }
+    ensures read_fault { result ≡ Err Failure.ReadFault → Rose (F.faults (files_of files.old)) (F.faults (files_of files.new)) }
 {
     let found = files.read(alloc, word, MOST_BYTES)?;
     let content = content_of_found(alloc, number, key, &found)?;
@@ -72,60 +80,124 @@ fn in_directory(alloc: Global, directory: &str, key: &str) -> Result<String, All
     Ok(name)
 }
 
-/// What comes of a key that is looked for on the path.
-fn read_on_path<F: Files>(
+/// A file that was found on the path.
+#[derive(Drop)]
+struct FoundFile {
+    /// The name at which it stands.
+    name: String,
+    /// What was read of it.
+    found: FileBytes,
+}
+
+/// Looks for a key in the directories of the path, and gives the first file of it, if there is one.
+fn find_on_path<F: Files>(
     alloc: Global,
-    files: &mut F,
-    path: &[String],
-    key: &[u8],
-    number: u32,
-) -> Result<SourceFile, Failure>
-    requires word { IsFileWord key.now }
-    requires utf8 { IsUtf8 key.now }
-    ensures source { IfOk result (λ source. ForMap (F.told files.old)
-        (λ files'. IsSource number key.now files' (name_on_path files' (map string_bytes path.now) key.now) source)) }
-    ensures told { F.told files.new ≡ F.told files.old }
-    ensures count { F.faults files.old ≤ F.faults files.new }
-    ensures read_fault { result ≡ Err Failure.ReadFault → Rose (F.faults files.old) (F.faults files.new) }
+    files: &mut RecordedFiles<F>,
+    path: &[&str],
+    key: &str,
+) -> Result<Option<FoundFile>, Failure>
+    requires own { key_of key.now ≡ key.now }
+    requires directories { AllPairs (λ one other. one ≢ other) (map (λ directory. directory.now) path.now) }
+    ensures first { IfOk result (λ first. ForReads (F.told (files_of files.old)) (reads_of files.old) (reads_of files.new)
+        (λ files'. IsFirstOnPath files' (map (λ directory. directory.now) path.now) key.now first)) }
+    ensures small { IfOk result (λ first. IfSome first (λ file. HasAtMost MOST_BYTES file.found)) }
+    ensures names { OnOk result (HaveNames (λ name. key_of name ≡ key.now) (reads_of files.old) (reads_of files.new)) }
+    ensures ended { EndsWithReads result (reads_of files.old) (reads_of files.new) }
+    ensures told { F.told (files_of files.new) ≡ F.told (files_of files.old) }
+    ensures count { F.faults (files_of files.old) ≤ F.faults (files_of files.new) }
+    ensures read_fault { result ≡ Err Failure.ReadFault → Rose (F.faults (files_of files.old)) (F.faults (files_of files.new)) }
 {
-    let Ok(text) = str::from_utf8(key) else {
-        unreachable!()
-    };
     for directory in path {
-        let name = in_directory(alloc, directory.as_str(), text)?;
+        let name = in_directory(alloc, directory, key)?;
         match files.read(alloc, name.as_str(), MOST_BYTES)? {
             FileBytes::Absent => {}
-            found => {
-                let content = content_of_found(alloc, number, key, &found)?;
-                return Ok(SourceFile {
-                    text: Name::from_vec(alloc, name.into_bytes())?,
-                    content,
-                });
-            }
+            found => return Ok(Some(FoundFile { name, found })),
         }
     }
+    Ok(None)
+}
+
+/// What comes of a key whose file was found.
+fn source_of_found(
+    alloc: Global,
+    number: u32,
+    key: &[u8],
+    file: FoundFile,
+) -> Result<SourceFile, AllocError>
+    requires word { IsFileWord key.now }
+    requires small { HasAtMost MOST_BYTES file.found }
+    ensures text { IfOk result (λ source. source.text ≡ string_bytes file.name) }
+    ensures content { IfOk result (λ source. (held : Option (List ℕ)) → IsHeldWithin MOST_BYTES held file.found → IsContent number key.now held source.content) }
+{
+    let FoundFile { name, found } = file;
+    let content = content_of_found(alloc, number, key, &found)?;
+    Ok(SourceFile {
+        text: Name::from_vec(alloc, name.into_bytes())?,
+        content,
+    })
+}
+
+/// What comes of a key without a file.
+fn absent_source(alloc: Global, key: &[u8]) -> Result<SourceFile, AllocError>
+    ensures text { IfOk result (λ source. source.text ≡ key.now) }
+    ensures content { IfOk result (λ source. source.content ≡ Absent) }
+{
     Ok(SourceFile {
         text: Name::from_slice(alloc, key)?,
         content: Content::Absent,
     })
 }
 
-/// What comes of a key, which is read under a word or looked for on the path.
-pub fn read_key<F: Files>(
+/// What comes of a key that is looked for on the path.
+fn read_on_path<F: Files>(
     alloc: Global,
-    files: &mut F,
-    word: Option<&str>,
-    path: &[String],
+    files: &mut RecordedFiles<F>,
+    path: &[&str],
     key: &[u8],
     number: u32,
 ) -> Result<SourceFile, Failure>
     requires word { IsFileWord key.now }
+    requires own { key_of key.now ≡ key.now }
+    requires utf8 { IsUtf8 key.now }
+    requires directories { AllPairs (λ one other. one ≢ other) (map (λ directory. directory.now) path.now) }
+    ensures source { IfOk result (λ source. ForReads (F.told (files_of files.old)) (reads_of files.old) (reads_of files.new)
+        (λ files'. IsSource number key.now files' (name_on_path files' (map (λ directory. directory.now) path.now) key.now) source)) }
+    ensures names { OnOk result (HaveNames (λ name. key_of name ≡ key.now) (reads_of files.old) (reads_of files.new)) }
+    ensures ended { EndsWithReads result (reads_of files.old) (reads_of files.new) }
+    ensures told { F.told (files_of files.new) ≡ F.told (files_of files.old) }
+    ensures count { F.faults (files_of files.old) ≤ F.faults (files_of files.new) }
+    ensures read_fault { result ≡ Err Failure.ReadFault → Rose (F.faults (files_of files.old)) (F.faults (files_of files.new)) }
+{
+    let Ok(text) = str::from_utf8(key) else {
+        unreachable!()
+    };
+    match find_on_path(alloc, files, path, text)? {
+        None => Ok(absent_source(alloc, key)?),
+        Some(file) => Ok(source_of_found(alloc, number, key, file)?),
+    }
+}
+
+/// What comes of a key, which is read under a word or looked for on the path.
+pub fn read_key<F: Files>(
+    alloc: Global,
+    files: &mut RecordedFiles<F>,
+    word: Option<&str>,
+    path: &[&str],
+    key: &[u8],
+    number: u32,
+) -> Result<SourceFile, Failure>
+    requires word { IsFileWord key.now }
+    requires own { key_of key.now ≡ key.now }
+    requires named { (text : List ℕ) → option_copied word ≡ Some text → key_of text ≡ key.now }
     requires utf8 { option_copied word ≡ None → IsUtf8 key.now }
-    ensures source { IfOk result (λ source. ForMap (F.told files.old)
-        (λ files'. IsSource number key.now files' (option_or (option_copied word.entry) (name_on_path files' (map string_bytes path.now) key.now)) source)) }
-    ensures told { F.told files.new ≡ F.told files.old }
-    ensures count { F.faults files.old ≤ F.faults files.new }
-    ensures read_fault { result ≡ Err Failure.ReadFault → Rose (F.faults files.old) (F.faults files.new) }
+    requires directories { AllPairs (λ one other. one ≢ other) (map (λ directory. directory.now) path.now) }
+    ensures source { IfOk result (λ source. ForReads (F.told (files_of files.old)) (reads_of files.old) (reads_of files.new)
+        (λ files'. IsSource number key.now files' (option_or (option_copied word.entry) (name_on_path files' (map (λ directory. directory.now) path.now) key.now)) source)) }
+    ensures names { OnOk result (HaveNames (λ name. key_of name ≡ key.now) (reads_of files.old) (reads_of files.new)) }
+    ensures ended { EndsWithReads result (reads_of files.old) (reads_of files.new) }
+    ensures told { F.told (files_of files.new) ≡ F.told (files_of files.old) }
+    ensures count { F.faults (files_of files.old) ≤ F.faults (files_of files.new) }
+    ensures read_fault { result ≡ Err Failure.ReadFault → Rose (F.faults (files_of files.old)) (F.faults (files_of files.new)) }
 {
     match word {
         Some(word) => read_word(alloc, files, word, key, number),

@@ -1,15 +1,18 @@
-ghost use Rattle.std.specs.Prelude.{◌≡◌, ◌≤◌, [], Err, IfOk, OnOk, map, string_bytes, length};
-ghost use Rattle.std.specs.List.{AllZip};
+//! Reads all files that words reach, and lists their keys in the order of the reach.
+ghost use Rattle.std.specs.Prelude.{◌≡◌, ◌≢◌, ◌≤◌, [], Err, IfOk, OnOk, map, string_bytes, length};
+ghost use Rattle.std.specs.List.{AllPairs, AllZip};
 ghost use Rattle.ipdl_base.specs.Outside.{Rose};
+ghost use Rattle.file_log.specs.Log.{EndsWithReads, ForReads};
+ghost use Rattle.file_log.specs.Recorded.{files_of, reads_of};
 ghost use Rattle.ipdl_syntax.specs.Programs.{named_key, named_keys};
 ghost use Rattle.include_graph.specs.Keys.{AreFileWords, word_keys};
-ghost use Rattle.include_graph.specs.Growth.{add_keys, HasWords};
-ghost use Rattle.include_graph.specs.Load.{ForMap};
+ghost use Rattle.include_graph.specs.Growth.{add_keys, AreDifferent, HasWords};
 ghost use Rattle.include_graph.specs.Reading.{IsTarget, AreTargets, AreRead, IsGathered, row_of};
 
 use crate::content::Content;
 use crate::keys::named_key_of;
 use crate::read::{SourceFile, read_key};
+use file_log::RecordedFiles;
 use grammar_laws::names_hold;
 use indexmap::IndexSet;
 use ipdl_base::{Failure, Files, Name, key_of};
@@ -57,6 +60,21 @@ fn add_words<'a>(
         }
     }
     Ok(())
+}
+
+/// Gives the directories of the path, each once, in the order in which they come first.
+fn distinct_directories<'a>(alloc: Global, path: &'a [String]) -> Result<Vec<&'a str>, AllocError>
+    ensures { IfOk result (λ distinct. AreDifferent (map string_bytes path.now) (map (λ directory. directory.now) distinct.items)) }
+{
+    let mut seen = IndexSet::new(alloc);
+    let mut distinct = Vec::new(alloc);
+    for directory in path {
+        let name = Name::from_slice(alloc, directory.as_bytes())?;
+        if seen.insert(name)? {
+            distinct.push(directory.as_str())?;
+        }
+    }
+    Ok(distinct)
 }
 
 /// Adds the key of an include, where it names one and there is room.
@@ -119,19 +137,21 @@ fn add_named(
 /// Reads the files of the keys, in order, and adds the keys that they name. These begin as those of the words.
 fn walk<F: Files>(
     alloc: Global,
-    files: &mut F,
+    files: &mut RecordedFiles<F>,
     words: &[String],
     firsts: &[&str],
-    path: &[String],
+    path: &[&str],
     keys: &mut IndexSet<Name>,
 ) -> Result<Vec<ReachedFile>, Failure>
     requires words { AreFileWords (map string_bytes words.now) }
+    requires directories { AllPairs (λ one other. one ≢ other) (map (λ directory. directory.now) path.now) }
     requires keys { HasWords (map string_bytes words.now) keys.old.keys (map (λ first. first.now) firsts.now) }
-    ensures read { IfOk result (λ reached. ForMap (F.told files.old) (λ files'. AreRead
-        (record { files = files'; words = map string_bytes words.now; path = map string_bytes path.now }) keys.new.keys reached.items)) }
-    ensures told { F.told files.new ≡ F.told files.old }
-    ensures count { F.faults files.old ≤ F.faults files.new }
-    ensures read_fault { result ≡ Err Failure.ReadFault → Rose (F.faults files.old) (F.faults files.new) }
+    ensures read { IfOk result (λ reached. ForReads (F.told (files_of files.old)) (reads_of files.old) (reads_of files.new) (λ files'. AreRead
+        (record { files = files'; words = map string_bytes words.now; path = map (λ directory. directory.now) path.now }) keys.new.keys reached.items)) }
+    ensures ended { EndsWithReads result (reads_of files.old) (reads_of files.new) }
+    ensures told { F.told (files_of files.new) ≡ F.told (files_of files.old) }
+    ensures count { F.faults (files_of files.old) ≤ F.faults (files_of files.new) }
+    ensures read_fault { result ≡ Err Failure.ReadFault → Rose (F.faults (files_of files.old)) (F.faults (files_of files.new)) }
 {
     words_hold();
     names_hold();
@@ -159,21 +179,30 @@ pub struct FileSet {
 /// Reads all files that the words reach, each once, in the order of the reach.
 pub fn gather<F: Files>(
     alloc: Global,
-    files: &mut F,
+    files: &mut RecordedFiles<F>,
     words: &[String],
     path: &[String],
 ) -> Result<FileSet, Failure>
     requires { AreFileWords (map string_bytes words.now) }
-    ensures gathered { IfOk result (λ g. ForMap (F.told files.old) (λ files'. IsGathered
+    ensures gathered { IfOk result (λ g. ForReads (F.told (files_of files.old)) (reads_of files.old) (reads_of files.new) (λ files'. IsGathered
         (record { files = files'; words = map string_bytes words.now; path = map string_bytes path.now }) g.words g.keys.keys g.files.items)) }
-    ensures told { F.told files.new ≡ F.told files.old }
-    ensures count { F.faults files.old ≤ F.faults files.new }
-    ensures read_fault { result ≡ Err Failure.ReadFault → Rose (F.faults files.old) (F.faults files.new) }
+    ensures ended { EndsWithReads result (reads_of files.old) (reads_of files.new) }
+    ensures told { F.told (files_of files.new) ≡ F.told (files_of files.old) }
+    ensures count { F.faults (files_of files.old) ≤ F.faults (files_of files.new) }
+    ensures read_fault { result ≡ Err Failure.ReadFault → Rose (F.faults (files_of files.old)) (F.faults (files_of files.new)) }
 {
     let mut keys = IndexSet::new(alloc);
     let mut firsts = Vec::new(alloc);
     add_words(alloc, words, &mut keys, &mut firsts)?;
-    let files = walk(alloc, files, words, firsts.as_slice(), path, &mut keys)?;
+    let directories = distinct_directories(alloc, path)?;
+    let files = walk(
+        alloc,
+        files,
+        words,
+        firsts.as_slice(),
+        directories.as_slice(),
+        &mut keys,
+    )?;
     Ok(FileSet {
         words: firsts.len(),
         keys,

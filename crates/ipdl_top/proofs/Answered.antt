@@ -1,5 +1,5 @@
 -- What follows of an answer to words.
-use Rattle.std.proofs.Common.{◌≡◌, ◌⊎◌, ℕ, Bool, true, false, List, [], ◌∷◌, refl, ap, ◌∙◌, sym, inl, inr, true≢false}
+use Rattle.std.proofs.Common.{◌≡◌, ◌≢◌, ◌⊎◌, ℕ, Bool, true, false, List, [], ◌∷◌, refl, ap, ◌∙◌, sym, inl, inr, true≢false}
 use Rattle.std.specs.Prelude.{Option, Some, None}
 use Rattle.ipdl_base.specs.Outside.{FileMap}
 use Rattle.command_words.specs.Command.{CommandView, IsNoCommand, audit, compile, feed, frames, gen, relay, run, waits}
@@ -14,7 +14,7 @@ use Rattle.ipdl_top.specs.declared.answer.CommandAnswer.{CommandAnswer}
 use Rattle.ipdl_top.specs.declared.rendering.Rendering.{Rendering}
 use Rattle.ipdl_top.specs.declared.rendering.Rendering.TheVariants.{Summary, Transcript}
 use Rattle.ipdl_top.specs.declared.status.Status.{Status}
-use Rattle.ipdl_top.specs.declared.status.Status.TheVariants.{Done, Broken, Usage, ReadFault, Spent, NoMemory, BadScript, BadFrames, BadTranscript}
+use Rattle.ipdl_top.specs.declared.status.Status.TheVariants.{Done, Broken, Usage, ReadFault, WriteFault, Spent, NoMemory, BadScript, BadFrames, BadTranscript}
 use Rattle.ipdl_top.specs.CommandAnswer.{AnswersTo, IsAnswer, IsCompilation, SaysTables, given_by, usage_answer}
 use Rattle.ipdl_top.specs.declared.audited.Audit.{Audit}
 use Rattle.ipdl_top.specs.declared.audited.Audit.TheVariants as audits
@@ -31,6 +31,10 @@ use Rattle.ipdl_base.specs.declared.line.Line.{Line}
 use Rattle.handler_script.specs.declared.script.Script.{Script}
 use Rattle.script_steps.specs.Turns.{RunEnding, at_limit, at_rest}
 use Rattle.include_graph.specs.Sources.{LoadInput}
+use Rattle.file_log.specs.Log.{HaveSucceeded, ReadEntry}
+use Rattle.ipdl_top.specs.Outcome.{IsBrokenOff, IsOutcome, IsOutcomeOfReads, IsSaid, IsStatusOfReads}
+use Rattle.ipdl_top.specs.Written.{Writing}
+use Rattle.ipdl_top.proofs.Views.{for_each_view, of_reads}
 
 status_of : (a b : CommandAnswer) → a ≡ b → a.status ≡ b.status
 status_of a b e = ap (λ (x : CommandAnswer). x.status) e
@@ -161,7 +165,19 @@ no_failure Gives Relays seen words answer (inl h) (inr e) = true≢false (sym (o
 no_failure Gives Relays seen words answer (inr h) (inl e) = let both : Usage ≡ ReadFault = sym (status_of answer usage_answer h.1) ∙ e in cc
 no_failure Gives Relays seen words answer (inr h) (inr e) = let both : Usage ≡ NoMemory = sym (status_of answer usage_answer h.1) ∙ e in cc
 
--- what follows whatever is seen, and does not speak of it
-pub for_any : (told : Option FileMap) (P : FileViews → Type 0) (Q : Type 0) → ((seen : FileViews) → P seen → Q) → ForMap told P → Q
-for_any None P Q to (seen, h) = to seen h
-for_any (Some map) P Q to h = to (steady map) h
+-- and none where a write failed
+pub no_write_failure : (Gives : Driving) (Relays : Relaying) (seen : FileViews) (words : List (List ℕ)) (answer : CommandAnswer) → IsAnswer Gives Relays seen words answer → answer.status ≡ WriteFault → ⊥
+no_write_failure Gives Relays seen words answer (inl h) e = true≢false (sym (of_command Gives Relays seen h.command answer h.answers) ∙ ap is_said e)
+no_write_failure Gives Relays seen words answer (inr h) e = let both : Usage ≡ WriteFault = sym (status_of answer usage_answer h.1) ∙ e in cc
+
+-- such an answer comes where no read failed
+pub no_read_failed : (status : Status) (old new : List ReadEntry) → status ≢ ReadFault → HaveSucceeded old new → IsStatusOfReads status old new
+no_read_failed ReadFault old new said h = absurd (said refl)
+no_read_failed _ old new said h = h
+
+-- the outcome by what the reads gave is that for the files as they are told, and else for some
+pub outcome_seen : (told : Option FileMap) (old new : List ReadEntry) (IsIt : FileViews → CommandAnswer → Type 0) (status : Status) (out err : Writing) → IsOutcomeOfReads told old new IsIt status out err → ForMap told (λ seen. IsOutcome (IsIt seen) status out err)
+outcome_seen told old new IsIt status out err (inl h) = of_reads told (λ seen. IsOutcome (IsIt seen) status out err)
+    (for_each_view (λ seen. IsSaid (IsIt seen) status out err ⊎ IsBrokenOff (IsIt seen) status out err) (λ seen. IsOutcome (IsIt seen) status out err) (λ seen k. elim k [ inl said ↦ inl said | inr broken ↦ inr (inl broken) ]) h)
+outcome_seen None old new IsIt status out err (inr e) = (steady (λ name. None), inr (inr e))
+outcome_seen (Some map) old new IsIt status out err (inr e) = inr (inr e)

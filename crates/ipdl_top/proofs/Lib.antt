@@ -1,8 +1,8 @@
 pub mod Pieces
 pub mod Answered
-pub mod Maps
+pub mod Views
 pub mod Compilations
-pub mod Words
+pub mod FoundAnswers
 pub mod TableTexts
 pub mod Alike
 pub mod AtMostOne

@@ -23,7 +23,7 @@ use Rattle.world_core.specs.declared.relay.Halves.{Halves}
 use Rattle.world_core.specs.Relaying.{IsRelayed, RelayGives}
 use Rattle.world_core.specs.WorldView.{WorldView, opening_of}
 use Rattle.ipdl_top.specs.declared.answer.CommandAnswer.{CommandAnswer}
-use Rattle.ipdl_top.specs.Relay.{Relaying, SaysRelayed, half_lines, halves_text, relay_answer, relay_setting}
+use Rattle.ipdl_top.specs.Relay.{Relaying, SaysRelayed, half_lines, halves_text, relay_setting}
 use Rattle.ipdl_top.specs.RelaySteps.{IsTextAnswer}
 use Rattle.ipdl_top.specs.Run.{answer_of, run_status}
 

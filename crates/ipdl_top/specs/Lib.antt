@@ -15,6 +15,7 @@ pub mod Lists
 pub mod Outcome
 pub mod Report
 pub mod FileViews
+pub mod Sources
 pub mod Steps
 pub mod Written
 pub mod Audited

@@ -1,5 +1,6 @@
 -- What the steps of a run make.
-use Rattle.std.specs.Prelude.{◌≡◌, ℕ, List, Option, Some, None, option_map}
+use Rattle.std.specs.Prelude.{◌≡◌, ℕ, List, Option, Some, None}
+use Rattle.std.specs.Option.{option_copied}
 use Rattle.ipdl_base.specs.declared.line.Line.{Line}
 use Rattle.ipdl_base.specs.declared.schema.Schema.{Schema}
 use Rattle.command_words.specs.Run.{Course}
@@ -15,7 +16,7 @@ use Rattle.ipdl_top.specs.Run.{Driving, SaysRun, answer_of, run_answer}
 
 -- how the run of a request goes
 abbrev pub course_of : RunRequest → Course
-course_of wanted = record { schedule = option_map (λ turns. turns.items) wanted.schedule; limit = wanted.limit; death = wanted.death }
+course_of wanted = record { schedule = option_copied wanted.schedule; limit = wanted.limit; death = wanted.death }
 
 -- how a run is made, as far as a driver says so where memory ran out
 abbrev pub IsMadeUnless : Driving → Option (List Turn) → WorldView → WorldView → RunAnswer → Type 0

@@ -1,5 +1,5 @@
 -- What the steps of a compilation make.
-use Rattle.std.specs.Prelude.{◌≡◌, ◌≢◌, ℕ, ◌⊎◌, List, [], ◌∷◌, ◌++◌, length, map, Option, Some, None}
+use Rattle.std.specs.Prelude.{◌≡◌, ◌≢◌, ℕ, ◌⊎◌, List, [], ◌++◌, length, map, Option, Some, None}
 use Rattle.std.specs.List.{Contains}
 use Rattle.ipdl_base.specs.declared.files.FileBytes.{FileBytes}
 use Rattle.ipdl_base.specs.declared.files.TheConstants.{MOST_BYTES}
@@ -23,8 +23,7 @@ use Rattle.ipdl_top.specs.declared.checked.CheckResult.{CheckResult}
 use Rattle.ipdl_top.specs.declared.checked.CheckResult.TheVariants.{Broken, Clean}
 use Rattle.ipdl_top.specs.declared.status.Status.TheVariants as status
 use Rattle.ipdl_top.specs.declared.frames.FramesRequest.{FramesRequest}
-use Rattle.ipdl_top.specs.CommandAnswer.{BreaksRules, IsCompilation, IsFileReport, IsRuleReport, IsSchemaRead, given_by}
-use Rattle.ipdl_top.specs.FileViews.{FileViews}
+use Rattle.ipdl_top.specs.CommandAnswer.{BreaksRules, IsFileReport, IsRuleReport, IsSchemaRead}
 use Rattle.ipdl_top.specs.Frames.{SaysFrames}
 use Rattle.ipdl_top.specs.Report.{broken_answer}
 use Rattle.ipdl_top.specs.Waits.{IsTop}
@@ -127,7 +126,3 @@ HasTop file (Clean schema) = (top : ℕ) × IsTop file schema top
 -- what a request says of a file of frames of which this is held
 abbrev pub frames_says : FramesRequest → Option (List ℕ) → Schema → CommandAnswer → Type 0
 frames_says wanted file = SaysFrames wanted.name.now wanted.convert file
-
--- the answer of a command on the file of this name, by what is seen of the files, the path and the list
-abbrev pub IsFileAnswer : (Schema → CommandAnswer → Type 0) → FileViews → List (List ℕ) → List ℕ → Option (List ℕ) → CommandAnswer → Type 0
-IsFileAnswer Says seen path file word answer = IsCompilation Says (given_by seen.files path (file ∷ [])) seen.list word answer

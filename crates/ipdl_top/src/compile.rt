@@ -1,23 +1,23 @@
-ghost use Rattle.std.specs.Prelude.{◌≡◌, ◌≤◌, ◌↔◌, ◌⊎◌, Err, IfOk, IsOkUnless, map, string_bytes};
+//! What is found of a program and its sync list, and the command that compiles.
+ghost use Rattle.std.specs.Prelude.{◌≡◌, ◌↔◌, ◌⊎◌, IfOk, IfSome};
 ghost use Rattle.std.specs.List.{Contains};
 ghost use Rattle.std.specs.Option.{option_copied};
 ghost use Rattle.ipdl_base.specs.declared.finding.Finding.{Finding as TheFinding};
-ghost use Rattle.ipdl_base.specs.Outside.{Rose};
 ghost use Rattle.ipdl_syntax.specs.Programs.{IsProgram, BearTheirNames};
-ghost use Rattle.include_graph.specs.Keys.{AreFileWords};
-ghost use Rattle.include_graph.specs.Load.{IsGood};
-ghost use Rattle.ipdl_top.specs.CommandAnswer.{IsCompilation, SaysTables, given_by};
-ghost use Rattle.ipdl_top.specs.FileViews.{ForMap};
-ghost use Rattle.ipdl_top.specs.Steps.{IsChecked, ReportsWithList, IsListedChecked, IsLoadedChecked, IsToldOf, file_count};
+ghost use Rattle.include_graph.specs.Load.{IsAnswer, IsGood};
+ghost use Rattle.include_graph.specs.Sources.{LoadInput};
+ghost use Rattle.ipdl_base.specs.Outside.{FileMap};
+ghost use Rattle.ipdl_top.specs.CommandAnswer.{SaysTables};
+ghost use Rattle.ipdl_top.specs.Steps.{IsChecked, IsHeld, IsListedChecked, IsLoadedChecked, IsSmall, IsToldOf, ReportsWithList, file_count};
 
 use crate::answer::CommandAnswer;
 use crate::checked::CheckResult;
-use crate::list::{SyncListFile, read_listed};
+use crate::list::{SyncListFile, listed_of};
 use crate::rules::{names_of, report_of, rule_checked};
 use crate::status::Status;
 use actor_tables::table_text;
-use include_graph::{BrokenFiles, LoadResult, load};
-use ipdl_base::{Failure, Files, Finding, Findings, Report};
+use include_graph::{BrokenFiles, LoadResult};
+use ipdl_base::{FileBytes, Finding, Findings, Report};
 use ipdl_syntax::Program;
 use std::alloc::{AllocError, Global};
 use std::mem::forget;
@@ -109,58 +109,32 @@ fn loaded_checked(
     }
 }
 
-/// Reads the files of these names, what they include by the path, and this sync list behind them: the
-/// report on them, or the schema of a program that breaks no rule.
-pub fn checked<F: Files>(
+/// Checks what was loaded, and the sync list, if one is named, by what was found of it.
+pub fn checked_of(
     alloc: Global,
-    files: &mut F,
+    loaded: LoadResult,
     list: Option<&str>,
-    path: &[String],
-    names: &[String],
-) -> Result<CheckResult, Failure>
-    requires { AreFileWords (map string_bytes names.now) }
-    ensures found { ForMap (F.told files.old) (λ seen. IfOk result
-        (IsChecked (given_by seen.files (map string_bytes path.now) (map string_bytes names.now)) seen.list (option_copied list.entry))) }
-    ensures told { F.told files.new ≡ F.told files.old }
-    ensures count { F.faults files.old ≤ F.faults files.new }
-    ensures read_fault { result ≡ Err Failure.ReadFault → Rose (F.faults files.old) (F.faults files.new) }
+    found: &FileBytes,
+) -> Result<CheckResult, AllocError>
+    requires good { IsGood loaded }
+    requires small { IsSmall found.now }
+    ensures { IfOk result (λ checked. (given : LoadInput) (lists : FileMap) → IsAnswer given loaded
+        → IfSome (option_copied list.entry) (λ name. IsHeld (lists name) found.now) → IsChecked given lists (option_copied list.entry) checked) }
 {
-    let loaded = load(alloc, files, names, path)?;
-    let listed = read_listed(alloc, files, list, number_behind(&loaded))?;
-    Ok(loaded_checked(alloc, loaded, &listed, list)?)
+    let listed = listed_of(alloc, list, found, number_behind(&loaded))?;
+    loaded_checked(alloc, loaded, &listed, list)
 }
 
-/// The answer of the command that compiles: the report, or the tables of the schema.
-fn tables_of(alloc: Global, checked: CheckResult) -> Result<CommandAnswer, Failure>
-    ensures answer { IfOk result (IsToldOf SaysTables checked) }
-    ensures memory { IsOkUnless result Failure.NoMemory }
+/// Answers the command that compiles: the report, or the tables of the schema.
+pub fn answer_compile(alloc: Global, checked: CheckResult) -> Result<CommandAnswer, AllocError>
+    ensures { IfOk result (IsToldOf SaysTables checked) }
 {
     match checked {
-        CheckResult::Broken(report) => {
-            Ok(CommandAnswer::of_report(alloc, Status::Broken, &report)?)
-        }
+        CheckResult::Broken(report) => CommandAnswer::of_report(alloc, Status::Broken, &report),
         CheckResult::Clean(schema) => {
             let text = table_text(alloc, &schema);
             leave(schema);
             Ok(CommandAnswer::of_table(alloc, text?))
         }
     }
-}
-
-/// The command that compiles the files of these names, which include what is on the path, with this
-/// sync list: the report on them, or their tables.
-pub fn compile<F: Files>(
-    alloc: Global,
-    files: &mut F,
-    list: Option<&str>,
-    path: &[String],
-    names: &[String],
-) -> Result<CommandAnswer, Failure>
-    requires { AreFileWords (map string_bytes names.now) }
-    ensures answer { ForMap (F.told files.old) (λ seen. IfOk result
-        (IsCompilation SaysTables (given_by seen.files (map string_bytes path.now) (map string_bytes names.now)) seen.list (option_copied list.entry))) }
-    ensures read_fault { result ≡ Err Failure.ReadFault → Rose (F.faults files.old) (F.faults files.new) }
-{
-    let found = checked(alloc, files, list, path, names)?;
-    tables_of(alloc, found)
 }

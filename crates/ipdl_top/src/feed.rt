@@ -1,27 +1,23 @@
-ghost use Rattle.std.specs.Prelude.{◌≡◌, ◌≤◌, ◌∷◌, ◌++◌, [], ℕ, Err, IfOk, List, Option, codes, map, string_bytes};
-ghost use Rattle.std.specs.Option.{option_copied};
+//! The command that runs one end on a file of bytes.
+ghost use Rattle.std.specs.Prelude.{◌≡◌, ◌≤◌, ◌++◌, ℕ, IfOk, List, Option, codes, map};
 ghost use Rattle.std.specs.Fmt.{decimal};
 ghost use Rattle.end_parts.specs.PlainLines.{plain_line};
 ghost use Rattle.history.specs.Text.{numbered};
 ghost use Rattle.handler_script.specs.Valid.{IsValid};
-ghost use Rattle.include_graph.specs.Keys.{AreFileWords};
 ghost use Rattle.script_runs.specs.Endings.{ending_line};
-ghost use Rattle.ipdl_base.specs.Outside.{Rose};
 ghost use Rattle.ipdl_base.specs.Sound.{IsSound};
 ghost use Rattle.value_codec.specs.Laws.{AreBytes};
 ghost use Rattle.world_core.specs.Worlds.{most_events};
 ghost use Rattle.ipdl_top.specs.Feed as told;
 ghost use Rattle.ipdl_top.specs.Feed.{SaysFed, SaysFedOf, feed_answer, feed_ending, feed_status, kept_text};
-ghost use Rattle.ipdl_top.specs.FeedSteps.{AreHeld, AreSmall, feed_course, feed_says};
-ghost use Rattle.ipdl_top.specs.FileViews.{ForMap};
-ghost use Rattle.ipdl_top.specs.Steps.{HasTop, IsFileAnswer, IsHeld, IsSmall, IsSoundChecked, IsToldOf};
+ghost use Rattle.ipdl_top.specs.FeedSteps.{feed_course, feed_says};
+ghost use Rattle.ipdl_top.specs.Steps.{HasTop, IsHeld, IsSmall, IsSoundChecked, IsToldOf};
 ghost use Rattle.ipdl_top.specs.Waits.{IsTop};
 
 use crate::answer::CommandAnswer;
 use crate::checked::CheckResult;
-use crate::compile::{checked, leave};
+use crate::compile::leave;
 use crate::frames::unread_answer;
-use crate::held::read_file;
 use crate::run::spent_line;
 use crate::scripts::{ScriptCheck, script_checked};
 use crate::status::Status;
@@ -29,10 +25,9 @@ use feed_laws::feeds_obey_alone;
 use frame_list::{FrameListFault, fault_text, frame_rule};
 use handler_script::Script;
 use history::push_numbered;
-use ipdl_base::{Failure, FileBytes, Files, Items, MOST_BYTES, Schema, Side};
+use ipdl_base::{FileBytes, Items, Schema, Side};
 use law_statements::{decides_fallen, decides_readable, laws_want_readable_lines};
 use std::alloc::{AllocError, Global};
-use std::slice::from_ref;
 use world_core::{Fed, FeedFault, feed as feed_end};
 
 /// One end to run on a file of bytes.
@@ -46,13 +41,6 @@ pub struct FeedRequest<'w> {
     pub side: Side,
     /// The most events of the end.
     pub limit: u32,
-}
-
-/// The files that a feed goes by, beside those of its program.
-#[derive(Drop)]
-struct FeedFiles {
-    script: FileBytes,
-    frames: FileBytes,
 }
 
 /// The line of a fault: the name of the file, the place, and a word with a number.
@@ -208,103 +196,47 @@ fn held_answer(
     schema: &Schema,
     file: &str,
     wanted: &FeedRequest<'_>,
-    held: &FeedFiles,
+    text: &FileBytes,
+    frames: &FileBytes,
 ) -> Result<CommandAnswer, AllocError>
-    requires small { AreSmall held.now }
+    requires small { IsSmall text.now }
     requires sound { IsSound schema.now }
     requires top { (top : ℕ) × IsTop file.now schema.now top }
     requires limit { wanted.now.limit ≤ most_events }
-    ensures { IfOk result (λ answer. (script bytes : Option (List ℕ)) → AreHeld script bytes held.now
+    ensures { IfOk result (λ answer. (script bytes : Option (List ℕ)) → IsHeld script text.now → IsHeld bytes frames.now
         → feed_says wanted.now script bytes file.now schema.now answer) }
 {
-    match script_checked(alloc, schema, file, wanted.script, &held.script)? {
+    match script_checked(alloc, schema, file, wanted.script, text)? {
         ScriptCheck::Broken(report) => {
             CommandAnswer::of_report(alloc, Status::BadScript, &report)
         }
-        ScriptCheck::Valid(script) => {
-            frames_answer(alloc, schema, &script, wanted, &held.frames)
-        }
+        ScriptCheck::Valid(script) => { frames_answer(alloc, schema, &script, wanted, frames) }
     }
 }
 
-/// The answer by what was found of the files of a command, of the script and of the file of frames.
-fn checked_answer(
+/// Answers the command that runs one end on a file of bytes: the report on the files, or the rules that the script breaks, or
+/// that there is no file of frames to read, or the lines of the end, how they ended, and the fault that is kept.
+pub fn answer_feed(
     alloc: Global,
     checked: CheckResult,
     file: &str,
     wanted: &FeedRequest<'_>,
-    held: &FeedFiles,
+    text: &FileBytes,
+    frames: &FileBytes,
 ) -> Result<CommandAnswer, AllocError>
-    requires small { AreSmall held.now }
+    requires small { IsSmall text.now }
     requires sound { IsSoundChecked checked }
     requires top { HasTop file.now checked }
     requires limit { wanted.now.limit ≤ most_events }
-    ensures { IfOk result (λ answer. (script bytes : Option (List ℕ)) → AreHeld script bytes held.now
+    ensures { IfOk result (λ answer. (script bytes : Option (List ℕ)) → IsHeld script text.now → IsHeld bytes frames.now
         → IsToldOf (feed_says wanted.now script bytes file.now) checked answer) }
 {
     match checked {
         CheckResult::Broken(report) => CommandAnswer::of_report(alloc, Status::Broken, &report),
         CheckResult::Clean(schema) => {
-            let answer = held_answer(alloc, &schema, file, wanted, held);
+            let answer = held_answer(alloc, &schema, file, wanted, text, frames);
             leave(schema);
             answer
         }
     }
-}
-
-/// Reads the script, and then the file of frames.
-fn read_files<F: Files>(
-    alloc: Global,
-    files: &mut F,
-    wanted: &FeedRequest<'_>,
-) -> Result<FeedFiles, Failure>
-    ensures held { ForMap (F.told files.old) (λ seen. IfOk result (AreHeld (seen.script wanted.now.script.now) (seen.input wanted.now.frames.now))) }
-    ensures small { IfOk result AreSmall }
-    ensures read_fault { result ≡ Err Failure.ReadFault → Rose (F.faults files.old) (F.faults files.new) }
-{
-    let script = read_file(alloc, files, wanted.script, MOST_BYTES)?;
-    let frames = read_file(alloc, files, wanted.frames, MOST_BYTES)?;
-    Ok(FeedFiles { script, frames })
-}
-
-/// Reads the script and the file of frames, and answers by what was found of the files of a command.
-fn answer_with<F: Files>(
-    alloc: Global,
-    files: &mut F,
-    checked: CheckResult,
-    file: &str,
-    wanted: &FeedRequest<'_>,
-) -> Result<CommandAnswer, Failure>
-    requires sound { IsSoundChecked checked }
-    requires top { HasTop file.now checked }
-    requires limit { wanted.now.limit ≤ most_events }
-    ensures answer { ForMap (F.told files.old) (λ seen. IfOk result
-        (IsToldOf (feed_says wanted.now (seen.script wanted.now.script.now) (seen.input wanted.now.frames.now) file.now) checked)) }
-    ensures read_fault { result ≡ Err Failure.ReadFault → Rose (F.faults files.old) (F.faults files.new) }
-{
-    let held = read_files(alloc, files, wanted)?;
-    Ok(checked_answer(alloc, checked, file, wanted, &held)?)
-}
-
-/// The command that runs one end on a file of bytes: the report on the file and on what it includes by
-/// the path, with this sync list; or the rules that the script breaks; or that there is no file of
-/// frames to read; or the lines of the end, how they ended, and the fault that is kept.
-pub fn feed<F: Files>(
-    alloc: Global,
-    files: &mut F,
-    list: Option<&str>,
-    path: &[String],
-    file: &String,
-    wanted: &FeedRequest<'_>,
-) -> Result<CommandAnswer, Failure>
-    requires words { AreFileWords (string_bytes file.now ∷ []) }
-    requires ending { (front : List ℕ) × (string_bytes file.now ≡ front ++ codes ".ipdl") }
-    requires limit { wanted.now.limit ≤ most_events }
-    ensures answer { ForMap (F.told files.old) (λ seen. IfOk result
-        (IsFileAnswer (feed_says wanted.now (seen.script wanted.now.script.now) (seen.input wanted.now.frames.now) (string_bytes file.now))
-        seen (map string_bytes path.now) (string_bytes file.now) (option_copied list.entry))) }
-    ensures read_fault { result ≡ Err Failure.ReadFault → Rose (F.faults files.old) (F.faults files.new) }
-{
-    let found = checked(alloc, files, list, path, from_ref(file))?;
-    answer_with(alloc, files, found, file.as_str(), wanted)
 }

@@ -1,23 +1,16 @@
-ghost use Rattle.std.specs.Prelude.{◌≡◌, ◌≤◌, ◌∷◌, ◌++◌, [], Err, IfOk, IsOkUnless, Option, Some, List, ℕ, length, map, string_bytes};
-ghost use Rattle.std.specs.Option.{option_copied};
-ghost use Rattle.ipdl_base.specs.Outside.{Rose};
+//! The command that prints the frames of a file.
+ghost use Rattle.std.specs.Prelude.{◌≡◌, ◌++◌, [], IfOk, Option, List, ℕ};
 ghost use Rattle.ipdl_base.specs.Sound.{IsSound};
-ghost use Rattle.include_graph.specs.Keys.{AreFileWords};
-ghost use Rattle.include_graph.specs.Load as load;
 ghost use Rattle.frame_list.specs.FramesTold.{Tells};
 ghost use Rattle.ipdl_top.specs.Frames.{SaysBytes, bad_frames_answer, frames_answer, frames_out};
-ghost use Rattle.ipdl_top.specs.FileViews.{ForMap};
-ghost use Rattle.ipdl_top.specs.Steps.{IsFileAnswer, IsHeld, IsSoundChecked, IsToldOf, frames_says};
+ghost use Rattle.ipdl_top.specs.Steps.{IsHeld, IsSoundChecked, IsToldOf, frames_says};
 
 use crate::answer::CommandAnswer;
 use crate::checked::CheckResult;
-use crate::compile::checked;
-use crate::held::read_file;
 use crate::status::Status;
 use frame_list::{FrameListFault, fault_text, push_lines, push_new_frames};
-use ipdl_base::{Failure, FileBytes, Files, MOST_BYTES, Schema};
+use ipdl_base::{FileBytes, Schema};
 use std::alloc::{AllocError, Global};
-use std::slice::from_ref;
 
 /// The file to print frames of, and how.
 #[derive(Drop)]
@@ -106,8 +99,9 @@ fn held_answer(
     }
 }
 
-/// The answer by what was found of the files of a command and of the file of frames.
-fn checked_answer(
+/// Answers the command that prints the frames of a file: the report on the files, or the lines of the frames, or the same
+/// messages in new frames.
+pub fn answer_frames(
     alloc: Global,
     checked: CheckResult,
     wanted: &FramesRequest<'_>,
@@ -120,39 +114,4 @@ fn checked_answer(
         CheckResult::Broken(report) => CommandAnswer::of_report(alloc, Status::Broken, &report),
         CheckResult::Clean(schema) => held_answer(alloc, &schema, wanted, held),
     }
-}
-
-/// Reads the file of frames, and answers by what was found of the files of a command.
-fn answer_with<F: Files>(
-    alloc: Global,
-    files: &mut F,
-    checked: CheckResult,
-    wanted: &FramesRequest<'_>,
-) -> Result<CommandAnswer, Failure>
-    requires { IsSoundChecked checked }
-    ensures answer { load.ForMap (F.told files.old) (λ frames. IfOk result (IsToldOf (frames_says wanted.now (frames wanted.now.name.now)) checked)) }
-    ensures read_fault { result ≡ Err Failure.ReadFault → Rose (F.faults files.old) (F.faults files.new) }
-{
-    let held = read_file(alloc, files, wanted.name, MOST_BYTES)?;
-    Ok(checked_answer(alloc, checked, wanted, &held)?)
-}
-
-/// The command that prints the frames of a file: the report on the file and on what it includes by
-/// the path, with this sync list, or the lines of the frames, or the same messages in new frames.
-pub fn frames<F: Files>(
-    alloc: Global,
-    files: &mut F,
-    list: Option<&str>,
-    path: &[String],
-    file: &String,
-    wanted: &FramesRequest<'_>,
-) -> Result<CommandAnswer, Failure>
-    requires { AreFileWords (string_bytes file.now ∷ []) }
-    ensures answer { ForMap (F.told files.old) (λ seen. IfOk result
-        (IsFileAnswer (frames_says wanted.now (seen.input wanted.now.name.now))
-        seen (map string_bytes path.now) (string_bytes file.now) (option_copied list.entry))) }
-    ensures read_fault { result ≡ Err Failure.ReadFault → Rose (F.faults files.old) (F.faults files.new) }
-{
-    let found = checked(alloc, files, list, path, from_ref(file))?;
-    answer_with(alloc, files, found, wanted)
 }

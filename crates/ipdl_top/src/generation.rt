@@ -1,17 +1,21 @@
-ghost use Rattle.std.specs.Prelude.{◌≡◌, ◌≤◌, ◌∷◌, [], Some, None, IfOk, IsOkUnless, map, option_map, string_bytes};
-ghost use Rattle.ipdl_top.specs.CommandAnswer.{IsCompilation, given_by};
-ghost use Rattle.ipdl_top.specs.Gen.{SaysGen, case_files, case_path, files_of, holder_name};
+//! Generated cases: their files, which are made in memory, and how they are run.
+ghost use Rattle.std.specs.Prelude.{◌≡◌, ◌≤◌, ◌∷◌, [], IfOk, IsOkUnless, None, Some, map, option_map, string_bytes};
+ghost use Rattle.ipdl_top.specs.FileViews.{steady};
+ghost use Rattle.ipdl_top.specs.Gen.{case_course, case_files, case_path, files_of, holder_name, script_name};
+ghost use Rattle.ipdl_top.specs.RunSteps.{course_of};
+ghost use Rattle.ipdl_top.specs.Sources.{AreNamedFound, AreCaseNumbers, case_named, named_view, program_named};
 
-use crate::answer::CommandAnswer;
+use crate::reading::{FoundFiles, read_named};
 use crate::rendering::Rendering;
-use crate::run::{RunRequest, run};
+use crate::run::RunRequest;
+use crate::sources::NamedFiles;
+use file_log::RecordedFiles;
 use generated_case::{GeneratedCase, generate};
-use ipdl_base::{Failure, FileBytes, Files};
+use ipdl_base::{Failure, FileBytes, Files, MOST_BYTES};
 use std::alloc::{AllocError, Global};
-use world_core::Driver;
 
 /// The name of the file of the top protocol.
-const HOLDER: &str = "PGen.ipdl";
+pub const HOLDER: &str = "PGen.ipdl";
 
 /// The name of the file of the protocol of the actors.
 const LEAF: &str = "PLeaf.ipdl";
@@ -71,67 +75,74 @@ fn case_of(alloc: Global, rounds: u32, actors: u32) -> Result<CaseFiles, AllocEr
     Ok(CaseFiles { case })
 }
 
-/// Where the files of a generated case are looked for.
-fn path_of(alloc: Global) -> Result<Vec<String>, AllocError>
-    ensures { IfOk result (λ path. map string_bytes path.items ≡ case_path) }
-{
-    let here = String::from_str(alloc, ".")?;
-    let mut path = Vec::new(alloc);
-    path.push(here)?;
-    Ok(path)
+/// The names under which the program of a generated case is read, and its folder.
+#[derive(Drop)]
+struct CaseNames {
+    program: Vec<String>,
+    path: Vec<String>,
 }
 
-/// The answer to a generated case by its files.
-fn case_answer<D: Driver>(
-    alloc: Global,
-    files: &mut CaseFiles,
-    rounds: u32,
-    actors: u32,
-    driver: &mut D,
-) -> Result<CommandAnswer, Failure>
-    requires files { files_of files.old.case ≡ case_files rounds actors }
-    requires ready { D.ready driver.old }
-    ensures answer { IfOk result (IsCompilation (SaysGen (D.Gives driver.old) rounds actors)
-        (given_by (case_files rounds actors) case_path (holder_name ∷ [])) (case_files rounds actors) None) }
+/// Returns a list of this name alone.
+fn list_of_one(alloc: Global, name: &str) -> Result<Vec<String>, AllocError>
+    ensures { IfOk result (λ names. map string_bytes names.items ≡ name.now ∷ []) }
+{
+    let name = String::from_str(alloc, name)?;
+    let mut names = Vec::new(alloc);
+    names.push(name)?;
+    Ok(names)
+}
+
+/// Returns the names of a generated case.
+fn case_names(alloc: Global) -> Result<CaseNames, AllocError>
+    ensures program { IfOk result (λ names. map string_bytes names.program.items ≡ holder_name ∷ []) }
+    ensures path { IfOk result (λ names. map string_bytes names.path.items ≡ case_path) }
+{
+    let program = list_of_one(alloc, HOLDER)?;
+    let path = list_of_one(alloc, ".")?;
+    Ok(CaseNames { program, path })
+}
+
+/// Returns what is read of a generated case.
+fn named_of(names: &CaseNames) -> NamedFiles<'_>
+    ensures { named_view result ≡ record (program_named None (map string_bytes names.entry.now.path.items) (map string_bytes names.entry.now.program.items)) { script = Some script_name } }
+{
+    NamedFiles {
+        program: names.program.as_slice(),
+        path: names.path.as_slice(),
+        list: None,
+        script: Some(SCRIPT),
+        input: None,
+        input_limit: MOST_BYTES,
+    }
+}
+
+/// Reads the files of a generated case, of so many rounds over so many actors (docs/gen.md).
+///
+/// # Errors
+///
+/// `Failure::NoMemory` where memory ran out.
+pub fn read_case(alloc: Global, rounds: u32, actors: u32) -> Result<FoundFiles, Failure>
+    requires { AreCaseNumbers rounds actors }
+    ensures found { IfOk result (AreNamedFound case_named (steady (case_files rounds actors))) }
     ensures memory { IsOkUnless result Failure.NoMemory }
 {
-    let path = path_of(alloc)?;
-    let holder = String::from_str(alloc, HOLDER)?;
-    let wanted = RunRequest {
+    let case = case_of(alloc, rounds, actors)?;
+    let names = case_names(alloc)?;
+    let mut files = RecordedFiles::new(case);
+    read_named(alloc, &mut files, &named_of(&names))
+}
+
+/// Returns how a generated case is run: by an empty word of turns, and its history is summed up.
+pub fn case_request(rounds: u32, actors: u32) -> RunRequest<'static>
+    ensures course { course_of result ≡ case_course }
+    ensures script { result.script.now ≡ script_name }
+    ensures rendering { result.rendering ≡ Rendering.Summary rounds actors }
+{
+    RunRequest {
         script: SCRIPT,
-        schedule: Some(Vec::new(alloc)),
+        schedule: Some(&[]),
         limit: LIMIT,
         death: None,
         rendering: Rendering::Summary(rounds, actors),
-    };
-    run(
-        alloc,
-        files,
-        None,
-        path.as_slice(),
-        &holder,
-        &wanted,
-        driver,
-    )
-}
-
-/// The command that runs a generated case of so many rounds over so many actors: the summary of its
-/// history, and how it ended (docs/gen.md). The only error is want of memory.
-pub fn generation<D: Driver>(
-    alloc: Global,
-    rounds: u32,
-    actors: u32,
-    driver: &mut D,
-) -> Result<CommandAnswer, Failure>
-    requires some_rounds { 1 ≤ rounds }
-    requires rounds { rounds ≤ 1000 }
-    requires some_actors { 1 ≤ actors }
-    requires actors { actors ≤ 100 }
-    requires ready { D.ready driver.old }
-    ensures answer { IfOk result (IsCompilation (SaysGen (D.Gives driver.old) rounds actors)
-        (given_by (case_files rounds actors) case_path (holder_name ∷ [])) (case_files rounds actors) None) }
-    ensures memory { IsOkUnless result Failure.NoMemory }
-{
-    let mut files = case_of(alloc, rounds, actors)?;
-    case_answer(alloc, &mut files, rounds, actors, driver)
+    }
 }

@@ -1,11 +1,11 @@
-ghost use Rattle.std.specs.Prelude.{◌≡◌, ◌≤◌, Err, IfOk, Some, Option, List, ℕ, length};
+//! The sync list, as a file after those of the program.
+ghost use Rattle.std.specs.Prelude.{◌≡◌, ◌≤◌, IfOk, IfSome, Some, Option, List, ℕ, length};
 ghost use Rattle.std.specs.Option.{option_copied};
-ghost use Rattle.ipdl_base.specs.Outside.{Rose};
-ghost use Rattle.include_graph.specs.Load.{ForMap};
+ghost use Rattle.ipdl_base.specs.Outside.{FileMap};
+ghost use Rattle.ipdl_base.specs.declared.files.TheConstants.{MOST_BYTES};
 ghost use Rattle.ipdl_top.specs.Steps.{IsFound, IsHeld, IsListed, IsSmall};
 
-use crate::held::read_file;
-use ipdl_base::{Failure, FileBytes, Files, Finding, MOST_BYTES, Place, Rule};
+use ipdl_base::{FileBytes, Finding, Place, Rule};
 use std::alloc::{AllocError, Global};
 use sync_list::{ListFault, SyncList, read_list};
 
@@ -54,23 +54,19 @@ fn listed_of_found(
     }
 }
 
-/// Reads the sync list, where one is named, as the file of this number.
-pub fn read_listed<F: Files>(
+/// Returns what the sync list is, if one is named, by what was found of it, as the file of this number.
+pub fn listed_of(
     alloc: Global,
-    files: &mut F,
     list: Option<&str>,
+    found: &FileBytes,
     number: u32,
-) -> Result<SyncListFile, Failure>
-    ensures listed { ForMap (F.told files.old) (λ lists. IfOk result (IsListed lists (option_copied list.entry) number)) }
-    ensures told { F.told files.new ≡ F.told files.old }
-    ensures count { F.faults files.old ≤ F.faults files.new }
-    ensures read_fault { result ≡ Err Failure.ReadFault → Rose (F.faults files.old) (F.faults files.new) }
+) -> Result<SyncListFile, AllocError>
+    requires { IsSmall found.now }
+    ensures { IfOk result (λ listed. (lists : FileMap) → IfSome (option_copied list.entry) (λ name. IsHeld (lists name) found.now)
+        → IsListed lists (option_copied list.entry) number listed) }
 {
     match list {
-        Some(name) => {
-            let found = read_file(alloc, files, name, MOST_BYTES)?;
-            Ok(listed_of_found(alloc, &found, number)?)
-        }
+        Some(_) => listed_of_found(alloc, found, number),
         None => Ok(SyncListFile::Sections(None)),
     }
 }

@@ -1,188 +1,93 @@
-ghost use Rattle.std.specs.Prelude.{◌≡◌, ◌≢◌, ◌⊎◌, ℕ, Err, IfOk, map, string_bytes};
-ghost use Rattle.ipdl_base.specs.Outside.{Rose};
-ghost use Rattle.ipdl_top.specs.CommandAnswer.{IsAnswer, usage_answer};
-ghost use Rattle.command_words.specs.Command.{IsNoCommand};
+//! The program: it reads its words, then the files that they name, and writes the answer.
+ghost use Rattle.std.specs.Prelude.{◌≡◌, ◌≢◌, ◌⊎◌, ℕ, Err, IfOk, List, map, string_bytes};
+ghost use Rattle.command_words.specs.Command.{CommandOf, IsNoCommand, gen, view_of};
 ghost use Rattle.command_words.specs.Gen.{IsGen};
-ghost use Rattle.ipdl_top.specs.Outcome.{IsOutcome};
-ghost use Rattle.ipdl_top.specs.FileViews.{ForMap};
+ghost use Rattle.file_log.specs.Log.{EndsWithReads};
+ghost use Rattle.file_log.specs.Recorded.{files_of, reads_of};
+ghost use Rattle.ipdl_base.specs.Outside.{Rose};
+ghost use Rattle.ipdl_top.specs.CommandAnswer.{AnswersTo, IsAnswer, usage_answer};
+ghost use Rattle.ipdl_top.specs.FileViews.{ForMap, ForViews};
+ghost use Rattle.ipdl_top.specs.Outcome.{IsOutcome, IsOutcomeOfReads, IsStatusOfReads};
+ghost use Rattle.ipdl_top.specs.Sources.{AreFound, AreReadable, generated, sources_view};
 ghost use Rattle.ipdl_top.specs.Written.{WritesAll};
 
 use crate::answer::CommandAnswer;
-use crate::compile::compile;
-use crate::feed::{FeedRequest, feed};
-use crate::frames::{FramesRequest, frames};
-use crate::generation::generation;
-use crate::relay::{RelayRequest, relay_script};
-use crate::rendering::Rendering;
-use crate::run::{RunRequest, run};
+use crate::commands::answer_command;
+use crate::generation::read_case;
+use crate::reading::{FoundFiles, read_named};
+use crate::sources::{Sources, sources_of};
 use crate::status::Status;
-use crate::transcript_audit::{AuditRequest, audit_transcript};
-use crate::waits::waits;
 use crate::write::write_answer;
 use command_words::{Command, WordsFault, one_command, read_words};
+use file_log::RecordedFiles;
 use ipdl_base::{Failure, Files, Sink};
 use std::alloc::Global;
 use world_core::{Driver, Relay};
 
-/// The answer to the words of a call.
+/// Reads what a command needs. A generated case has its own files, and none of `files` is read.
+///
+/// # Errors
+///
+/// `Failure::ReadFault` where a read failed, after which nothing more is read, and `Failure::NoMemory` where memory ran out.
+fn read_sources<F: Files>(
+    alloc: Global,
+    files: &mut RecordedFiles<F>,
+    sources: &Sources<'_>,
+) -> Result<FoundFiles, Failure>
+    requires { AreReadable (sources_view sources.now) }
+    ensures reads { IfOk result (λ found. ForViews (F.told (files_of files.old)) (reads_of files.old) (reads_of files.new)
+        (λ seen. AreFound (sources_view sources.now) seen found)) }
+    ensures ended { EndsWithReads result (reads_of files.old) (reads_of files.new) }
+    ensures read_fault { result ≡ Err Failure.ReadFault → Rose (F.faults (files_of files.old)) (F.faults (files_of files.new)) }
+    ensures unread { (rounds actors : ℕ) → sources_view sources.now ≡ generated rounds actors → files.new ≡ files.old }
+{
+    match sources {
+        Sources::Named(named) => read_named(alloc, files, named),
+        Sources::Case(rounds, actors) => read_case(alloc, *rounds, *actors),
+    }
+}
+
+/// Reads what a command needs, and answers it.
+fn answer_by_files<F: Files, D: Driver, Q: Relay>(
+    alloc: Global,
+    command: &Command,
+    files: &mut RecordedFiles<F>,
+    driver: &mut D,
+    relay: &mut Q,
+) -> Result<CommandAnswer, Failure>
+    requires said { (words : List (List ℕ)) × CommandOf words command.now }
+    requires ready { D.ready driver.old }
+    requires relay_ready { Q.ready relay.old }
+    ensures reads { IfOk result (λ answer. ForViews (F.told (files_of files.old)) (reads_of files.old) (reads_of files.new)
+        (λ seen. AnswersTo (D.Gives driver.old) (Q.Gives relay.old) seen (view_of command.now) answer)) }
+    ensures ended { EndsWithReads result (reads_of files.old) (reads_of files.new) }
+    ensures read_fault { result ≡ Err Failure.ReadFault → Rose (F.faults (files_of files.old)) (F.faults (files_of files.new)) }
+    ensures unread { (rounds actors : ℕ) → view_of command.now ≡ gen rounds actors → files.new ≡ files.old }
+{
+    let found = read_sources(alloc, files, &sources_of(command))?;
+    Ok(answer_command(alloc, command, found, driver, relay)?)
+}
+
+/// Answers the words of a call: they are read as a command, and the command is answered; words that are none have an answer too.
 fn answer_to<F: Files, D: Driver, Q: Relay>(
     alloc: Global,
     words: &[String],
-    files: &mut F,
+    files: &mut RecordedFiles<F>,
     driver: &mut D,
     relay: &mut Q,
 ) -> Result<CommandAnswer, Failure>
     requires ready { D.ready driver.old }
     requires relay_ready { Q.ready relay.old }
-    ensures answer { ForMap (F.told files.old) (λ map'. IfOk result (IsAnswer (D.Gives driver.old) (Q.Gives relay.old) map' (map string_bytes words.now))) }
+    ensures reads { IfOk result (λ answer. ForViews (F.told (files_of files.old)) (reads_of files.old) (reads_of files.new)
+        (λ seen. IsAnswer (D.Gives driver.old) (Q.Gives relay.old) seen (map string_bytes words.now) answer)) }
+    ensures ended { EndsWithReads result (reads_of files.old) (reads_of files.new) }
     ensures no_command { IsNoCommand (map string_bytes words.now) → result ≢ Err Failure.ReadFault }
-    ensures read_fault { result ≡ Err Failure.ReadFault → Rose (F.faults files.old) (F.faults files.new) }
+    ensures read_fault { result ≡ Err Failure.ReadFault → Rose (F.faults (files_of files.old)) (F.faults (files_of files.new)) }
     ensures unread { (rounds actors : ℕ) → IsGen (map string_bytes words.now) rounds actors → files.new ≡ files.old }
 {
     one_command();
     match read_words(alloc, words) {
-        Ok(
-            Command::Compile {
-                list,
-                path,
-                files: names,
-            },
-        ) => compile(
-            alloc,
-            files,
-            list.as_deref(),
-            path.as_slice(),
-            names.as_slice(),
-        ),
-        Ok(
-            Command::Frames {
-                list,
-                path,
-                file,
-                frames: name,
-                convert,
-            },
-        ) => {
-            let wanted = FramesRequest {
-                name: name.as_str(),
-                convert,
-            };
-            frames(
-                alloc,
-                files,
-                list.as_deref(),
-                path.as_slice(),
-                &file,
-                &wanted,
-            )
-        }
-        Ok(Command::Waits { list, path, file }) => {
-            waits(alloc, files, list.as_deref(), path.as_slice(), &file)
-        }
-        Ok(
-            Command::Run {
-                list,
-                path,
-                schedule,
-                limit,
-                death,
-                script,
-                file,
-            },
-        ) => {
-            let wanted = RunRequest {
-                script: script.as_str(),
-                schedule,
-                limit,
-                death,
-                rendering: Rendering::Transcript,
-            };
-            run(
-                alloc,
-                files,
-                list.as_deref(),
-                path.as_slice(),
-                &file,
-                &wanted,
-                driver,
-            )
-        }
-        Ok(Command::Gen { rounds, actors }) => generation(alloc, rounds, actors, driver),
-        Ok(
-            Command::Feed {
-                list,
-                path,
-                limit,
-                side,
-                script,
-                file,
-                frames: name,
-            },
-        ) => {
-            let wanted = FeedRequest {
-                script: script.as_str(),
-                frames: name.as_str(),
-                side,
-                limit,
-            };
-            feed(
-                alloc,
-                files,
-                list.as_deref(),
-                path.as_slice(),
-                &file,
-                &wanted,
-            )
-        }
-        Ok(
-            Command::Audit {
-                list,
-                path,
-                limit,
-                script,
-                file,
-                transcript,
-            },
-        ) => {
-            let wanted = AuditRequest {
-                script: script.as_str(),
-                transcript: transcript.as_str(),
-                limit,
-            };
-            audit_transcript(
-                alloc,
-                files,
-                list.as_deref(),
-                path.as_slice(),
-                &file,
-                &wanted,
-            )
-        }
-        Ok(
-            Command::Relay {
-                list,
-                path,
-                limit,
-                death,
-                script,
-                file,
-            },
-        ) => {
-            let wanted = RelayRequest {
-                script: script.as_str(),
-                limit,
-                death,
-            };
-            relay_script(
-                alloc,
-                files,
-                list.as_deref(),
-                path.as_slice(),
-                &file,
-                &wanted,
-                relay,
-            )
-        }
+        Ok(command) => answer_by_files(alloc, &command, files, driver, relay),
         Err(WordsFault::Usage) => CommandAnswer::of_no_command(alloc),
         Err(WordsFault::NoMemory) => Err(Failure::NoMemory),
     }
@@ -192,7 +97,7 @@ fn answer_to<F: Files, D: Driver, Q: Relay>(
 pub fn ipdl<F: Files, O: Sink, E: Sink, D: Driver, Q: Relay>(
     alloc: Global,
     words: &[String],
-    files: &mut F,
+    files: &mut RecordedFiles<F>,
     out: &mut O,
     err: &mut E,
     driver: &mut D,
@@ -210,12 +115,21 @@ pub fn ipdl<F: Files, O: Sink, E: Sink, D: Driver, Q: Relay>(
         (record { old = E.written err.old; new = E.written err.new }) }
 
     // The status is that of an answer, of which all was written; or a write failed, and a front of one was.
-    ensures answer { ForMap (F.told files.old) (λ map'. IsOutcome (IsAnswer (D.Gives driver.old) (Q.Gives relay.old) map' (map string_bytes words.now)) result
+    ensures answer { ForMap (F.told (files_of files.old)) (λ map'. IsOutcome (IsAnswer (D.Gives driver.old) (Q.Gives relay.old) map' (map string_bytes words.now)) result
         (record { old = O.written out.old; new = O.written out.new })
         (record { old = E.written err.old; new = E.written err.new })) }
 
+    // So it is by what the reads of this call gave, for all views of the files that agree with them.
+    ensures reads { IsOutcomeOfReads (F.told (files_of files.old)) (reads_of files.old) (reads_of files.new)
+        (λ seen. IsAnswer (D.Gives driver.old) (Q.Gives relay.old) seen (map string_bytes words.now)) result
+        (record { old = O.written out.old; new = O.written out.new })
+        (record { old = E.written err.old; new = E.written err.new }) }
+
+    // The first read that fails ends the call, and comes before any report.
+    ensures ended { IsStatusOfReads result (reads_of files.old) (reads_of files.new) }
+
     // What only failures give, whatever the files tell.
-    ensures read_fault { result ≡ Status.ReadFault → Rose (F.faults files.old) (F.faults files.new) }
+    ensures read_fault { result ≡ Status.ReadFault → Rose (F.faults (files_of files.old)) (F.faults (files_of files.new)) }
     ensures write_fault { result ≡ Status.WriteFault → Rose (O.faults out.old) (O.faults out.new) ⊎ Rose (E.faults err.old) (E.faults err.new) }
     ensures nothing { (result ≡ Status.ReadFault) ⊎ (result ≡ Status.NoMemory) → (out.new ≡ out.old) × (err.new ≡ err.old) }
 

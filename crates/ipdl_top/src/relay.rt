@@ -1,34 +1,28 @@
-ghost use Rattle.std.specs.Prelude.{◌≡◌, ◌≤◌, ◌∷◌, ◌++◌, [], ℕ, Err, IfOk, List, Option, codes, map, string_bytes};
-ghost use Rattle.std.specs.Option.{option_copied};
+//! The command that runs a script over two queues.
+ghost use Rattle.std.specs.Prelude.{◌≡◌, ◌≤◌, ℕ, IfOk, List, Option};
 ghost use Rattle.handler_script.specs.Valid.{IsValid};
-ghost use Rattle.include_graph.specs.Keys.{AreFileWords};
-ghost use Rattle.include_graph.specs.Load as load;
-ghost use Rattle.ipdl_base.specs.Outside.{Rose};
 ghost use Rattle.ipdl_base.specs.Sound.{IsSound};
 ghost use Rattle.world_core.specs.Worlds.{most_events};
-ghost use Rattle.ipdl_top.specs.FileViews.{ForMap};
 ghost use Rattle.ipdl_top.specs.Relay.{SaysRelayed, half_lines, halves_text};
 ghost use Rattle.ipdl_top.specs.RelaySteps.{IsTextAnswer, relay_course, relay_says};
-ghost use Rattle.ipdl_top.specs.Steps.{HasTop, IsFileAnswer, IsHeld, IsSmall, IsSoundChecked, IsToldOf};
+ghost use Rattle.ipdl_top.specs.Steps.{HasTop, IsHeld, IsSmall, IsSoundChecked, IsToldOf};
 ghost use Rattle.ipdl_top.specs.Waits.{IsTop};
 ghost use Rattle.history.specs.Text.{transcript_text};
 
 use crate::answer::CommandAnswer;
 use crate::checked::CheckResult;
-use crate::compile::{checked, leave};
-use crate::held::read_file;
+use crate::compile::leave;
 use crate::run::{spent_line, with_ending};
 use crate::scripts::{ScriptCheck, script_checked};
 use crate::status::Status;
 use handler_script::Script;
 use history::{History, history_text};
-use ipdl_base::{Failure, FileBytes, Files, MOST_BYTES, Schema};
+use ipdl_base::{FileBytes, Schema};
 use law_statements::{decides_fallen, decides_readable, laws_want_readable_lines};
 use line_laws::texts_see_no_box;
 use relay_laws::relays_obey_alone;
 use schedules::Stop;
 use std::alloc::{AllocError, Global};
-use std::slice::from_ref;
 use world_core::{Halves, Relay, RunAnswer, World};
 
 /// A script to run over two queues, and how.
@@ -140,8 +134,9 @@ fn held_answer<Q: Relay>(
     }
 }
 
-/// The answer by what was found of the files of a command and of the script.
-fn checked_answer<Q: Relay>(
+/// Answers the command that runs a script over two queues: the report on the files, or the rules that the script breaks, or
+/// what each end has seen, and how it ended.
+pub fn answer_relay<Q: Relay>(
     alloc: Global,
     checked: CheckResult,
     file: &str,
@@ -165,51 +160,4 @@ fn checked_answer<Q: Relay>(
             answer
         }
     }
-}
-
-/// Reads the script, and answers by what was found of the files of a command.
-fn answer_with<F: Files, Q: Relay>(
-    alloc: Global,
-    files: &mut F,
-    checked: CheckResult,
-    file: &str,
-    wanted: &RelayRequest<'_>,
-    relay: &mut Q,
-) -> Result<CommandAnswer, Failure>
-    requires sound { IsSoundChecked checked }
-    requires top { HasTop file.now checked }
-    requires limit { wanted.now.limit ≤ most_events }
-    requires ready { Q.ready relay.old }
-    ensures answer { load.ForMap (F.told files.old)
-        (λ map'. IfOk result (IsToldOf (relay_says (Q.Gives relay.old) wanted.now
-        (map' wanted.now.script.now) file.now) checked)) }
-    ensures read_fault { result ≡ Err Failure.ReadFault → Rose (F.faults files.old) (F.faults files.new) }
-{
-    let held = read_file(alloc, files, wanted.script, MOST_BYTES)?;
-    Ok(checked_answer(alloc, checked, file, wanted, &held, relay)?)
-}
-
-/// The command that runs a script over two queues: the report on the file and on what it includes by
-/// the path, with this sync list; or the rules that the script breaks; or what each end has seen, and
-/// how it ended.
-pub fn relay_script<F: Files, Q: Relay>(
-    alloc: Global,
-    files: &mut F,
-    list: Option<&str>,
-    path: &[String],
-    file: &String,
-    wanted: &RelayRequest<'_>,
-    relay: &mut Q,
-) -> Result<CommandAnswer, Failure>
-    requires words { AreFileWords (string_bytes file.now ∷ []) }
-    requires ending { (front : List ℕ) × (string_bytes file.now ≡ front ++ codes ".ipdl") }
-    requires limit { wanted.now.limit ≤ most_events }
-    requires ready { Q.ready relay.old }
-    ensures answer { ForMap (F.told files.old) (λ seen. IfOk result
-        (IsFileAnswer (relay_says (Q.Gives relay.old) wanted.now (seen.script wanted.now.script.now) (string_bytes file.now))
-        seen (map string_bytes path.now) (string_bytes file.now) (option_copied list.entry))) }
-    ensures read_fault { result ≡ Err Failure.ReadFault → Rose (F.faults files.old) (F.faults files.new) }
-{
-    let found = checked(alloc, files, list, path, from_ref(file))?;
-    answer_with(alloc, files, found, file.as_str(), wanted, relay)
 }

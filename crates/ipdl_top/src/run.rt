@@ -1,9 +1,7 @@
-ghost use Rattle.std.specs.Prelude.{◌≡◌, ◌≤◌, ◌∷◌, ◌++◌, [], ℕ, Err, IfOk, List, Option, codes, map, string_bytes};
+//! The command that runs a script.
+ghost use Rattle.std.specs.Prelude.{◌≡◌, ◌≤◌, ◌++◌, [], ℕ, IfOk, List, Option};
 ghost use Rattle.std.specs.Option.{option_copied};
 ghost use Rattle.handler_script.specs.Valid.{IsValid};
-ghost use Rattle.include_graph.specs.Keys.{AreFileWords};
-ghost use Rattle.include_graph.specs.Load as load;
-ghost use Rattle.ipdl_base.specs.Outside.{Rose};
 ghost use Rattle.ipdl_base.specs.Sound.{IsSound};
 ghost use Rattle.ipdl_base.specs.declared.line.Line.{Line};
 ghost use Rattle.ipdl_top.specs.declared.rendering.Rendering.{Rendering as Shown};
@@ -12,26 +10,23 @@ ghost use Rattle.script_steps.specs.Turns.{at_limit};
 ghost use Rattle.world_core.specs.Turns.{StandsAs};
 ghost use Rattle.world_core.specs.WorldView.{WorldView};
 ghost use Rattle.world_core.specs.Worlds.{IsCase, IsLawful, most_events};
-ghost use Rattle.ipdl_top.specs.FileViews.{ForMap};
 ghost use Rattle.ipdl_top.specs.Run.{SaysHistory, rendered};
 ghost use Rattle.ipdl_top.specs.RunSteps.{IsMadeUnless, IsPrinted, course_of, run_says};
-ghost use Rattle.ipdl_top.specs.Steps.{HasTop, IsFileAnswer, IsHeld, IsSmall, IsSoundChecked, IsToldOf};
+ghost use Rattle.ipdl_top.specs.Steps.{HasTop, IsHeld, IsSmall, IsSoundChecked, IsToldOf};
 ghost use Rattle.ipdl_top.specs.Waits.{IsTop};
 
 use crate::answer::CommandAnswer;
 use crate::checked::CheckResult;
-use crate::compile::{checked, leave};
-use crate::held::read_file;
+use crate::compile::leave;
 use crate::rendering::Rendering;
 use crate::scripts::{ScriptCheck, script_checked};
 use crate::status::Status;
 use generated_case::{Counts, summary_text};
 use handler_script::Script;
-use ipdl_base::{Failure, FileBytes, Files, Items, MOST_BYTES, Schema, Side};
+use ipdl_base::{FileBytes, Items, Schema, Side};
 use schedules::{Stop, Turn};
 use script_steps::choices_are_runs;
 use std::alloc::{AllocError, Global};
-use std::slice::from_ref;
 use world_core::{Driver, RunAnswer, World};
 use world_laws::histories_are_lawful;
 
@@ -41,7 +36,7 @@ pub struct RunRequest<'w> {
     /// The name of the script.
     pub script: &'w str,
     /// The turns of the sides, where they are given.
-    pub schedule: Option<Vec<Turn>>,
+    pub schedule: Option<&'w [Turn]>,
     /// The most events of a side.
     pub limit: u32,
     /// The death of an end, where one is given.
@@ -160,7 +155,7 @@ fn history_answer<D: Driver>(
     choices_are_runs();
     histories_are_lawful();
     let world = World::open(alloc, schema, script, wanted.death, wanted.limit)?;
-    let (world, ending) = driven(world, wanted.schedule.as_deref(), driver);
+    let (world, ending) = driven(world, wanted.schedule, driver);
     world_answer(alloc, world, wanted.rendering, ending)
 }
 
@@ -189,8 +184,9 @@ fn held_answer<D: Driver>(
     }
 }
 
-/// The answer by what was found of the files of a command and of the script.
-fn checked_answer<D: Driver>(
+/// Answers the command that runs a script: the report on the files, or the rules that the script breaks, or what is wanted of a
+/// history of both ends, and how it ended.
+pub fn answer_run<D: Driver>(
     alloc: Global,
     checked: CheckResult,
     file: &str,
@@ -214,51 +210,4 @@ fn checked_answer<D: Driver>(
             answer
         }
     }
-}
-
-/// Reads the script, and answers by what was found of the files of a command.
-fn answer_with<F: Files, D: Driver>(
-    alloc: Global,
-    files: &mut F,
-    checked: CheckResult,
-    file: &str,
-    wanted: &RunRequest<'_>,
-    driver: &mut D,
-) -> Result<CommandAnswer, Failure>
-    requires sound { IsSoundChecked checked }
-    requires top { HasTop file.now checked }
-    requires limit { wanted.now.limit ≤ most_events }
-    requires ready { D.ready driver.old }
-    ensures answer { load.ForMap (F.told files.old)
-        (λ map'. IfOk result (IsToldOf (run_says (D.Gives driver.old) wanted.now
-        (map' wanted.now.script.now) file.now) checked)) }
-    ensures read_fault { result ≡ Err Failure.ReadFault → Rose (F.faults files.old) (F.faults files.new) }
-{
-    let held = read_file(alloc, files, wanted.script, MOST_BYTES)?;
-    Ok(checked_answer(alloc, checked, file, wanted, &held, driver)?)
-}
-
-/// The command that runs a script: the report on the file and on what it includes by the path, with
-/// this sync list; or the rules that the script breaks; or what is wanted of a history of both ends,
-/// and how it ended.
-pub fn run<F: Files, D: Driver>(
-    alloc: Global,
-    files: &mut F,
-    list: Option<&str>,
-    path: &[String],
-    file: &String,
-    wanted: &RunRequest<'_>,
-    driver: &mut D,
-) -> Result<CommandAnswer, Failure>
-    requires words { AreFileWords (string_bytes file.now ∷ []) }
-    requires ending { (front : List ℕ) × (string_bytes file.now ≡ front ++ codes ".ipdl") }
-    requires limit { wanted.now.limit ≤ most_events }
-    requires ready { D.ready driver.old }
-    ensures answer { ForMap (F.told files.old) (λ seen. IfOk result
-        (IsFileAnswer (run_says (D.Gives driver.old) wanted.now (seen.script wanted.now.script.now) (string_bytes file.now))
-        seen (map string_bytes path.now) (string_bytes file.now) (option_copied list.entry))) }
-    ensures read_fault { result ≡ Err Failure.ReadFault → Rose (F.faults files.old) (F.faults files.new) }
-{
-    let found = checked(alloc, files, list, path, from_ref(file))?;
-    answer_with(alloc, files, found, file.as_str(), wanted, driver)
 }

@@ -1,33 +1,26 @@
-ghost use Rattle.std.specs.Prelude.{◌≡◌, ◌≤◌, ◌∷◌, ◌++◌, [], ℕ, Err, IfOk, List, Option, codes, length, map, string_bytes};
-ghost use Rattle.std.specs.Option.{option_copied};
+//! The command that audits a text.
+ghost use Rattle.std.specs.Prelude.{◌≡◌, ◌≤◌, ◌++◌, ℕ, IfOk, List, Option, length};
 ghost use Rattle.handler_script.specs.Valid.{IsValid};
-ghost use Rattle.include_graph.specs.Keys.{AreFileWords};
-ghost use Rattle.ipdl_base.specs.Outside.{HasAtMost, IsHeldWithin, Rose};
+ghost use Rattle.ipdl_base.specs.Outside.{HasAtMost, IsHeldWithin};
 ghost use Rattle.ipdl_base.specs.Sound.{IsSound};
 ghost use Rattle.transcript_reader.specs.Compared.{most_text_bytes};
 ghost use Rattle.world_core.specs.Worlds.{most_events};
 ghost use Rattle.ipdl_top.specs.Audit as told;
 ghost use Rattle.ipdl_top.specs.Audit.{SaysAudited, SaysAuditedOf, audit_answer, bad_line_answer, bad_transcript_answer};
-ghost use Rattle.ipdl_top.specs.AuditSteps.{AreHeld, AreSmall, audit_says};
-ghost use Rattle.ipdl_top.specs.FileViews.{ForMap};
-ghost use Rattle.ipdl_top.specs.Steps.{HasTop, IsFileAnswer, IsSoundChecked, IsToldOf};
+ghost use Rattle.ipdl_top.specs.AuditSteps.{audit_says};
+ghost use Rattle.ipdl_top.specs.Steps.{HasTop, IsHeld, IsSmall, IsSoundChecked, IsToldOf};
 ghost use Rattle.ipdl_top.specs.Waits.{IsTop};
 
 use crate::answer::CommandAnswer;
 use crate::audited::Audit;
 use crate::auditing::audit;
 use crate::checked::CheckResult;
-use crate::compile::{checked, leave};
-use crate::held::read_file;
+use crate::compile::leave;
 use crate::scripts::{ScriptCheck, script_checked};
 use crate::status::Status;
 use handler_script::Script;
-use ipdl_base::{Failure, FileBytes, Files, MOST_BYTES, Rule, Schema};
+use ipdl_base::{FileBytes, Rule, Schema};
 use std::alloc::{AllocError, Global};
-use std::slice::from_ref;
-
-/// The most bytes of a text that is audited.
-const MOST_TEXT_BYTES: usize = 16_777_216;
 
 /// A text to audit.
 #[derive(Drop)]
@@ -38,13 +31,6 @@ pub struct AuditRequest<'w> {
     pub transcript: &'w str,
     /// The most events of a side.
     pub limit: u32,
-}
-
-/// The files that an audit goes by, beside those of its program.
-#[derive(Drop)]
-struct AuditFiles {
-    script: FileBytes,
-    text: FileBytes,
 }
 
 /// The answer that the text of a file of this name is none that a run prints, with these words behind
@@ -135,102 +121,49 @@ fn held_answer(
     schema: &Schema,
     file: &str,
     wanted: &AuditRequest<'_>,
-    held: &AuditFiles,
+    held: &FileBytes,
+    text: &FileBytes,
 ) -> Result<CommandAnswer, AllocError>
-    requires small { AreSmall held.now }
+    requires small { IsSmall held.now }
+    requires text { HasAtMost most_text_bytes text.now }
     requires sound { IsSound schema.now }
     requires top { (top : ℕ) × IsTop file.now schema.now top }
     requires limit { wanted.now.limit ≤ most_events }
-    ensures { IfOk result (λ answer. (script text : Option (List ℕ)) → AreHeld script text held.now
-        → audit_says wanted.now script text file.now schema.now answer) }
+    ensures { IfOk result (λ answer. (script bytes : Option (List ℕ)) → IsHeld script held.now → IsHeldWithin most_text_bytes bytes text.now
+        → audit_says wanted.now script bytes file.now schema.now answer) }
 {
-    match script_checked(alloc, schema, file, wanted.script, &held.script)? {
+    match script_checked(alloc, schema, file, wanted.script, held)? {
         ScriptCheck::Broken(report) => {
             CommandAnswer::of_report(alloc, Status::BadScript, &report)
         }
-        ScriptCheck::Valid(script) => text_answer(alloc, schema, &script, wanted, &held.text),
+        ScriptCheck::Valid(script) => text_answer(alloc, schema, &script, wanted, text),
     }
 }
 
-/// The answer by what was found of the files of a command, of the script and of the text.
-fn checked_answer(
+/// Answers the command that audits a text: the report on the files, or the rules that the script breaks, or that there is no
+/// text to read, or how many events a run has that may print the text, or at which of its lines no run does (docs/audit.md).
+pub fn answer_audit(
     alloc: Global,
     checked: CheckResult,
     file: &str,
     wanted: &AuditRequest<'_>,
-    held: &AuditFiles,
+    held: &FileBytes,
+    text: &FileBytes,
 ) -> Result<CommandAnswer, AllocError>
-    requires small { AreSmall held.now }
+    requires small { IsSmall held.now }
+    requires text { HasAtMost most_text_bytes text.now }
     requires sound { IsSoundChecked checked }
     requires top { HasTop file.now checked }
     requires limit { wanted.now.limit ≤ most_events }
-    ensures { IfOk result (λ answer. (script text : Option (List ℕ)) → AreHeld script text held.now
-        → IsToldOf (audit_says wanted.now script text file.now) checked answer) }
+    ensures { IfOk result (λ answer. (script bytes : Option (List ℕ)) → IsHeld script held.now → IsHeldWithin most_text_bytes bytes text.now
+        → IsToldOf (audit_says wanted.now script bytes file.now) checked answer) }
 {
     match checked {
         CheckResult::Broken(report) => CommandAnswer::of_report(alloc, Status::Broken, &report),
         CheckResult::Clean(schema) => {
-            let answer = held_answer(alloc, &schema, file, wanted, held);
+            let answer = held_answer(alloc, &schema, file, wanted, held, text);
             leave(schema);
             answer
         }
     }
-}
-
-/// Reads the script, and then the text.
-fn read_files<F: Files>(
-    alloc: Global,
-    files: &mut F,
-    wanted: &AuditRequest<'_>,
-) -> Result<AuditFiles, Failure>
-    ensures held { ForMap (F.told files.old) (λ seen. IfOk result (AreHeld (seen.script wanted.now.script.now) (seen.input wanted.now.transcript.now))) }
-    ensures small { IfOk result AreSmall }
-    ensures read_fault { result ≡ Err Failure.ReadFault → Rose (F.faults files.old) (F.faults files.new) }
-{
-    let script = read_file(alloc, files, wanted.script, MOST_BYTES)?;
-    let text = read_file(alloc, files, wanted.transcript, MOST_TEXT_BYTES)?;
-    Ok(AuditFiles { script, text })
-}
-
-/// Reads the script and the text, and answers by what was found of the files of a command.
-fn answer_with<F: Files>(
-    alloc: Global,
-    files: &mut F,
-    checked: CheckResult,
-    file: &str,
-    wanted: &AuditRequest<'_>,
-) -> Result<CommandAnswer, Failure>
-    requires sound { IsSoundChecked checked }
-    requires top { HasTop file.now checked }
-    requires limit { wanted.now.limit ≤ most_events }
-    ensures answer { ForMap (F.told files.old) (λ seen. IfOk result
-        (IsToldOf (audit_says wanted.now (seen.script wanted.now.script.now) (seen.input wanted.now.transcript.now) file.now) checked)) }
-    ensures read_fault { result ≡ Err Failure.ReadFault → Rose (F.faults files.old) (F.faults files.new) }
-{
-    let held = read_files(alloc, files, wanted)?;
-    Ok(checked_answer(alloc, checked, file, wanted, &held)?)
-}
-
-/// The command that audits a text: the report on the file and on what it includes by the path, with
-/// this sync list; or the rules that the script breaks; or that there is no text to read; or how many
-/// events a run has that may print the text, or at which of its lines no run does (docs/audit.md).
-pub fn audit_transcript<F: Files>(
-    alloc: Global,
-    files: &mut F,
-    list: Option<&str>,
-    path: &[String],
-    file: &String,
-    wanted: &AuditRequest<'_>,
-) -> Result<CommandAnswer, Failure>
-    requires words { AreFileWords (string_bytes file.now ∷ []) }
-    requires ending { (front : List ℕ) × (string_bytes file.now ≡ front ++ codes ".ipdl") }
-    requires limit { wanted.now.limit ≤ most_events }
-    ensures answer { ForMap (F.told files.old) (λ seen. IfOk result
-        (IsFileAnswer (audit_says wanted.now (seen.script wanted.now.script.now)
-        (seen.input wanted.now.transcript.now) (string_bytes file.now)) seen (map string_bytes path.now)
-        (string_bytes file.now) (option_copied list.entry))) }
-    ensures read_fault { result ≡ Err Failure.ReadFault → Rose (F.faults files.old) (F.faults files.new) }
-{
-    let found = checked(alloc, files, list, path, from_ref(file))?;
-    answer_with(alloc, files, found, file.as_str(), wanted)
 }

@@ -1,22 +1,17 @@
-ghost use Rattle.std.specs.Prelude.{◌≡◌, ◌<◌, ◌++◌, ◌∷◌, [], ℕ, Err, IfOk, IfSome, IsOkUnless, List, MatchOption, OnOk, codes, length, map, string_bytes};
-ghost use Rattle.std.specs.Option.{option_copied};
+//! The command that lists what may interrupt a wait.
+ghost use Rattle.std.specs.Prelude.{◌≡◌, ◌<◌, ◌++◌, ℕ, IfOk, IfSome, MatchOption, OnOk, length};
 ghost use Rattle.std.specs.List.{position};
 ghost use Rattle.history.specs.Words as words;
-ghost use Rattle.ipdl_base.specs.Outside.{Rose};
 ghost use Rattle.ipdl_base.specs.Sound.{IsSound};
-ghost use Rattle.include_graph.specs.Keys.{AreFileWords};
-ghost use Rattle.ipdl_top.specs.FileViews.{ForMap};
-ghost use Rattle.ipdl_top.specs.Steps.{HasTop, IsFileAnswer, IsSoundChecked, IsToldOf};
+ghost use Rattle.ipdl_top.specs.Steps.{HasTop, IsSoundChecked, IsToldOf};
 ghost use Rattle.ipdl_top.specs.Waits.{IsTop, SaysWaits, bears_name, pair_line, waits_text};
 
 use crate::answer::CommandAnswer;
 use crate::checked::CheckResult;
-use crate::compile::checked;
 use crate::status::Status;
 use history::push_message;
-use ipdl_base::{Failure, Files, PROTOCOL_ENDING, ProtocolRow, Schema, Side, key_of, short_name};
+use ipdl_base::{PROTOCOL_ENDING, ProtocolRow, Schema, Side, key_of, short_name};
 use std::alloc::{AllocError, Global};
-use std::slice::from_ref;
 use wait_report::{Pair, pairs};
 
 /// Whether a protocol bears the name of a file.
@@ -97,36 +92,18 @@ fn waits_answer(alloc: Global, schema: &Schema, file: &str) -> Result<CommandAns
     Ok(CommandAnswer::of_table(alloc, text))
 }
 
-/// The answer by what was found of a file.
-fn checked_answer(alloc: Global, checked: CheckResult, file: &str) -> Result<CommandAnswer, Failure>
+/// Answers the command that lists what may interrupt a wait: the report on the files, or the lines of the pairs.
+pub fn answer_waits(
+    alloc: Global,
+    checked: CheckResult,
+    file: &str,
+) -> Result<CommandAnswer, AllocError>
     requires sound { IsSoundChecked checked }
     requires top { HasTop file.now checked }
-    ensures answer { IfOk result (IsToldOf (SaysWaits file.now) checked) }
-    ensures memory { IsOkUnless result Failure.NoMemory }
+    ensures { IfOk result (IsToldOf (SaysWaits file.now) checked) }
 {
     match checked {
-        CheckResult::Broken(report) => {
-            Ok(CommandAnswer::of_report(alloc, Status::Broken, &report)?)
-        }
-        CheckResult::Clean(schema) => Ok(waits_answer(alloc, &schema, file)?),
+        CheckResult::Broken(report) => CommandAnswer::of_report(alloc, Status::Broken, &report),
+        CheckResult::Clean(schema) => waits_answer(alloc, &schema, file),
     }
-}
-
-/// The command that lists what may interrupt a wait: the report on the file and on what it includes
-/// by the path, with this sync list, or the lines of the pairs.
-pub fn waits<F: Files>(
-    alloc: Global,
-    files: &mut F,
-    list: Option<&str>,
-    path: &[String],
-    file: &String,
-) -> Result<CommandAnswer, Failure>
-    requires words { AreFileWords (string_bytes file.now ∷ []) }
-    requires ending { (front : List ℕ) × (string_bytes file.now ≡ front ++ codes ".ipdl") }
-    ensures answer { ForMap (F.told files.old) (λ seen. IfOk result
-        (IsFileAnswer (SaysWaits (string_bytes file.now)) seen (map string_bytes path.now) (string_bytes file.now) (option_copied list.entry))) }
-    ensures read_fault { result ≡ Err Failure.ReadFault → Rose (F.faults files.old) (F.faults files.new) }
-{
-    let found = checked(alloc, files, list, path, from_ref(file))?;
-    checked_answer(alloc, found, file.as_str())
 }

@@ -2,4 +2,4 @@ pub mod NeighbourLemmas
 pub mod KeyTest
 pub mod ChainLemmas
 pub mod ChosenLemmas
-mod Walks
+pub mod Walks

@@ -7,6 +7,7 @@ ghost use Rattle.ipdl_base.specs.Sound.{IsSound};
 ghost use Rattle.ipdl_syntax.specs.Programs.{IsProgram, BearTheirNames};
 
 use actor_tables::schema;
+use file_log::RecordedFiles;
 use include_graph::{LoadResult, are_file_words, load};
 use ipdl_base::{MemoryFiles, Schema};
 use ipdl_syntax::Program;
@@ -17,7 +18,7 @@ use std::test::Fail;
 use type_rules::add_of_types;
 
 /// The program that a file of these reaches, which breaks no rule of files.
-fn program(alloc: Global, mut files: MemoryFiles, word: &str) -> Result<Program, Fail>
+fn program(alloc: Global, files: MemoryFiles, word: &str) -> Result<Program, Fail>
     ensures program { IfOk result IsProgram }
     ensures names { IfOk result BearTheirNames }
 {
@@ -26,6 +27,7 @@ fn program(alloc: Global, mut files: MemoryFiles, word: &str) -> Result<Program,
     if !are_file_words(words.as_slice()) {
         return Err("no words of files".into());
     }
+    let mut files = RecordedFiles::new(files);
     match load(alloc, &mut files, words.as_slice(), path.as_slice())? {
         LoadResult::Whole(program) => Ok(program),
         LoadResult::Broken(_) => Err("a program that breaks rules on files".into()),

@@ -1,27 +1,14 @@
-use Rattle.std.proofs.Common.{◌≡◌, ℕ, ◌+◌, ◌<◌, Bool, true, false, List, ◌∷◌, [], ◌++◌, length, map, take, get_or, sym, ap, ◌∙◌, subst, string_bytes, String, Global, Bor, not, if◌then◌else◌, refl}
+use Rattle.std.proofs.Common.{◌≡◌, ℕ, List, ◌∷◌, [], ◌++◌, map, take, sym, ap, ◌∙◌, subst, string_bytes, String, Global, Bor, not, if◌then◌else◌}
 use Rattle.std.specs.List.{list_any}
 use Rattle.std.specs.declared.vec.Vec.{Vec}
-use Rattle.std.proofs.lemmas.List.{take_more, map-append}
+use Rattle.std.proofs.lemmas.List.{map-append}
 use Rattle.include_graph.specs.Growth.{HasWords}
 use Rattle.ipdl_base.specs.FileNames.{key_of}
 use Rattle.include_graph.specs.Keys.{is_same}
+use Rattle.include_graph.proofs.Inserted.{kept, more_texts, turned}
 use Rattle.include_graph.proofs.WordKeys.{words_old, words_new}
 use Rattle.include_graph.proofs.walk.add_words.Goals as goal
 use Rattle.include_graph.proofs.walk.add_words.Goals.{then-branch+in_ok-push, else-branch}
-
--- one more word, as bytes
-more : (words : List (String Global)) (i : ℕ) (d : String Global) → i < length words → map string_bytes (take (i + 1) words) ≡ map string_bytes (take i words) ++ string_bytes (get_or words i d) ∷ []
-more words i d within = ap (map string_bytes) (take_more words i d within) ∙ map-append string_bytes (take i words) (get_or words i d ∷ [])
-
-turned : (t b : Bool) → t ≡ not b → t ≡ true → b ≡ false
-turned true true e h = e
-turned true false e h = refl
-turned false b e h = absurd (let none : ⊥ = cc in none)
-
-kept : (t b : Bool) → t ≡ not b → t ≡ false → b ≡ true
-kept false true e h = refl
-kept false false e h = e
-kept true b e h = absurd (let none : ⊥ = cc in none)
 
 pub loop-word-preserved : goal.loop-word-preserved
 loop-word-preserved c =
@@ -31,7 +18,7 @@ loop-word-preserved c =
     let list = c.loop-word.keys.keys in
     let firsts = map (λ (f : Bor (List ℕ)). f.now) c.loop-word.firsts.items in
     let before = map string_bytes (take i words) in
-    let front = ap (λ (s : String Global). before ++ string_bytes s ∷ []) c.word-item.is ∙ sym (more words i c.word-item.result c.loop-word-test.true) in
+    let front = ap (λ (s : String Global). before ++ string_bytes s ∷ []) c.word-item.is ∙ sym (more_texts words i c.word-item.result c.loop-word-test.true) in
     let is : c.in_ok-key.key ≡ key_of word = c.in_ok-key.ensures.ok ∙ (c.key_of.ensures ∙ ap key_of c.as_bytes.ensures.value) in
     let put = subst (λ k. c.insert.new.self.keys ≡ (if list_any (is_same k) list then list else list ++ k ∷ [])) is c.in_ok-insert.ensures.keys in
     let added = subst (λ k. c.in_ok-insert.field-0 ≡ not (list_any (is_same k) list)) is c.in_ok-insert.ensures.added in

@@ -9,14 +9,14 @@ use Rattle.ipdl_top.proofs.feed.held_answer.Goals as goal
 pub returns-in-Broken : goal.returns-in-Broken
 returns-in-Broken c =
     IfOk-weaker c.of_report.result _ _
-    (λ answer says script bytes held.
+    (λ answer says script bytes held fed.
     of_broken (SaysFedOf (feed_course c.args.wanted.now) c.args.wanted.now.frames.now bytes c.args.schema.now) c.args.wanted.now.script.now script c.args.file.now c.args.schema.now c.in-Broken.report answer
-    (subst (IsScriptChecked c.args.wanted.now.script.now script c.args.file.now c.args.schema.now) c.in-Broken.is (c.in_ok-report.ensures.found script held.script_is)) says)
+    (subst (IsScriptChecked c.args.wanted.now.script.now script c.args.file.now c.args.schema.now) c.in-Broken.is (c.in_ok-report.ensures.found script held)) says)
     c.of_report.ensures
 
 pub returns-in-Valid : goal.returns-in-Valid
 returns-in-Valid c =
     IfOk-weaker c.frames_answer.result _ _
-    (λ answer says script bytes held.
+    (λ answer says script bytes held fed.
     of_valid (SaysFedOf (feed_course c.args.wanted.now) c.args.wanted.now.frames.now bytes c.args.schema.now) c.args.wanted.now.script.now script c.args.file.now c.args.schema.now c.in-Valid.script answer
-    (subst (IsScriptChecked c.args.wanted.now.script.now script c.args.file.now c.args.schema.now) c.in-Valid.is (c.in_ok-report.ensures.found script held.script_is)) (says bytes held.frames_is)) c.frames_answer.ensures
+    (subst (IsScriptChecked c.args.wanted.now.script.now script c.args.file.now c.args.schema.now) c.in-Valid.is (c.in_ok-report.ensures.found script held)) (says bytes fed)) c.frames_answer.ensures

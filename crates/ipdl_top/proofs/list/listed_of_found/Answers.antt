@@ -1,4 +1,4 @@
-use Rattle.std.proofs.Common.{◌≡◌, List, ℕ, inl, inr, refl, subst, sym}
+use Rattle.std.proofs.Common.{List, ℕ, inl, inr, refl, subst, sym}
 use Rattle.std.specs.Prelude.{Option, Some}
 use Rattle.std.proofs.lemmas.Result.{IfOk-weaker}
 use Rattle.ipdl_top.specs.Steps.{IsFound, IsHeld}

@@ -1,0 +1,5 @@
+pub mod Acts
+pub mod Weights
+pub mod Progress
+pub mod Rest
+pub mod Promises
