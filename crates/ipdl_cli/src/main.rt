@@ -5,16 +5,14 @@ ghost use Rattle.std.specs.Prelude.{◌≡◌, ◌⊎◌, ◌<◌, [], map, stri
 ghost use Rattle.std.specs.Process.{exit_status};
 ghost use Rattle.file_log.specs.Recorded.{reads_of};
 ghost use Rattle.command_words.specs.Command.{IsNoCommand};
+ghost use Rattle.host_io.specs.Streams.{IsUnused, bytes_of, faults_of};
 ghost use Rattle.ipdl_cli.specs.Ending.{AnswersByReads, IsCode};
-ghost use Rattle.ipdl_cli.specs.Streams.{IsUnused, bytes_of, faults_of};
 
 mod edge;
-mod real;
-mod write_log;
 
 use crate::edge::{behind_name, exit_code_of};
-use crate::real::{RealFiles, RealSink};
 use file_log::RecordedFiles;
+use host_io::{RealFiles, RealSink};
 use ipdl_top::Status;
 use queue_link::TwoQueues;
 use std::alloc::AllocError;

@@ -4,8 +4,8 @@ use Rattle.file_log.specs.Log.{ReadEntry}
 use Rattle.ipdl_top.specs.Codes.{code_of}
 use Rattle.ipdl_top.specs.FileViews.{FileViews}
 use Rattle.ipdl_top.specs.declared.answer.CommandAnswer.{CommandAnswer}
+use Rattle.host_io.specs.Streams.{bytes_of}
 use Rattle.ipdl_cli.specs.Ending.{EndsByReads, IsAnswerTo, only_written}
-use Rattle.ipdl_cli.specs.Streams.{bytes_of}
 use Rattle.ipdl_cli.proofs.run.Goals as goal
 
 -- how a call ends before which nothing was read or written
