@@ -1,3 +1,5 @@
 pub mod HalfRuns
 pub mod TurnEnds
+pub mod TurnSteps
 mod WorkedRelays
+mod WorkedStarts

@@ -9,7 +9,8 @@ use Rattle.channel_model.specs.Outputs.{is_open}
 use Rattle.script_steps.specs.Choices.{Setting}
 use Rattle.script_steps.specs.Turns.{RunEnding, at_limit, at_rest}
 use Rattle.relay_runs.specs.HalfRuns.{is_within, own_event}
-use Rattle.relay_runs.specs.Relays.{EndsAs, RelayState, RelayTurns, exceeds, goes_on, half_of, has_left, idles, leads, next_packet, packet_turn, passes, relay_turn, rests, stops, turn_by}
+use Rattle.relay_runs.specs.RelaySteps.{RelayState, half_of, next_packet}
+use Rattle.relay_runs.specs.Relays.{EndsAs, RelayTurns, exceeds, goes_on, has_left, idles, leads, packet_turn, passes, relay_turn, rests, stops, turn_by}
 
 -- what a side may do at the limit leads nowhere, and within it somewhere
 led : (b : Bool) (next : RelayState) → (if b then leads next else exceeds) ≡ idles → ⊥
