@@ -1,3 +1,4 @@
+pub mod Sides
 pub mod HalfRuns
 pub mod TurnEnds
 pub mod TurnSteps
