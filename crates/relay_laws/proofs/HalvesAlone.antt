@@ -6,14 +6,12 @@ use Rattle.ipdl_base.specs.declared.kinds.Side.TheVariants as sides
 use Rattle.ipdl_base.specs.Sound.{IsSound}
 use Rattle.channel_model.specs.Ends.{End, Packet, mark}
 use Rattle.channel_model.specs.Fitting.{FitsPacket}
-use Rattle.channel_model.specs.Numbers.{other}
 use Rattle.channel_model.specs.Refusals.{DeliveryRefusal, packet_refusal}
 use Rattle.script_steps.specs.Choices.{Setting}
 use Rattle.alone_laws.proofs.AloneRuns.{one_end_obeys_alone, one_end_obeys_fallen}
 use Rattle.alone_laws.specs.AloneRuns.{RunsAlone}
 use Rattle.alone_laws.specs.AloneRuns as alone
 use Rattle.relay_runs.specs.HalfRuns.{HalfRun, HalfState, begins, acts, gets, delivered_for}
-use Rattle.relay_runs.specs.Relays.{ComeInOrder, IsRelay, RelayState, half_of}
 use Rattle.relay_runs.proofs.HalfRuns.{marks_come_last}
 use Rattle.relay_laws.specs.Laws.{HalfRunsRunAlone, ObeysAlone, RelaysObeyAlone}
 

@@ -8,8 +8,10 @@ use Rattle.channel_model.specs.Numbers.{other}
 use Rattle.channel_model.specs.Outputs.{is_open}
 use Rattle.script_steps.specs.Choices.{Setting}
 use Rattle.script_steps.specs.Turns.{RunEnding, at_limit, at_rest}
+use Rattle.relay_runs.proofs.Sides.{twice}
 use Rattle.relay_runs.specs.HalfRuns.{is_within, own_event}
-use Rattle.relay_runs.specs.Relays.{EndsAs, RelayState, RelayTurns, exceeds, goes_on, half_of, has_left, idles, leads, next_packet, packet_turn, passes, relay_turn, rests, stops, turn_by}
+use Rattle.relay_runs.specs.RelaySteps.{RelayState, half_of, next_packet}
+use Rattle.relay_runs.specs.Relays.{EndsAs, RelayTurns, exceeds, goes_on, has_left, idles, leads, packet_turn, passes, relay_turn, rests, stops, turn_by}
 
 -- what a side may do at the limit leads nowhere, and within it somewhere
 led : (b : Bool) (next : RelayState) → (if b then leads next else exceeds) ≡ idles → ⊥
@@ -61,10 +63,6 @@ module _ (setting : Setting) (side : Side) (state : RelayState) where
 both-idle : (setting : Setting) (side : Side) (state : RelayState) → relay_turn setting side state ≡ idles → relay_turn setting (other side) state ≡ idles → EndsAs setting state at_rest
 both-idle setting sides.Parent state is facing = (idles-so setting sides.Parent state is, idles-so setting sides.Child state facing)
 both-idle setting sides.Child state is facing = (idles-so setting sides.Parent state facing, idles-so setting sides.Child state is)
-
-twice : (side : Side) → other (other side) ≡ side
-twice sides.Parent = refl
-twice sides.Child = refl
 
 -- where the other side has idled, if one turn or none may still do so, and this side too, if none may
 ends : (setting : Setting) (side : Side) (idle : ℕ) (state last : RelayState) (ending : RunEnding) → (idle ≤ 1 → relay_turn setting (other side) state ≡ idles) → (idle ≤ 0 → relay_turn setting side state ≡ idles)

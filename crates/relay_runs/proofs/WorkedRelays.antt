@@ -25,7 +25,8 @@ use Rattle.handler_script.specs.declared.term.Terms.TheVariants as terms
 use Rattle.script_reader.specs.declared.written.Who.TheVariants as who
 use Rattle.script_steps.specs.Choices.{Setting}
 use Rattle.script_steps.specs.Turns.{RunEnding, at_limit, at_rest}
-use Rattle.relay_runs.specs.Relays.{opening_relay, relayed}
+use Rattle.relay_runs.specs.RelaySteps.{opening_relay}
+use Rattle.relay_runs.specs.Relays.{relayed}
 
 -- What a relay shows.
 record Shown : Type 0 where

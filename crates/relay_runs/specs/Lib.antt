@@ -1,3 +1,4 @@
 pub mod HalfRuns
+pub mod RelaySteps
 pub mod Relays
 pub mod Laws

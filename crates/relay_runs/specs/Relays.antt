@@ -1,7 +1,6 @@
 -- Both ends of a run apart from one another: what one has sent comes to the other in order, and nothing is common to them.
-use Rattle.std.specs.Prelude.{◌≡◌, ℕ, zero, suc, Bool, true, false, ◌&&◌, ◌||◌, if◌then◌else◌, List, [], ◌∷◌, ◌++◌, drop, length, Option, Some, None, is_some}
+use Rattle.std.specs.Prelude.{◌≡◌, ℕ, zero, suc, Bool, true, false, ◌&&◌, ◌||◌, if◌then◌else◌, List, [], ◌∷◌, ◌++◌, Option, Some, None, is_some}
 use Rattle.std.specs.Option.{option_map_or}
-use Rattle.handler_script.specs.ScriptOf.{first_of}
 use Rattle.ipdl_base.specs.declared.kinds.Side.{Side}
 use Rattle.ipdl_base.specs.declared.kinds.Side.TheVariants as sides
 use Rattle.ipdl_base.specs.declared.line.Line.{Line}
@@ -13,28 +12,8 @@ use Rattle.channel_model.specs.Outputs.{is_open}
 use Rattle.channel_model.specs.Steps.{step}
 use Rattle.script_steps.specs.Choices.{Setting}
 use Rattle.script_steps.specs.Turns.{RunEnding, at_limit, at_rest}
-use Rattle.relay_runs.specs.HalfRuns.{HalfRun, HalfState, behind, behind_packet, delivered_for, is_within, opening_half, own_event}
-
--- how far both ends have come
-pub record RelayState : Type 0 where
-  pub parent : HalfState
-  pub child : HalfState
-
-abbrev pub half_of : Side → RelayState → HalfState
-half_of sides.Parent state = state.parent
-half_of sides.Child state = state.child
-
-abbrev pub with_half : Side → HalfState → RelayState → RelayState
-with_half sides.Parent half state = record state { parent = half }
-with_half sides.Child half state = record state { child = half }
-
--- both ends as they begin
-abbrev pub opening_relay : Setting → RelayState
-opening_relay setting = record { parent = opening_half setting sides.Parent; child = opening_half setting sides.Child }
-
--- what comes to a side next: of what the other has sent, the first that did not come yet
-abbrev pub next_packet : Side → RelayState → Option Packet
-next_packet side state = first_of (drop (length (half_of side state).came) (half_of (other side) state).sent)
+use Rattle.relay_runs.specs.HalfRuns.{HalfRun, HalfState, behind, behind_packet, delivered_for, is_within, own_event}
+use Rattle.relay_runs.specs.RelaySteps.{IsRelay, RelayState, half_of, next_packet, opening_relay, with_half}
 
 -- whether a side has something left to do: a step of its own or, while it is open, a packet that has not come
 abbrev pub has_left : Setting → Side → RelayState → Bool
@@ -45,12 +24,13 @@ abbrev pub EndsAs : Setting → RelayState → RunEnding → Type 0
 EndsAs setting state at_rest = (has_left setting sides.Parent state ≡ false) × (has_left setting sides.Child state ≡ false)
 EndsAs setting state (at_limit side) = (has_left setting side state ≡ true) × (is_within setting side (half_of side state) ≡ false)
 
--- What came to a side is a front of what the other has sent.
+-- What came to a side is a prefix of what the other has sent.
 abbrev pub ComeInOrder : Side → RelayState → Type 0
 ComeInOrder side state = (waiting : List Packet) × ((half_of (other side) state).sent ≡ (half_of side state).came ++ waiting)
 
--- Both ends have come so far apart from one another.
-pub record IsRelay (setting : Setting) (state : RelayState) : Type 0 where
+-- Each end has come so far by itself, and what came to it is a prefix of what the other has sent. Of the order in which they
+-- went on nothing is said: two ends may each have been begun by what the other sent only after that.
+pub record IsHalfRunPair (setting : Setting) (state : RelayState) : Type 0 where
   pub parent_runs : HalfRun setting sides.Parent state.parent
   pub child_runs : HalfRun setting sides.Child state.child
   pub to_parent : ComeInOrder sides.Parent state

@@ -4,4 +4,4 @@
 
 mod laws;
 
-pub use laws::marks_come_last;
+pub use laws::{marks_come_last, turns_are_relays};

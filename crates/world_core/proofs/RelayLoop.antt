@@ -18,9 +18,12 @@ use Rattle.channel_core.specs.EndView.{IsFramed, packet_of}
 use Rattle.script_steps.specs.Choices.{Setting}
 use Rattle.script_steps.specs.Progress.{progress_of}
 use Rattle.script_steps.specs.Turns.{RunEnding, at_limit, at_rest}
+use Rattle.relay_runs.proofs.Sides.{half-here, half-there}
 use Rattle.relay_runs.proofs.TurnEnds.{turns-end}
+use Rattle.relay_runs.proofs.TurnSteps.{turns_are_relays}
 use Rattle.relay_runs.specs.HalfRuns.{HalfState, behind, behind_packet, delivered_for, is_within, opening_half, own_event}
-use Rattle.relay_runs.specs.Relays.{ComeInOrder, IsRelay, RelayState, RelayTurns, behind_next, behind_own, exceeds, goes_on, half_of, idles, leads, next_packet, opening_relay, packet_turn, passes, relay_turn, rests, stops, turn_by, with_half}
+use Rattle.relay_runs.specs.RelaySteps.{IsRelay, RelayState, half_of, next_packet, opening_relay, with_half}
+use Rattle.relay_runs.specs.Relays.{RelayTurns, behind_next, behind_own, exceeds, goes_on, idles, leads, packet_turn, passes, relay_turn, rests, stops, turn_by}
 use Rattle.world_core.proofs.KeptEnds.{fewer}
 use Rattle.world_core.proofs.KeptHalves.{apart-rests, opened-is, rests-apart, schema-is, step-grows}
 use Rattle.world_core.specs.declared.answers.AcceptAnswer.{AcceptAnswer}
@@ -36,15 +39,7 @@ use Rattle.world_core.specs.HalfSteps.{next_of}
 use Rattle.world_core.specs.HalfView.{HalfView}
 use Rattle.world_core.specs.Relaying.{AcceptGives, AreFacing, BothApart, BothInEach, FacingEach, GoApart, GoesApart, GoingGives, HasAccepted, HasLed, HasTakenTurns, InEach, IsApart, IsRelayed, IsRelayedByTurns, PutGives, RelayGives, RelayTurnGives, SideTurnGives, TurnsGive, own_progress, turn_answer}
 
--- Halves of a state
-
-own-half : (side : Side) (half : HalfState) (state : RelayState) → half_of side (with_half side half state) ≡ half
-own-half sides.Parent half state = refl
-own-half sides.Child half state = refl
-
-other-half : (side : Side) (half : HalfState) (state : RelayState) → half_of (other side) (with_half side half state) ≡ half_of (other side) state
-other-half sides.Parent half state = refl
-other-half sides.Child half state = refl
+-- Halves that face each other
 
 led-apart : (setting : Setting) (side : Side) (state : RelayState) (next : HalfState) (half facing : HalfView) → GoesApart setting side next (half_of (other side) state).came half → GoesApart setting (other side) (half_of (other side) state) next.came facing
     → GoApart setting side (with_half side next state) half facing
@@ -55,15 +50,6 @@ led-apart setting sides.Child state next half facing goes faces = record { goes 
 pub turned-round : (setting : Setting) (side : Side) (state : RelayState) (half facing : HalfView) → GoApart setting side state half facing → GoApart setting (other side) state facing half
 turned-round setting sides.Parent state half facing apart = record { goes = apart.faces; faces = apart.goes }
 turned-round setting sides.Child state half facing apart = record { goes = apart.faces; faces = apart.goes }
-
-come-in-order : (setting : Setting) (side : Side) (state : RelayState) (facing : HalfView) → GoesApart setting (other side) (half_of (other side) state) (half_of side state).came facing → ComeInOrder side state
-come-in-order setting side state facing faces = (faces.held, faces.sent)
-
-pub apart-relay : (setting : Setting) (side : Side) (state : RelayState) (half facing : HalfView) → GoApart setting side state half facing → IsRelay setting state
-apart-relay setting sides.Parent state half facing apart =
-    record { parent_runs = apart.goes.runs; child_runs = apart.faces.runs; to_parent = come-in-order setting sides.Parent state facing apart.faces; to_child = come-in-order setting sides.Child state half apart.goes }
-apart-relay setting sides.Child state half facing apart =
-    record { parent_runs = apart.faces.runs; child_runs = apart.goes.runs; to_parent = come-in-order setting sides.Parent state half apart.goes; to_child = come-in-order setting sides.Child state facing apart.faces }
 
 -- what comes behind the first of a list
 behind-first : (before : List Packet) (rest : List Packet) → drop (length before) (before ++ rest) ≡ rest
@@ -89,9 +75,9 @@ module _ (setting : Setting) (side : Side) (state : RelayState) (half facing : H
     apart = led-apart setting side state next half' facing' goes faces;
     few = fewer (progress_of side mine.lines).events setting.limit within;
     more =
-        ap (λ (h : HalfState). (progress_of side h.lines).events) (own-half side next state) ∙ ap (λ ls. (progress_of side ls).events) lines
+        ap (λ (h : HalfState). (progress_of side h.lines).events) (half-here side next state) ∙ ap (λ ls. (progress_of side ls).events) lines
         ∙ step-grows setting side mine theirs.came half apart.goes happened link output stepped;
-    same = other-half side next state;
+    same = half-there side next state;
   }
 
   -- Its own step
@@ -265,7 +251,6 @@ module _ (setting : Setting) (begun : RelayState) (side : Side) (left : ℕ) (pa
       record {
         last = now;
         turns = turns;
-        relay = apart-relay setting sides.Parent now parent child loop.so.apart;
         ends = turns-end setting sides.Parent begun now (at_limit side) turns;
         parent_lines = parent_lines;
         child_lines = child_lines;
@@ -323,7 +308,6 @@ loop-ends setting begun side left parent child none loop =
     record {
       last = loop.now;
       turns = turns;
-      relay = apart-relay setting sides.Parent loop.now parent child loop.so.apart;
       ends = turns-end setting sides.Parent begun loop.now at_rest turns;
       parent_lines = loop.so.apart.goes.history;
       child_lines = loop.so.apart.faces.history;
@@ -375,10 +359,14 @@ relayed-by-turns setting halves run.Finished parent child p c h = record { last 
 relayed-by-turns setting halves (run.Spent side) parent child p c h = record { last = h.last; turns = h.turns; parent_lines = sym (p ∙ h.parent_lines); child_lines = sym (c ∙ h.child_lines) }
 relayed-by-turns setting halves run.NoMemory parent child p c h = tt
 
+-- which makes a relay by steps
+turned-relay : (setting : Setting) (ending : RunEnding) (parent child : HalfView) → (h : HasTakenTurns setting (opening_relay setting) ending parent child) → IsRelay setting h.last
+turned-relay setting ending parent child h = turns_are_relays setting sides.Parent 2 (opening_relay setting) h.last ending h.turns
+
 pub turns-relayed : (setting : Setting) (halves : Halves) (told : RunAnswer) (parent child : HalfView) → map plain_line halves.parent.lines ≡ parent.history → map plain_line halves.child.lines ≡ child.history → TurnsGive setting (opening_relay setting) told parent child
     → IsRelayed setting halves told
-turns-relayed setting halves run.Finished parent child p c h = record { state = h.last; relay = h.relay; parent_lines = sym (p ∙ h.parent_lines); child_lines = sym (c ∙ h.child_lines); ends = h.ends }
-turns-relayed setting halves (run.Spent side) parent child p c h = record { state = h.last; relay = h.relay; parent_lines = sym (p ∙ h.parent_lines); child_lines = sym (c ∙ h.child_lines); ends = h.ends }
+turns-relayed setting halves run.Finished parent child p c h = record { state = h.last; relay = turned-relay setting at_rest parent child h; parent_lines = sym (p ∙ h.parent_lines); child_lines = sym (c ∙ h.child_lines); ends = h.ends }
+turns-relayed setting halves (run.Spent side) parent child p c h = record { state = h.last; relay = turned-relay setting (at_limit side) parent child h; parent_lines = sym (p ∙ h.parent_lines); child_lines = sym (c ∙ h.child_lines); ends = h.ends }
 turns-relayed setting halves run.NoMemory parent child p c h = tt
 
 pub gives-unless : (Gives : WorldView → Halves → RunAnswer → Type 0) (before : WorldView) (halves : Halves) (told : RunAnswer) → Gives before halves told → RelayGives Gives before halves told

@@ -25,7 +25,8 @@ use Rattle.script_steps.specs.Choices.{Setting}
 use Rattle.script_steps.specs.Progress.{Progress, progress_of}
 use Rattle.script_steps.specs.Turns.{RunEnding, at_limit, at_rest}
 use Rattle.relay_runs.specs.HalfRuns.{HalfRun, HalfState, behind, behind_packet, delivered_for, is_within, own_event}
-use Rattle.relay_runs.specs.Relays.{EndsAs, IsRelay, RelayState, RelayTurns, Relayed, RelayedByTurns, exceeds, half_of, idles, leads, relay_turn}
+use Rattle.relay_runs.specs.RelaySteps.{RelayState, half_of}
+use Rattle.relay_runs.specs.Relays.{EndsAs, RelayTurns, Relayed, RelayedByTurns, exceeds, idles, leads, relay_turn}
 use Rattle.world_core.specs.declared.answers.AcceptAnswer.{AcceptAnswer}
 use Rattle.world_core.specs.declared.answers.AcceptAnswer.TheVariants as accept
 use Rattle.world_core.specs.declared.answers.RunAnswer.{RunAnswer}
@@ -217,7 +218,6 @@ turn_answer accept.NoMemory = answer.NoMemory
 pub record HasTakenTurns (setting : Setting) (from : RelayState) (ending : RunEnding) (parent' child' : HalfView) : Type 0 where
   pub last : RelayState
   pub turns : RelayTurns setting sides.Parent 2 from last ending
-  pub relay : IsRelay setting last
   pub ends : EndsAs setting last ending
   pub parent_lines : parent'.history ≡ last.parent.lines
   pub child_lines : child'.history ≡ last.child.lines

@@ -1,4 +1,4 @@
-use Rattle.relay_runs.specs.Relays.{opening_relay}
+use Rattle.relay_runs.specs.RelaySteps.{opening_relay}
 use Rattle.world_core.proofs.RelayLoop.{begins-apart, gives-unless, relayed-by-turns, turns-relayed}
 use Rattle.world_core.proofs.relay.OneThreadRelay.run_queues.Goals as goal
 use Rattle.world_core.specs.declared.answers.RunAnswer.{RunAnswer}

@@ -1,0 +1,6 @@
+pub mod HalfSteps
+pub mod OneHistory
+pub mod OneResult
+pub mod Starts
+pub mod Stamps
+pub mod Laws
