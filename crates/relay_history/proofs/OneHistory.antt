@@ -33,10 +33,11 @@ use Rattle.script_steps.specs.Choices as choices
 use Rattle.script_steps.specs.Laws.{IsRunOf}
 use Rattle.script_steps.specs.NextEvent.{next_event}
 use Rattle.script_steps.specs.Progress.{Progress, after_lines, no_progress, progress_of}
-use Rattle.script_steps.specs.Turns.{at_rest, is_quiet, is_quiet_at}
+use Rattle.script_steps.specs.Turns.{RunEnding, at_limit, at_rest, is_quiet, is_quiet_at}
 use Rattle.script_steps.proofs.Choosing.{event-delivers}
 use Rattle.script_steps.proofs.Playing.{choices_are_runs}
 use Rattle.script_steps.proofs.StepLines.{Prints, step-prints}
+use Rattle.script_runs.specs.Endings as histories
 use Rattle.script_runs.specs.Laws.{HasLimit, IsAtRest}
 use Rattle.script_runs.proofs.Rest.{rest_of_cases_is_still}
 use Rattle.script_runs.proofs.CaseRuns.{IsCase, case-next, case-fits}
@@ -376,6 +377,10 @@ left-none true b h = cc
 left-none false true h = cc
 left-none false false h = (refl, refl)
 
+not-none : (a : Bool) → not a ≡ false → a ≡ true
+not-none true h = refl
+not-none false h = cc
+
 module _ (setting : Setting) (state : RelayState) (has : HasHistory setting state) where
   quiet-at : (side : Side) → is_quiet_at setting has.history side ≡ not (has_left setting side state)
   quiet-at side =
@@ -393,6 +398,12 @@ module _ (setting : Setting) (state : RelayState) (has : HasHistory setting stat
   finished-so : EndsAs setting state at_rest ↔ (is_quiet setting has.history ≡ true)
   finished-so = (λ h. quiet-is ∙ none-left (has_left setting sides.Parent state) (has_left setting sides.Child state) h, λ h. left-none (has_left setting sides.Parent state) (has_left setting sides.Child state) (sym quiet-is ∙ h))
 
+  ends-so : (ending : RunEnding) → EndsAs setting state ending ↔ histories.EndsAs setting has.history ending
+  ends-so at_rest = finished-so
+  ends-so (at_limit side) =
+      let within = within-same setting side (half_of side state) (half_of (other side) state) has.history (has.one side) in
+      (λ h. (within ∙ h.1, quiet-at side ∙ ap not h.0), λ h. (not-none (has_left setting side state) (sym (quiet-at side) ∙ h.1), sym within ∙ h.0))
+
 pub relays_are_histories : RelaysAreHistories
 relays_are_histories setting state sound run =
     let has : HasHistory setting state = run-so setting sound state run in
@@ -403,7 +414,7 @@ relays_are_histories setting state sound run =
       ends = λ side. (has.one side).end;
       links = λ side. (has.one side).link;
       unmarked = λ side. (has.one side).unmarked;
-      finished = finished-so setting state has;
+      ending = ends-so setting state has;
     }
 
 pub finished_relays_wait_for_nothing : FinishedRelaysWaitForNothing
