@@ -1,5 +1,5 @@
 -- Choices do not look at where boxes lie.
-use Rattle.std.proofs.Common.{◌≡◌, List, [], ◌∷◌, Bool, None, Some, refl}
+use Rattle.std.proofs.Common.{◌≡◌, List, [], ◌∷◌, None, Some, refl}
 use Rattle.std.specs.Prelude.{not, ◌&&◌, is_some, if◌then◌else◌, option_and_then}
 use Rattle.ipdl_base.specs.declared.kinds.Side.{Side}
 use Rattle.channel_model.specs.Ends.{end_of, link_to}

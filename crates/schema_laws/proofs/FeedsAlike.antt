@@ -20,12 +20,12 @@ use Rattle.channel_model.specs.Events.{Event}
 use Rattle.channel_model.specs.Events as event
 use Rattle.channel_model.specs.Numbers.{other, protocol_of, sends, is_constructor}
 use Rattle.channel_model.specs.Outputs.{is_open}
-use Rattle.channel_model.specs.Refusals.{DeliveryRefusal, wrong_direction, wrong_number, wrong_new_id, stray, wrong_actor, actor_refusal, actors_of, body_refusal, delivery_refusal, expected_id, expected_seq, is_expected_reply, lives_otherwise, reply_refusal, request_refusal}
-use Rattle.channel_model.specs.ValueActors.{ActorValue, actors_in_parts}
+use Rattle.channel_model.specs.Refusals.{wrong_direction, wrong_number, wrong_new_id, stray, wrong_actor, actor_refusal, actors_of, body_refusal, delivery_refusal, expected_id, expected_seq, is_expected_reply, lives_otherwise, reply_refusal, request_refusal}
+use Rattle.channel_model.specs.ValueActors.{actors_in_parts}
 use Rattle.script_steps.specs.NextEvent.{next_event}
 use Rattle.script_steps.specs.Progress.{progress_of}
-use Rattle.feed_runs.specs.FeedTurns.{FeedSetting, FeedState, FeedTurn, leads, idles, exceeds, Feeds, rests, stops, goes_on, beginning_of, behind, behind_delivery, behind_frame, behind_own, feed_turn, given, is_within, kept_fault, own_event, reading_turn, turn_by, within}
-use Rattle.feed_runs.specs.NextFrame.{NextFrame, taken, refused, fault_of, frame_at, message_at, next_frame}
+use Rattle.feed_runs.specs.FeedTurns.{FeedSetting, FeedState, leads, idles, exceeds, Feeds, rests, stops, goes_on, beginning_of, behind, behind_delivery, behind_frame, behind_own, feed_turn, given, is_within, kept_fault, own_event, turn_by}
+use Rattle.feed_runs.specs.NextFrame.{NextFrame, taken, refused, fault_of, frame_at, next_frame}
 use Rattle.schema_laws.specs.Feeds.{AreFeedsAlike, FeedsAlike}
 use Rattle.schema_laws.proofs.Begun.{decoded_alike}
 use Rattle.schema_laws.proofs.EventsAlike.{next_alike}
@@ -64,7 +64,7 @@ module _ (s : Schema) (e : End) (m : Message) where
   body_alike (Fault reason) row = reply_alike row
   body_alike Goodbye row = refl
 
-  refusal_alike : delivery_refusal (plain_schema s) e m ≡ delivery_refusal s e m
+  pub refusal_alike : delivery_refusal (plain_schema s) e m ≡ delivery_refusal s e m
   refusal_alike =
       (λ i. option_map_or (body_refusal (plain_schema s) e m m.body) (message_alike s m.number i) None)
       ∙ option_alike plain_message_row (body_refusal (plain_schema s) e m m.body) (body_refusal s e m m.body) (body_alike m.body) None (message_of s m.number)

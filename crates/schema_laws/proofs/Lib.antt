@@ -22,6 +22,7 @@ pub mod EventsAlike
 pub mod PicksAlike
 pub mod ChoicesAlike
 pub mod FeedsAlike
+pub mod RelaysAlike
 pub mod TextsAlike
 mod NamedAlike
 mod FitsAlike

@@ -2,3 +2,4 @@ pub mod Frames
 pub mod Waits
 pub mod Runs
 pub mod Feeds
+pub mod Relays

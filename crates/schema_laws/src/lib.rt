@@ -8,6 +8,7 @@ mod waits;
 
 pub use frames::{frames_alike, frames_have_one_text, one_list_of_frames};
 pub use runs::{
-    choices_alike, events_alike, feeds_alike, picks_alike, scripts_alike, steps_alike, texts_alike,
+    choices_alike, events_alike, feeds_alike, picks_alike, relays_alike, scripts_alike,
+    steps_alike, texts_alike,
 };
 pub use waits::{one_wait_report, waits_alike};

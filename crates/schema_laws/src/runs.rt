@@ -1,4 +1,5 @@
 ghost use Rattle.schema_laws.specs.Feeds.{FeedsAlike};
+ghost use Rattle.schema_laws.specs.Relays.{RelaysAlike};
 ghost use Rattle.schema_laws.specs.Runs.{ChoicesAlike, EventsAlike, PicksAlike, ScriptsAlike, StepsAlike, TextsAlike};
 
 use script_laws::one_answer;
@@ -30,6 +31,12 @@ pub fn choices_alike()
 /// boxes of types and terms lie.
 pub fn feeds_alike()
     ensures { FeedsAlike }
+{}
+
+/// The law of alike relays: by settings that are the same up to where the boxes of types and terms lie,
+/// there are the same relays of both ends, with the same endings.
+pub fn relays_alike()
+    ensures { RelaysAlike }
 {}
 
 /// The law of alike transcripts: under such schemas lines have the same text.
