@@ -36,14 +36,14 @@ use Rattle.sync_list.specs.Lists.{IsListOf}
 use Rattle.sync_list.specs.Laws.{OneList}
 use Rattle.ipdl_top.specs.declared.answer.CommandAnswer.{CommandAnswer}
 use Rattle.ipdl_top.specs.CommandAnswer.{IsBrokenFile, BreaksRules, IsFileReport, IsReading, IsRuleReport, IsSaidOf, IsCompilation, AnswersTo, SaysTables, given_by, table_answer}
-use Rattle.ipdl_top.specs.declared.status.Status.TheVariants.{Broken}
+use Rattle.ipdl_top.specs.declared.status.Status.TheVariants.{Broken, Spent}
 use Rattle.ipdl_top.specs.Audit.{SaysAudit}
 use Rattle.ipdl_top.specs.Feed.{SaysFeed}
 use Rattle.ipdl_top.specs.Frames.{SaysBytes, SaysFrames, frames_answer, frames_out}
 use Rattle.ipdl_top.specs.Laws.{LeavesNothing, OneAnswer}
 use Rattle.ipdl_top.specs.declared.rendering.Rendering.TheVariants.{Summary, Transcript}
 use Rattle.ipdl_top.specs.Gen.{SaysGen, case_course, case_files, case_path, holder_name, script_name}
-use Rattle.ipdl_top.specs.Relay.{Relaying}
+use Rattle.ipdl_top.specs.Relay.{Relaying, SaysRelay}
 use Rattle.ipdl_top.specs.Run.{Driving, SaysRun}
 use Rattle.ipdl_top.specs.Waits.{SaysWaits, pair_line, waits_text}
 use Rattle.ipdl_top.specs.Lists.{AreSections, list_names}
@@ -55,7 +55,9 @@ use Rattle.ipdl_top.proofs.TableTexts.{one_text}
 use Rattle.ipdl_top.proofs.OneAudit.{AuditLaws, audit_one}
 use Rattle.ipdl_top.proofs.OneFeed.{FeedLaws, feed_one}
 use Rattle.ipdl_top.proofs.OneReport.{told_alike}
+use Rattle.ipdl_top.proofs.OneRelay.{RelayLaws, relay_one}
 use Rattle.ipdl_top.proofs.OneRun.{RunLaws, run_one}
+use Rattle.ipdl_top.proofs.OneScript.{IsAny}
 use Rattle.ipdl_top.proofs.OneTop.{one_top}
 
 -- the laws of what the program is made of
@@ -75,6 +77,7 @@ pub record TheLaws : Type 0 where
   pub runs : RunLaws
   pub feeds : FeedLaws
   pub audits : AuditLaws
+  pub relays : RelayLaws
 
 -- Lists
 
@@ -193,67 +196,77 @@ waits_one laws file a b same one other x y =
     let pairs : x.pairs ≡ y.pairs = laws.wait_report b y.top x.pairs y.pairs moved y.report in
     x.says ∙ ap table_answer (same_lines laws a b same x.pairs ∙ ap (waits_text b) pairs) ∙ sym y.says
 
+-- the same where one answer is such a one
+abbrev SaysOneSuch : (CommandAnswer → Type 0) → (Schema → CommandAnswer → Type 0) → Type 0
+SaysOneSuch IsSuch Says = (a b : Schema) → plain_schema a ≡ plain_schema b → (one other : CommandAnswer) → IsSuch one → Says a one → Says b other → one ≡ other
+
 -- and so of a program
-said : TheLaws → (Says : Schema → CommandAnswer → Type 0) → SaysOne Says → (given : LoadInput) (lists : FileMap) (list : Option (List ℕ)) (one other : CommandAnswer) → IsSaidOf Says given lists list one → IsSaidOf Says given lists list other → one ≡ other
-said laws Says unique given lists list one other x y =
+said : TheLaws → (IsSuch : CommandAnswer → Type 0) (Says : Schema → CommandAnswer → Type 0) → SaysOneSuch IsSuch Says → (given : LoadInput) (lists : FileMap) (list : Option (List ℕ)) (one other : CommandAnswer)
+    → IsSuch one → IsSaidOf Says given lists list one → IsSaidOf Says given lists list other → one ≡ other
+said laws IsSuch Says unique given lists list one other such x y =
     let p = x.read in
     let q = y.read in
     let same = alike laws.texts given q.program p.program q.reading.is_program p.reading.is_program q.reading.whole p.reading.whole in
     let schema : plain_schema x.schema ≡ plain_schema y.schema = laws.schema p.program x.schema y.schema p.schema_of (laws.schemas q.program p.program y.schema same q.schema_of) in
-    unique x.schema y.schema schema one other x.says y.says
+    unique x.schema y.schema schema one other such x.says y.says
 
 -- Answers
 
 -- a compilation has one answer
+compilations_such : TheLaws → (IsSuch : CommandAnswer → Type 0) (Says : Schema → CommandAnswer → Type 0) → SaysOneSuch IsSuch Says → (given : LoadInput) (lists : FileMap) (list : Option (List ℕ)) (one other : CommandAnswer)
+    → IsSuch one → IsCompilation Says given lists list one → IsCompilation Says given lists list other → one ≡ other
+compilations_such laws IsSuch Says unique given lists list one other such (inl x) (inl y) = x.says ∙ file_reports laws given lists list x.report y.report x.holds y.holds ∙ sym y.says
+compilations_such laws IsSuch Says unique given lists list one other such (inl x) (inr (inl y)) = absurd (not_read laws given lists list x.report y.holds.program y.holds.sections x.holds y.holds.reading)
+compilations_such laws IsSuch Says unique given lists list one other such (inl x) (inr (inr y)) = absurd (not_read laws given lists list x.report y.read.program y.read.sections x.holds y.read.reading)
+compilations_such laws IsSuch Says unique given lists list one other such (inr (inl x)) (inl y) = absurd (not_read laws given lists list y.report x.holds.program x.holds.sections y.holds x.holds.reading)
+compilations_such laws IsSuch Says unique given lists list one other such (inr (inr x)) (inl y) = absurd (not_read laws given lists list y.report x.read.program x.read.sections y.holds x.read.reading)
+compilations_such laws IsSuch Says unique given lists list one other such (inr (inl x)) (inr (inl y)) = x.says ∙ rule_reports laws given lists list x.report y.report x.holds y.holds ∙ sym y.says
+compilations_such laws IsSuch Says unique given lists list one other such (inr (inl x)) (inr (inr y)) = absurd (not_said laws Says given lists list x.report other x.holds y)
+compilations_such laws IsSuch Says unique given lists list one other such (inr (inr x)) (inr (inl y)) = absurd (not_said laws Says given lists list y.report one y.holds x)
+compilations_such laws IsSuch Says unique given lists list one other such (inr (inr x)) (inr (inr y)) = said laws IsSuch Says unique given lists list one other such x y
+
 compilations : TheLaws → (Says : Schema → CommandAnswer → Type 0) → SaysOne Says → (given : LoadInput) (lists : FileMap) (list : Option (List ℕ)) (one other : CommandAnswer) → IsCompilation Says given lists list one → IsCompilation Says given lists list other → one ≡ other
-compilations laws Says unique given lists list one other (inl x) (inl y) = x.says ∙ file_reports laws given lists list x.report y.report x.holds y.holds ∙ sym y.says
-compilations laws Says unique given lists list one other (inl x) (inr (inl y)) = absurd (not_read laws given lists list x.report y.holds.program y.holds.sections x.holds y.holds.reading)
-compilations laws Says unique given lists list one other (inl x) (inr (inr y)) = absurd (not_read laws given lists list x.report y.read.program y.read.sections x.holds y.read.reading)
-compilations laws Says unique given lists list one other (inr (inl x)) (inl y) = absurd (not_read laws given lists list y.report x.holds.program x.holds.sections y.holds x.holds.reading)
-compilations laws Says unique given lists list one other (inr (inr x)) (inl y) = absurd (not_read laws given lists list y.report x.read.program x.read.sections y.holds x.read.reading)
-compilations laws Says unique given lists list one other (inr (inl x)) (inr (inl y)) = x.says ∙ rule_reports laws given lists list x.report y.report x.holds y.holds ∙ sym y.says
-compilations laws Says unique given lists list one other (inr (inl x)) (inr (inr y)) = absurd (not_said laws Says given lists list x.report other x.holds y)
-compilations laws Says unique given lists list one other (inr (inr x)) (inr (inl y)) = absurd (not_said laws Says given lists list y.report one y.holds x)
-compilations laws Says unique given lists list one other (inr (inr x)) (inr (inr y)) = said laws Says unique given lists list one other x y
+compilations laws Says unique given lists list one other x y = compilations_such laws IsAny Says (λ a b same first second any. unique a b same first second) given lists list one other tt x y
 
--- what a command leaves to nobody: all but a run without a word of turns, and a relay
-abbrev LeavesNone : CommandView → Type 0
-LeavesNone (command.run list path course script file) = course.schedule ≢ None
-LeavesNone (command.relay list path course script file) = ⊥
-LeavesNone _ = Unit {0}
+-- which answer a command leaves to nobody: any, but that of a run without a word of turns, and that a side of a relay is spent
+abbrev LeavesNone : CommandView → CommandAnswer → Type 0
+LeavesNone (command.run list path course script file) one = course.schedule ≢ None
+LeavesNone (command.relay list path course script file) one = one.status ≢ Spent
+LeavesNone _ one = Unit {0}
 
-leaves_none : (words : List (List ℕ)) (command : CommandView) → Say words command → LeavesNothing words → LeavesNone command
-leaves_none words (command.compile list path names) said leaves = tt
-leaves_none words (command.frames list path file name convert) said leaves = tt
-leaves_none words (command.waits list path file) said leaves = tt
-leaves_none words (command.run list path course script file) said leaves = leaves.0 list path course script file said
-leaves_none words (command.gen rounds actors) said leaves = tt
-leaves_none words (command.feed list path course script file name) said leaves = tt
-leaves_none words (command.audit list path limit script file name) said leaves = tt
-leaves_none words (command.relay list path course script file) said leaves = leaves.1 list path course script file said
+leaves_none : (words : List (List ℕ)) (command : CommandView) (one : CommandAnswer) → Say words command → LeavesNothing words one → LeavesNone command one
+leaves_none words (command.compile list path names) one said leaves = tt
+leaves_none words (command.frames list path file name convert) one said leaves = tt
+leaves_none words (command.waits list path file) one said leaves = tt
+leaves_none words (command.run list path course script file) one said leaves = leaves.0 list path course script file said
+leaves_none words (command.gen rounds actors) one said leaves = tt
+leaves_none words (command.feed list path course script file name) one said leaves = tt
+leaves_none words (command.audit list path limit script file name) one said leaves = tt
+leaves_none words (command.relay list path course script file) one said leaves = leaves.1 list path course script file said
 
 -- so has each command
-commands : TheLaws → (Gives : Driving) (Relays : Relaying) (seen : FileViews) (command : CommandView) → LeavesNone command → (one other : CommandAnswer) → AnswersTo Gives Relays seen command one → AnswersTo Gives Relays seen command other → one ≡ other
-commands laws Gives Relays seen (command.compile list path names) leaves one other x y = compilations laws SaysTables tables_one (given_by seen.files path names) seen.list list one other x y
-commands laws Gives Relays seen (command.frames list path file name convert) leaves one other x y =
+commands : TheLaws → (Gives : Driving) (Relays : Relaying) (seen : FileViews) (command : CommandView) (one other : CommandAnswer) → LeavesNone command one → AnswersTo Gives Relays seen command one → AnswersTo Gives Relays seen command other → one ≡ other
+commands laws Gives Relays seen (command.compile list path names) one other leaves x y = compilations laws SaysTables tables_one (given_by seen.files path names) seen.list list one other x y
+commands laws Gives Relays seen (command.frames list path file name convert) one other leaves x y =
     compilations laws (SaysFrames name convert (seen.input name)) (frames_one laws name convert (seen.input name)) (given_by seen.files path (file ∷ [])) seen.list list one other x y
-commands laws Gives Relays seen (command.waits list path file) leaves one other x y = compilations laws (SaysWaits file) (waits_one laws file) (given_by seen.files path (file ∷ [])) seen.list list one other x y
-commands laws Gives Relays seen (command.run list path course script file) leaves one other x y =
+commands laws Gives Relays seen (command.waits list path file) one other leaves x y = compilations laws (SaysWaits file) (waits_one laws file) (given_by seen.files path (file ∷ [])) seen.list list one other x y
+commands laws Gives Relays seen (command.run list path course script file) one other leaves x y =
     compilations laws (SaysRun Gives Transcript course script (seen.script script) file) (run_one laws.runs Gives Transcript course leaves script (seen.script script) file) (given_by seen.files path (file ∷ [])) seen.list list one other x y
-commands laws Gives Relays seen (command.gen rounds actors) leaves one other x y =
+commands laws Gives Relays seen (command.gen rounds actors) one other leaves x y =
     compilations laws (SaysGen Gives rounds actors) (run_one laws.runs Gives (Summary rounds actors) case_course (λ e. cc) script_name (case_files rounds actors script_name) holder_name) (given_by (case_files rounds actors) case_path (holder_name ∷ []))
     (case_files rounds actors) None one other x y
-commands laws Gives Relays seen (command.feed list path course script file name) leaves one other x y =
+commands laws Gives Relays seen (command.feed list path course script file name) one other leaves x y =
     compilations laws (SaysFeed course script (seen.script script) name (seen.input name) file) (feed_one laws.feeds course script (seen.script script) name (seen.input name) file) (given_by seen.files path (file ∷ [])) seen.list list one other x y
-commands laws Gives Relays seen (command.audit list path limit script file name) leaves one other x y =
+commands laws Gives Relays seen (command.audit list path limit script file name) one other leaves x y =
     compilations laws (SaysAudit limit script (seen.script script) name (seen.input name) file) (audit_one laws.audits limit script (seen.script script) name (seen.input name) file) (given_by seen.files path (file ∷ [])) seen.list list one other x y
-commands laws Gives Relays seen (command.relay list path course script file) leaves one other x y = absurd leaves
+commands laws Gives Relays seen (command.relay list path course script file) one other leaves x y =
+    compilations_such laws (λ answer. answer.status ≢ Spent) (SaysRelay Relays course script (seen.script script) file) (relay_one laws.relays Relays course script (seen.script script) file) (given_by seen.files path (file ∷ [])) seen.list list one other leaves x y
 
 -- words are one command or none
 pub answer_is_determined : TheLaws → (Gives : Driving) (Relays : Relaying) → OneAnswer Gives Relays
 answer_is_determined laws Gives Relays seen words one other leaves (inl x) (inl y) =
     let same : y.command ≡ x.command = laws.command words y.command x.command y.said x.said in
-    commands laws Gives Relays seen x.command (leaves_none words x.command x.said leaves) one other x.answers (subst (λ (command : CommandView). AnswersTo Gives Relays seen command other) same y.answers)
+    commands laws Gives Relays seen x.command one other (leaves_none words x.command one x.said leaves) x.answers (subst (λ (command : CommandView). AnswersTo Gives Relays seen command other) same y.answers)
 answer_is_determined laws Gives Relays seen words one other leaves (inl x) (inr y) = absurd (y.0 x.command x.said)
 answer_is_determined laws Gives Relays seen words one other leaves (inr x) (inl y) = absurd (x.0 y.command y.said)
 answer_is_determined laws Gives Relays seen words one other leaves (inr x) (inr y) = x.1 ∙ sym y.1

@@ -15,6 +15,7 @@ pub mod OneReport
 pub mod OneScript
 pub mod OneRun
 pub mod OneFeed
+pub mod OneRelay
 pub mod OneAudit
 pub mod Scripted
 pub mod Feeds

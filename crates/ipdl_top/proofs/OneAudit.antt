@@ -32,7 +32,7 @@ use Rattle.ipdl_top.specs.declared.audited.Audit.{Audit}
 use Rattle.ipdl_top.specs.declared.audited.Audit.TheVariants as audit
 use Rattle.ipdl_top.specs.Audit.{SaysAudit, SaysAudited, SaysAuditedOf, audit_answer}
 use Rattle.ipdl_top.specs.Audited.{IsAudited, audited_setting}
-use Rattle.ipdl_top.proofs.OneScript.{script_one}
+use Rattle.ipdl_top.proofs.OneScript.{IsAny, script_one}
 
 -- the laws that an audit rests on
 pub record AuditLaws : Type 0 where
@@ -148,12 +148,12 @@ audited_one laws limit name text a b alike s t same one other x y =
     x.says ∙ ap (audit_answer name) found ∙ sym y.says
 
 audited_of_one : AuditLaws → (limit : ℕ) (name : List ℕ) (text : Option (List ℕ)) (a b : Schema) → AreSchemasAlike a b → (s t : Script) → plain_script s ≡ plain_script t → (one other : CommandAnswer)
-    → SaysAuditedOf limit name text a s one → SaysAuditedOf limit name text b t other → one ≡ other
-audited_of_one laws limit name None a b alike s t same one other x y = x ∙ sym y
-audited_of_one laws limit name (Some text) a b alike s t same one other (inl x) (inl y) = x.1 ∙ sym y.1
-audited_of_one laws limit name (Some text) a b alike s t same one other (inl x) (inr y) = absurd (omega (arith, x.0, y.0))
-audited_of_one laws limit name (Some text) a b alike s t same one other (inr x) (inl y) = absurd (omega (arith, x.0, y.0))
-audited_of_one laws limit name (Some text) a b alike s t same one other (inr x) (inr y) = audited_one laws limit name text a b alike s t same one other x.1 y.1
+    → IsAny one → SaysAuditedOf limit name text a s one → SaysAuditedOf limit name text b t other → one ≡ other
+audited_of_one laws limit name None a b alike s t same one other any x y = x ∙ sym y
+audited_of_one laws limit name (Some text) a b alike s t same one other any (inl x) (inl y) = x.1 ∙ sym y.1
+audited_of_one laws limit name (Some text) a b alike s t same one other any (inl x) (inr y) = absurd (omega (arith, x.0, y.0))
+audited_of_one laws limit name (Some text) a b alike s t same one other any (inr x) (inl y) = absurd (omega (arith, x.0, y.0))
+audited_of_one laws limit name (Some text) a b alike s t same one other any (inr x) (inr y) = audited_one laws limit name text a b alike s t same one other x.1 y.1
 
 pub audit_one : AuditLaws → (limit : ℕ) (script : List ℕ) (held : Option (List ℕ)) (name : List ℕ) (text : Option (List ℕ)) (file : List ℕ) (a b : Schema) → AreSchemasAlike a b → (one other : CommandAnswer)
     → SaysAudit limit script held name text file a one → SaysAudit limit script held name text file b other → one ≡ other

@@ -15,7 +15,7 @@ use Rattle.schema_laws.specs.Runs.{ScriptsAlike, TextsAlike}
 use Rattle.ipdl_top.specs.declared.answer.CommandAnswer.{CommandAnswer}
 use Rattle.ipdl_top.specs.Feed.{SaysFed, SaysFedOf, SaysFeed, feed_answer, feed_ending, feed_setting, feed_status, kept_text}
 use Rattle.script_runs.specs.Endings.{ending_line}
-use Rattle.ipdl_top.proofs.OneScript.{script_one}
+use Rattle.ipdl_top.proofs.OneScript.{IsAny, script_one}
 
 -- the laws that a feed rests on
 pub record FeedLaws : Type 0 where
@@ -38,12 +38,12 @@ fed_one laws course name bytes a b alike s t same one other x y =
     ∙ ap (λ (spent : Bool). feed_answer b name course.side y.lines y.kept spent) ends.1 ∙ sym y.says
 
 fed_of_one : FeedLaws → (course : FeedCourse) (name : List ℕ) (bytes : Option (List ℕ)) (a b : Schema) → AreSchemasAlike a b → (s t : Script) → plain_script s ≡ plain_script t → (one other : CommandAnswer)
-    → SaysFedOf course name bytes a s one → SaysFedOf course name bytes b t other → one ≡ other
-fed_of_one laws course name None a b alike s t same one other x y = x ∙ sym y
-fed_of_one laws course name (Some bytes) a b alike s t same one other (inl x) (inl y) = x.1 ∙ sym y.1
-fed_of_one laws course name (Some bytes) a b alike s t same one other (inl x) (inr y) = absurd (omega (arith, x.0, y.0))
-fed_of_one laws course name (Some bytes) a b alike s t same one other (inr x) (inl y) = absurd (omega (arith, x.0, y.0))
-fed_of_one laws course name (Some bytes) a b alike s t same one other (inr x) (inr y) = fed_one laws course name bytes a b alike s t same one other x.1 y.1
+    → IsAny one → SaysFedOf course name bytes a s one → SaysFedOf course name bytes b t other → one ≡ other
+fed_of_one laws course name None a b alike s t same one other any x y = x ∙ sym y
+fed_of_one laws course name (Some bytes) a b alike s t same one other any (inl x) (inl y) = x.1 ∙ sym y.1
+fed_of_one laws course name (Some bytes) a b alike s t same one other any (inl x) (inr y) = absurd (omega (arith, x.0, y.0))
+fed_of_one laws course name (Some bytes) a b alike s t same one other any (inr x) (inl y) = absurd (omega (arith, x.0, y.0))
+fed_of_one laws course name (Some bytes) a b alike s t same one other any (inr x) (inr y) = fed_one laws course name bytes a b alike s t same one other x.1 y.1
 
 pub feed_one : FeedLaws → (course : FeedCourse) (script : List ℕ) (held : Option (List ℕ)) (name : List ℕ) (bytes : Option (List ℕ)) (file : List ℕ) (a b : Schema) → AreSchemasAlike a b → (one other : CommandAnswer)
     → SaysFeed course script held name bytes file a one → SaysFeed course script held name bytes file b other → one ≡ other

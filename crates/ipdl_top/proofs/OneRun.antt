@@ -19,7 +19,7 @@ use Rattle.ipdl_top.specs.declared.answer.CommandAnswer.{CommandAnswer}
 use Rattle.ipdl_top.specs.declared.rendering.Rendering.{Rendering}
 use Rattle.ipdl_top.specs.declared.rendering.Rendering.TheVariants.{Summary, Transcript}
 use Rattle.ipdl_top.specs.Run.{Driving, IsMade, SaysHistory, SaysRun, answer_of, rendered, run_answer, run_status, setting_by}
-use Rattle.ipdl_top.proofs.OneScript.{script_one}
+use Rattle.ipdl_top.proofs.OneScript.{IsAny, script_one}
 
 -- the laws that a run rests on
 pub record RunLaws : Type 0 where
@@ -55,8 +55,8 @@ history_one laws Gives None some S T alike after other e f x y = absurd (some re
 history_one laws Gives (Some word) some S T alike after other e f x y = word_one laws Gives word S T alike after other e f x y
 
 run_of_one : RunLaws → (Gives : Driving) (shown : Rendering) (course : Course) → course.schedule ≢ None → (a b : Schema) → AreSchemasAlike a b → (s t : Script) → plain_script s ≡ plain_script t → (one other : CommandAnswer)
-    → SaysHistory Gives shown course a s one → SaysHistory Gives shown course b t other → one ≡ other
-run_of_one laws Gives shown course some a b alike s t same one other x y =
+    → IsAny one → SaysHistory Gives shown course a s one → SaysHistory Gives shown course b t other → one ≡ other
+run_of_one laws Gives shown course some a b alike s t same one other any x y =
     let settings : AreSettingsAlike (setting_by a s course) (setting_by b t course) = record { schemas = alike; scripts = same; stop = refl; limit = refl } in
     let ends = history_one laws Gives course.schedule some (setting_by a s course) (setting_by b t course) settings x.after y.after x.ending y.ending x.made y.made in
     x.says ∙ same_text laws.texts shown a b alike x.after.state y.after.state x.ending y.ending ends.0 ends.1 ∙ sym y.says

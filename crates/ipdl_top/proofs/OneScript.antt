@@ -12,30 +12,38 @@ use Rattle.ipdl_top.specs.declared.status.Status.TheVariants.{BadScript}
 use Rattle.ipdl_top.proofs.OneReport.{told_alike}
 use Rattle.ipdl_top.proofs.OneTop.{one_top}
 
--- one thing is said of scripts that are the same up to boxes, under schemas that are so
-abbrev pub SaysOneOfScripts : (Schema → Script → CommandAnswer → Type 0) → Type 0
-SaysOneOfScripts Says =
-    (a b : Schema) → AreSchemasAlike a b → (s t : Script) → plain_script s ≡ plain_script t → (one other : CommandAnswer) → Says a s one → Says b t other → one ≡ other
+-- Where one answer is such a one, nothing else is said of scripts that are the same up to boxes, under schemas that are so.
+abbrev pub SaysOneOfScripts : (CommandAnswer → Type 0) → (Schema → Script → CommandAnswer → Type 0) → Type 0
+SaysOneOfScripts IsSuch Says =
+    (a b : Schema) → AreSchemasAlike a b → (s t : Script) → plain_script s ≡ plain_script t → (one other : CommandAnswer) → IsSuch one → Says a s one → Says b t other → one ≡ other
 
-text_one : ScriptsAlike → (Says : Schema → Script → CommandAnswer → Type 0) → SaysOneOfScripts Says → (name text : List ℕ) (a b : Schema) → AreSchemasAlike a b → (top : ℕ) (one other : CommandAnswer)
-    → SaysOfText (Says a) name text a top one → SaysOfText (Says b) name text b top other → one ≡ other
-text_one scripts Says unique name text a b alike top one other (inl x) (inl y) =
+-- any answer
+abbrev pub IsAny : CommandAnswer → Type 0
+IsAny answer = Unit {0}
+
+text_one : ScriptsAlike → (IsSuch : CommandAnswer → Type 0) (Says : Schema → Script → CommandAnswer → Type 0) → SaysOneOfScripts IsSuch Says → (name text : List ℕ) (a b : Schema) → AreSchemasAlike a b → (top : ℕ) (one other : CommandAnswer)
+    → IsSuch one → SaysOfText (Says a) name text a top one → SaysOfText (Says b) name text b top other → one ≡ other
+text_one scripts IsSuch Says unique name text a b alike top one other such (inl x) (inl y) =
     x.says ∙ told_alike BadScript x.report y.report (scripts.report a b alike text top x.report.findings y.report.findings x.holds.is_report y.holds.is_report) (x.holds.called ∙ sym y.holds.called) ∙ sym y.says
-text_one scripts Says unique name text a b alike top one other (inl x) (inr y) = absurd (scripts.either b a (sym alike) text top y.script x.report.findings y.script_of (x.holds.is_report, x.holds.some))
-text_one scripts Says unique name text a b alike top one other (inr x) (inl y) = absurd (scripts.either a b alike text top x.script y.report.findings x.script_of (y.holds.is_report, y.holds.some))
-text_one scripts Says unique name text a b alike top one other (inr x) (inr y) =
-    unique a b alike x.script y.script (scripts.script a b alike text top x.script y.script x.script_of y.script_of) one other x.says y.says
+text_one scripts IsSuch Says unique name text a b alike top one other such (inl x) (inr y) = absurd (scripts.either b a (sym alike) text top y.script x.report.findings y.script_of (x.holds.is_report, x.holds.some))
+text_one scripts IsSuch Says unique name text a b alike top one other such (inr x) (inl y) = absurd (scripts.either a b alike text top x.script y.report.findings x.script_of (y.holds.is_report, y.holds.some))
+text_one scripts IsSuch Says unique name text a b alike top one other such (inr x) (inr y) =
+    unique a b alike x.script y.script (scripts.script a b alike text top x.script y.script x.script_of y.script_of) one other such x.says y.says
 
-held_one : ScriptsAlike → (Says : Schema → Script → CommandAnswer → Type 0) → SaysOneOfScripts Says → (name : List ℕ) (held : Option (List ℕ)) (a b : Schema) → AreSchemasAlike a b → (top : ℕ) (one other : CommandAnswer)
-    → SaysOfHeld (Says a) name held a top one → SaysOfHeld (Says b) name held b top other → one ≡ other
-held_one scripts Says unique name None a b alike top one other x y = x ∙ sym y
-held_one scripts Says unique name (Some text) a b alike top one other (inl x) (inl y) = x.1 ∙ sym y.1
-held_one scripts Says unique name (Some text) a b alike top one other (inl x) (inr y) = absurd (omega (arith, x.0, y.0))
-held_one scripts Says unique name (Some text) a b alike top one other (inr x) (inl y) = absurd (omega (arith, x.0, y.0))
-held_one scripts Says unique name (Some text) a b alike top one other (inr x) (inr y) = text_one scripts Says unique name text a b alike top one other x.1 y.1
+held_one : ScriptsAlike → (IsSuch : CommandAnswer → Type 0) (Says : Schema → Script → CommandAnswer → Type 0) → SaysOneOfScripts IsSuch Says → (name : List ℕ) (held : Option (List ℕ)) (a b : Schema) → AreSchemasAlike a b → (top : ℕ) (one other : CommandAnswer)
+    → IsSuch one → SaysOfHeld (Says a) name held a top one → SaysOfHeld (Says b) name held b top other → one ≡ other
+held_one scripts IsSuch Says unique name None a b alike top one other such x y = x ∙ sym y
+held_one scripts IsSuch Says unique name (Some text) a b alike top one other such (inl x) (inl y) = x.1 ∙ sym y.1
+held_one scripts IsSuch Says unique name (Some text) a b alike top one other such (inl x) (inr y) = absurd (omega (arith, x.0, y.0))
+held_one scripts IsSuch Says unique name (Some text) a b alike top one other such (inr x) (inl y) = absurd (omega (arith, x.0, y.0))
+held_one scripts IsSuch Says unique name (Some text) a b alike top one other such (inr x) (inr y) = text_one scripts IsSuch Says unique name text a b alike top one other such x.1 y.1
 
-pub script_one : ScriptsAlike → (Says : Schema → Script → CommandAnswer → Type 0) → SaysOneOfScripts Says → (name : List ℕ) (held : Option (List ℕ)) (file : List ℕ) (a b : Schema) → AreSchemasAlike a b → (one other : CommandAnswer)
-    → SaysByScript (Says a) name held file a one → SaysByScript (Says b) name held file b other → one ≡ other
-script_one scripts Says unique name held file a b alike one other x y =
+pub script_one_such : ScriptsAlike → (IsSuch : CommandAnswer → Type 0) (Says : Schema → Script → CommandAnswer → Type 0) → SaysOneOfScripts IsSuch Says → (name : List ℕ) (held : Option (List ℕ)) (file : List ℕ) (a b : Schema) → AreSchemasAlike a b → (one other : CommandAnswer)
+    → IsSuch one → SaysByScript (Says a) name held file a one → SaysByScript (Says b) name held file b other → one ≡ other
+script_one_such scripts IsSuch Says unique name held file a b alike one other such x y =
     let top : x.top ≡ y.top = one_top file a b alike x.top y.top x.is_top y.is_top in
-    held_one scripts Says unique name held a b alike y.top one other (subst (λ (top : ℕ). SaysOfHeld (Says a) name held a top one) top x.says) y.says
+    held_one scripts IsSuch Says unique name held a b alike y.top one other such (subst (λ (top : ℕ). SaysOfHeld (Says a) name held a top one) top x.says) y.says
+
+pub script_one : ScriptsAlike → (Says : Schema → Script → CommandAnswer → Type 0) → SaysOneOfScripts IsAny Says → (name : List ℕ) (held : Option (List ℕ)) (file : List ℕ) (a b : Schema) → AreSchemasAlike a b → (one other : CommandAnswer)
+    → SaysByScript (Says a) name held file a one → SaysByScript (Says b) name held file b other → one ≡ other
+script_one scripts Says unique name held file a b alike one other x y = script_one_such scripts IsAny Says unique name held file a b alike one other tt x y

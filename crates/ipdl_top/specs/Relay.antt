@@ -1,9 +1,13 @@
 -- What the command that runs a script over two queues says of a schema.
 use Rattle.std.specs.Prelude.{◌≡◌, ℕ, List, [], ◌++◌, map, Option}
+use Rattle.std.specs.List.{AllByRecursion}
 use Rattle.ipdl_base.specs.declared.kinds.Side.{Side}
 use Rattle.ipdl_base.specs.declared.line.Line.{Line}
 use Rattle.ipdl_base.specs.declared.schema.Schema.{Schema}
 use Rattle.channel_model.specs.Numbers.{other}
+use Rattle.channel_model.specs.Runs.{IsLegalHistory}
+use Rattle.channel_model.specs.Sends.{frames_of}
+use Rattle.channel_model.specs.States.{IsAnswered}
 use Rattle.command_words.specs.Relay.{RelayCourse}
 use Rattle.end_parts.specs.PlainLines.{plain_line}
 use Rattle.handler_script.specs.declared.script.Script.{Script}
@@ -11,14 +15,18 @@ use Rattle.history.specs.HistoryView.{HistoryView}
 use Rattle.history.specs.Text.{transcript_text}
 use Rattle.law_statements.specs.Fallen.{Fallen}
 use Rattle.law_statements.specs.Readable.{Readable}
+use Rattle.relay_history.specs.OneHistory.{IsOneHistory}
 use Rattle.relay_laws.specs.Laws.{ObeysAlone}
-use Rattle.relay_runs.specs.Relays.{Relayed, half_of}
+use Rattle.relay_runs.specs.RelaySteps.{half_of}
+use Rattle.relay_runs.specs.Relays.{Relayed}
 use Rattle.script_runs.specs.Endings.{ending_line}
 use Rattle.script_steps.specs.Choices.{Setting}
-use Rattle.script_steps.specs.Turns.{RunEnding}
+use Rattle.script_steps.specs.Turns.{RunEnding, at_rest}
+use Rattle.script_transcripts.specs.Legal.{IsLegalText}
 use Rattle.world_core.specs.declared.answers.RunAnswer.{RunAnswer}
 use Rattle.world_core.specs.declared.relay.Halves.{Halves}
 use Rattle.world_core.specs.WorldView.{WorldView, opening_of}
+use Rattle.world_laws.specs.Statements.{IsLawfulHistory}
 use Rattle.ipdl_top.specs.declared.answer.CommandAnswer.{CommandAnswer}
 use Rattle.ipdl_top.specs.Run.{answer_of, run_status}
 use Rattle.ipdl_top.specs.Scripts.{SaysByScript}
@@ -43,15 +51,22 @@ halves_text schema halves = transcript_text schema (half_lines halves.parent) ++
 abbrev pub relay_answer : List ℕ → RunEnding → CommandAnswer
 relay_answer text ending = record { status = run_status ending; out = text ++ ending_line ending; err = [] }
 
--- The answer has what each end has seen, as the relay gives it: each of the two is a half run of the script; what came to a
--- side is a front of what the other has sent; and so it obeys the law of one end, with what was delivered to it. The lines
--- of each can be read, and managed actors fall before managers. It is finished exactly where neither side has a step or a
--- packet left, and spent only where a side has, but as many events as the limit. Nothing is said of the two together.
+-- The answer has what each end has seen, as the relay gives it: both ends have come there by steps, and a packet reaches one
+-- only after the other has sent it. There is one history of the script whose lines by side are those of the two ends, with
+-- each packet delivered as it was sent. That history is legal and all five laws hold of it; with the line of the ending its
+-- transcript is a legal text. The relay is finished exactly where nothing is left to do there, and then no end waits; it is
+-- spent only where a side has something to do but as many events as the limit. And each end obeys what one end by itself
+-- obeys, with what was delivered to it; the lines of each can be read, and managed actors fall before managers.
 pub record SaysRelayed (Relays : Relaying) (course : RelayCourse) (schema : Schema) (script : Script) (answer : CommandAnswer) : Type 0 where
   pub halves : Halves
   pub ending : RunEnding
   pub made : Relays (opening_of (relay_setting schema script course)) halves (answer_of ending)
   pub relayed : Relayed (relay_setting schema script course) (half_lines halves.parent) (half_lines halves.child) ending
+  pub history : IsOneHistory (relay_setting schema script course) relayed.state
+  pub legal : IsLegalHistory schema script.top history.lines
+  pub lawful : IsLawfulHistory schema history.lines
+  pub legal_text : IsLegalText (relay_setting schema script course) (transcript_text schema history.lines ++ ending_line ending)
+  pub answered : ending ≡ at_rest → (side : Side) → AllByRecursion IsAnswered (frames_of (half_of side relayed.state).end)
   pub alone : (side : Side) → ObeysAlone (relay_setting schema script course) side (half_of side relayed.state) (half_of (other side) relayed.state).sent
   pub parent_readable : Readable schema (half_lines halves.parent)
   pub parent_fallen : Fallen schema (half_lines halves.parent)

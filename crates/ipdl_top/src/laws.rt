@@ -6,9 +6,10 @@ use feed_runs::feeds_have_one_result;
 use grammar_laws::one_tree;
 use ipdl_lex::one_answer;
 use program_schema::one_schema;
+use relay_history::relays_have_one_result;
 use schema_laws::{
     choices_alike, feeds_alike, frames_alike, one_list_of_frames, one_wait_report, picks_alike,
-    scripts_alike, texts_alike, waits_alike,
+    relays_alike, scripts_alike, texts_alike, waits_alike,
 };
 use script_steps::words_have_one_result;
 use sync_list::one_list;
@@ -16,8 +17,9 @@ use value_types::boxes_say_nothing;
 use world_core::{Driver, Relay};
 
 /// The law of the answer: for the same files, words have at most one, but for those that run a script
-/// without a word of turns, or over two queues. So the files and the words determine an answer's status, its text for `out`
-/// and its text for `err`.
+/// without a word of turns; and where a script runs over two queues and neither side is spent, there is
+/// no other answer. So the files and the words determine an answer's status, its text for `out` and its
+/// text for `err`.
 pub fn answer_is_determined<D: Driver, Q: Relay>(driver: &D, relay: &Q)
     ensures { OneAnswer (D.Gives driver.now) (Q.Gives relay.now) }
 {
@@ -43,4 +45,6 @@ pub fn answer_is_determined<D: Driver, Q: Relay>(driver: &D, relay: &Q)
     feeds_alike();
     feeds_have_one_result();
     choices_alike();
+    relays_alike();
+    relays_have_one_result();
 }

@@ -20,10 +20,15 @@ use history::{History, history_text};
 use ipdl_base::{FileBytes, Schema};
 use law_statements::{decides_fallen, decides_readable, laws_want_readable_lines};
 use line_laws::texts_see_no_box;
+use relay_history::{
+    finished_relays_wait_for_nothing, relays_are_histories, relays_come_in_order,
+};
 use relay_laws::relays_obey_alone;
 use schedules::Stop;
+use script_steps::choices_are_runs;
 use std::alloc::{AllocError, Global};
 use world_core::{Halves, Relay, RunAnswer, World};
+use world_laws::histories_are_lawful;
 
 /// A script to run over two queues, and how.
 #[derive(Drop)]
@@ -101,6 +106,11 @@ fn relayed_answer<Q: Relay>(
     ensures { IfOk result (SaysRelayed (Q.Gives relay.old) (relay_course wanted.now) schema.now script.now) }
 {
     relays_obey_alone();
+    relays_come_in_order();
+    relays_are_histories();
+    finished_relays_wait_for_nothing();
+    choices_are_runs();
+    histories_are_lawful();
     decides_readable();
     decides_fallen();
     laws_want_readable_lines();

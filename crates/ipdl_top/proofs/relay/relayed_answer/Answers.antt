@@ -9,5 +9,15 @@ run_queues-halves-requires-clause-opening g c = opens-itself c.in_ok-world.world
 pub returns : goal.returns
 returns g c =
     IfOk-weaker c.halves_answer.result _ _
-    (λ answer printed. says_relayed c.relays_obey_alone.ensures c.decides_readable.ensures c.decides_fallen.ensures c.laws_want_readable_lines.ensures (g.Q.Relay.Gives c.args.relay.now) (relay_course c.args.wanted.now) c.args.schema.now c.args.script.now
-    c.in_ok-world.world c.run_queues-halves.result.0 c.run_queues-halves.result.1 answer c.requires.sound c.in_ok-world.ensures.opened c.run_queues-halves.ensures.gives c.run_queues-halves.ensures.relayed printed) c.halves_answer.ensures
+    (λ answer printed. says_relayed (record {
+      alone = c.relays_obey_alone.ensures;
+      in_order = c.relays_come_in_order.ensures;
+      histories = c.relays_are_histories.ensures;
+      answered = c.finished_relays_wait_for_nothing.ensures;
+      runs = c.choices_are_runs.ensures;
+      lawful = c.histories_are_lawful.ensures;
+      decides_readable = c.decides_readable.ensures;
+      decides_fallen = c.decides_fallen.ensures;
+      want = c.laws_want_readable_lines.ensures;
+    }) (g.Q.Relay.Gives c.args.relay.now) (relay_course c.args.wanted.now) c.args.schema.now c.args.script.now
+    c.in_ok-world.world c.run_queues-halves.result.0 c.run_queues-halves.result.1 answer c.requires.sound c.requires.limit c.in_ok-world.ensures.opened c.run_queues-halves.ensures.gives c.run_queues-halves.ensures.relayed printed) c.halves_answer.ensures
