@@ -1,7 +1,6 @@
 -- What a step of a half does to what was pushed and popped for it.
-use Rattle.std.proofs.Common.{◌≡◌, inl, inr, true, false, Result, Ok, Err, MatchResult, OnOk, Bool, List, [], ◌∷◌, ◌++◌, map, Some, None, refl, sym, ap, subst, ◌∙◌, append-nil}
+use Rattle.std.proofs.Common.{◌≡◌, inl, inr, true, false, Result, Ok, Err, MatchResult, OnOk, Bool, List, [], ◌∷◌, ◌++◌, Some, None, refl, sym, ap, subst, ◌∙◌, append-nil}
 use Rattle.std.proofs.lemmas.List.{map-append}
-use Rattle.std.specs.List.{AllByRecursion}
 use Rattle.channel_core.specs.EndView.{packet_of, packets_of}
 use Rattle.channel_model.proofs.Known.{all-append}
 use Rattle.channel_model.specs.Ends as model
@@ -9,6 +8,7 @@ use Rattle.channel_model.specs.Outputs.{is_open}
 use Rattle.end_parts.specs.declared.packet.Packet.{Packet}
 use Rattle.end_parts.specs.PacketReading.{packet_read}
 use Rattle.ipdl_base.specs.declared.kinds.Side.{Side}
+use Rattle.relay_history.specs.Stamps.{StampedHalf}
 use Rattle.relay_runs.specs.HalfRuns.{behind, behind_packet, delivered_for}
 use Rattle.script_steps.specs.Choices.{Setting}
 use Rattle.world_core.specs.declared.answers.AcceptAnswer.{AcceptAnswer}
@@ -17,6 +17,9 @@ use Rattle.world_core.specs.declared.answers.StepAnswer.{StepAnswer}
 use Rattle.world_core.specs.declared.answers.StepAnswer.TheVariants as answer
 use Rattle.world_core.specs.HalfView.{HalfView}
 use Rattle.world_core.specs.Relaying.{AcceptGives, GoesApart, GoingGives, HasAccepted, IsApart, PutGives, came_by, turn_answer}
+use Rattle.queue_link.specs.declared.packets.StampedPacket.{StampedPacket}
+use Rattle.queue_link.specs.Stamping.{next_stamp, packets_in, stamps_in}
+use Rattle.queue_link.proofs.Stamping.{accepted-stamps, acted-stamps, all-pushed, pushed-stamps, spent-stamps, stamped-work, work-stamps}
 use Rattle.queue_link.specs.Work.{DeliveryGives, HandsOver, HasNoStep, HasTaken, IsAtWork, IsReadBack, IsResting, OwnGives, PacketView, PushGives, StepGives, TakeGives}
 
 module _ (setting : Setting) where
@@ -31,17 +34,23 @@ module _ (setting : Setting) where
     reads = all-append (IsReadBack setting.schema) popped (packet ∷ []) has.reads (reads, tt);
   }
 
-  module _ (side : Side) (pushed popped : List Packet) (half half' : HalfView) where
-    came : (work : IsAtWork setting side pushed popped half) → HasTaken setting popped work.state.came
-    came work = subst (λ (ps : List model.Packet). HasTaken setting popped ps) (append-nil work.state.came) work.pops
+  module _ (side : Side) (pushed popped : List StampedPacket) (half half' : HalfView) where
+    came : (work : IsAtWork setting side pushed popped half) → HasTaken setting (packets_in popped) work.state.came
+    came work = subst (λ (ps : List model.Packet). HasTaken setting (packets_in popped) ps) (append-nil work.state.came) work.pops
 
-    pub put-some : (h : HandsOver setting side pushed popped half) (packet : Packet) → PutGives setting side h.state h.handed (Some packet) half' → HandsOver setting side (pushed ++ packet ∷ []) popped half'
-    put-some h packet gives = record {
+    stamps : (work : IsAtWork setting side pushed popped half) → StampedHalf setting side work.state (stamps_in pushed) (stamps_in popped)
+    stamps work = stamped-work setting side work.state pushed popped work.stamps
+
+    pub put-some : (h : HandsOver setting side pushed popped half) (value : StampedPacket) → value.stamp.at ≡ next_stamp (stamps_in popped) → PutGives setting side h.state h.handed (Some value.packet) half' → HandsOver setting side (pushed ++ value ∷ []) popped half'
+    put-some h value is gives = record {
       state = h.state;
       handed = h.handed ++ gives.next ∷ [];
       goes = gives.goes;
-      pushes = ap (λ (ps : List Packet). ps ++ packet ∷ []) h.pushes ∙ (ap (λ (p : Packet). packets_of setting.schema h.handed ++ p ∷ []) gives.is ∙ sym (map-append (packet_of setting.schema) h.handed (gives.next ∷ [])));
+      pushes =
+          map-append (λ (v : StampedPacket). v.packet) pushed (value ∷ []) ∙ ap (λ (ps : List Packet). ps ++ value.packet ∷ []) h.pushes
+          ∙ (ap (λ (p : Packet). packets_of setting.schema h.handed ++ p ∷ []) gives.is ∙ sym (map-append (packet_of setting.schema) h.handed (gives.next ∷ [])));
       pops = h.pops;
+      stamped = pushed-stamps setting side h.state h.handed pushed popped half h.goes h.stamped gives.next half' gives.goes value is;
     }
 
     pub put-none : (h : HandsOver setting side pushed popped half) → PutGives setting side h.state h.handed None half' → IsAtWork setting side pushed popped half'
@@ -49,7 +58,8 @@ module _ (setting : Setting) where
       state = h.state;
       goes = subst (λ (ps : List model.Packet). GoesApart setting side h.state ps half') (sym gives.0) gives.1;
       pushes = h.pushes ∙ ap (packets_of setting.schema) (sym gives.0);
-      pops = subst (λ (ps : List model.Packet). HasTaken setting popped ps) (sym (append-nil h.state.came)) h.pops;
+      pops = subst (λ (ps : List model.Packet). HasTaken setting (packets_in popped) ps) (sym (append-nil h.state.came)) h.pops;
+      stamps = work-stamps setting side h.state pushed popped (all-pushed setting side h.state h.handed pushed popped half h.goes h.stamped gives.0);
     }
 
     pub work-apart : IsAtWork setting side pushed popped half → IsApart half
@@ -57,10 +67,17 @@ module _ (setting : Setting) where
 
     -- a half that stands so still, behind a call that changed nothing
     abbrev still : (work : IsAtWork setting side pushed popped half) → GoesApart setting side work.state work.state.sent half' → IsAtWork setting side pushed popped half'
-    still work goes = record { state = work.state; goes = goes; pushes = work.pushes; pops = work.pops }
+    still work goes = record { state = work.state; goes = goes; pushes = work.pushes; pops = work.pops; stamps = work.stamps }
 
     pub own-gives : (work : IsAtWork setting side pushed popped half) (result : StepAnswer) → GoingGives setting side work.state work.state.sent result half' → OwnGives setting side pushed popped result half'
-    own-gives work answer.Did gives = record { state = behind work.state gives.output; handed = work.state.sent; goes = gives.goes; pushes = work.pushes; pops = came work }
+    own-gives work answer.Did gives = record {
+      state = behind work.state gives.output;
+      handed = work.state.sent;
+      goes = gives.goes;
+      pushes = work.pushes;
+      pops = came work;
+      stamped = acted-stamps setting side work.state pushed popped half' (stamps work) gives;
+    }
     own-gives work answer.Nothing gives = record { work = still work gives.1; none = gives.0 }
     own-gives work (answer.Spent at) gives = (gives.2, record { in_hands = []; stands = still work gives.3; full = gives.1; left = inl gives.0 })
     own-gives work answer.NoMemory gives = tt
@@ -70,17 +87,20 @@ module _ (setting : Setting) where
     opened : (rest : HasNoStep setting side pushed popped half) → is_open half.end.end.state ≡ true → is_open rest.work.state.end.state ≡ true
     opened rest is = ap (λ (e : model.End). is_open e.state) (sym rest.work.goes.end) ∙ is
 
-    module _ (rest : HasNoStep setting side pushed popped half) (packet : Packet) (reads : IsReadBack setting.schema packet) where
-      taken : HasTaken setting (popped ++ packet ∷ []) (rest.work.state.came ++ read packet ∷ [])
-      taken = more-taken popped rest.work.state.came packet (came rest.work) reads
+    module _ (rest : HasNoStep setting side pushed popped half) (value : StampedPacket) (reads : IsReadBack setting.schema value.packet) where
+      taken : HasTaken setting (packets_in (popped ++ value ∷ [])) (rest.work.state.came ++ read value.packet ∷ [])
+      taken =
+          subst (λ (ps : List Packet). HasTaken setting ps (rest.work.state.came ++ read value.packet ∷ [])) (sym (map-append (λ (v : StampedPacket). v.packet) popped (value ∷ [])))
+          (more-taken (packets_in popped) rest.work.state.came value.packet (came rest.work) reads)
 
-      accepted : HasAccepted setting side rest.work.state rest.work.state.sent (read packet) half' → HandsOver setting side pushed (popped ++ packet ∷ []) half'
+      accepted : HasAccepted setting side rest.work.state rest.work.state.sent (read value.packet) half' → HandsOver setting side pushed (popped ++ value ∷ []) half'
       accepted has = record {
-        state = behind_packet rest.work.state (read packet) (delivered_for setting.schema rest.work.state.end (read packet)) has.output;
+        state = behind_packet rest.work.state (read value.packet) (delivered_for setting.schema rest.work.state.end (read value.packet)) has.output;
         handed = rest.work.state.sent;
         goes = has.goes;
         pushes = rest.work.pushes;
         pops = taken;
+        stamped = accepted-stamps setting side rest.work.state pushed popped half' (stamps rest.work) value (read value.packet) rest.none has;
       }
 
       not-both : {A : Type 0} (b : Bool) → b ≡ true → b ≡ false → A
@@ -88,17 +108,23 @@ module _ (setting : Setting) where
           let e : true ≡ false = sym h ∙ k in
           cc
 
-      pub delivery-gives : is_open half.end.end.state ≡ true → (told : AcceptAnswer) → AcceptGives setting side rest.work.state rest.work.state.sent (packet_read setting.schema packet) told half' → DeliveryGives setting side pushed (popped ++ packet ∷ []) (turn_answer told) half'
+      pub delivery-gives : is_open half.end.end.state ≡ true → (told : AcceptAnswer) → AcceptGives setting side rest.work.state rest.work.state.sent (packet_read setting.schema value.packet) told half' → DeliveryGives setting side pushed (popped ++ value ∷ []) (turn_answer told) half'
       delivery-gives opens accept.Did gives = accepted gives.1
       delivery-gives opens accept.Refused gives = accepted gives.1
       delivery-gives opens accept.Nothing gives = not-both (is_open rest.work.state.end.state) (opened rest opens) gives.0
       delivery-gives opens (accept.Spent at) gives = (
         gives.2,
         record {
-          in_hands = read packet ∷ [];
-          stands = record { state = rest.work.state; goes = gives.3; pushes = rest.work.pushes; pops = taken };
+          in_hands = read value.packet ∷ [];
+          stands = record {
+            state = rest.work.state;
+            goes = gives.3;
+            pushes = rest.work.pushes;
+            pops = taken;
+            stamps = spent-stamps setting side rest.work.state pushed popped half' (stamps rest.work) value (read value.packet);
+          };
           full = gives.1;
-          left = inr (read packet, refl, gives.0);
+          left = inr (read value.packet, refl, gives.0);
         },
       )
       delivery-gives opens accept.NoMemory gives = tt
@@ -111,14 +137,14 @@ module _ (setting : Setting) where
       no_packet = inl (ap (λ (e : model.End). is_open e.state) (sym rest.work.goes.end) ∙ (sym is ∙ shut));
     }
 
-  module _ (side : Side) (pushed : List Packet) (half : HalfView) where
+  module _ (side : Side) (pushed : List StampedPacket) (half : HalfView) where
     -- and so does one for which nothing waits
     pub empty-resting : (incoming incoming' : PacketView) → incoming' ≡ incoming → (incoming.pushes ≡ true → incoming.pushed ≡ incoming.popped) → HasNoStep setting side pushed incoming.popped half → IsResting setting side pushed incoming' half
     empty-resting incoming incoming' same empty rest = subst (λ (v : PacketView). IsResting setting side pushed v half) (sym same) (record { work = rest.work; none = rest.none; no_packet = inr empty })
 
   -- What steps answer
 
-  module _ (side : Side) (pushed popped : List Packet) (half' : HalfView) where
+  module _ (side : Side) (pushed popped : List StampedPacket) (half' : HalfView) where
     pub push-ended : (more : Bool) → more ≡ false → PushGives setting side pushed popped more half' → IsAtWork setting side pushed popped half'
     push-ended true is gives = cc
     push-ended false is gives = gives

@@ -1,3 +1,4 @@
+mod Stamping
 mod Hands
 mod Rounds
 mod Ends

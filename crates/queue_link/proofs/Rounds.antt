@@ -1,15 +1,19 @@
 -- What steps of both sides make of how both stand.
-use Rattle.std.proofs.Common.{◌≡◌, true, false, List, [], refl, sym, ap, subst}
-use Rattle.end_parts.specs.declared.packet.Packet.{Packet}
+use Rattle.std.proofs.Common.{◌≡◌, true, false, List, [], refl, sym, ap, subst, ◌∙◌}
 use Rattle.ipdl_base.specs.declared.kinds.Side.{Side}
 use Rattle.ipdl_base.specs.declared.kinds.Side.TheVariants as sides
-use Rattle.ordered_queue.specs.InOrder.{whole}
+use Rattle.ordered_queue.specs.InOrder.{first_view, popping_part, pushing_part, whole}
+use Rattle.relay_history.specs.Stamps.{begins}
+use Rattle.relay_runs.specs.HalfRuns.{opening_half}
 use Rattle.script_steps.specs.Choices.{Setting}
 use Rattle.world_core.specs.declared.answers.RunAnswer.{RunAnswer}
 use Rattle.world_core.specs.declared.answers.RunAnswer.TheVariants as run
 use Rattle.world_core.specs.declared.answers.StepAnswer.{StepAnswer}
 use Rattle.world_core.specs.declared.answers.StepAnswer.TheVariants as answer
-use Rattle.world_core.specs.HalfView.{HalfView}
+use Rattle.world_core.specs.HalfView.{HalfView, setting_of}
+use Rattle.world_core.specs.Relaying.{GoesApart}
+use Rattle.queue_link.proofs.Stamping.{work-stamps}
+use Rattle.queue_link.specs.declared.packets.StampedPacket.{StampedPacket}
 use Rattle.queue_link.specs.Work.{BothWorked, IsAtWork, IsResting, IsSpent, OneIsSpent, PacketView, RoundGives, StandsSomehow, StepGives, WorkEnds, is_over, of_both, of_round}
 
 -- nothing but what was pushed, or what was popped, is another
@@ -22,22 +26,22 @@ OnlyPopped before after = after ≡ record before { popped = after.popped }
 module _ (setting : Setting) where
   module _ (side : Side) (half : HalfView) where
     -- what is said of lists of packets is said of the same lists
-    moved : (F : List Packet → List Packet → Type 0) (pushed pushed' popped popped' : List Packet) → pushed' ≡ pushed → popped' ≡ popped → F pushed popped → F pushed' popped'
-    moved F pushed pushed' popped popped' same_pushed same_popped f = subst (λ (ps : List Packet). F ps popped') (sym same_pushed) (subst (λ (ps : List Packet). F pushed ps) (sym same_popped) f)
+    moved : (F : List StampedPacket → List StampedPacket → Type 0) (pushed pushed' popped popped' : List StampedPacket) → pushed' ≡ pushed → popped' ≡ popped → F pushed popped → F pushed' popped'
+    moved F pushed pushed' popped popped' same_pushed same_popped f = subst (λ (ps : List StampedPacket). F ps popped') (sym same_pushed) (subst (λ (ps : List StampedPacket). F pushed ps) (sym same_popped) f)
 
-    at-work : (pushed pushed' popped popped' : List Packet) → pushed' ≡ pushed → popped' ≡ popped → IsAtWork setting side pushed popped half → IsAtWork setting side pushed' popped' half
+    at-work : (pushed pushed' popped popped' : List StampedPacket) → pushed' ≡ pushed → popped' ≡ popped → IsAtWork setting side pushed popped half → IsAtWork setting side pushed' popped' half
     at-work = moved (λ pushed popped. IsAtWork setting side pushed popped half)
 
-    spent : (pushed pushed' popped popped' : List Packet) → pushed' ≡ pushed → popped' ≡ popped → IsSpent setting side pushed popped half → IsSpent setting side pushed' popped' half
+    spent : (pushed pushed' popped popped' : List StampedPacket) → pushed' ≡ pushed → popped' ≡ popped → IsSpent setting side pushed popped half → IsSpent setting side pushed' popped' half
     spent = moved (λ pushed popped. IsSpent setting side pushed popped half)
 
-    somehow : (pushed pushed' popped popped' : List Packet) → pushed' ≡ pushed → popped' ≡ popped → StandsSomehow setting side pushed popped half → StandsSomehow setting side pushed' popped' half
+    somehow : (pushed pushed' popped popped' : List StampedPacket) → pushed' ≡ pushed → popped' ≡ popped → StandsSomehow setting side pushed popped half → StandsSomehow setting side pushed' popped' half
     somehow = moved (λ pushed popped. StandsSomehow setting side pushed popped half)
 
-    work-somehow : (pushed popped : List Packet) → IsAtWork setting side pushed popped half → StandsSomehow setting side pushed popped half
+    work-somehow : (pushed popped : List StampedPacket) → IsAtWork setting side pushed popped half → StandsSomehow setting side pushed popped half
     work-somehow pushed popped work = record { in_hands = []; stands = work }
 
-    spent-somehow : (pushed popped : List Packet) → IsSpent setting side pushed popped half → StandsSomehow setting side pushed popped half
+    spent-somehow : (pushed popped : List StampedPacket) → IsSpent setting side pushed popped half → StandsSomehow setting side pushed popped half
     spent-somehow pushed popped is = record { in_hands = is.in_hands; stands = is.stands }
 
   module _ (parent parent' child : HalfView) (down down' up up' : PacketView) (pushes : OnlyPushed down down') (pops : OnlyPopped up up') where
@@ -91,6 +95,19 @@ module _ (setting : Setting) where
     round-gives before_down before_up answer.Nothing second over first_gives gives = behind-rest second first_gives.2 gives
     round-gives before_down before_up (answer.Spent at) second over first_gives gives = cc
     round-gives before_down before_up answer.NoMemory second over first_gives gives = cc
+
+  -- A side begins to work with passes that were made of two new ones.
+  pub begins-work : (side : Side) (half : HalfView) → GoesApart setting side (opening_half setting side) [] half → (pushing popping out incoming : PacketView) → pushing ≡ pushing_part out → out ≡ first_view → popping ≡ popping_part incoming → incoming ≡ first_view
+      → (pushing.pushes ≡ true) × (popping.pops ≡ true) × IsAtWork (setting_of half) side pushing.pushed popping.popped half
+  begins-work side half goes pushing popping out incoming pushes new pops new' =
+      let begun : IsAtWork setting side [] [] half =
+      record { state = opening_half setting side; goes = goes; pushes = refl; pops = record { is = refl; reads = tt }; stamps = work-stamps setting side (opening_half setting side) [] [] begins } in
+      let pushed : pushing.pushed ≡ [] = ap (λ (v : PacketView). v.pushed) pushes ∙ ap (λ (v : PacketView). v.pushed) new in
+      let popped : popping.popped ≡ [] = ap (λ (v : PacketView). v.popped) pops ∙ ap (λ (v : PacketView). v.popped) new' in (
+        ap (λ (v : PacketView). v.pushes) pushes,
+        ap (λ (v : PacketView). v.pops) pops,
+        subst (λ (s : Setting). IsAtWork s side pushing.pushed popping.popped half) (sym goes.about) (at-work side half [] pushing.pushed [] popping.popped pushed popped begun),
+      )
 
   -- what comes of the work of both
   module _ (parent child : HalfView) (down up : PacketView) where

@@ -5,11 +5,11 @@ use Rattle.atomic_blocks.proofs.web.Seat.TheSendSync as seat
 use Rattle.atomic_blocks.proofs.web.Web.TheSendSync as web
 use Rattle.crossbeam_queue.proofs.seg_queue.Chained.TheSendSync as chained
 use Rattle.crossbeam_queue.proofs.seg_queue.Ends.TheSendSync as ends
-use Rattle.end_parts.proofs.packet.Packet.TheSendSync as packet
+use Rattle.queue_link.proofs.packets.StampedPacket.TheSendSync as stamped
 use Rattle.queue_link.specs.contracts.packets.Queues as both_queues
 use Rattle.queue_link.specs.contracts.packets.SidePasses as side_passes
 
-ruleset given = (sendable, crosses, packet.the_send)
+ruleset given = (sendable, crosses, stamped.the_send)
 
 pub queues_sync : IsSync both_queues.the_field.row
 queues_sync = search (given, chained.the_sync, web.the_sync, ends.the_sync) depth 30

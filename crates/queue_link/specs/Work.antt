@@ -11,6 +11,7 @@ use Rattle.end_parts.specs.PacketReading.{carried, packet_read}
 use Rattle.ipdl_base.specs.declared.schema.Schema.{Schema}
 use Rattle.ordered_queue.specs.declared.view.PassView.{PassView}
 use Rattle.ordered_queue.specs.Passes.{HasPopped, HasPushed, MayPop, MayPush, view_of}
+use Rattle.relay_history.specs.Stamps.{StampedHalf}
 use Rattle.relay_runs.specs.HalfRuns.{HalfState, is_within, own_event}
 use Rattle.relay_runs.specs.Relays.{Relayed}
 use Rattle.script_steps.specs.Choices.{Setting}
@@ -23,9 +24,11 @@ use Rattle.world_core.specs.HalfView.{HalfView, setting_of}
 use Rattle.world_core.specs.Relaying.{GoesApart, came_by}
 use Rattle.queue_link.specs.declared.packets.Queues.{Queues}
 use Rattle.queue_link.specs.declared.packets.SidePasses.{SidePasses}
+use Rattle.queue_link.specs.declared.packets.StampedPacket.{StampedPacket}
+use Rattle.queue_link.specs.Stamping.{HasStamps, next_stamp, packets_in, stamps_in}
 
 abbrev pub PacketView : Type 0
-PacketView = PassView Packet
+PacketView = PassView StampedPacket
 
 -- where a packet is that of something that has a frame, it is read as that
 abbrev pub IsReadBack : Schema → Packet → Type 0
@@ -36,64 +39,71 @@ pub record HasTaken (setting : Setting) (popped : List Packet) (taken : List mod
   pub is : taken ≡ map (λ packet. came_by (packet_read setting.schema packet)) popped
   pub reads : AllByRecursion (IsReadBack setting.schema) popped
 
--- A half goes apart. It has handed out what was pushed, and what was popped has come to it.
-pub record HandsOver (setting : Setting) (side : Side) (pushed popped : List Packet) (half : HalfView) : Type 0 where
+-- A half goes apart. It has handed out what was pushed, and what was popped has come to it. The packets that it still holds
+-- are to have the next stamp.
+pub record HandsOver (setting : Setting) (side : Side) (pushed popped : List StampedPacket) (half : HalfView) : Type 0 where
   pub state : HalfState
   pub handed : List model.Packet
   pub goes : GoesApart setting side state handed half
-  pub pushes : pushed ≡ packets_of setting.schema handed
-  pub pops : HasTaken setting popped state.came
+  pub pushes : packets_in pushed ≡ packets_of setting.schema handed
+  pub pops : HasTaken setting (packets_in popped) state.came
+  pub stamped : StampedHalf setting side state (stamps_in pushed ++ map (λ packet. next_stamp (stamps_in popped)) goes.held) (stamps_in popped)
 
 -- A half goes apart. All that it has sent was pushed, and what was popped has come to it, but for what is in its hands.
-pub record Stands (setting : Setting) (side : Side) (pushed popped : List Packet) (half : HalfView) (in_hands : List model.Packet) : Type 0 where
+pub record Stands (setting : Setting) (side : Side) (pushed popped : List StampedPacket) (half : HalfView) (in_hands : List model.Packet) : Type 0 where
   pub state : HalfState
   pub goes : GoesApart setting side state state.sent half
-  pub pushes : pushed ≡ packets_of setting.schema state.sent
-  pub pops : HasTaken setting popped (state.came ++ in_hands)
+  pub pushes : packets_in pushed ≡ packets_of setting.schema state.sent
+  pub pops : HasTaken setting (packets_in popped) (state.came ++ in_hands)
+  pub stamps : HasStamps setting side state pushed popped in_hands
 
 -- it is between two steps, with nothing in its hands
-abbrev pub IsAtWork : Setting → Side → List Packet → List Packet → HalfView → Type 0
+abbrev pub IsAtWork : Setting → Side → List StampedPacket → List StampedPacket → HalfView → Type 0
 IsAtWork setting side pushed popped half = Stands setting side pushed popped half []
 
 -- It has no own step.
-pub record HasNoStep (setting : Setting) (side : Side) (pushed popped : List Packet) (half : HalfView) : Type 0 where
+pub record HasNoStep (setting : Setting) (side : Side) (pushed popped : List StampedPacket) (half : HalfView) : Type 0 where
   pub work : IsAtWork setting side pushed popped half
   pub none : own_event setting side work.state ≡ None
 
+-- It had none before this was popped.
+abbrev pub HasNoStepBefore : Setting → Side → List StampedPacket → List StampedPacket → StampedPacket → HalfView → Type 0
+HasNoStepBefore setting side pushed popped value half = (before : List StampedPacket) × (popped ≡ before ++ value ∷ []) × HasNoStep setting side pushed before half
+
 -- It rests: it has no own step, and is not open, or nothing waits for it, as far as its pass can know.
-pub record IsResting (setting : Setting) (side : Side) (pushed : List Packet) (incoming : PacketView) (half : HalfView) : Type 0 where
+pub record IsResting (setting : Setting) (side : Side) (pushed : List StampedPacket) (incoming : PacketView) (half : HalfView) : Type 0 where
   pub work : IsAtWork setting side pushed incoming.popped half
   pub none : own_event setting side work.state ≡ None
   pub no_packet : (is_open work.state.end.state ≡ false) ⊎ (incoming.pushes ≡ true → incoming.pushed ≡ incoming.popped)
 
 -- It has an own step left, or, while it is open, a packet in its hands, but as many events as the limit.
-pub record IsSpent (setting : Setting) (side : Side) (pushed popped : List Packet) (half : HalfView) : Type 0 where
+pub record IsSpent (setting : Setting) (side : Side) (pushed popped : List StampedPacket) (half : HalfView) : Type 0 where
   pub in_hands : List model.Packet
   pub stands : Stands setting side pushed popped half in_hands
   pub full : is_within setting side stands.state ≡ false
   pub left : (is_some (own_event setting side stands.state) ≡ true) ⊎ ((packet : model.Packet) × (in_hands ≡ packet ∷ []) × (is_open stands.state.end.state ≡ true))
 
 -- a packet was pushed that the half has handed out, or there was none
-abbrev pub PushGives : Setting → Side → List Packet → List Packet → Bool → HalfView → Type 0
+abbrev pub PushGives : Setting → Side → List StampedPacket → List StampedPacket → Bool → HalfView → Type 0
 PushGives setting side pushed popped true half' = HandsOver setting side pushed popped half'
 PushGives setting side pushed popped false half' = IsAtWork setting side pushed popped half'
 
 -- an own step was done; or there is none; or the half is spent; or memory ran out
-abbrev pub OwnGives : Setting → Side → List Packet → List Packet → StepAnswer → HalfView → Type 0
+abbrev pub OwnGives : Setting → Side → List StampedPacket → List StampedPacket → StepAnswer → HalfView → Type 0
 OwnGives setting side pushed popped answer.Did half' = HandsOver setting side pushed popped half'
 OwnGives setting side pushed popped answer.Nothing half' = HasNoStep setting side pushed popped half'
 OwnGives setting side pushed popped (answer.Spent at) half' = (at ≡ side) × IsSpent setting side pushed popped half'
 OwnGives setting side pushed popped answer.NoMemory half' = Unit {0}
 
 -- a packet was delivered that was popped, or the mark in its place; or the half is spent; or memory ran out
-abbrev pub DeliveryGives : Setting → Side → List Packet → List Packet → StepAnswer → HalfView → Type 0
+abbrev pub DeliveryGives : Setting → Side → List StampedPacket → List StampedPacket → StepAnswer → HalfView → Type 0
 DeliveryGives setting side pushed popped answer.Did half' = HandsOver setting side pushed popped half'
 DeliveryGives setting side pushed popped answer.Nothing half' = ⊥
 DeliveryGives setting side pushed popped (answer.Spent at) half' = (at ≡ side) × IsSpent setting side pushed popped half'
 DeliveryGives setting side pushed popped answer.NoMemory half' = Unit {0}
 
 -- the same, where what was sent by it was pushed
-abbrev pub TakeGives : Setting → Side → List Packet → List Packet → StepAnswer → HalfView → Type 0
+abbrev pub TakeGives : Setting → Side → List StampedPacket → List StampedPacket → StepAnswer → HalfView → Type 0
 TakeGives setting side pushed popped answer.Did half' = IsAtWork setting side pushed popped half'
 TakeGives setting side pushed popped answer.Nothing half' = ⊥
 TakeGives setting side pushed popped (answer.Spent at) half' = (at ≡ side) × IsSpent setting side pushed popped half'
@@ -107,7 +117,7 @@ StepGives setting side out incoming (answer.Spent at) out' incoming' half' = (at
 StepGives setting side out incoming answer.NoMemory out' incoming' half' = Unit {0}
 
 -- how the work of a side ends: nothing was left to do when it looked; or it is spent; or memory ran out
-abbrev pub WorkEnds : Setting → Side → List Packet → List Packet → RunAnswer → HalfView → Type 0
+abbrev pub WorkEnds : Setting → Side → List StampedPacket → List StampedPacket → RunAnswer → HalfView → Type 0
 WorkEnds setting side pushed popped run.Finished half' = IsAtWork setting side pushed popped half'
 WorkEnds setting side pushed popped (run.Spent at) half' = (at ≡ side) × IsSpent setting side pushed popped half'
 WorkEnds setting side pushed popped run.NoMemory half' = Unit {0}
@@ -125,7 +135,7 @@ HasWorked queues sides.Child before after setting ended half' =
     HasPushed queues.up.queue before.pushing after.pushing × (HasPopped queues.down.queue before.popping after.popping) × WorkEnds setting sides.Child (view_of after.pushing).pushed (view_of after.popping).popped ended half'
 
 -- A half stands in some way.
-pub record StandsSomehow (setting : Setting) (side : Side) (pushed popped : List Packet) (half : HalfView) : Type 0 where
+pub record StandsSomehow (setting : Setting) (side : Side) (pushed popped : List StampedPacket) (half : HalfView) : Type 0 where
   pub in_hands : List model.Packet
   pub stands : Stands setting side pushed popped half in_hands
 
@@ -184,4 +194,4 @@ BothWorked setting down up run.NoMemory parent child = Unit {0}
 
 -- a pass that may push and pop, and has seen the order of its queue
 abbrev pub IsOrdered : PacketView → Type 0
-IsOrdered view = (held : List Packet) × (view.pushed ≡ view.popped ++ held)
+IsOrdered view = (held : List StampedPacket) × (view.pushed ≡ view.popped ++ held)

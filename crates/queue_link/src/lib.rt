@@ -3,6 +3,7 @@
 #![tactic(auto)]
 
 mod packets;
+mod stamp;
 mod steps;
 mod turns;
 mod two_queues;

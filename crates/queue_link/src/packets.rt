@@ -1,12 +1,20 @@
 //! The queues of packets between both ends, and the passes of those who push to them and pop from them.
+use crate::stamp::Stamp;
 use channel_core::Packet;
 use ordered_queue::{OrderedQueue, QueuePass};
 
+/// A packet in a queue, with a stamp that says what it may come after.
+#[derive(Drop)]
+pub struct StampedPacket {
+    pub packet: Packet,
+    pub stamp: Stamp,
+}
+
 /// The queue from one end to the other.
-pub type PacketQueue = OrderedQueue<Packet>;
+pub type PacketQueue = OrderedQueue<StampedPacket>;
 
 /// The right to push to such a queue, or to pop from it, or both.
-pub type PacketPass = QueuePass<Packet>;
+pub type PacketPass = QueuePass<StampedPacket>;
 
 /// Both queues of a run.
 #[derive(Drop)]

@@ -1,38 +1,51 @@
 //! One step of a side: what its half does, and what is pushed and popped for it.
-ghost use Rattle.std.specs.Prelude.{◌≡◌, ◌++◌, ◌∷◌, [], true, List, IfOk, MatchResult, OnOk};
+ghost use Rattle.std.specs.Prelude.{◌≡◌, ◌++◌, ◌∷◌, [], true, ℕ, List, IfOk, MatchResult, OnOk};
 ghost use Rattle.channel_model.specs.Outputs.{is_open};
-ghost use Rattle.end_parts.specs.declared.packet.Packet.{Packet as OfPacket};
 ghost use Rattle.ipdl_base.specs.declared.kinds.Side.{Side as EndSide};
 ghost use Rattle.ordered_queue.specs.Passes.{HasPopped, HasPushed, MayPop, MayPush, view_of};
-ghost use Rattle.queue_link.specs.Work.{DeliveryGives, HandsOver, HasNoStep, IsAtWork, OwnGives, PushGives, StepGives, TakeGives};
+ghost use Rattle.queue_link.specs.declared.packets.StampedPacket.{StampedPacket as OfStamped};
+ghost use Rattle.queue_link.specs.Work.{DeliveryGives, HandsOver, HasNoStep, HasNoStepBefore, IsAtWork, OwnGives, PushGives, StepGives, TakeGives};
 ghost use Rattle.script_steps.specs.Choices.{Setting};
 ghost use Rattle.world_core.specs.declared.answers.StepAnswer.TheVariants as answer;
 
-use crate::packets::{PacketPass, PacketQueue};
+use crate::packets::{PacketPass, PacketQueue, StampedPacket};
+use crate::stamp::Stamp;
 use channel_core::Packet;
 use std::alloc::AllocError;
 use std::sync::Wait;
 use world_core::{Half, StepAnswer, turn_answer};
+
+// A packet with a stamp above those of all packets that were popped by this pass.
+fn stamped(packet: Packet, _popping: &PacketPass) -> StampedPacket
+    ghost n: { ℕ }
+    ensures packet { result.packet ≡ packet }
+    ensures stamp { result.stamp.at ≡ n }
+{
+    StampedPacket {
+        packet,
+        stamp: Stamp::new(),
+    }
+}
 
 // Pushes the next packet that the half has not handed out, and says whether there was one. The only
 // error is want of memory.
 fn push_next<R: Wait>(
     rt: &R,
     queue: &PacketQueue,
-    pass: &mut PacketPass,
+    pushing: &mut PacketPass,
+    popping: &PacketPass,
     half: &mut Half<'_>,
 ) -> Result<bool, AllocError>
     ghost at: { Setting × EndSide }
-    requires pass { MayPush queue.now.queue pass.old }
-    requires hands { (popped : List OfPacket) × HandsOver at.0 at.1 (view_of pass.old).pushed popped half.old }
-    ensures pass { HasPushed queue.now.queue pass.old pass.new }
-    ensures hands { (popped : List OfPacket) → HandsOver at.0 at.1 (view_of pass.old).pushed popped half.old
-        → IfOk result (λ more. PushGives at.0 at.1 (view_of pass.new).pushed popped more half.new) }
+    requires pushing { MayPush queue.now.queue pushing.old }
+    requires hands { HandsOver at.0 at.1 (view_of pushing.old).pushed (view_of popping.now).popped half.old }
+    ensures pushing { HasPushed queue.now.queue pushing.old pushing.new }
+    ensures hands { IfOk result (λ more. PushGives at.0 at.1 (view_of pushing.new).pushed (view_of popping.now).popped more half.new) }
 {
     let Some(packet) = half.put() else {
         return Ok(false);
     };
-    queue.push(rt, pass, packet)?;
+    queue.push(rt, pushing, stamped(packet, popping))?;
     Ok(true)
 }
 
@@ -40,18 +53,18 @@ fn push_next<R: Wait>(
 fn hand_over<R: Wait>(
     rt: &R,
     queue: &PacketQueue,
-    pass: &mut PacketPass,
+    pushing: &mut PacketPass,
+    popping: &PacketPass,
     half: &mut Half<'_>,
 ) -> Result<(), AllocError>
     ghost at: { Setting × EndSide }
-    requires pass { MayPush queue.now.queue pass.old }
-    requires hands { (popped : List OfPacket) × HandsOver at.0 at.1 (view_of pass.old).pushed popped half.old }
-    ensures pass { HasPushed queue.now.queue pass.old pass.new }
-    ensures work { (popped : List OfPacket) → HandsOver at.0 at.1 (view_of pass.old).pushed popped half.old
-        → OnOk result (IsAtWork at.0 at.1 (view_of pass.new).pushed popped half.new) }
+    requires pushing { MayPush queue.now.queue pushing.old }
+    requires hands { HandsOver at.0 at.1 (view_of pushing.old).pushed (view_of popping.now).popped half.old }
+    ensures pushing { HasPushed queue.now.queue pushing.old pushing.new }
+    ensures work { OnOk result (IsAtWork at.0 at.1 (view_of pushing.new).pushed (view_of popping.now).popped half.new) }
 {
     for _ in rt.forever() {
-        if !push_next(rt, queue, pass, half)? {
+        if !push_next(rt, queue, pushing, popping, half)? {
             return Ok(());
         }
     }
@@ -71,41 +84,41 @@ fn done(handed_over: Result<(), AllocError>) -> StepAnswer
 // An own step of the half.
 fn go_on(half: &mut Half<'_>) -> StepAnswer
     ghost at: { Setting × EndSide }
-    requires { (pushed : List OfPacket) × (popped : List OfPacket) × IsAtWork at.0 at.1 pushed popped half.old }
-    ensures { (pushed popped : List OfPacket) → IsAtWork at.0 at.1 pushed popped half.old → OwnGives at.0 at.1 pushed popped result half.new }
+    requires { (pushed : List OfStamped) × (popped : List OfStamped) × IsAtWork at.0 at.1 pushed popped half.old }
+    ensures { (pushed popped : List OfStamped) → IsAtWork at.0 at.1 pushed popped half.old → OwnGives at.0 at.1 pushed popped result half.new }
 {
     half.go_on()
 }
 
 // A delivery to an open half that has no own step, of a packet that was popped for it.
-fn accept(half: &mut Half<'_>, packet: &Packet) -> StepAnswer
+fn accept(half: &mut Half<'_>, value: &StampedPacket) -> StepAnswer
     ghost at: { Setting × EndSide }
-    requires rests { (pushed : List OfPacket) × (popped : List OfPacket) × HasNoStep at.0 at.1 pushed popped half.old }
+    requires rests { (pushed : List OfStamped) × (popped : List OfStamped) × HasNoStep at.0 at.1 pushed popped half.old }
     requires opened { is_open half.old.end.end.state ≡ true }
-    ensures { (pushed popped : List OfPacket) → HasNoStep at.0 at.1 pushed popped half.old
-        → DeliveryGives at.0 at.1 pushed (popped ++ packet.now ∷ []) result half.new }
+    ensures { (pushed popped : List OfStamped) → HasNoStep at.0 at.1 pushed popped half.old
+        → DeliveryGives at.0 at.1 pushed (popped ++ value.now ∷ []) result half.new }
 {
-    turn_answer(half.accept(packet))
+    turn_answer(half.accept(&value.packet))
 }
 
 // The same, with what the half sends by it pushed.
 fn deliver<R: Wait>(
     rt: &R,
     queue: &PacketQueue,
-    pass: &mut PacketPass,
+    pushing: &mut PacketPass,
+    popping: &PacketPass,
     half: &mut Half<'_>,
-    packet: &Packet,
+    value: &StampedPacket,
 ) -> StepAnswer
     ghost at: { Setting × EndSide }
-    requires pass { MayPush queue.now.queue pass.old }
-    requires rests { (popped : List OfPacket) × HasNoStep at.0 at.1 (view_of pass.old).pushed popped half.old }
+    requires pushing { MayPush queue.now.queue pushing.old }
+    requires rests { HasNoStepBefore at.0 at.1 (view_of pushing.old).pushed (view_of popping.now).popped value.now half.old }
     requires opened { is_open half.old.end.end.state ≡ true }
-    ensures pass { HasPushed queue.now.queue pass.old pass.new }
-    ensures gives { (popped : List OfPacket) → HasNoStep at.0 at.1 (view_of pass.old).pushed popped half.old
-        → TakeGives at.0 at.1 (view_of pass.new).pushed (popped ++ packet.now ∷ []) result half.new }
+    ensures pushing { HasPushed queue.now.queue pushing.old pushing.new }
+    ensures gives { TakeGives at.0 at.1 (view_of pushing.new).pushed (view_of popping.now).popped result half.new }
 {
-    match accept(half, packet) {
-        StepAnswer::Did => done(hand_over(rt, queue, pass, half)),
+    match accept(half, value) {
+        StepAnswer::Did => done(hand_over(rt, queue, pushing, popping, half)),
         answer => answer,
     }
 }
@@ -132,7 +145,7 @@ fn take<R: Wait>(
     }
     match incoming.pop(rt, popping) {
         None => StepAnswer::Nothing,
-        Some(packet) => deliver(rt, out, pushing, half, &packet),
+        Some(value) => deliver(rt, out, pushing, popping, half, &value),
     }
 }
 
@@ -156,7 +169,7 @@ pub fn step<R: Wait>(
     ensures gives { StepGives at.0 at.1 (view_of pushing.old) (view_of popping.old) result (view_of pushing.new) (view_of popping.new) half.new }
 {
     match go_on(half) {
-        StepAnswer::Did => done(hand_over(rt, out, pushing, half)),
+        StepAnswer::Did => done(hand_over(rt, out, pushing, popping, half)),
         StepAnswer::Nothing => take(rt, out, incoming, pushing, popping, half),
         answer => answer,
     }

@@ -16,7 +16,7 @@ pub returns : goal.returns
 returns g c pushed popped rest =
     let work = rest.work in
     let schema : c.args.half.now.end.schema ≡ g.at.0.schema = ap (λ (s : Setting). s.schema) work.goes.about in
-    let reads : IsReadBack g.at.0.schema c.args.packet.now = subst (λ (s : Schema). IsReadBack s c.args.packet.now) schema c.accept.ensures.reads in
-    subst (λ (t : StepAnswer). DeliveryGives g.at.0 g.at.1 pushed (popped ++ c.args.packet.now ∷ []) t c.accept.new.self) (sym c.turn_answer.ensures)
-    (delivery-gives g.at.0 g.at.1 pushed popped c.args.half.now c.accept.new.self rest c.args.packet.now reads c.requires.1 c.accept.result
+    let reads : IsReadBack g.at.0.schema c.args.value.now.packet = subst (λ (s : Schema). IsReadBack s c.args.value.now.packet) schema c.accept.ensures.reads in
+    subst (λ (t : StepAnswer). DeliveryGives g.at.0 g.at.1 pushed (popped ++ c.args.value.now ∷ []) t c.accept.new.self) (sym c.turn_answer.ensures)
+    (delivery-gives g.at.0 g.at.1 pushed popped c.args.half.now c.accept.new.self rest c.args.value.now reads c.requires.1 c.accept.result
     (c.accept.ensures.gives g.at.0 g.at.1 work.state work.state.sent work.goes))

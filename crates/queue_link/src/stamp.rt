@@ -1,0 +1,28 @@
+//! The stamps of packets, which proofs alone read.
+ghost use Rattle.std.specs.Prelude.{◌≡◌, ℕ};
+ghost use Rattle.std.specs.Borrow.{ftrue};
+
+use std::marker::Model;
+
+/// A number that has no bytes.
+#[derive(Drop)]
+pub struct Stamp {
+    pub ghost at: { ℕ },
+}
+
+impl Model for Stamp {
+    ghost also_owns = { λ _. ftrue };
+}
+
+// `also_owns` keeps this from being so by itself. A stamp owns nothing.
+unsafe impl Send for Stamp {}
+
+impl Stamp {
+    /// The stamp that is any number.
+    pub fn new() -> Stamp
+        ghost n: { ℕ }
+        ensures { result.at ≡ n }
+    {
+        Stamp {}
+    }
+}
