@@ -18,7 +18,7 @@ impl Model for Stamp {
 unsafe impl Send for Stamp {}
 
 impl Stamp {
-    /// The stamp that is any number.
+    /// A stamp, of the number that the caller's proof picks.
     pub fn new() -> Stamp
         ghost n: { ℕ }
         ensures { result.at ≡ n }

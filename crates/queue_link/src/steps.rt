@@ -15,7 +15,7 @@ use std::alloc::AllocError;
 use std::sync::Wait;
 use world_core::{Half, StepAnswer, turn_answer};
 
-// A packet with a stamp above those of all packets that were popped by this pass.
+// A packet with a stamp. Proofs pick the number, above those of all that was popped by the pass.
 fn stamped(packet: Packet, _popping: &PacketPass) -> StampedPacket
     ghost n: { ℕ }
     ensures packet { result.packet ≡ packet }

@@ -32,6 +32,26 @@ return (20)
 end
 ";
 
+/// Each side calls the other while it handles the other's call, and none begins.
+pub const CALLS_BACK: &str = "parent on PW.CallP
+send top PW.CallC()
+return (10)
+end
+child on PW.CallC
+send top PW.CallP()
+return (20)
+end
+";
+
+/// Each side tells the other when it is told, and none begins.
+pub const TELLS_BACK: &str = "parent on PW.Poke
+send top PW.Tell(5)
+end
+child on PW.Tell
+send top PW.Poke()
+end
+";
+
 /// The parent closes behind a call.
 pub const CLOSE: &str = "parent main
 send top PW.CallC()

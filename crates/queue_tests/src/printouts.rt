@@ -56,14 +56,3 @@ pub fn is_relay_of_race(text: &str) -> bool {
         && count_of(text, "child resume -1 ok (10)") == 1
         && text.ends_with("\nfinished\n")
 }
-
-/// The lines of a text that tell of deliveries, or those that tell of all else.
-pub fn deliveries(alloc: Global, text: &str, are: bool) -> Result<String, Fail> {
-    let mut found = String::new(alloc);
-    for line in text.lines() {
-        if line.contains(" deliver ") == are {
-            writeln!(found, "{line}")?;
-        }
-    }
-    Ok(found)
-}

@@ -2,8 +2,8 @@ ghost use Rattle.std.specs.Prelude.{◌≤◌};
 ghost use Rattle.ipdl_base.specs.Sound.{IsSound};
 ghost use Rattle.handler_script.specs.Valid.{IsValid};
 
-use super::given::{CLOSE, PROTOCOL, RACE, TELLS, script_of, tells};
-use super::printouts::{count_of, deliveries, ending_of, half_text, is_relay_of_race, printed};
+use super::given::{CALLS_BACK, CLOSE, PROTOCOL, RACE, TELLS, TELLS_BACK, script_of, tells};
+use super::printouts::{count_of, is_relay_of_race, printed};
 use handler_script::Script;
 use history_of_text::schema_of;
 use ipdl_base::{Schema, Side};
@@ -79,11 +79,20 @@ fn two_tells(rt: HostRuntime) -> Result<(), Fail> {
     Ok(())
 }
 
-/// How many of so many relays of the race are relays of it.
-fn races<R: Threads + Wait + Sync + AllocGlobal>(rt: &R, count: u32) -> Result<u32, Fail> {
+/// How many of so many relays print what the relay on one thread prints.
+fn same_texts<R: Threads + Wait + Sync + AllocGlobal>(
+    rt: &R,
+    text: &str,
+    count: u32,
+) -> Result<u32, Fail> {
+    let schema = schema_of(rt.alloc(), PROTOCOL)?;
+    let script = script_of(rt.alloc(), &schema, text)?;
+    let (halves, answer) = relay_in_turn(rt.alloc(), &schema, &script, 20_000)?;
+    let wanted = printed(rt.alloc(), &schema, &halves, answer)?;
     let mut good = 0u32;
     for _ in 0..count {
-        if is_relay_of_race(relayed(rt, RACE, None, 10_000)?.as_str()) {
+        let (halves, answer) = relay(rt, &schema, &script, None, 20_000)?;
+        if printed(rt.alloc(), &schema, &halves, answer)? == wanted {
             good = good.wrapping_add(1);
         }
     }
@@ -92,8 +101,25 @@ fn races<R: Threads + Wait + Sync + AllocGlobal>(rt: &R, count: u32) -> Result<u
 
 #[test]
 fn two_calls_at_once(rt: HostRuntime) -> Result<(), Fail> {
-    let good = races(&rt, 100)?;
+    let text = relayed(&rt, RACE, None, 20_000)?;
+    assert!(rt; is_relay_of_race(text.as_str()));
+    let good = same_texts(&rt, RACE, 100)?;
     assert_eq!(rt; good, 100);
+    Ok(())
+}
+
+/// Whether nothing happens in a relay of a script, on two threads or on one.
+fn is_silent<R: Threads + Wait + Sync + AllocGlobal>(rt: &R, text: &str) -> Result<bool, Fail> {
+    let printed = relayed(rt, text, None, 20_000)?;
+    Ok(printed.as_str() == "finished\n" && same_texts(rt, text, 1)? == 1)
+}
+
+#[test]
+fn no_main(rt: HostRuntime) -> Result<(), Fail> {
+    let calls = is_silent(&rt, CALLS_BACK)?;
+    assert!(rt; calls);
+    let tells = is_silent(&rt, TELLS_BACK)?;
+    assert!(rt; tells);
     Ok(())
 }
 
@@ -147,50 +173,10 @@ fn a_close(rt: HostRuntime) -> Result<(), Fail> {
     Ok(())
 }
 
-/// A half, its deliveries apart from all else, and how its relay ended.
-fn parts_of(
-    alloc: Global,
-    schema: &Schema,
-    halves: &Halves,
-    answer: RunAnswer,
-) -> Result<String, Fail>
-    requires { IsSound schema.now }
-{
-    let parent = half_text(alloc, schema, &halves.parent)?;
-    let child = half_text(alloc, schema, &halves.child)?;
-    let mut text = deliveries(alloc, parent.as_str(), true)?;
-    text.push_str(deliveries(alloc, child.as_str(), true)?.as_str())?;
-    text.push_str(deliveries(alloc, parent.as_str(), false)?.as_str())?;
-    text.push_str(deliveries(alloc, child.as_str(), false)?.as_str())?;
-    text.push_str(ending_of(answer))?;
-    Ok(text)
-}
-
-/// How many of so many relays have halves with the lines of the relay on one thread, where deliveries
-/// stand apart from all else.
-fn long_relays<R: Threads + Wait + Sync + AllocGlobal>(
-    rt: &R,
-    count: u32,
-    actions: u32,
-) -> Result<u32, Fail> {
-    let schema = schema_of(rt.alloc(), PROTOCOL)?;
-    let text = tells(rt.alloc(), actions)?;
-    let script = script_of(rt.alloc(), &schema, text.as_str())?;
-    let (halves, answer) = relay_in_turn(rt.alloc(), &schema, &script, 20_000)?;
-    let wanted = parts_of(rt.alloc(), &schema, &halves, answer)?;
-    let mut good = 0u32;
-    for _ in 0..count {
-        let (halves, answer) = relay(rt, &schema, &script, None, 20_000)?;
-        if parts_of(rt.alloc(), &schema, &halves, answer)? == wanted {
-            good = good.wrapping_add(1);
-        }
-    }
-    Ok(good)
-}
-
 #[test]
 fn two_thousand_actions_a_side(rt: HostRuntime) -> Result<(), Fail> {
-    let good = long_relays(&rt, 10, 2_000)?;
+    let text = tells(rt.alloc(), 2_000)?;
+    let good = same_texts(&rt, text.as_str(), 10)?;
     assert_eq!(rt; good, 10);
     Ok(())
 }

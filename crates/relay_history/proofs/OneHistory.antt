@@ -367,15 +367,10 @@ neither : (a b : Bool) → (not a && not b) ≡ not (a || b)
 neither true b = refl
 neither false b = refl
 
-none-left : (a b : Bool) → (a ≡ false) × (b ≡ false) → (not a && not b) ≡ true
-none-left true b h = let k : true ≡ false = h.0 in cc
-none-left false true h = let k : true ≡ false = h.1 in cc
-none-left false false h = refl
-
-left-none : (a b : Bool) → (not a && not b) ≡ true → (a ≡ false) × (b ≡ false)
-left-none true b h = cc
-left-none false true h = cc
-left-none false false h = (refl, refl)
+none-left : (a b : Bool) → ((a ≡ false) × (b ≡ false)) ↔ ((not a && not b) ≡ true)
+none-left true b = (λ h. let k : true ≡ false = h.0 in cc, λ h. cc)
+none-left false true = (λ h. let k : true ≡ false = h.1 in cc, λ h. cc)
+none-left false false = (λ h. refl, λ h. (refl, refl))
 
 not-none : (a : Bool) → not a ≡ false → a ≡ true
 not-none true h = refl
@@ -396,7 +391,9 @@ module _ (setting : Setting) (state : RelayState) (has : HasHistory setting stat
       ap (λ (b : Bool). b && is_quiet_at setting has.history sides.Child) (quiet-at sides.Parent) ∙ ap (λ (b : Bool). not (has_left setting sides.Parent state) && b) (quiet-at sides.Child)
 
   finished-so : EndsAs setting state at_rest ↔ (is_quiet setting has.history ≡ true)
-  finished-so = (λ h. quiet-is ∙ none-left (has_left setting sides.Parent state) (has_left setting sides.Child state) h, λ h. left-none (has_left setting sides.Parent state) (has_left setting sides.Child state) (sym quiet-is ∙ h))
+  finished-so =
+      let none = none-left (has_left setting sides.Parent state) (has_left setting sides.Child state) in
+      (λ h. quiet-is ∙ none.0 h, λ h. none.1 (sym quiet-is ∙ h))
 
   ends-so : (ending : RunEnding) → EndsAs setting state ending ↔ histories.EndsAs setting has.history ending
   ends-so at_rest = finished-so

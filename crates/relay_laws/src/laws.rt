@@ -5,8 +5,8 @@ pub fn half_runs_run_alone()
     ensures { HalfRunsRunAlone }
 {}
 
-/// The law of one end, for relays: what each end settles and goes on with comes of what the other has
-/// sent.
+/// The law of one end, for pairs of half runs, and so for relays: what each end settles and goes on with
+/// comes of what the other has sent.
 pub fn relays_obey_alone()
     ensures { RelaysObeyAlone }
 {}

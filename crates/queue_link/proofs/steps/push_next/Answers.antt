@@ -16,6 +16,6 @@ pub returns-clause-hands : goal.returns-clause-hands
 returns-clause-hands g c =
     let h = c.requires.1.1 in
     let popped = (view_of c.args.popping.now).popped in
-    subst (λ (values : List StampedPacket). HandsOver g.at.0 g.at.1 values popped c.put.new.self) (sym (ap (λ (v : PacketView). v.pushed) c.in_ok-push.ensures.pushed))
+    subst (λ (values : List StampedPacket). HandsOver g.at.0 g.at.1 values popped c.put.new.self) (sym (ap (λ (v : PacketView). v.pushed) {x = view_of c.push.new.pass} c.in_ok-push.ensures.pushed))
     (put-some g.at.0 g.at.1 (view_of c.args.pushing.now).pushed popped c.args.half.now c.put.new.self h c.stamped.result c.stamped.ensures.stamp
     (subst (λ (packet : Packet). PutGives g.at.0 g.at.1 h.state h.handed (Some packet) c.put.new.self) (sym c.stamped.ensures.packet) (c.in-Some.ensures g.at.0 g.at.1 h.state h.handed h.goes)))
