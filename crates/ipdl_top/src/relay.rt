@@ -20,9 +20,7 @@ use history::{History, history_text};
 use ipdl_base::{FileBytes, Schema};
 use law_statements::{decides_fallen, decides_readable, laws_want_readable_lines};
 use line_laws::texts_see_no_box;
-use relay_history::{
-    finished_relays_wait_for_nothing, relays_are_histories, relays_come_in_order,
-};
+use relay_history::{finished_relays_wait_for_nothing, relays_are_histories, relays_come_in_order};
 use relay_laws::relays_obey_alone;
 use schedules::Stop;
 use script_steps::choices_are_runs;
