@@ -2,4 +2,5 @@ mod Stamping
 mod Hands
 mod Rounds
 mod Ends
+mod HalvesAlone
 mod Sent

@@ -1,2 +1,3 @@
+pub mod HalvesAlone
 pub mod Stamping
 pub mod Work

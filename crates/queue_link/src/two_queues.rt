@@ -1,10 +1,15 @@
 ghost use Rattle.std.specs.Prelude.{◌≡◌};
 ghost use Rattle.std.specs.Thread.{IsSync};
+ghost use Rattle.ipdl_base.specs.Sound.{IsSound};
+ghost use Rattle.script_runs.specs.Laws.{HasLimit};
 ghost use Rattle.world_core.specs.Relaying.{IsRelayed};
 ghost use Rattle.world_core.specs.WorldView.{opening_of};
+ghost use Rattle.queue_link.specs.HalvesAlone.{ObeyAlone};
 
 use crate::workers::run_apart;
 use gates::{Gate, Open};
+use relay_history::relays_come_in_order;
+use relay_laws::relays_obey_alone;
 use std::alloc::Global;
 use std::sync::Wait;
 use std::thread::Threads;
@@ -34,11 +39,15 @@ impl<'r, R: Threads + Wait + Sync + AllocGlobal, G: Gate + Sync> TwoQueues<'r, R
         &self.gate
     }
 
-    /// Runs a world by whatever gate: as `run_queues` does with the open one.
+    /// Runs a world by whatever gate: as `run_queues` does with the open one. For a sound schema each half
+    /// obeys what one end by itself obeys.
     pub fn run_with<'s>(&mut self, world: World<'s>) -> (Halves, RunAnswer)
         requires { world ≡ opening_of world.setting }
-        ensures { IsRelayed world.entry.setting result.0 result.1 }
+        ensures relayed { IsRelayed world.entry.setting result.0 result.1 }
+        ensures alone { IsSound world.entry.setting.schema → HasLimit world.entry.setting → ObeyAlone world.entry.setting result.0 result.1 }
     {
+        relays_come_in_order();
+        relays_obey_alone();
         run_world(self.rt, self.rt.alloc(), &self.gate, world)
     }
 }
