@@ -15,7 +15,7 @@ use thread_link::{Open, TwoThreads};
 use world_core::{RunAnswer, World};
 
 /// The last line of what a run prints.
-fn ending_of(answer: RunAnswer) -> &'static str {
+pub fn ending_of(answer: RunAnswer) -> &'static str {
     match answer {
         RunAnswer::Finished => "finished\n",
         RunAnswer::Spent(Side::Parent) => "spent parent\n",

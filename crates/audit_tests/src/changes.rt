@@ -12,7 +12,7 @@ use worked_runs::{RUNS, Row, row_of};
 
 /// No side of these runs has as many events. A world takes memory for as many as its limit allows, and
 /// here it is opened once for each changed text.
-const MOST_EVENTS: u32 = 64;
+pub const MOST_EVENTS: u32 = 64;
 
 /// How a text is changed at one of its bytes.
 #[derive(Clone, Copy)]

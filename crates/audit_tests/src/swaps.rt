@@ -11,7 +11,7 @@ use std::test::Fail;
 use worked_runs::{RUNS, Row, row_of};
 
 /// The events of what a run prints, each with its effects, and behind them the line of how it ended.
-fn events_of(alloc: Global, printed: &str) -> Result<Vec<String>, Fail> {
+pub fn events_of(alloc: Global, printed: &str) -> Result<Vec<String>, Fail> {
     let mut events = Vec::new(alloc);
     for line in printed.lines() {
         if !line.starts_with("  ") {

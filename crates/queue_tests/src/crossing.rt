@@ -46,8 +46,8 @@ impl Gate for Crossing {
     }
 }
 
-/// How many sides did not meet the other one at the gate of the race, and whether the run was one of
-/// the race.
+/// How many sides did not meet the other one at the gate of the race, whether the parent and whether
+/// the child came there, and whether the run was one of the race.
 fn crossed<R: Threads + Wait + Sync + AllocGlobal>(
     rt: &R,
     schema: &Schema,
@@ -67,8 +67,10 @@ fn crossed<R: Threads + Wait + Sync + AllocGlobal>(
     let text = printed(rt.alloc(), schema, &halves, answer);
     let gate = relay.gate();
     let missed = gate.missed.load(Ordering::SeqCst);
+    let parent = gate.parent.load(Ordering::SeqCst) != 0;
+    let child = gate.child.load(Ordering::SeqCst) != 0;
     let is_race = is_relay_of_race(text?.as_str());
-    Ok(format!(in rt.alloc(); "{missed} {is_race}")?)
+    Ok(format!(in rt.alloc(); "{missed} {parent} {child} {is_race}")?)
 }
 
 #[test]
@@ -76,6 +78,6 @@ fn gate_crossing(rt: HostRuntime) -> Result<(), Fail> {
     let schema = schema_of(rt.alloc(), PROTOCOL)?;
     let script = script_of(rt.alloc(), &schema, RACE)?;
     let shown = crossed(&rt, &schema, &script)?;
-    assert_eq!(rt; shown.as_str(), "0 true");
+    assert_eq!(rt; shown.as_str(), "0 true true true");
     Ok(())
 }

@@ -7,7 +7,7 @@ use std::test::Fail;
 use world_core::{Halves, RunAnswer};
 
 /// The last line of what a relay prints.
-pub fn ending_of(answer: RunAnswer) -> &'static str {
+fn ending_of(answer: RunAnswer) -> &'static str {
     match answer {
         RunAnswer::Finished => "finished",
         RunAnswer::Spent(Side::Parent) => "spent parent",
@@ -17,7 +17,7 @@ pub fn ending_of(answer: RunAnswer) -> &'static str {
 }
 
 /// The lines of one half.
-pub fn half_text(alloc: Global, schema: &Schema, half: &History) -> Result<String, Fail>
+fn half_text(alloc: Global, schema: &Schema, half: &History) -> Result<String, Fail>
     requires { IsSound schema.now }
 {
     let lines = history_text(alloc, schema, half)?;
