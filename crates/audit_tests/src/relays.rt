@@ -104,7 +104,7 @@ fn is_of_row(alloc: Global, row: Row<'_>, text: &[u8]) -> Result<bool, Fail> {
     Ok(wanted.as_bytes() == text)
 }
 
-/// Whether this event is the parent's, and the audit of a text takes it behind that text.
+/// Whether this event is the parent's, and an audit takes it after this text.
 fn is_taken(
     alloc: Global,
     schema: &Schema,

@@ -1,3 +1,4 @@
+//! Words and files have at most one answer.
 ghost use Rattle.ipdl_top.specs.Laws.{OneAnswer};
 
 use answer_laws::{break_alike, listed_alike, schemas_alike};

@@ -1,3 +1,4 @@
+//! What happens by itself comes to an end, and what is left then.
 ghost use Rattle.progress_laws.specs.Acts.{LinesTellActs};
 ghost use Rattle.progress_laws.specs.Progress.{HistoriesAreWeighed, MovesAreWeighed, WorldsComeToRest};
 ghost use Rattle.progress_laws.specs.Promises.{PromisesAreUnderWay, StillPromisesAreKept};

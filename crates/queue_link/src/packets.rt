@@ -10,6 +10,8 @@ pub struct StampedPacket {
     pub stamp: Stamp,
 }
 
+const _: () = prove!(size_of::<StampedPacket>() == size_of::<Packet>());
+
 /// The queue from one end to the other.
 pub type PacketQueue = OrderedQueue<StampedPacket>;
 

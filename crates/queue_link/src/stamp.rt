@@ -10,11 +10,13 @@ pub struct Stamp {
     pub ghost at: { ℕ },
 }
 
+const _: () = prove!(size_of::<Stamp>() == 0);
+
 impl Model for Stamp {
     ghost also_owns = { λ _. ftrue };
 }
 
-// `also_owns` keeps this from being so by itself. A stamp owns nothing.
+// A field that names what it owns keeps a type from being sent by itself. A stamp owns nothing.
 unsafe impl Send for Stamp {}
 
 impl Stamp {

@@ -28,7 +28,7 @@ fn stamped(packet: Packet, _popping: &PacketPass) -> StampedPacket
 }
 
 // Pushes the next packet that the half has not handed out, and says whether there was one. The only
-// error is want of memory.
+// error is that memory ran out.
 fn push_next<R: Wait>(
     rt: &R,
     queue: &PacketQueue,
@@ -49,7 +49,7 @@ fn push_next<R: Wait>(
     Ok(true)
 }
 
-// Pushes all packets that the half has not handed out. The only error is want of memory.
+// Pushes all packets that the half has not handed out. The only error is that memory ran out.
 fn hand_over<R: Wait>(
     rt: &R,
     queue: &PacketQueue,

@@ -1,3 +1,4 @@
+//! The relay that gives each side a thread of its own.
 ghost use Rattle.std.specs.Prelude.{◌≡◌};
 ghost use Rattle.std.specs.Thread.{IsSync};
 ghost use Rattle.ipdl_base.specs.Sound.{IsSound};

@@ -1,3 +1,4 @@
+//! What holds of every relay: it is one history, and has one result.
 ghost use Rattle.relay_history.specs.Laws.{FinishedRelaysWaitForNothing, RelaysAreHistories, RelaysComeInOrder, RelaysHaveOneResult, RelaysRunOrStart, StampedRelaysRun, TurnsHaveOneHistory};
 
 /// The law of histories: a relay is one history of its script. The halves are the lines of that by side,

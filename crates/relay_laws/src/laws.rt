@@ -1,3 +1,4 @@
+//! What each half of a pair of half runs obeys.
 ghost use Rattle.relay_laws.specs.Laws.{HalfRunsRunAlone, RelaysObeyAlone};
 
 /// The law of runs: a half run is a run of one end by itself.

@@ -1,3 +1,4 @@
+//! What scripts, runs, feeds and relays do not look at: where boxes lie.
 ghost use Rattle.schema_laws.specs.Feeds.{FeedsAlike};
 ghost use Rattle.schema_laws.specs.Relays.{RelaysAlike};
 ghost use Rattle.schema_laws.specs.Runs.{ChoicesAlike, EventsAlike, PicksAlike, ScriptsAlike, StepsAlike, TextsAlike};
