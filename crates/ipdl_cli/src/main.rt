@@ -1,16 +1,20 @@
 //! The program `ipdl`: the call of the library on real words, files and streams.
 #![tactic(auto)]
 
-ghost use Rattle.std.specs.Prelude.{◌≡◌, ◌⊎◌, ◌<◌, [], map, string_bytes};
+ghost use Rattle.std.specs.Prelude.{◌≡◌, ◌⊎◌, ◌<◌, [], ℕ, drop, map, string_bytes};
 ghost use Rattle.std.specs.Process.{exit_status};
-ghost use Rattle.file_log.specs.Recorded.{reads_of};
+ghost use Rattle.file_log.specs.Recorded.{files_of, reads_of};
 ghost use Rattle.command_words.specs.Command.{IsNoCommand};
+ghost use Rattle.command_words.specs.Gen.{IsGen};
+ghost use Rattle.host_io.specs.OpenedFiles.{read_faults_of};
 ghost use Rattle.host_io.specs.Streams.{IsUnused, bytes_of, faults_of};
+ghost use Rattle.ipdl_base.specs.Outside.{Rose};
+ghost use Rattle.ipdl_top.specs.Command.{usage_text};
 ghost use Rattle.ipdl_cli.specs.Ending.{AnswersByReads, IsCode};
 
 mod edge;
 
-use crate::edge::{behind_name, exit_code_of};
+use crate::edge::{exit_code_of, words_after_name};
 use file_log::RecordedFiles;
 use host_io::{RealFiles, RealSink};
 use ipdl_top::Status;
@@ -22,24 +26,28 @@ use std::process::ExitCode;
 use std::rt::{Env, Files};
 use std::sync::Wait;
 use std::thread::Threads;
-use thread_link::{Open, TwoThreads};
+use thread_link::{Gate, TwoThreads};
 
-/// The words of the command, which stand behind the program's name; an error is want of memory.
-fn command_words<R: Env + AllocGlobal>(rt: &R) -> Result<Vec<String>, AllocError> {
+/// Gives the words of the process, of which the first is the program's name.
+///
+/// # Errors
+///
+/// `AllocError` where memory ran out.
+fn process_words<R: Env + AllocGlobal>(rt: &R) -> Result<Vec<String>, AllocError> {
     match env::args(rt) {
-        Ok(all) => behind_name(rt.alloc(), all.collect(rt.alloc())?),
+        Ok(all) => all.collect(rt.alloc()),
         // A word that is no text is no word of a command, so the call is one without words.
         Err(error) if error.kind() == ErrorKind::InvalidData => Ok(Vec::new(rt.alloc())),
-        // The words can fail in no other way than for want of memory.
+        // The words can fail in no other way than for lack of memory.
         Err(_) => Err(AllocError),
     }
 }
 
-/// Runs the program on these words, with files and streams that were not used yet, and gives the exit code that the process
-/// ends with (docs/theorems.md, "The outside").
+/// Runs the program on the words of a process after its name, with files and streams that were not used yet, and gives the
+/// exit code that the process ends with (docs/theorems.md, "The outside").
 fn run<'r, R: Files + Threads + Wait + Sync + AllocGlobal, O: Write, E: Write>(
     rt: &'r R,
-    words: &[String],
+    all: &[String],
     files: &mut RecordedFiles<RealFiles<'r, R>>,
     out: &mut RealSink<O>,
     err: &mut RealSink<E>,
@@ -48,17 +56,24 @@ fn run<'r, R: Files + Threads + Wait + Sync + AllocGlobal, O: Write, E: Write>(
     requires out_unused { IsUnused out.old }
     requires err_unused { IsUnused err.old }
     ensures answers { AnswersByReads (record {
-      words = map string_bytes words.now;
+      words = map string_bytes (drop 1 all.now);
       reads = reads_of files.new;
       code = exit_status result;
       out = bytes_of out.new;
       err = bytes_of err.new;
     }) }
-    ensures usage { exit_status result ≡ 2 → IsNoCommand (map string_bytes words.now) }
+    ensures usage { exit_status result ≡ 2 → IsNoCommand (map string_bytes (drop 1 all.now)) }
+    ensures no_command { IsNoCommand (map string_bytes (drop 1 all.now)) →
+        (exit_status result ≡ 2) ⊎ ((exit_status result ≡ 4) ⊎ (exit_status result ≡ 6)) }
+    ensures usage_text { exit_status result ≡ 2 → (bytes_of out.new ≡ []) × (bytes_of err.new ≡ usage_text) }
+    ensures read_fault { exit_status result ≡ 3 → Rose (read_faults_of (files_of files.old)) (read_faults_of (files_of files.new)) }
     ensures write_fault { exit_status result ≡ 4 → (0 < faults_of out.new) ⊎ (0 < faults_of err.new) }
+    ensures unread { (rounds actors : ℕ) → IsGen (map string_bytes (drop 1 all.now)) rounds actors → files.new ≡ files.old }
+    ensures untouched { IsNoCommand (map string_bytes (drop 1 all.now)) → files.new ≡ files.old }
 {
-    let mut driver = TwoThreads::new(rt, Open);
-    let mut relay = TwoQueues::new(rt, Open);
+    let words = words_after_name(all);
+    let mut driver = TwoThreads::new(rt, Gate::Open);
+    let mut relay = TwoQueues::new(rt, Gate::Open);
     exit_code_of(rt.alloc(), words, files, out, err, &mut driver, &mut relay)
 }
 
@@ -70,7 +85,7 @@ fn run_process<
 >(rt: &R, out: O, err: E) -> ExitCode
     ensures { IsCode (exit_status result) }
 {
-    let Ok(words) = command_words(rt) else {
+    let Ok(words) = process_words(rt) else {
         return ExitCode::from(Status::NoMemory.code());
     };
     let mut files = RecordedFiles::new(RealFiles::new(rt));

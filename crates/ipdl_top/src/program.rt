@@ -84,6 +84,7 @@ fn answer_to<F: Files, D: Driver, Q: Relay>(
     ensures no_command { IsNoCommand (map string_bytes words.now) → result ≢ Err Failure.ReadFault }
     ensures read_fault { result ≡ Err Failure.ReadFault → Rose (F.faults (files_of files.old)) (F.faults (files_of files.new)) }
     ensures unread { (rounds actors : ℕ) → IsGen (map string_bytes words.now) rounds actors → files.new ≡ files.old }
+    ensures untouched { IsNoCommand (map string_bytes words.now) → files.new ≡ files.old }
 {
     one_command();
     match read_words(alloc, words) {
@@ -133,8 +134,9 @@ pub fn ipdl<F: Files, O: Sink, E: Sink, D: Driver, Q: Relay>(
     ensures write_fault { result ≡ Status.WriteFault → Rose (O.faults out.old) (O.faults out.new) ⊎ Rose (E.faults err.old) (E.faults err.new) }
     ensures nothing { (result ≡ Status.ReadFault) ⊎ (result ≡ Status.NoMemory) → (out.new ≡ out.old) × (err.new ≡ err.old) }
 
-    // A generated case reads no file.
+    // A generated case reads no file, and neither do words that are no command.
     ensures unread { (rounds actors : ℕ) → IsGen (map string_bytes words.now) rounds actors → files.new ≡ files.old }
+    ensures untouched { IsNoCommand (map string_bytes words.now) → files.new ≡ files.old }
 {
     match answer_to(alloc, words, files, driver, relay) {
         Ok(answer) => match write_answer(&answer, out, err) {

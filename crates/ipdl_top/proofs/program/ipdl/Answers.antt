@@ -38,6 +38,7 @@ returns-in-Ok-write_answer g c =
       write_fault = λ fault. absurd (no_write_failure Gives Relays some.0 words answer some.1 fault);
       nothing = λ failed. absurd (no_failure Gives Relays some.0 words answer some.1 failed);
       unread = c.in-Ok.ensures.unread;
+      untouched = c.in-Ok.ensures.untouched;
     }
 
 pub returns-in-Ok-clause-reads : goal.returns-in-Ok-clause-reads
