@@ -1,5 +1,6 @@
-use Rattle.std.proofs.Common.{◌≡◌, ℕ, List, [], ◌∙◌, ap, inl, inr, map, string_bytes, subst}
+use Rattle.std.proofs.Common.{◌≡◌, ℕ, List, [], ◌++◌, ◌∙◌, ap, drop, inl, inr, map, string_bytes, subst}
 use Rattle.std.specs.Prelude.{None, Some}
+use Rattle.std.proofs.lemmas.Option.{same_Some}
 use Rattle.file_log.specs.Log.{ReadEntry}
 use Rattle.ipdl_top.specs.Codes.{code_of}
 use Rattle.ipdl_top.specs.FileViews.{FileViews}
@@ -21,7 +22,8 @@ pub returns-clause-answers : goal.returns-clause-answers
 returns-clause-answers g c =
     let call = c.exit_code_of.ensures in
     let new = c.exit_code_of.new in
-    let ends = from_nothing (IsAnswerTo (map string_bytes c.args.words.now)) _ _ _ _ _ _ _ c.requires.unread c.requires.out_unused.bytes c.requires.err_unused.bytes call.reads in
+    let ends = from_nothing (IsAnswerTo (map string_bytes (drop 1 c.args.all.now))) _ _ _ _ _ _ _ c.requires.unread c.requires.out_unused.bytes c.requires.err_unused.bytes
+        (subst (λ words. EndsByReads None (reads_of c.args.files.now) (reads_of new.files) (IsAnswerTo (map string_bytes words)) (exit_status c.exit_code_of.result) (record { old = Some (bytes_of c.args.out.now); new = Some (bytes_of new.out) }) (record { old = Some (bytes_of c.args.err.now); new = Some (bytes_of new.err) })) c.words_after_name.ensures call.reads) in
     record {
       status = ends.status;
       outcome = ends.outcome;
@@ -31,3 +33,12 @@ returns-clause-answers g c =
           (ap bytes_of same.0 ∙ c.requires.out_unused.bytes, ap bytes_of same.1 ∙ c.requires.err_unused.bytes);
       ends = ends.ends;
     }
+
+-- what was put into a stream that held nothing is all that it holds
+all_of : (old new text : List ℕ) → old ≡ [] → Some new ≡ Some (old ++ text) → new ≡ text
+all_of old new text none put = same_Some _ _ put ∙ ap (λ bytes. bytes ++ text) none
+
+pub returns-clause-usage_text : goal.returns-clause-usage_text
+returns-clause-usage_text g c = λ is.
+    let all = c.exit_code_of.ensures.usage_text is in
+    (all_of _ _ _ c.requires.out_unused.bytes all.out_text, all_of _ _ _ c.requires.err_unused.bytes all.err_text)

@@ -1,0 +1,27 @@
+//! The laws of effects.
+ghost use Rattle.order_laws.specs.DueEffects.{ConstructorsBuild, DestructorsDelete, DueAnswersAreGiven, ManagersLive, RepliesSettle};
+
+/// The law of destructors: after the send of one, and after the return of its handler, its actor and its subtree do not live.
+pub fn destructors_delete()
+    ensures { DestructorsDelete }
+{}
+
+/// The law of managers: in every run each living actor is the top one, or its manager lives.
+pub fn managers_live()
+    ensures { ManagersLive }
+{}
+
+/// The law of constructors: the event that sends one or takes one builds its actor and no other.
+pub fn constructors_build()
+    ensures { ConstructorsBuild }
+{}
+
+/// The law of replies: a reply that is taken settles its promise where that is pending, and does nothing else.
+pub fn replies_settle()
+    ensures { RepliesSettle }
+{}
+
+/// The law of answers: an event answers each request that it owes an answer, in that event, where its end is open.
+pub fn due_answers_are_given()
+    ensures { DueAnswersAreGiven }
+{}

@@ -1,0 +1,11 @@
+//! The order in which an end takes what has arrived, and the effects that an event has to have (docs/nesting.md). Laws
+//! about definitions: no function here runs.
+#![tactic(auto)]
+
+mod effects;
+mod laws;
+
+pub use effects::{
+    constructors_build, destructors_delete, due_answers_are_given, managers_live, replies_settle,
+};
+pub use laws::{arrivals_keep_their_order, farewells_are_taken_last, free_items_are_taken};
