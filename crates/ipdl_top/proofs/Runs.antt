@@ -1,17 +1,22 @@
 -- What is said of a run that a world has made.
-use Rattle.std.proofs.Common.{◌≡◌, ◌∙◌, ◌++◌, ℕ, List, [], refl, ap, subst}
+use Rattle.std.proofs.Common.{◌≡◌, ◌≤◌, ◌+◌, ◌*◌, ◌∙◌, ◌++◌, ℕ, true, List, [], refl, ap, subst, sym}
 use Rattle.std.specs.Prelude.{Option, None, Some}
 use Rattle.ipdl_base.specs.declared.line.Line.{Line}
 use Rattle.ipdl_base.specs.declared.schema.Schema.{Schema}
 use Rattle.ipdl_base.specs.Sound.{IsSound}
-use Rattle.channel_model.specs.Runs.{IsLegalHistory, RunState}
+use Rattle.channel_laws.specs.Laws.{world_of}
+use Rattle.channel_model.specs.Runs.{IsLegalHistory, RunState, is_still}
 use Rattle.command_words.specs.Run.{Course}
 use Rattle.handler_script.specs.declared.script.Script.{Script}
 use Rattle.schedules.specs.declared.turn.Turn.{Turn}
 use Rattle.history.specs.Text.{transcript_text}
+use Rattle.progress_laws.specs.Acts.{acts, by_themselves}
+use Rattle.progress_laws.specs.Progress.{HistoriesAreWeighed}
+use Rattle.progress_laws.specs.Rest.{IsRestingWorld, StillWorldsRest}
+use Rattle.script_runs.specs.Laws.{IsAtRest}
 use Rattle.script_runs.specs.Endings.{EndsAs, ending_line}
 use Rattle.script_steps.specs.Choices.{IsCaseHistory, Setting}
-use Rattle.script_steps.specs.Laws.{ChoicesAreRuns}
+use Rattle.script_steps.specs.Laws.{ChoicesAreRuns, IsRunOf}
 use Rattle.script_steps.specs.Turns.{RunEnding, at_limit, at_rest}
 use Rattle.script_transcripts.specs.Legal.{IsLegalText}
 use Rattle.world_core.specs.declared.answers.RunAnswer.{RunAnswer}
@@ -40,12 +45,22 @@ ends_so w (at_limit side) h = (h.full, h.left)
 prints_legal : (w : WorldView) (ending : RunEnding) → IsCase w → StandsAs w (answer_of ending) → IsLegalText w.setting (transcript_text w.setting.schema w.state.lines ++ ending_line ending)
 prints_legal w ending case' stands = record { choices = case'.leading; state = w.state; plays = case'.plays; ending = ending; ends = ends_so w ending stands; is = refl }
 
+-- A quiet run is at rest.
+rests_so : StillWorldsRest → (setting : Setting) (state : RunState) → IsSound setting.schema → IsRunOf setting state → IsAtRest setting state → IsRestingWorld state.world
+rests_so rests setting state sound run rest =
+    let same : world_of setting.schema setting.script.top run.moves ≡ state.world = ap (λ (s : RunState). s.world) run.runs in
+    subst IsRestingWorld same (rests.rests setting.schema sound setting.script.top run.moves (subst (λ w. is_still setting.schema w ≡ true) (sym same) rest.still))
+
+-- What is left of a bound without a part of what it bounds.
+without : (a b c : ℕ) → a + b ≤ c → a ≤ c
+without a b c h = omega h
+
 -- The history that a world has made by a word of turns or a driver is the script's own, legal and lawful, and ended as its
 -- answer says.
-pub says_history : ChoicesAreRuns → HistoriesAreLawful → (Gives : Driving) (shown : Rendering) (course : Course) (schema : Schema) (script : Script) (opened after : WorldView) (ended : RunAnswer) (answer : CommandAnswer)
+pub says_history : ChoicesAreRuns → HistoriesAreLawful → StillWorldsRest → HistoriesAreWeighed → (Gives : Driving) (shown : Rendering) (course : Course) (schema : Schema) (script : Script) (opened after : WorldView) (ended : RunAnswer) (answer : CommandAnswer)
     → IsSound schema → opened ≡ opening_of (setting_by schema script course) → IsMadeUnless Gives course.schedule opened after ended → after.setting ≡ opened.setting → StandsAs after ended → IsCase after
     → IsPrinted shown after.setting.schema after.state.lines ended answer → SaysHistory Gives shown course schema script answer
-says_history runs lawful Gives shown course schema script opened after ended answer sound opens made same stands case' printed =
+says_history runs lawful rests weighed Gives shown course schema script opened after ended answer sound opens made same stands case' printed =
     let setting : Setting = setting_by schema script course in
     let about : after.setting ≡ setting = same ∙ ap (λ (w : WorldView). w.setting) opens in
     let stands_so : StandsAs after (answer_of printed.ending) = subst (λ (answer : RunAnswer). StandsAs after answer) printed.ends stands in
@@ -67,6 +82,8 @@ says_history runs lawful Gives shown course schema script opened after ended ans
       settled = laws.settled;
       fallen = laws.fallen;
       stands = stands_so;
+      rests = λ finished. rests_so rests after.setting after.state (subst (λ (s : Setting). IsSound s.schema) (sym about) sound) run (subst (λ (ending : RunEnding). StandsAs after (answer_of ending)) finished stands_so).1;
+      weighed = subst (λ (lines : List Line). by_themselves lines ≤ 6 * acts lines) legal.1 (without _ _ _ (weighed schema sound script.top legal.0));
       legal_text = subst (λ (s : Setting). IsLegalText s (transcript_text s.schema after.state.lines ++ ending_line printed.ending)) about (prints_legal after printed.ending case' stands_so);
       says = printed.says ∙ ap (λ (s : Setting). run_answer shown s.schema after.state.lines printed.ending) about;
     }

@@ -24,6 +24,7 @@ use crate::status::Status;
 use generated_case::{Counts, summary_text};
 use handler_script::Script;
 use ipdl_base::{FileBytes, Items, Schema, Side};
+use progress_laws::{histories_are_weighed, still_worlds_rest};
 use schedules::{Stop, Turn};
 use script_steps::choices_are_runs;
 use std::alloc::{AllocError, Global};
@@ -154,6 +155,8 @@ fn history_answer<D: Driver>(
 {
     choices_are_runs();
     histories_are_lawful();
+    still_worlds_rest();
+    histories_are_weighed();
     let world = World::open(alloc, schema, script, wanted.death, wanted.limit)?;
     let (world, ending) = driven(world, wanted.schedule, driver);
     world_answer(alloc, world, wanted.rendering, ending)
