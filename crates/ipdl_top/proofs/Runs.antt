@@ -1,5 +1,5 @@
 -- What is said of a run that a world has made.
-use Rattle.std.proofs.Common.{◌≡◌, ◌≤◌, ◌+◌, ◌*◌, ◌∙◌, ◌++◌, ℕ, true, List, [], refl, ap, subst, sym}
+use Rattle.std.proofs.Common.{◌≡◌, ◌<◌, ◌≤◌, ◌+◌, ◌*◌, ◌∙◌, ◌++◌, ℕ, true, List, [], refl, ap, arith, subst, sym}
 use Rattle.std.specs.Prelude.{Option, None, Some}
 use Rattle.ipdl_base.specs.declared.line.Line.{Line}
 use Rattle.ipdl_base.specs.declared.schema.Schema.{Schema}
@@ -13,7 +13,8 @@ use Rattle.history.specs.Text.{transcript_text}
 use Rattle.progress_laws.specs.Acts.{acts, by_themselves}
 use Rattle.progress_laws.specs.Progress.{HistoriesAreWeighed}
 use Rattle.progress_laws.specs.Rest.{IsRestingWorld, StillWorldsRest}
-use Rattle.script_runs.specs.Laws.{IsAtRest}
+use Rattle.relay_history.specs.SidesAlone.{SidesObeyAlone}
+use Rattle.script_runs.specs.Laws.{HasLimit, IsAtRest}
 use Rattle.script_runs.specs.Endings.{EndsAs, ending_line}
 use Rattle.script_steps.specs.Choices.{IsCaseHistory, Setting}
 use Rattle.script_steps.specs.Laws.{ChoicesAreRuns, IsRunOf}
@@ -22,7 +23,7 @@ use Rattle.script_transcripts.specs.Legal.{IsLegalText}
 use Rattle.world_core.specs.declared.answers.RunAnswer.{RunAnswer}
 use Rattle.world_core.specs.Turns.{StandsAs}
 use Rattle.world_core.specs.WorldView.{WorldView, opening_of}
-use Rattle.world_core.specs.Worlds.{IsCase}
+use Rattle.world_core.specs.Worlds.{IsCase, most_events}
 use Rattle.world_laws.specs.Statements.{HistoriesAreLawful, IsLawfulHistory}
 use Rattle.ipdl_top.specs.declared.answer.CommandAnswer.{CommandAnswer}
 use Rattle.ipdl_top.specs.declared.rendering.Rendering.{Rendering}
@@ -51,16 +52,20 @@ rests_so rests setting state sound run rest =
     let same : world_of setting.schema setting.script.top run.moves ≡ state.world = ap (λ (s : RunState). s.world) run.runs in
     subst IsRestingWorld same (rests.rests setting.schema sound setting.script.top run.moves (subst (λ w. is_still setting.schema w ≡ true) (sym same) rest.still))
 
+-- no more than the most events are few enough
+is_few : (limit : ℕ) → limit ≤ most_events → limit < 268435456
+is_few limit few = omega (arith, few)
+
 -- What is left of a bound without a part of what it bounds.
 without : (a b c : ℕ) → a + b ≤ c → a ≤ c
 without a b c h = omega h
 
 -- The history that a world has made by a word of turns or a driver is the script's own, legal and lawful, and ended as its
 -- answer says.
-pub says_history : ChoicesAreRuns → HistoriesAreLawful → StillWorldsRest → HistoriesAreWeighed → (Gives : Driving) (shown : Rendering) (course : Course) (schema : Schema) (script : Script) (opened after : WorldView) (ended : RunAnswer) (answer : CommandAnswer)
-    → IsSound schema → opened ≡ opening_of (setting_by schema script course) → IsMadeUnless Gives course.schedule opened after ended → after.setting ≡ opened.setting → StandsAs after ended → IsCase after
+pub says_history : ChoicesAreRuns → HistoriesAreLawful → StillWorldsRest → HistoriesAreWeighed → SidesObeyAlone → (Gives : Driving) (shown : Rendering) (course : Course) (schema : Schema) (script : Script) (opened after : WorldView) (ended : RunAnswer) (answer : CommandAnswer)
+    → IsSound schema → course.limit ≤ most_events → opened ≡ opening_of (setting_by schema script course) → IsMadeUnless Gives course.schedule opened after ended → after.setting ≡ opened.setting → StandsAs after ended → IsCase after
     → IsPrinted shown after.setting.schema after.state.lines ended answer → SaysHistory Gives shown course schema script answer
-says_history runs lawful rests weighed Gives shown course schema script opened after ended answer sound opens made same stands case' printed =
+says_history runs lawful rests weighed alone Gives shown course schema script opened after ended answer sound few opens made same stands case' printed =
     let setting : Setting = setting_by schema script course in
     let about : after.setting ≡ setting = same ∙ ap (λ (w : WorldView). w.setting) opens in
     let stands_so : StandsAs after (answer_of printed.ending) = subst (λ (answer : RunAnswer). StandsAs after answer) printed.ends stands in
@@ -84,6 +89,7 @@ says_history runs lawful rests weighed Gives shown course schema script opened a
       stands = stands_so;
       rests = λ finished. rests_so rests after.setting after.state (subst (λ (s : Setting). IsSound s.schema) (sym about) sound) run (subst (λ (ending : RunEnding). StandsAs after (answer_of ending)) finished stands_so).1;
       weighed = subst (λ (lines : List Line). by_themselves lines ≤ 6 * acts lines) legal.1 (without _ _ _ (weighed schema sound script.top legal.0));
+      alone = alone setting after.state.lines sound (is_few course.limit few) (subst (λ (s : Setting). IsCaseHistory s after.state.lines) about case'.history);
       legal_text = subst (λ (s : Setting). IsLegalText s (transcript_text s.schema after.state.lines ++ ending_line printed.ending)) about (prints_legal after printed.ending case' stands_so);
       says = printed.says ∙ ap (λ (s : Setting). run_answer shown s.schema after.state.lines printed.ending) about;
     }

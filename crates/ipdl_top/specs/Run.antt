@@ -1,5 +1,6 @@
 -- What the command that runs a script says of a schema.
 use Rattle.std.specs.Prelude.{◌≡◌, ◌≤◌, ◌*◌, ℕ, List, [], ◌++◌, Option, Some, None}
+use Rattle.ipdl_base.specs.declared.kinds.Side.{Side}
 use Rattle.ipdl_base.specs.declared.line.Line.{Line}
 use Rattle.ipdl_base.specs.declared.schema.Schema.{Schema}
 use Rattle.command_words.specs.Run.{Course}
@@ -10,6 +11,7 @@ use Rattle.generated_case.specs.Summary.{summary_text}
 use Rattle.history.specs.Text.{transcript_text}
 use Rattle.progress_laws.specs.Acts.{acts, by_themselves}
 use Rattle.progress_laws.specs.Rest.{IsRestingWorld}
+use Rattle.relay_history.specs.SidesAlone.{SideObeysAlone}
 use Rattle.script_runs.specs.Endings.{ending_line}
 use Rattle.script_steps.specs.Choices.{IsCaseHistory, Setting}
 use Rattle.script_steps.specs.Turns.{RunEnding, at_limit, at_rest}
@@ -70,7 +72,7 @@ run_answer shown schema lines ending = record { status = run_status ending; out 
 -- actors fall before managers. Where it is finished nothing is left to do and no end waits; and where it is spent, that
 -- side has something to do but as many events as the limit. Where it is finished both ends are at rest besides: nothing is
 -- left at either, and both are open with nothing on a link, or both have ended. What happens by itself is at most six events
--- for each act of a handler or a main. With the line of its ending, its transcript is a legal text.
+-- for each act of a handler or a main. Each side by itself obeys what one end obeys, by what was delivered to it. With the line of its ending, its transcript is a legal text.
 pub record SaysHistory (Gives : Driving) (shown : Rendering) (course : Course) (schema : Schema) (script : Script) (answer : CommandAnswer) : Type 0 where
   pub after : WorldView
   pub ending : RunEnding
@@ -87,6 +89,7 @@ pub record SaysHistory (Gives : Driving) (shown : Rendering) (course : Course) (
   pub stands : StandsAs after (answer_of ending)
   pub rests : ending ≡ at_rest → IsRestingWorld after.state.world
   pub weighed : by_themselves after.state.lines ≤ 6 * acts after.state.lines
+  pub alone : (side : Side) → SideObeysAlone (setting_by schema script course) after.state.lines side
   pub legal_text : IsLegalText (setting_by schema script course) (transcript_text schema after.state.lines ++ ending_line ending)
   pub says : answer ≡ run_answer shown schema after.state.lines ending
 

@@ -25,6 +25,7 @@ use generated_case::{Counts, summary_text};
 use handler_script::Script;
 use ipdl_base::{FileBytes, Items, Schema, Side};
 use progress_laws::{histories_are_weighed, still_worlds_rest};
+use relay_history::sides_obey_alone;
 use schedules::{Stop, Turn};
 use script_steps::choices_are_runs;
 use std::alloc::{AllocError, Global};
@@ -157,6 +158,7 @@ fn history_answer<D: Driver>(
     histories_are_lawful();
     still_worlds_rest();
     histories_are_weighed();
+    sides_obey_alone();
     let world = World::open(alloc, schema, script, wanted.death, wanted.limit)?;
     let (world, ending) = driven(world, wanted.schedule, driver);
     world_answer(alloc, world, wanted.rendering, ending)

@@ -6,3 +6,4 @@ pub mod InOrder
 pub mod NeverStarted
 pub mod Starts
 pub mod Stamps
+pub mod SidesAlone

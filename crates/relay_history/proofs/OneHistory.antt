@@ -85,10 +85,10 @@ same-other sides.Parent = refl
 same-other sides.Child = refl
 
 -- where lines of one side are added to others
-lines-here : (side : Side) (before : List Line) (ws : List What) → side_lines side (before ++ map (line_at side) ws) ≡ side_lines side before ++ map (line_at side) ws
+pub lines-here : (side : Side) (before : List Line) (ws : List What) → side_lines side (before ++ map (line_at side) ws) ≡ side_lines side before ++ map (line_at side) ws
 lines-here side before ws = filter-append (λ (line : Line). same_side line.side side) before (map (line_at side) ws) ∙ ap (λ (ls : List Line). side_lines side before ++ ls) (all-own side side ws (same-self side))
 
-lines-there : (side : Side) (before : List Line) (ws : List What) → side_lines (other side) (before ++ map (line_at side) ws) ≡ side_lines (other side) before
+pub lines-there : (side : Side) (before : List Line) (ws : List What) → side_lines (other side) (before ++ map (line_at side) ws) ≡ side_lines (other side) before
 lines-there side before ws =
     filter-append (λ (line : Line). same_side line.side (other side)) before (map (line_at side) ws)
     ∙ ap (λ (ls : List Line). side_lines (other side) before ++ ls) (none-own side (other side) ws (same-other side)) ∙ append-nil (side_lines (other side) before)
@@ -99,11 +99,11 @@ module _ (side : Side) (event : Event) (output : Output) (world : World) where
   abbrev next-world : World
   next-world = world_after (record { side = side; event = event }) output world
 
-end-here : (side : Side) (event : Event) (output : Output) (world : World) → end_of side (next-world side event output world) ≡ output.end
+pub end-here : (side : Side) (event : Event) (output : Output) (world : World) → end_of side (next-world side event output world) ≡ output.end
 end-here sides.Parent event output world = refl
 end-here sides.Child event output world = refl
 
-end-there : (side : Side) (event : Event) (output : Output) (world : World) → end_of (other side) (next-world side event output world) ≡ end_of (other side) world
+pub end-there : (side : Side) (event : Event) (output : Output) (world : World) → end_of (other side) (next-world side event output world) ≡ end_of (other side) world
 end-there sides.Parent event output world = refl
 end-there sides.Child event output world = refl
 
@@ -254,7 +254,7 @@ begins-so setting = record { history = beginning_of setting; case = record { cho
 facing-at : (side : Side) (state : RelayState) (history : RunState) → IsOne state history → IsOneAt (other side) (half_of (other side) state) (half_of side state) history
 facing-at side state history one = subst (λ (s : Side). IsOneAt (other side) (half_of (other side) state) (half_of s state) history) (twice side) (one (other side))
 
-printed-at : (setting : Setting) (side : Side) (e : End) (link : List Packet) (happened : Event) (output : Output) → e.side ≡ side → step setting.schema e link happened ≡ Some output
+pub printed-at : (setting : Setting) (side : Side) (e : End) (link : List Packet) (happened : Event) (output : Output) → e.side ≡ side → step setting.schema e link happened ≡ Some output
     → ((ws : List What) × (output.lines ≡ map (line_at side) ws)) × (output.end.side ≡ side)
 printed-at setting side e link happened output own is =
     let p : Prints e happened output = step-prints setting.schema e link happened output is in

@@ -1,4 +1,5 @@
 //! What holds of every relay: it is one history, and has one result.
+ghost use Rattle.relay_history.specs.SidesAlone.{SidesObeyAlone, SidesRunAlone};
 ghost use Rattle.relay_history.specs.Laws.{FinishedRelaysWaitForNothing, RelaysAreHistories, RelaysComeInOrder, RelaysHaveOneResult, RelaysRunOrStart, StampedRelaysRun, TurnsHaveOneHistory};
 
 /// The law of histories: a relay is one history of its script. The halves are the lines of that by side,
@@ -39,4 +40,15 @@ pub fn relays_run_or_start()
 /// of all packets that came to it before.
 pub fn stamped_relays_run()
     ensures { StampedRelaysRun }
+{}
+
+/// The law of sides: each side of a run of a script is a run of one end by itself, by the packets that were
+/// delivered to it.
+pub fn sides_run_alone()
+    ensures { SidesRunAlone }
+{}
+
+/// The law of one end, for runs: each side of a history of a script obeys it.
+pub fn sides_obey_alone()
+    ensures { SidesObeyAlone }
 {}

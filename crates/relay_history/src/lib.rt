@@ -6,5 +6,6 @@ mod laws;
 
 pub use laws::{
     finished_relays_wait_for_nothing, relays_are_histories, relays_come_in_order,
-    relays_have_one_result, relays_run_or_start, stamped_relays_run, turns_have_one_history,
+    relays_have_one_result, relays_run_or_start, sides_obey_alone, sides_run_alone,
+    stamped_relays_run, turns_have_one_history,
 };
