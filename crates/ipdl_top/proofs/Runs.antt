@@ -1,5 +1,5 @@
 -- What is said of a run that a world has made.
-use Rattle.std.proofs.Common.{◌≡◌, ◌<◌, ◌≤◌, ◌+◌, ◌*◌, ◌∙◌, ◌++◌, ℕ, true, List, [], refl, ap, arith, subst, sym}
+use Rattle.std.proofs.Common.{◌≡◌, ◌≤◌, ◌+◌, ◌*◌, ◌∙◌, ◌++◌, ℕ, true, List, [], refl, ap, arith, subst, sym}
 use Rattle.std.specs.Prelude.{Option, None, Some}
 use Rattle.ipdl_base.specs.declared.line.Line.{Line}
 use Rattle.ipdl_base.specs.declared.schema.Schema.{Schema}
@@ -14,7 +14,7 @@ use Rattle.progress_laws.specs.Acts.{acts, by_themselves}
 use Rattle.progress_laws.specs.Progress.{HistoriesAreWeighed}
 use Rattle.progress_laws.specs.Rest.{IsRestingWorld, StillWorldsRest}
 use Rattle.relay_history.specs.SidesAlone.{SidesObeyAlone}
-use Rattle.script_runs.specs.Laws.{HasLimit, IsAtRest}
+use Rattle.script_runs.specs.Laws.{IsAtRest}
 use Rattle.script_runs.specs.Endings.{EndsAs, ending_line}
 use Rattle.script_steps.specs.Choices.{IsCaseHistory, Setting}
 use Rattle.script_steps.specs.Laws.{ChoicesAreRuns, IsRunOf}
@@ -52,10 +52,6 @@ rests_so rests setting state sound run rest =
     let same : world_of setting.schema setting.script.top run.moves ≡ state.world = ap (λ (s : RunState). s.world) run.runs in
     subst IsRestingWorld same (rests.rests setting.schema sound setting.script.top run.moves (subst (λ w. is_still setting.schema w ≡ true) (sym same) rest.still))
 
--- no more than the most events are few enough
-is_few : (limit : ℕ) → limit ≤ most_events → limit < 268435456
-is_few limit few = omega (arith, few)
-
 -- What is left of a bound without a part of what it bounds.
 without : (a b c : ℕ) → a + b ≤ c → a ≤ c
 without a b c h = omega h
@@ -89,7 +85,7 @@ says_history runs lawful rests weighed alone Gives shown course schema script op
       stands = stands_so;
       rests = λ finished. rests_so rests after.setting after.state (subst (λ (s : Setting). IsSound s.schema) (sym about) sound) run (subst (λ (ending : RunEnding). StandsAs after (answer_of ending)) finished stands_so).1;
       weighed = subst (λ (lines : List Line). by_themselves lines ≤ 6 * acts lines) legal.1 (without _ _ _ (weighed schema sound script.top legal.0));
-      alone = alone setting after.state.lines sound (is_few course.limit few) (subst (λ (s : Setting). IsCaseHistory s after.state.lines) about case'.history);
+      alone = alone setting after.state.lines sound (omega (arith, few)) (subst (λ (s : Setting). IsCaseHistory s after.state.lines) about case'.history);
       legal_text = subst (λ (s : Setting). IsLegalText s (transcript_text s.schema after.state.lines ++ ending_line printed.ending)) about (prints_legal after printed.ending case' stands_so);
       says = printed.says ∙ ap (λ (s : Setting). run_answer shown s.schema after.state.lines printed.ending) about;
     }
