@@ -6,6 +6,7 @@ use Rattle.actor_tree.specs.Fall.{post_order}
 use Rattle.actor_tree.specs.Tree.{lives, top}
 use Rattle.ipdl_base.specs.declared.kinds.Level.{Level}
 use Rattle.ipdl_base.specs.declared.kinds.Reason.TheVariants.{ActorDestroyed, ResolverDestroyed}
+use Rattle.ipdl_base.specs.declared.kinds.SendRefusal.{SendRefusal}
 use Rattle.ipdl_base.specs.declared.kinds.Side.{Side}
 use Rattle.ipdl_base.specs.declared.line.What.{What}
 use Rattle.ipdl_base.specs.declared.line.What.TheVariants as what
@@ -24,12 +25,11 @@ use Rattle.pending_queue.specs.declared.item.Item.TheVariants as item
 use Rattle.pending_queue.specs.Compression.{replaced}
 use Rattle.promise_table.specs.declared.promise.Outcome.{Outcome}
 use Rattle.promise_table.specs.Promises.{has_number}
-use Rattle.channel_model.specs.Acts.{is_positive}
-use Rattle.channel_model.specs.Answers.{resolver_in}
+use Rattle.channel_model.specs.Acts.{close_refusal, is_positive}
+use Rattle.channel_model.specs.Answers.{answer_refusal, answered_row, refused_line, resolver_in}
 use Rattle.channel_model.specs.Deliveries.{item_of}
 use Rattle.channel_model.specs.Ends.{End, end_of, Packet, message, StackEntry, PromiseEntry, NameContent, actor, resolver}
-use Rattle.channel_model.specs.Events.{Event}
-use Rattle.channel_model.specs.Events.{Move}
+use Rattle.channel_model.specs.Events.{Answering, Move}
 use Rattle.channel_model.specs.Events as event
 use Rattle.channel_model.specs.Falls.{why_deleted}
 use Rattle.channel_model.specs.Names.{held_by_name}
@@ -170,3 +170,19 @@ pub record DueAnswersAreGiven : Type 0 where
       → HasLines e output (what.Let name (if is_positive id then id else pos 0) ∷ let_go_lines (is_open e.state) (held_by_name name e.names)) (let_go_packets (is_open e.state) e (held_by_name name e.names))
   pub keeps : (schema : Schema) (e : End) (link : List Packet) (seq : ℤ) (name : List ℕ) (output : Output) → step schema e link (event.keep seq name) ≡ Some output
       → HasLines e output (what.Keep seq name ∷ let_go_lines (is_open e.state) (held_by_name name e.names)) (let_go_packets (is_open e.state) e (held_by_name name e.names))
+
+-- Refusals
+
+-- An act was refused: it has this one line, and the end and what it sends are as they were.
+pub record IsRefused (e : End) (output : Output) (refusal : What) : Type 0 where
+  pub end : output.end ≡ e
+  pub lines : output.lines ≡ line_at e.side refusal ∷ []
+  pub packets : output.packets ≡ []
+
+-- An act that is refused prints why, and changes nothing.
+pub record RefusedActsChangeNothing : Type 0 where
+  pub sends : (schema : Schema) (e : End) (link : List Packet) (row : MessageRow) (route : ℤ) (number : ℕ) (vs : Values) (name : Option (List ℕ)) (cause : SendRefusal) (output : Output)
+      → request_row schema number ≡ Some row → send_refusal schema e row route vs ≡ Some cause → step schema e link (event.send route number vs name) ≡ Some output → IsRefused e output (what.RefusedSend cause row.number)
+  pub answers : (schema : Schema) (e : End) (link : List Packet) (row : MessageRow) (by : Answering) (vs : Option Values) (cause : SendRefusal) (output : Output)
+      → answered_row schema e by ≡ Some row → answer_refusal schema e row by vs ≡ Some cause → step schema e link (event.answer by vs) ≡ Some output → IsRefused e output (refused_line cause vs)
+  pub closes : (schema : Schema) (e : End) (link : List Packet) (cause : SendRefusal) (output : Output) → close_refusal e ≡ Some cause → step schema e link event.close ≡ Some output → IsRefused e output (what.RefusedClose cause)

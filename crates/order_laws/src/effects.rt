@@ -1,5 +1,5 @@
 //! The laws of effects.
-ghost use Rattle.order_laws.specs.DueEffects.{ConstructorsBuild, DestructorsDelete, DueAnswersAreGiven, ManagersLive, RepliesSettle};
+ghost use Rattle.order_laws.specs.DueEffects.{ConstructorsBuild, DestructorsDelete, DueAnswersAreGiven, ManagersLive, RefusedActsChangeNothing, RepliesSettle};
 
 /// The law of destructors: after the send of one, and after the return of its handler, its actor and its subtree do not live.
 pub fn destructors_delete()
@@ -24,4 +24,9 @@ pub fn replies_settle()
 /// The law of answers: an event answers each request that it owes an answer, in that event, where its end is open.
 pub fn due_answers_are_given()
     ensures { DueAnswersAreGiven }
+{}
+
+/// The law of refusals: an act that is refused prints its one line, and changes neither the end nor what it sends.
+pub fn refused_acts_change_nothing()
+    ensures { RefusedActsChangeNothing }
 {}
