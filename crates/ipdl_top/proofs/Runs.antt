@@ -4,8 +4,9 @@ use Rattle.std.specs.Prelude.{Option, None, Some}
 use Rattle.ipdl_base.specs.declared.line.Line.{Line}
 use Rattle.ipdl_base.specs.declared.schema.Schema.{Schema}
 use Rattle.ipdl_base.specs.Sound.{IsSound}
-use Rattle.channel_laws.specs.Laws.{world_of}
+use Rattle.channel_model.specs.Ends.{opening}
 use Rattle.channel_model.specs.Runs.{IsLegalHistory, RunState, is_still}
+use Rattle.channel_model.specs.Runs as runs
 use Rattle.command_words.specs.Run.{Course}
 use Rattle.handler_script.specs.declared.script.Script.{Script}
 use Rattle.schedules.specs.declared.turn.Turn.{Turn}
@@ -49,12 +50,12 @@ prints_legal w ending case' stands = record { choices = case'.leading; state = w
 -- A quiet run is at rest.
 rests_so : StillWorldsRest → (setting : Setting) (state : RunState) → IsSound setting.schema → IsRunOf setting state → IsAtRest setting state → IsRestingWorld state.world
 rests_so rests setting state sound run rest =
-    let same : world_of setting.schema setting.script.top run.moves ≡ state.world = ap (λ (s : RunState). s.world) run.runs in
+    let same : (runs.run setting.schema run.moves (opening setting.script.top)).world ≡ state.world = ap (λ (s : RunState). s.world) run.runs in
     subst IsRestingWorld same (rests.rests setting.schema sound setting.script.top run.moves (subst (λ w. is_still setting.schema w ≡ true) (sym same) rest.still))
 
 -- What is left of a bound without a part of what it bounds.
 without : (a b c : ℕ) → a + b ≤ c → a ≤ c
-without a b c h = omega h
+without a b c h = omega (arith, h)
 
 -- The history that a world has made by a word of turns or a driver is the script's own, legal and lawful, and ended as its
 -- answer says.
