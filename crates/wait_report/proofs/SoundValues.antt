@@ -153,12 +153,16 @@ first-sound schema top n m types built none nobody = record { values = values; p
             let both : true ≡ false = sym live ∙ dead in
             cc
 
--- a union is looked at through one component
-pub component-spreads : (schema : Schema) (built : List Bool) (t : ℕ) (old : List ℕ) (name : List ℕ) (components : List Shape) (component : Shape) (bytes : ℕ) → slice_get schema.types t ≡ Some (Union name components) → Contains components component → t < length old
-    → bytes ≡ min too_many (4 + least_of old built component) → Spreads schema old built (slice_set old t bytes) built
-component-spreads schema built t old name components component bytes is there within e = record {
-  size = length-set old t bytes;
-  count = refl;
-  sound = λ top h. gain-sound schema built t old bytes within top h (λ few. union name components component (least_of old built component) is there (sound-shape schema top old built h component (omega (arith, e, few))) (omega (arith, e, few)));
-  kept = λ p h. h;
-}
+-- a lesser value of a union is found through one component
+pub component-spreads : (schema : Schema) (built : List Bool) (t : ℕ) (old : List ℕ) (name : List ℕ) (components : List Shape) (component : Shape) (bytes before : ℕ) → slice_get schema.types t ≡ Some (Union name components) → Contains components component → t < length old
+    → bytes ≡ min too_many (4 + least_of old built component) → before ≡ get_or old t before → bytes < before → Spreads schema old built (slice_set old t bytes) built
+component-spreads schema built t old name components component bytes before is there within e was less =
+    let moved : known (slice_set old t bytes) + get_or old t too_many ≡ known old + bytes = sum_by-set (λ bytes. bytes) old t bytes too_many within in
+    let read : before ≡ get_or old t too_many = was ∙ get_or_default old t before too_many within in
+    record {
+      size = length-set old t bytes;
+      count = refl;
+      sound = λ top h. gain-sound schema built t old bytes within top h (λ few. union name components component (least_of old built component) is there (sound-shape schema top old built h component (omega (arith, e, few))) (omega (arith, e, few)));
+      kept = λ p h. h;
+      lower = omega (arith, moved, read, less);
+    }

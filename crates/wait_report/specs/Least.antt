@@ -117,12 +117,13 @@ pub record MessagesLook (schema : Schema) (types : List ℕ) (Seen : MessageRow 
   pub same : changed ≡ false → new ≡ old
   pub closed : changed ≡ false → (row : MessageRow) → Seen row → IsClosedMessage types old row
 
--- Some looks, in any order: what is known is so where it was.
+-- Some looks, in any order: what is known is so where it was, and no less is known.
 pub record Spreads (schema : Schema) (types : List ℕ) (built : List Bool) (types_after : List ℕ) (built_after : List Bool) : Type 0 where
   pub size : length types_after ≡ length types
   pub count : length built_after ≡ length built
   pub sound : (top : ℕ) → AreSound schema top types built → AreSound schema top types_after built_after
   pub kept : (protocol : ℕ) → is_built built protocol ≡ true → is_built built_after protocol ≡ true
+  pub lower : known types_after + unbuilt built_after ≤ known types + unbuilt built
 
 -- All is known: nothing changes any more.
 pub record AreClosed (schema : Schema) (top : ℕ) (types : List ℕ) (built : List Bool) : Type 0 where
@@ -130,7 +131,7 @@ pub record AreClosed (schema : Schema) (top : ℕ) (types : List ℕ) (built : L
   pub all_types : (t : ℕ) → IsClosedType schema types built t
   pub all_messages : (row : MessageRow) → IsMessageOf schema.protocols row → IsClosedMessage types built row
 
--- A round over all types and messages: what is known is so where it was, and where nothing changed, nothing can.
+-- All types and messages were looked at, and perhaps some again: what is known is so where it was, and where nothing changed, nothing can.
 pub record RoundLook (schema : Schema) (types : List ℕ) (built : List Bool) (types_after : List ℕ) (built_after : List Bool) (changed : Bool) : Type 0 where
   pub size : length types_after ≡ length types
   pub count : length built_after ≡ length built

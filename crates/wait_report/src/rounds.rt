@@ -94,3 +94,15 @@ pub fn look_at_protocols(
     }
     changed
 }
+
+/// Looks at all types and messages once: says whether more is known than before.
+pub fn look_around(schema: &Schema, types: &mut Vec<usize>, built: &mut Vec<bool>) -> bool
+    requires sound { IsSound schema.now }
+    requires size { length types.old.items ≡ length schema.now.types }
+    requires count { length built.old.items ≡ length schema.now.protocols }
+    ensures { least.RoundLook schema.now types.old.items built.old.items types.new.items built.new.items result }
+{
+    let lesser = look_at_types(schema, types, built.as_slice());
+    let more = look_at_protocols(schema, schema.protocols.as_slice(), types.as_slice(), built);
+    lesser || more
+}

@@ -1,9 +1,9 @@
-ghost use Rattle.std.specs.Prelude.{◌≡◌, ◌<◌, OnOk, length};
+ghost use Rattle.std.specs.Prelude.{◌≡◌, ◌<◌, IfOk, OnOk, length};
 ghost use Rattle.ipdl_base.specs.Sound.{IsSound};
 ghost use Rattle.wait_report.specs.Least as least;
 
 use crate::least::{TOO_MANY, least_of};
-use crate::rounds::{look_at_message, look_at_type};
+use crate::rounds::{look_around, look_at_message, look_at_type};
 use ipdl_base::{Kind, MessageRow, Schema, Shape, TypeRow};
 use std::alloc::{AllocError, Global};
 
@@ -18,10 +18,10 @@ enum User {
     Message(usize, usize),
 }
 
-/// The users of each struct and union, and those of each protocol. They say what is looked at next; that nothing is left out
-/// rests on the rounds behind that, and so nothing is proved of them.
+/// The users of each struct and union, and those of each protocol. They say what is looked at again; that nothing is left out
+/// rests on the look at all, and so nothing is proved of them.
 #[derive(Drop)]
-struct Users {
+pub struct Users {
     types: Vec<Vec<User>>,
     protocols: Vec<Vec<User>>,
 }
@@ -93,7 +93,7 @@ impl Users {
     }
 
     /// The users of a schema's types and protocols.
-    fn of(alloc: Global, schema: &Schema) -> Result<Users, AllocError> {
+    pub fn of(alloc: Global, schema: &Schema) -> Result<Users, AllocError> {
         let mut users = Users {
             types: rows(alloc, schema.types.len())?,
             protocols: rows(alloc, schema.protocols.len())?,
@@ -236,25 +236,29 @@ fn visit(
     }
 }
 
-/// Looks at all structs, unions and constructors, and again at those that speak of what was found, until nobody is left.
+/// Looks at all types and messages once and, where more is known of one than before, again at those that speak of what was
+/// found, until nobody is left: says whether more is known than before.
 pub fn spread(
     alloc: Global,
     schema: &Schema,
+    users: &Users,
     types: &mut Vec<usize>,
     built: &mut Vec<bool>,
-) -> Result<(), AllocError>
+) -> Result<bool, AllocError>
     requires sound { IsSound schema.now }
     requires size { length types.old.items ≡ length schema.now.types }
     requires count { length built.old.items ≡ length schema.now.protocols }
-    ensures { OnOk result (least.Spreads schema.now types.old.items built.old.items types.new.items built.new.items) }
+    ensures { IfOk result (least.RoundLook schema.now types.old.items built.old.items types.new.items built.new.items) }
 {
-    let users = Users::of(alloc, schema)?;
+    if !look_around(schema, types, built) {
+        return Ok(false);
+    }
     let mut work = all_users(alloc, schema)?;
     for _ in 0..u64::MAX {
         let Some(user) = work.pop() else {
             break;
         };
-        visit(schema, user, &users, types, built, &mut work)?;
+        visit(schema, user, users, types, built, &mut work)?;
     }
-    Ok(())
+    Ok(true)
 }

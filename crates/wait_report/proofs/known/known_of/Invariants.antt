@@ -3,8 +3,8 @@ use Rattle.wait_report.specs.Least as least
 use Rattle.wait_report.proofs.known.known_of.Given as goal
 
 -- what is known is so, and the top protocol can be built
-abbrev pub invariant-loop : goal.invariant-loop
-invariant-loop l = record {
+abbrev pub invariant-loop-users : goal.invariant-loop-users
+invariant-loop-users l = record {
   size : length l.types.items ≡ length l.schema.types;
   count : length l.built.items ≡ length l.schema.protocols;
   sound : least.AreSound l.schema l.top l.types.items l.built.items;
@@ -12,5 +12,5 @@ invariant-loop l = record {
 }
 
 -- each round makes less of what is left
-abbrev pub decreases-loop : goal.decreases-loop
-decreases-loop l = least.known l.types.items + least.unbuilt l.built.items
+abbrev pub decreases-loop-users : goal.decreases-loop-users
+decreases-loop-users l = least.known l.types.items + least.unbuilt l.built.items

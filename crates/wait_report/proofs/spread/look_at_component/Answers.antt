@@ -21,4 +21,4 @@ returns-then-bytes-index c =
     let within : c.args.number < length c.args.types.now.items = omega (arith, c.requires.there, c.requires.size) in
     let least : c.least_of.result ≡ least_of c.args.types.now.items c.args.built.now component = rw c.as_slice-3.ensures.value at c.least_of.ensures in
     let bytes : c.min-bytes.result ≡ min too_many (4 + least_of c.args.types.now.items c.args.built.now component) = omega (arith, least, c.saturating_add.ensures, c.min-bytes.ensures) in
-    component-spreads c.args.schema.now c.args.built.now c.args.number c.args.types.now.items name components component c.min-bytes.result is there within bytes
+    component-spreads c.args.schema.now c.args.built.now c.args.number c.args.types.now.items name components component c.min-bytes.result c.index.result.now is there within bytes c.index.ensures c.if-bytes-index.true

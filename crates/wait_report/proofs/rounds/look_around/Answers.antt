@@ -1,6 +1,6 @@
 use Rattle.wait_report.proofs.Looks.{around-same}
 use Rattle.wait_report.proofs.SchemaRows.{right-message}
-use Rattle.wait_report.proofs.known.look_around.Goals as goal
+use Rattle.wait_report.proofs.rounds.look_around.Goals as goal
 
 pub look_at_protocols-more-requires : goal.look_at_protocols-more-requires
 look_at_protocols-more-requires c = record { right = λ row of. right-message c.args.schema.now c.requires.sound c.args.built.now.items c.requires.count row (rw c.as_slice-2.ensures at of) }
