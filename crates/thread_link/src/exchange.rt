@@ -1,3 +1,4 @@
+//! The link of a run on a table that two threads share, and the turns of holding it.
 ghost use Rattle.std.specs.Prelude.{◌≡◌, ◌⊎◌, ◌∷◌, [], IfOk, IfErr, Some};
 ghost use Rattle.ipdl_base.specs.declared.kinds.Side.{Side as EndSide};
 ghost use Rattle.ipdl_base.specs.declared.kinds.Side.TheVariants as sides;
@@ -11,7 +12,7 @@ ghost use Rattle.world_core.specs.Halves.{IsHome};
 
 use crate::parts::{Parting, Reunion, SharedLink, SideState, Topic};
 use crate::pass::{Exchange, LinkTable, Pass};
-use crate::turns::{free_word, give, take};
+use crate::turns::{count, free_word, give, take};
 use atomic_table::Refused;
 use ipdl_base::Side;
 use std::alloc::{AllocFailed, Global};
@@ -33,7 +34,7 @@ pub struct LinkTurn {
     pub ended: bool,
     /// The half has no own step to do.
     pub rests: bool,
-    /// How many turns there have been, with this one.
+    /// How many turns of both sides have been counted, with this one.
     pub turns: u64,
 }
 
@@ -172,6 +173,18 @@ impl<'s> Exchange<'s> {
                 Err(OpenFault::NoMemory(link_of(shared)))
             }
         }
+    }
+
+    /// Counts the turn with which a side begins, and wakes the other side where it waits for that. The link stays where it
+    /// is, and the side has seen no more.
+    pub(crate) fn begin(&self, pass: &mut Pass)
+        requires { Belongs self.now pass.old }
+        ensures belongs { Belongs self.now pass.new }
+        ensures side { pass.new.side ≡ pass.old.side }
+        ensures seen { seen pass.new ≡ seen pass.old }
+    {
+        count(&self.table.shared, &mut pass.seat);
+        self.table.shared.wake_one(1);
     }
 
     /// A turn of holding the link, for which it may wait: one meeting of the half with it. A side that

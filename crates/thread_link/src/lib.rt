@@ -10,6 +10,6 @@ mod turns;
 mod workers;
 
 pub use exchange::OpenFault;
-pub use gates::{Gate, Open};
+pub use gates::{Gate, MeetingPoint};
 pub use pass::{Exchange, Pass};
 pub use threads::TwoThreads;

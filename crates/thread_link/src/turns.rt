@@ -8,6 +8,12 @@ use crate::parts::{Count, Lock, Release, SharedLink};
 use crate::pass::{Board, Place};
 use ipdl_base::Side;
 use std::sync::Wait;
+use std::time::Duration;
+
+/// The most pieces in which a side waits for the other one to begin, and the length of each: a second in all.
+const MOST_PIECES: u32 = 100;
+
+const PIECE_MILLIS: u64 = 10;
 
 // The number of a side that holds the link.
 fn number(side: Side) -> u64
@@ -27,8 +33,8 @@ pub fn free_word(lines: usize) -> u64
     4 * (lines as u64)
 }
 
-/// The low half of a word, on which threads sleep.
-pub fn low_half(word: u64) -> u32 {
+// The low half of a word, on which threads sleep.
+fn low_half(word: u64) -> u32 {
     (word & 0xFFFF_FFFF) as u32
 }
 
@@ -66,6 +72,34 @@ pub fn take<R: Wait>(rt: &R, board: &Board<'_>, seat: &mut Place, side: Side) ->
     unreachable!()
 }
 
+/// Counts a turn, and returns how many there have been, with this one.
+pub fn count(board: &Board<'_>, seat: &mut Place) -> u64
+    requires board { IsShaped board.now.table_id × (seat.old.table_id ≡ board.now.table_id) }
+    ensures table { seat.new.table_id ≡ seat.old.table_id }
+    ensures me { seat.new.me ≡ seat.old.me }
+{
+    board.fetch_add::<Count>(seat, 1, 1).wrapping_add(1)
+}
+
+/// Sleeps while there have been so many turns, and returns whether the side is to go on. Where as many were the side's
+/// own, the other side was not seen to begin: then it sleeps for about a second at most, and is to go on only if there
+/// was another turn.
+pub fn sleep<R: Wait>(rt: &R, board: &Board<'_>, turns: u64, own: u64) -> bool
+    requires { IsShaped board.now.table_id }
+{
+    if own < turns {
+        board.park(rt, 1, low_half(turns));
+        return true;
+    }
+    for _ in 0..MOST_PIECES {
+        board.park_timeout(rt, 1, low_half(turns), Duration::from_millis(PIECE_MILLIS));
+        if board.peek(1) != turns {
+            return true;
+        }
+    }
+    false
+}
+
 /// Counts the turn, gives the link back, to which lines of the side may have been added, and wakes who
 /// waits for it or for a turn; how many turns there have been, with this one.
 pub fn give(board: &Board<'_>, seat: &mut Place, side: Side, shared: SharedLink) -> u64
@@ -77,7 +111,7 @@ pub fn give(board: &Board<'_>, seat: &mut Place, side: Side, shared: SharedLink)
     ensures { HasGiven side seat.old seat.new shared }
 {
     let word = free_word(shared.link.lines());
-    let turns = board.fetch_add::<Count>(seat, 1, 1).wrapping_add(1);
+    let turns = count(board, seat);
     drop(board.exchange(seat, 0, Some(shared)));
     board.store::<Release>(seat, 0, word);
     board.wake_one(0);

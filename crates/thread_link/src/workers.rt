@@ -13,7 +13,7 @@ ghost use Rattle.world_core.specs.Worlds.{IsCase, IsLawful};
 
 use crate::exchange::OpenFault;
 use crate::pass::{Exchange, Pass};
-use crate::turns::low_half;
+use crate::turns::sleep;
 use gates::Gate;
 use std::alloc::{AllocError, Global};
 use std::sync::Wait;
@@ -21,9 +21,9 @@ use std::thread::{Threads, join_mut};
 use world_core::{Half, Link, MeetAnswer, RunAnswer, StepAnswer, World, halves_fit_behind_more};
 
 // Own steps of a side, until it has none or cannot do it.
-fn go_on<R: Wait, G: Gate>(
+fn go_on<R: Wait>(
     rt: &R,
-    gate: &G,
+    gate: &Gate,
     pass: &Pass,
     half: &mut Half<'_>,
     steps: &mut u32,
@@ -46,11 +46,11 @@ fn go_on<R: Wait, G: Gate>(
     unreachable!()
 }
 
-// The work of one side, until both have nothing left to do or one of them gives up. The only error is
-// want of memory at this side.
-fn work<'a, 'b, R: Wait, G: Gate>(
+// The work of one side, until both have nothing left to do or one of them gives up. A side gives up too where the other one
+// does not begin. The only error is that memory ran out at this side.
+fn work<'a, 'b, R: Wait>(
     rt: &R,
-    gate: &G,
+    gate: &Gate,
     exchange: &Exchange<'a>,
     pass: &mut Pass,
     half: &mut Half<'b>,
@@ -59,15 +59,19 @@ fn work<'a, 'b, R: Wait, G: Gate>(
     ensures { HasWorked exchange.now pass.old pass.new half.new }
 {
     let mut steps = 0u32;
+    let mut goes_on = true;
+    exchange.begin(pass);
+    let mut own_turns = 1u64;
     for _ in rt.forever() {
         let stopped = go_on(rt, gate, pass, half, &mut steps);
-        let gives_up = !matches!(stopped, StepAnswer::Nothing);
+        let gives_up = !goes_on || !matches!(stopped, StepAnswer::Nothing);
         let turn = exchange.turn(rt, pass, half, gives_up);
+        own_turns = own_turns.wrapping_add(1);
         if turn.ended {
             return memory_of(stopped, turn.answer);
         }
         if turn.rests {
-            exchange.table.shared.park(rt, 1, low_half(turn.turns));
+            goes_on = sleep(rt, &exchange.table.shared, turn.turns, own_turns);
         }
     }
     unreachable!()
@@ -83,9 +87,9 @@ fn memory_of(step: StepAnswer, meeting: MeetAnswer) -> Result<(), AllocError> {
 }
 
 // The work of both sides, each on a thread of its own.
-fn work_both<'a, 'b, 'c, R: Threads + Wait + Sync, G: Gate + Sync>(
+fn work_both<'a, 'b, 'c, R: Threads + Wait + Sync>(
     rt: &R,
-    gate: &G,
+    gate: &Gate,
     exchange: &Exchange<'a>,
     one: &mut Pass,
     two: &mut Pass,
@@ -114,10 +118,10 @@ fn work_both<'a, 'b, 'c, R: Threads + Wait + Sync, G: Gate + Sync>(
 
 // The work of both halves on a link, and the link behind it. An error is want of memory: for the
 // exchange, where nothing is done, or at a side.
-fn work_apart<R: Threads + Wait + Sync, G: Gate + Sync>(
+fn work_apart<R: Threads + Wait + Sync>(
     rt: &R,
     alloc: Global,
-    gate: &G,
+    gate: &Gate,
     parent: &mut Half<'_>,
     child: &mut Half<'_>,
     link: Link,
@@ -156,10 +160,10 @@ fn end_run(world: &mut World<'_>, worked: Result<(), AllocError>) -> RunAnswer
 }
 
 /// Runs a world with each side on a thread of its own, and then both in turn to the end.
-pub fn run_at_once<'s, R: Threads + Wait + Sync, G: Gate + Sync>(
+pub fn run_at_once<'s, R: Threads + Wait + Sync>(
     rt: &R,
     alloc: Global,
-    gate: &G,
+    gate: &Gate,
     world: World<'s>,
 ) -> (World<'s>, RunAnswer)
     ensures gives { GivesUnless RunsAtOnce world.entry result.0 result.1 }

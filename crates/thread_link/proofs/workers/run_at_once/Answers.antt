@@ -6,7 +6,7 @@ use Rattle.world_core.proofs.SplitHalves.{split-own}
 use Rattle.world_core.specs.HalfView.{setting_of}
 
 pub work_apart-link-requires : goal.work_apart-link-requires
-work_apart-link-requires g c = (c.type_bounds.sync-R, (c.type_bounds.sync-G, split-own c.args.world.setting c.split-parent.result.0 c.split-parent.result.1 c.split-parent.result.2 c.split-parent.ensures.apart))
+work_apart-link-requires g c = (c.type_bounds.sync-R, split-own c.args.world.setting c.split-parent.result.0 c.split-parent.result.1 c.split-parent.result.2 c.split-parent.ensures.apart)
 
 pub join-world-requires : goal.join-world-requires
 join-world-requires g c = split-own (setting_of c.split-parent.result.0) c.work_apart-link.new.parent c.work_apart-link.new.child c.work_apart-link.result.0 c.work_apart-link.ensures.split

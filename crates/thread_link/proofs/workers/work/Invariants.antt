@@ -9,4 +9,4 @@ abbrev pub ghost-turn : goal.ghost-turn
 ghost-turn g a = (about a.self.now, a.pass.now.side)
 
 abbrev pub invariant-loop : goal.invariant-loop
-invariant-loop g l = (goal.iterator-loop g).can_next l.iterator' × (goal.iterator-loop g).is_finite l.iterator' × IsAtWork l.exchange l.initial.pass l.pass l.half
+invariant-loop g l = (goal.iterator-loop g).can_next l.iterator' × (goal.iterator-loop g).is_finite l.iterator' × IsAtWork l.exchange l.fn.pass l.pass l.half
