@@ -9,5 +9,5 @@ mod turns;
 mod two_queues;
 mod workers;
 
-pub use gates::{Gate, Open};
+pub use gates::{Gate, MeetingPoint};
 pub use two_queues::TwoQueues;

@@ -3,12 +3,12 @@ ghost use Rattle.std.specs.Prelude.{◌≡◌};
 ghost use Rattle.std.specs.Thread.{IsSync};
 ghost use Rattle.ipdl_base.specs.Sound.{IsSound};
 ghost use Rattle.script_runs.specs.Laws.{HasLimit};
-ghost use Rattle.world_core.specs.Relaying.{IsRelayed};
+ghost use Rattle.world_core.specs.Relaying.{IsRelayed, RelayGives};
 ghost use Rattle.world_core.specs.WorldView.{opening_of};
 ghost use Rattle.queue_link.specs.HalvesAlone.{ObeyAlone};
 
 use crate::workers::run_apart;
-use gates::{Gate, Open};
+use gates::Gate;
 use relay_history::relays_come_in_order;
 use relay_laws::relays_obey_alone;
 use std::alloc::Global;
@@ -19,31 +19,39 @@ use world_core::{Halves, Relay, RunAnswer, World};
 /// Each side of a run on a thread of its own, with a queue to the other one (docs/relay.md). A run may
 /// wait, and what is promised of it holds where it returns.
 #[derive(Drop)]
-pub struct TwoQueues<'r, R: Threads + Wait + Sync + AllocGlobal, G: Gate + Sync> {
+pub struct TwoQueues<'r, R: Threads + Wait + Sync + AllocGlobal> {
     rt: &'r R,
-    gate: G,
+    gate: Gate,
 }
 
-impl<'r, R: Threads + Wait + Sync + AllocGlobal, G: Gate + Sync> TwoQueues<'r, R, G> {
-    /// The relay whose sides pass a gate before each own step, while both go on at once. It takes no
-    /// memory.
-    pub fn new(rt: &'r R, gate: G) -> TwoQueues<'r, R, G>
+impl<'r, R: Threads + Wait + Sync + AllocGlobal> TwoQueues<'r, R> {
+    /// Creates the relay whose sides pass a gate before each own step, while both go on at once. It takes
+    /// no memory.
+    pub fn new(rt: &'r R, gate: Gate) -> TwoQueues<'r, R>
         ensures { IsSync R.row }
     {
         TwoQueues { rt, gate }
     }
 
-    /// The gate. It takes no memory.
-    pub fn gate(&self) -> &G
+    /// Lends the gate. It takes no memory.
+    pub fn gate(&self) -> &Gate
         ensures { result.now ≡ self.now.gate }
     {
         &self.gate
     }
+}
 
-    /// Runs a world by whatever gate: as `run_queues` does with the open one. For a sound schema each half
-    /// obeys what one end by itself obeys.
-    pub fn run_with<'s>(&mut self, world: World<'s>) -> (Halves, RunAnswer)
-        requires { world ≡ opening_of world.setting }
+impl<'r, R: Threads + Wait + Sync + AllocGlobal> Relay for TwoQueues<'r, R> {
+    ghost Gives = { λ _ before halves answer. IsRelayed before.setting halves answer };
+
+    ghost ready = { λ _. IsSync R.row };
+
+    /// Runs a world by whatever gate. Beside what every relay promises, for a sound schema each half obeys
+    /// what one end by itself obeys.
+    fn run_queues<'s>(&mut self, world: World<'s>) -> (Halves, RunAnswer)
+        requires ready { IsSync R.row }
+        requires opening { world ≡ opening_of world.setting }
+        ensures gives { RelayGives (λ before halves answer. IsRelayed before.setting halves answer) world.entry result.0 result.1 }
         ensures relayed { IsRelayed world.entry.setting result.0 result.1 }
         ensures alone { IsSound world.entry.setting.schema → HasLimit world.entry.setting → ObeyAlone world.entry.setting result.0 result.1 }
     {
@@ -53,21 +61,11 @@ impl<'r, R: Threads + Wait + Sync + AllocGlobal, G: Gate + Sync> TwoQueues<'r, R
     }
 }
 
-impl<'r, R: Threads + Wait + Sync + AllocGlobal> Relay for TwoQueues<'r, R, Open> {
-    ghost Gives = { λ _ before halves answer. IsRelayed before.setting halves answer };
-
-    ghost ready = { λ _. IsSync R.row };
-
-    fn run_queues<'s>(&mut self, world: World<'s>) -> (Halves, RunAnswer) {
-        run_world(self.rt, self.rt.alloc(), &self.gate, world)
-    }
-}
-
 // The run of a world over two queues.
-fn run_world<'s, R: Threads + Wait + Sync, G: Gate + Sync>(
+fn run_world<'s, R: Threads + Wait + Sync>(
     rt: &R,
     alloc: Global,
-    gate: &G,
+    gate: &Gate,
     world: World<'s>,
 ) -> (Halves, RunAnswer)
     requires opening { world ≡ opening_of world.setting }

@@ -22,9 +22,9 @@ use std::thread::{Threads, join_mut};
 use world_core::{Half, RunAnswer, StepAnswer};
 
 // Steps of one side, until it has nothing to do. It passes the gate before each step of its own.
-fn work_on<R: Wait, G: Gate>(
+fn work_on<R: Wait>(
     rt: &R,
-    gate: &G,
+    gate: &Gate,
     side: Side,
     out: &PacketQueue,
     incoming: &PacketQueue,
@@ -57,9 +57,9 @@ fn work_on<R: Wait, G: Gate>(
 }
 
 // The work of the parent, of the run that its half is about.
-fn work_of_parent<R: Wait, G: Gate>(
+fn work_of_parent<R: Wait>(
     rt: &R,
-    gate: &G,
+    gate: &Gate,
     queues: &Queues,
     passes: &mut SidePasses,
     half: &mut Half<'_>,
@@ -80,9 +80,9 @@ fn work_of_parent<R: Wait, G: Gate>(
 }
 
 // The work of the child, of the run that its half is about.
-fn work_of_child<R: Wait, G: Gate>(
+fn work_of_child<R: Wait>(
     rt: &R,
-    gate: &G,
+    gate: &Gate,
     queues: &Queues,
     passes: &mut SidePasses,
     half: &mut Half<'_>,
@@ -114,9 +114,9 @@ fn of_both(first: RunAnswer, second: RunAnswer) -> RunAnswer
 }
 
 // The work of both sides, each on a thread of its own.
-fn work_both<'b, 'c, R: Threads + Wait + Sync, G: Gate + Sync>(
+fn work_both<'b, 'c, R: Threads + Wait + Sync>(
     rt: &R,
-    gate: &G,
+    gate: &Gate,
     queues: &Queues,
     of_parent: &mut SidePasses,
     of_child: &mut SidePasses,
@@ -192,9 +192,9 @@ fn queue_passes(
 }
 
 // The work of both halves as they begin, at once, over new queues whose passes come back whole.
-fn work_at_once<R: Threads + Wait + Sync, G: Gate + Sync>(
+fn work_at_once<R: Threads + Wait + Sync>(
     rt: &R,
-    gate: &G,
+    gate: &Gate,
     queues: &Queues,
     to_child: PacketPass,
     to_parent: PacketPass,
@@ -259,9 +259,9 @@ fn see_order<R: Wait>(rt: &R, queue: &PacketQueue, pass: &mut PacketPass)
 }
 
 // The run of both halves over queues as they begin.
-fn run_over<R: Threads + Wait + Sync, G: Gate + Sync>(
+fn run_over<R: Threads + Wait + Sync>(
     rt: &R,
-    gate: &G,
+    gate: &Gate,
     down: (PacketQueue, PacketPass),
     up: (PacketQueue, PacketPass),
     parent: &mut Half<'_>,
@@ -296,10 +296,10 @@ fn run_over<R: Threads + Wait + Sync, G: Gate + Sync>(
 }
 
 /// The run of both halves as they begin, at once over two queues, and then in turn to the end.
-pub fn run_apart<R: Threads + Wait + Sync, G: Gate + Sync>(
+pub fn run_apart<R: Threads + Wait + Sync>(
     rt: &R,
     alloc: Global,
-    gate: &G,
+    gate: &Gate,
     parent: &mut Half<'_>,
     child: &mut Half<'_>,
 ) -> RunAnswer
