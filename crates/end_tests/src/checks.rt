@@ -1,48 +1,65 @@
-use ipdl_base::{Reason, SendRefusal, What};
-use nesting_core::{Answer, StackTop};
-use std::alloc::Global;
-use std::process::Abort;
-use std::test::Fail;
+//! What is found, as words that are appended to a text.
 
-/// Compares what is found with what is wanted, and names the row where they differ.
-pub fn check(rt: &impl Abort, row: &str, found: &str, wanted: &str) {
-    assert_eq!(rt; found, wanted, "{row}");
+use ipdl_base::{Items, Reason, SendRefusal, What};
+use nesting_core::{Answer, StackTop};
+use std::alloc::{AllocError, Global};
+use std::process::Abort;
+
+/// Compares what is found with what is wanted.
+pub fn check(rt: &impl Abort, found: &str, wanted: &str) {
+    assert_eq!(rt; found, wanted);
+}
+
+/// The value of a hexadecimal digit.
+fn value_of(digit: u8) -> u8 {
+    if digit <= b'9' {
+        digit & 15
+    } else {
+        (digit & 15) + 9
+    }
+}
+
+/// The byte that a pair of hexadecimal digits spells.
+fn byte_of(pair: &[u8]) -> u8 {
+    match pair {
+        [high, low] => value_of(*high) << 4 | value_of(*low),
+        _ => 0,
+    }
 }
 
 /// The bytes that pairs of hexadecimal digits spell.
-pub fn bytes_of(alloc: Global, digits: &str) -> Result<Vec<u8>, Fail> {
+pub fn frame(alloc: Global, digits: &str) -> Result<Items<u8>, AllocError> {
     let mut bytes = Vec::new(alloc);
-    let mut high = None;
-    for c in digits.chars() {
-        if let Some(digit) = c.to_digit(16) {
-            let digit = u8::try_from(digit)?;
-            match high {
-                None => high = Some(digit),
-                Some(first) => {
-                    bytes.push((first & 15) << 4 | (digit & 15))?;
-                    high = None;
-                }
-            }
-        }
+    for pair in digits.as_bytes().chunks(2) {
+        bytes.push(byte_of(pair))?;
     }
-    Ok(bytes)
+    Ok(Items::from_vec(bytes))
 }
 
-/// Bytes as pairs of hexadecimal digits.
-pub fn digits_of(alloc: Global, bytes: &[u8]) -> Result<String, Fail> {
-    let mut text = String::new(alloc);
+/// Appends bytes as pairs of hexadecimal digits.
+pub fn push_digits(log: &mut String, bytes: &[u8]) -> Result<(), AllocError> {
     for byte in bytes {
-        write!(text, "{byte:02x}")?;
+        write!(log, "{byte:02x}")?;
     }
-    Ok(text)
+    Ok(())
 }
 
-/// A number, or that there is none.
-pub fn number_text(alloc: Global, number: Option<i32>) -> Result<String, Fail> {
+/// Appends a number, or that there is none.
+pub fn push_number(log: &mut String, number: Option<i32>) -> Result<(), AllocError> {
     match number {
-        None => Ok(String::from_str(alloc, "none")?),
-        Some(number) => Ok(format!(in alloc; "{number}")?),
+        None => log.push_str("none"),
+        Some(number) => write!(log, "{number}"),
     }
+}
+
+/// Appends three numbers, with a blank between each two.
+pub fn push_three(log: &mut String, numbers: [Option<i32>; 3]) -> Result<(), AllocError> {
+    let [first, second, third] = numbers;
+    push_number(log, first)?;
+    log.push(' ')?;
+    push_number(log, second)?;
+    log.push(' ')?;
+    push_number(log, third)
 }
 
 /// A refusal, or that there is none.

@@ -1,66 +1,92 @@
+ghost use Rattle.std.specs.Prelude.{◌≡◌, ◌≤◌, [], ◌∷◌};
+ghost use Rattle.actor_tree.specs.Tree.{top};
+
 use super::checks::check;
-use super::outputs::lines_text;
-use super::schemas::{ASK, CALL, TOP};
+use super::outputs::push_lines;
+use super::parts::{Case, told};
+use super::schemas::{ASK, CALL, TOP, insert_kid};
+use super::stacks::head_of;
 use actor_tree::Tree;
 use end_parts::{
     EndOutput, FallCause, PromiseEntries, StackEntries, fail_all, let_fall, reject_all,
 };
-use ipdl_base::{Items, Level, Side};
-use nesting_core::Head;
-use std::alloc::Global;
+use ipdl_base::Side;
+use std::alloc::{AllocError, Global};
 use std::test::Fail;
 
 /// The promises of the top actor that pend are rejected.
-fn rejection(alloc: Global) -> Result<String, Fail> {
-    let mut out = EndOutput::new(alloc, Items::from_vec(Vec::new(alloc)))?;
-    let mut promises = PromiseEntries::new(alloc)?;
+pub fn rejection(
+    alloc: Global,
+    promises: &mut PromiseEntries,
+    out: &mut EndOutput,
+    log: &mut String,
+) -> Result<(), AllocError>
+    requires no_promise { promises.old ≡ [] }
+    requires room { 3 ≤ out.old.line_spare }
+{
     promises.make(1, TOP, ASK)?;
     promises.make(2, TOP, ASK)?;
-    reject_all(Side::Parent, &mut promises, &mut out);
-    lines_text(alloc, &mut out)
+    reject_all(Side::Parent, promises, out);
+    push_lines(alloc, log, out)
+}
+
+/// Lets an actor fall with its promise.
+fn let_kid_fall(
+    tree: &mut Tree,
+    promises: &mut PromiseEntries,
+    out: &mut EndOutput,
+) -> Result<(), AllocError>
+    requires tree { tree.old ≡ top 1 ∷ [] }
+    requires no_promise { promises.old ≡ [] }
+    requires room { 3 ≤ out.old.line_spare }
+{
+    insert_kid(tree)?;
+    promises.make(1, 6, ASK)?;
+    let cause = FallCause::Deletion(6);
+    let_fall(Side::Parent, 6, cause, tree, promises, out);
+    Ok(())
 }
 
 /// An actor falls with its promise.
-fn fall(alloc: Global) -> Result<String, Fail> {
-    let mut out = EndOutput::new(alloc, Items::from_vec(Vec::new(alloc)))?;
+pub fn fall(
+    alloc: Global,
+    promises: &mut PromiseEntries,
+    out: &mut EndOutput,
+    log: &mut String,
+) -> Result<(), AllocError>
+    requires no_promise { promises.old ≡ [] }
+    requires room { 3 ≤ out.old.line_spare }
+{
     let mut tree = Tree::new(alloc, 1)?;
-    tree.insert(6, 0, TOP)?;
-    let mut promises = PromiseEntries::new(alloc)?;
-    promises.make(1, 6, ASK)?;
-    let_fall(
-        Side::Parent,
-        6,
-        FallCause::Deletion(6),
-        &mut tree,
-        &mut promises,
-        &mut out,
-    );
-    lines_text(alloc, &mut out)
+    let done = let_kid_fall(&mut tree, promises, out);
+    drop(tree);
+    done?;
+    push_lines(alloc, log, out)
 }
 
 /// A wait fails.
-fn failure(alloc: Global) -> Result<String, Fail> {
-    let mut out = EndOutput::new(alloc, Items::from_vec(Vec::new(alloc)))?;
-    let mut stack = StackEntries::new(alloc)?;
-    let head = Head {
-        sync: true,
-        level: Level::InsideSync,
-        seq: 1,
-        transaction: 1,
-    };
-    stack.push_wait(head, TOP, CALL);
-    fail_all(Side::Parent, &mut stack, &mut out);
-    lines_text(alloc, &mut out)
+pub fn failure(
+    alloc: Global,
+    stack: &mut StackEntries,
+    out: &mut EndOutput,
+    log: &mut String,
+) -> Result<(), AllocError>
+    requires no_frame { stack.old ≡ [] }
+    requires room { 3 ≤ out.old.line_spare }
+{
+    stack.push_wait(head_of(1), TOP, CALL);
+    fail_all(Side::Parent, stack, out);
+    push_lines(alloc, log, out)
 }
 
 #[test]
 fn closings_of_an_end(rt: HostRuntime) -> Result<(), Fail> {
-    let alloc = rt.alloc();
-    let found = rejection(alloc)?;
-    check(&rt, "a rejection", &found, "rejected rejected ");
-    let found = fall(alloc)?;
-    check(&rt, "a fall", &found, "rejected fall ");
-    let found = failure(alloc)?;
-    check(&rt, "a failure", &found, "fails ");
+    let cases = [Case::Rejection, Case::Fall, Case::Failure];
+    let found = told(rt.alloc(), &cases)?;
+    check(
+        &rt,
+        found.as_str(),
+        "rejected rejected \nrejected fall \nfails \n",
+    );
     Ok(())
 }

@@ -13,6 +13,8 @@ mod outputs;
 #[cfg(test)]
 mod packets;
 #[cfg(test)]
+mod parts;
+#[cfg(test)]
 mod promises;
 #[cfg(test)]
 mod requests;

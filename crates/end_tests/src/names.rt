@@ -2,7 +2,7 @@ use super::checks::check;
 use super::schemas::{ASK, TOP};
 use end_parts::{NameContent, NameEntries, Named, Resolver, shown_id};
 use ipdl_base::Name;
-use std::alloc::Global;
+use std::alloc::{AllocError, Global};
 use std::test::Fail;
 
 fn named_text(named: Named) -> &'static str {
@@ -13,46 +13,94 @@ fn named_text(named: Named) -> &'static str {
     }
 }
 
+/// Gives a name the actor 6.
+fn hold_actor(alloc: Global, names: &mut NameEntries, name: &Name) -> Result<(), AllocError> {
+    names.reserve()?;
+    let copy = name.copy(alloc)?;
+    names.hold_actor(copy, 6);
+    Ok(())
+}
+
+/// Gives a name a resolver.
+fn hold_resolver(alloc: Global, names: &mut NameEntries, name: &Name) -> Result<(), AllocError> {
+    names.reserve()?;
+    let copy = name.copy(alloc)?;
+    names.hold(copy, NameContent::Resolver(Resolver::new(-1, TOP, ASK)));
+    Ok(())
+}
+
+/// Appends what a resolver is, and what the answer by it repeats.
+fn push_resolver(log: &mut String) -> Result<(), AllocError> {
+    let resolver = Resolver::new(-1, TOP, ASK);
+    let (seq, route, number) = (resolver.seq(), resolver.route(), resolver.number());
+    let transaction = resolver.answered().transaction;
+    write!(log, "{seq} {route} {number} {transaction}")
+}
+
+/// Whether a name holds a resolver whose answer repeats what that of this one does.
+fn holds_resolver(names: &NameEntries, name: &Name) -> bool {
+    let wanted = Resolver::new(-1, TOP, ASK).answered();
+    names.resolver_held(name) == Some(wanted)
+}
+
+/// What two names hold, as words.
+fn named_texts(names: &NameEntries, kid: &Name, answer: &Name) -> (&'static str, &'static str) {
+    (
+        named_text(names.named(kid)),
+        named_text(names.named(answer)),
+    )
+}
+
 /// Two names, one of an actor and one of a resolver.
-fn two_names(alloc: Global) -> Result<String, Fail> {
-    let kid = Name::from_slice(alloc, b"kid")?;
+fn tell_names(
+    alloc: Global,
+    kid: &Name,
+    answer: &Name,
+    names: &mut NameEntries,
+    log: &mut String,
+) -> Result<(), AllocError> {
+    hold_actor(alloc, names, kid)?;
+    hold_resolver(alloc, names, answer)?;
+    let (held, kept) = named_texts(names, kid, answer);
+    let same = holds_resolver(names, answer);
+    names.drop_resolvers();
+    let dropped = named_text(names.named(answer));
+    names.remove(kid);
+    let removed = named_text(names.named(kid));
+    write!(log, ", {held} {kept} {same}, {dropped} {removed}")
+}
+
+/// Appends the ids that the lines of names show.
+fn push_ids(log: &mut String) -> Result<(), AllocError> {
+    write!(log, ", {} {}", shown_id(6), shown_id(-2))
+}
+
+fn tell_with_kid(alloc: Global, kid: &Name, log: &mut String) -> Result<(), AllocError> {
     let answer = Name::from_slice(alloc, b"answer")?;
     let mut names = NameEntries::new(alloc);
-    names.reserve()?;
-    names.hold_actor(kid.copy(alloc)?, 6);
-    names.reserve()?;
-    let resolver = Resolver::new(-1, TOP, ASK);
-    let of_resolver = resolver.answered();
-    let fields = format!(in alloc;
-        "{} {} {} {}",
-        resolver.seq(),
-        resolver.route(),
-        resolver.number(),
-        of_resolver.transaction
-    )?;
-    names.hold(answer.copy(alloc)?, NameContent::Resolver(resolver));
-    let held = named_text(names.named(&kid));
-    let kept = named_text(names.named(&answer));
-    let same = names.resolver_held(&answer) == Some(of_resolver);
-    names.drop_resolvers();
-    let dropped = named_text(names.named(&answer));
-    names.remove(&kid);
-    let removed = named_text(names.named(&kid));
-    Ok(format!(in alloc;
-        "{fields}, {held} {kept} {same}, {dropped} {removed}, {} {}",
-        shown_id(6),
-        shown_id(-2)
-    )?)
+    let done = tell_names(alloc, kid, &answer, &mut names, log);
+    drop(names);
+    drop(answer);
+    done
+}
+
+/// Appends what two names and a resolver tell.
+fn tell(alloc: Global, log: &mut String) -> Result<(), AllocError> {
+    push_resolver(log)?;
+    let kid = Name::from_slice(alloc, b"kid")?;
+    let done = tell_with_kid(alloc, &kid, log);
+    drop(kid);
+    done?;
+    push_ids(log)
 }
 
 #[test]
 fn names_of_an_end(rt: HostRuntime) -> Result<(), Fail> {
-    let alloc = rt.alloc();
-    let found = two_names(alloc)?;
+    let mut found = String::new(rt.alloc());
+    tell(rt.alloc(), &mut found)?;
     check(
         &rt,
-        "two names",
-        &found,
+        found.as_str(),
         "-1 2147483647 65538 0, actor resolver true, nothing nothing, 6 0",
     );
     Ok(())

@@ -1,87 +1,122 @@
-use super::checks::{bytes_of, check, digits_of, what_text};
+ghost use Rattle.std.specs.Prelude.{◌≡◌, ◌≤◌, IsSome, OnOk};
+
+use super::checks::{check, frame, push_digits, what_text};
+use super::parts::{Case, told};
 use super::schemas::{ASK, TOP};
 use end_parts::{EndOutput, Packet};
 use history::History;
-use ipdl_base::{Body, Items, Line, Message, Side, Values, What};
-use std::alloc::Global;
+use ipdl_base::{Body, Line, Message, Side, Values, What};
+use std::alloc::{AllocError, Global};
 use std::test::Fail;
 
-/// A packet by its bytes.
-fn packet_text(alloc: Global, packet: &Packet) -> Result<String, Fail> {
+/// Appends a packet by its bytes.
+fn push_packet(log: &mut String, packet: &Packet) -> Result<(), AllocError> {
     match packet {
-        Packet::Bytes(frame) => digits_of(alloc, frame.as_slice()),
-        Packet::Broken => Ok(String::from_str(alloc, "broken")?),
+        Packet::Bytes(frame) => push_digits(log, frame.as_slice()),
+        Packet::Broken => log.push_str("broken"),
     }
 }
 
-/// The packets that are left, which are taken.
-fn packets_text(alloc: Global, out: &mut EndOutput) -> Result<String, Fail> {
-    let mut text = String::new(alloc);
-    for _ in 0..9 {
-        match out.take_packet() {
-            None => return Ok(text),
-            Some(packet) => {
-                text.push_str(&packet_text(alloc, &packet)?)?;
-                text.push_str(" ")?;
-            }
+/// Takes the next packet, if there is one, and appends it.
+fn push_next(log: &mut String, out: &mut EndOutput) -> Result<(), AllocError> {
+    match out.take_packet() {
+        None => Ok(()),
+        Some(packet) => {
+            let done = push_packet(log, &packet);
+            drop(packet);
+            done?;
+            log.push(' ')
         }
     }
-    Ok(text)
 }
 
-/// The lines that are left, which are drained.
-pub fn lines_text(alloc: Global, out: &mut EndOutput) -> Result<String, Fail> {
-    let mut history = History::new(alloc);
-    out.drain(&mut history)?;
-    let mut text = String::new(alloc);
-    for line in history.lines() {
-        text.push_str(what_text(&line.what))?;
-        text.push_str(" ")?;
+/// Takes the packets that are left, and appends them.
+fn push_packets(log: &mut String, out: &mut EndOutput) -> Result<(), AllocError> {
+    for _ in 0..9 {
+        push_next(log, out)?;
     }
-    Ok(text)
+    Ok(())
 }
 
-/// A request without values.
-fn request(seq: i32) -> Message {
-    Message {
+/// Drains the lines that are left, and appends their kinds.
+pub fn push_lines(alloc: Global, log: &mut String, out: &mut EndOutput) -> Result<(), AllocError> {
+    let mut history = History::new(alloc);
+    let done = push_drained(log, out, &mut history);
+    drop(history);
+    done
+}
+
+fn push_drained(
+    log: &mut String,
+    out: &mut EndOutput,
+    history: &mut History,
+) -> Result<(), AllocError> {
+    out.drain(history)?;
+    for line in history.lines() {
+        log.push_str(what_text(&line.what))?;
+        log.push(' ')?;
+    }
+    Ok(())
+}
+
+/// Puts a request without values, of this frame, into the outbox.
+fn push_lazy(alloc: Global, out: &mut EndOutput, seq: i32, digits: &str) -> Result<(), AllocError>
+    ensures packets { OnOk result (out.new.packet_spare ≡ out.old.packet_spare) }
+    ensures goodbye { OnOk result (out.new.goodbye ≡ out.old.goodbye) }
+{
+    out.reserve_lazy()?;
+    let frame = frame(alloc, digits)?;
+    let request = Message {
         route: TOP,
         number: ASK,
         seq,
         transaction: 0,
         made: 0,
         body: Body::Request(Values::Nothing),
-    }
+    };
+    out.push_lazy(request, frame);
+    Ok(())
 }
 
-/// Two lazy requests that are put behind one another, one by a flush and one by a packet.
-fn two_lazy_requests(alloc: Global) -> Result<String, Fail> {
-    let mut out = EndOutput::new(alloc, Items::from_vec(bytes_of(alloc, "99")?))?;
-    out.reserve_lazy()?;
-    out.push_lazy(request(1), Items::from_vec(bytes_of(alloc, "01")?));
+/// Puts two lazy requests behind one another, one by a flush and one by a packet, and says how many
+/// waited for the flush.
+fn put_two(alloc: Global, out: &mut EndOutput) -> Result<usize, AllocError> {
+    push_lazy(alloc, out, 1, "01")?;
     out.reserve(0, 2)?;
     let waiting = out.waiting();
     out.flush();
-    out.reserve_lazy()?;
-    out.push_lazy(request(2), Items::from_vec(bytes_of(alloc, "02")?));
+    push_lazy(alloc, out, 2, "02")?;
     out.reserve(0, 2)?;
-    out.put(Packet::Bytes(Items::from_vec(bytes_of(alloc, "03")?)));
-    let packets = packets_text(alloc, &mut out)?;
-    Ok(format!(in alloc; "{waiting}, {packets}, {}", out.waiting())?)
+    let packet = Packet::Bytes(frame(alloc, "03")?);
+    out.put(packet);
+    Ok(waiting)
+}
+
+/// Two lazy requests, and a packet behind them.
+pub fn two_lazy_requests(
+    alloc: Global,
+    out: &mut EndOutput,
+    log: &mut String,
+) -> Result<(), AllocError> {
+    let waiting = put_two(alloc, out)?;
+    write!(log, "{waiting}, ")?;
+    push_packets(log, out)?;
+    write!(log, ", {}", out.waiting())
 }
 
 /// The outbox of a draining end is dropped, and the last packet is its goodbye.
-fn goodbye(alloc: Global) -> Result<String, Fail> {
-    let mut out = EndOutput::new(alloc, Items::from_vec(bytes_of(alloc, "99")?))?;
-    out.reserve_lazy()?;
-    out.push_lazy(request(1), Items::from_vec(bytes_of(alloc, "01")?));
+pub fn goodbye(alloc: Global, out: &mut EndOutput, log: &mut String) -> Result<(), AllocError>
+    requires room { 1 ≤ out.old.packet_spare }
+    requires there { IsSome out.old.goodbye }
+{
+    push_lazy(alloc, out, 1, "01")?;
     out.drop_outbox();
     out.put_goodbye();
-    packets_text(alloc, &mut out)
+    push_packets(log, out)
 }
 
-/// A line that is owed and said, and a mark.
-fn line_and_mark(alloc: Global) -> Result<String, Fail> {
-    let mut out = EndOutput::new(alloc, Items::from_vec(bytes_of(alloc, "99")?))?;
+/// Says a line, owes others and puts a mark, and says how much less room there is.
+fn say_line(out: &mut EndOutput) -> Result<usize, AllocError> {
     out.reserve(4, 0)?;
     let before = out.line_spare();
     out.push_line(Line {
@@ -93,19 +128,30 @@ fn line_and_mark(alloc: Global) -> Result<String, Fail> {
     let after = out.line_spare();
     out.put_mark(true);
     out.put_mark(false);
-    let packets = packets_text(alloc, &mut out)?;
-    let lines = lines_text(alloc, &mut out)?;
-    Ok(format!(in alloc; "{}, {packets}, {lines}", before.saturating_sub(after))?)
+    Ok(before.saturating_sub(after))
+}
+
+/// A line that is owed and said, and a mark.
+pub fn line_and_mark(
+    alloc: Global,
+    out: &mut EndOutput,
+    log: &mut String,
+) -> Result<(), AllocError> {
+    let said = say_line(out)?;
+    write!(log, "{said}, ")?;
+    push_packets(log, out)?;
+    log.push_str(", ")?;
+    push_lines(alloc, log, out)
 }
 
 #[test]
 fn output_of_an_end(rt: HostRuntime) -> Result<(), Fail> {
-    let alloc = rt.alloc();
-    let found = two_lazy_requests(alloc)?;
-    check(&rt, "two lazy requests", &found, "1, 01 02 03 , 0");
-    let found = goodbye(alloc)?;
-    check(&rt, "a goodbye", &found, "99 ");
-    let found = line_and_mark(alloc)?;
-    check(&rt, "a line and a mark", &found, "1, broken , close ");
+    let cases = [Case::TwoLazyRequests, Case::Goodbye, Case::LineAndMark];
+    let found = told(rt.alloc(), &cases)?;
+    check(
+        &rt,
+        found.as_str(),
+        "1, 01 02 03 , 0\n99 \n1, broken , close \n",
+    );
     Ok(())
 }

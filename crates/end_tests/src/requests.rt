@@ -1,176 +1,302 @@
 ghost use Rattle.ipdl_base.specs.Sound.{IsSound};
+ghost use Rattle.end_parts.specs.CopiedAnswers.{IsCopied};
+ghost use Rattle.std.specs.Prelude.{IfOk};
 
-use super::checks::{answer_text, check, number_text, refusal_text, what_text};
-use super::schemas::{ASK, CALL, TOP, the_schema};
+use super::checks::{answer_text, check, push_number, refusal_text, what_text};
+use super::parts::{SchemaCase, told_of_schema};
+use super::schemas::{ASK, CALL, TOP, insert_kid};
 use actor_tree::Tree;
 use end_parts::{
     ActorTest, AnsweredRequest, CopiedAnswer, StackEntries, answer_refusal, first_actor, id_of,
     lives_as, lives_otherwise, next_request, receive_answer, reply_to, resume_line, send_line,
     send_refusal, seq_of, wrong_actor,
 };
-use ipdl_base::{Body, MessageRow, Schema, Side, Value, Values, returns_of_row};
+use ipdl_base::{Body, Message, MessageRow, Schema, Side, Value, Values, What, returns_of_row};
 use nesting_core::Answer;
-use std::alloc::Global;
+use std::alloc::{AllocError, Global};
 use std::test::Fail;
 
+/// A message of a schema, and the parts of an end: a top actor with one more below it, and no frame.
+#[derive(Clone, Copy)]
+struct Scene<'a> {
+    schema: &'a Schema,
+    tree: &'a Tree,
+    stack: &'a StackEntries,
+    row: &'a MessageRow,
+}
+
 /// The values that are one actor.
-fn one_actor(alloc: Global, id: i32) -> Result<Values, Fail> {
+fn one_actor(alloc: Global, id: i32) -> Result<Values, AllocError> {
     Ok(Values::First(
         Box::new(alloc, Value::Actor(id))?,
         Box::new(alloc, Values::Nothing)?,
     ))
 }
 
-/// A top actor with one more, of the protocol 0.
-fn the_tree(alloc: Global) -> Result<Tree, Fail> {
-    let mut tree = Tree::new(alloc, 1)?;
-    tree.insert(6, 0, TOP)?;
-    Ok(tree)
+/// The line of a request.
+fn line_of(
+    alloc: Global,
+    scene: Scene,
+    message: &Message,
+    values: &Values,
+) -> Result<What, AllocError> {
+    let values = values.copy(alloc)?;
+    Ok(send_line(scene.row, message, values))
 }
 
-/// What the refusals of a request with an actor are, and what it is.
-fn request_text(
+/// Appends which actor of a request is wrong, why ends that are closed and open refuse to send it, and
+/// its number.
+fn push_refusals(
+    log: &mut String,
+    scene: Scene,
+    message: &Message,
+    values: &Values,
+) -> Result<(), AllocError>
+    requires { IsSound scene.schema.now }
+{
+    let Scene {
+        schema,
+        tree,
+        stack,
+        row,
+    } = scene;
+    push_number(log, wrong_actor(schema, tree, row, message))?;
+    let closed = refusal_text(send_refusal(false, schema, tree, stack, row, message, values));
+    let open = refusal_text(send_refusal(true, schema, tree, stack, row, message, values));
+    write!(log, " {closed} {open} {}", message.seq)
+}
+
+/// Appends what the refusals of a request are, and the kind of its line.
+fn push_sent(
     alloc: Global,
-    schema: &Schema,
-    row: &MessageRow,
+    log: &mut String,
+    scene: Scene,
+    message: &Message,
+    values: &Values,
+) -> Result<(), AllocError>
+    requires { IsSound scene.schema.now }
+{
+    push_refusals(log, scene, message, values)?;
+    let line = line_of(alloc, scene, message, values)?;
+    let done = writeln!(log, " {}", what_text(&line));
+    drop(line);
+    done
+}
+
+/// The same of the next request to an actor with these values.
+fn push_request_with(
+    alloc: Global,
+    log: &mut String,
+    scene: Scene,
+    route: i32,
+    values: &Values,
+) -> Result<(), AllocError>
+    requires { IsSound scene.schema.now }
+{
+    let Scene { stack, row, .. } = scene;
+    let message = next_request(alloc, Side::Child, 2, 0, stack, row, route, values)?;
+    let done = push_sent(alloc, log, scene, &message, values);
+    drop(message);
+    done
+}
+
+/// The same of the next request to an actor with another one as its value.
+fn push_request(
+    alloc: Global,
+    log: &mut String,
+    scene: Scene,
     route: i32,
     id: i32,
-) -> Result<String, Fail>
-    requires { IsSound schema.now }
+) -> Result<(), AllocError>
+    requires { IsSound scene.schema.now }
 {
-    let tree = the_tree(alloc)?;
-    let stack = StackEntries::new(alloc)?;
     let values = one_actor(alloc, id)?;
-    let message = next_request(alloc, Side::Child, 2, 0, &stack, row, route, &values)?;
-    let wrong = number_text(alloc, wrong_actor(schema, &tree, row, &message))?;
-    let closed = refusal_text(send_refusal(false, schema, &tree, &stack, row, &message, &values));
-    let refusal = refusal_text(send_refusal(true, schema, &tree, &stack, row, &message, &values));
-    let seq = message.seq;
-    let line = send_line(row, &message, values);
-    Ok(format!(in alloc; "{wrong} {closed} {refusal} {seq} {}", what_text(&line))?)
+    let done = push_request_with(alloc, log, scene, route, &values);
+    drop(values);
+    done
 }
 
-/// What the refusals of an answer with an actor are.
-fn reply_text(alloc: Global, schema: &Schema, row: &MessageRow, id: i32) -> Result<String, Fail>
-    requires { IsSound schema.now }
+/// Appends why ends that are open and closed refuse to answer by this reply.
+fn push_answer_refusals(log: &mut String, scene: Scene, reply: &Message) -> Result<(), AllocError>
+    requires { IsSound scene.schema.now }
 {
-    let tree = the_tree(alloc)?;
+    let Scene {
+        schema,
+        tree,
+        row,
+        ..
+    } = scene;
+    let none = refusal_text(answer_refusal(true, schema, tree, row, None));
+    let closed = refusal_text(answer_refusal(false, schema, tree, row, Some(reply)));
+    let open = refusal_text(answer_refusal(true, schema, tree, row, Some(reply)));
+    writeln!(log, "{} {none} {closed} {open}", reply.number)
+}
+
+/// Appends what the refusals of an answer with an actor are.
+fn push_reply(alloc: Global, log: &mut String, scene: Scene, id: i32) -> Result<(), AllocError>
+    requires { IsSound scene.schema.now }
+{
     let request = AnsweredRequest {
         seq: -1,
         route: TOP,
         number: CALL,
         transaction: -1,
     };
-    let message = reply_to(&request, Body::Reply(one_actor(alloc, id)?));
-    let none = refusal_text(answer_refusal(true, schema, &tree, row, None));
-    let closed = refusal_text(answer_refusal(false, schema, &tree, row, Some(&message)));
-    let refusal = refusal_text(answer_refusal(true, schema, &tree, row, Some(&message)));
-    Ok(format!(in alloc; "{} {none} {closed} {refusal}", message.number)?)
+    let reply = reply_to(&request, Body::Reply(one_actor(alloc, id)?));
+    let done = push_answer_refusals(log, scene, &reply);
+    drop(reply);
+    done
 }
 
-/// What an answer with an actor is at its sender.
-fn received_text(
-    alloc: Global,
-    schema: &Schema,
-    row: &MessageRow,
-    id: i32,
-) -> Result<String, Fail> {
-    let tree = the_tree(alloc)?;
+/// An answer with an actor, and its copy.
+fn given(alloc: Global, id: i32) -> Result<CopiedAnswer, AllocError>
+    ensures { IfOk result IsCopied }
+{
     let values = one_actor(alloc, id)?;
     let copy = values.copy(alloc)?;
-    let given = CopiedAnswer {
+    Ok(CopiedAnswer {
         answer: Answer::Ok(values),
         copy: Some(copy),
-    };
-    let received = receive_answer(schema, &tree, row, given);
-    let CopiedAnswer { answer, copy } = received;
-    let left = match &answer {
-        Answer::Ok(values) => first_actor(
-            values,
-            ActorTest::Dead,
-            schema,
-            &tree,
-            returns_of_row(row),
-        ),
+    })
+}
+
+/// The first dead actor that is left in an answer.
+fn dead_in(scene: Scene, answer: &Answer) -> Option<i32> {
+    let Scene {
+        schema,
+        tree,
+        row,
+        ..
+    } = scene;
+    match answer {
+        Answer::Ok(values) => {
+            first_actor(values, ActorTest::Dead, schema, tree, returns_of_row(row))
+        }
         Answer::Fault(_) => None,
-    };
-    let left = number_text(alloc, left)?;
-    let line = resume_line(1, &answer, copy);
-    Ok(format!(in alloc; "{} {} {left}", answer_text(&answer), what_text(&line))?)
-}
-
-/// The texts of a message with several routes and actors.
-fn texts(alloc: Global, schema: &Schema, row: &MessageRow) -> Result<String, Fail>
-    requires { IsSound schema.now }
-{
-    let sent = request_text(alloc, schema, row, TOP, 6)?;
-    let dead = request_text(alloc, schema, row, TOP, 8)?;
-    let wrong = request_text(alloc, schema, row, 6, 0)?;
-    let answered = reply_text(alloc, schema, row, 6)?;
-    let dead_answer = reply_text(alloc, schema, row, 8)?;
-    let received = received_text(alloc, schema, row, 6)?;
-    let nulled = received_text(alloc, schema, row, 8)?;
-    Ok(format!(in alloc;
-        "{sent}\n{dead}\n{wrong}\n{answered}\n{dead_answer}\n{received}\n{nulled}"
-    )?)
-}
-
-/// The texts of a message by its number.
-fn texts_of(alloc: Global, schema: &Schema, number: u32) -> Result<String, Fail>
-    requires { IsSound schema.now }
-{
-    match schema.message(number) {
-        None => Err("no message".into()),
-        Some(row) => texts(alloc, schema, row),
     }
 }
 
-/// Who lives, and the numbers of requests and actors.
-fn numbers_text(alloc: Global) -> Result<String, Fail> {
-    let tree = the_tree(alloc)?;
-    Ok(format!(in alloc;
-        "{} {} {} {} {} {}",
-        lives_as(&tree, 0, 6),
-        lives_otherwise(&tree, 1, 6),
+/// Appends an answer that was received, with the line of its call.
+fn push_resumed(
+    log: &mut String,
+    scene: Scene,
+    answer: &Answer,
+    line: &What,
+) -> Result<(), AllocError> {
+    write!(log, "{} {} ", answer_text(answer), what_text(line))?;
+    push_number(log, dead_in(scene, answer))?;
+    log.push('\n')
+}
+
+/// Appends what an answer with an actor is at its sender.
+fn push_received(alloc: Global, log: &mut String, scene: Scene, id: i32) -> Result<(), AllocError> {
+    let given = given(alloc, id)?;
+    let CopiedAnswer { answer, copy } = receive_answer(scene.schema, scene.tree, scene.row, given);
+    let line = resume_line(1, &answer, copy);
+    let done = push_resumed(log, scene, &answer, &line);
+    drop(line);
+    drop(answer);
+    done
+}
+
+/// Appends what a message tells with several routes and actors.
+fn push_message(alloc: Global, log: &mut String, scene: Scene) -> Result<(), AllocError>
+    requires { IsSound scene.schema.now }
+{
+    push_request(alloc, log, scene, TOP, 6)?;
+    push_request(alloc, log, scene, TOP, 8)?;
+    push_request(alloc, log, scene, 6, 0)?;
+    push_reply(alloc, log, scene, 6)?;
+    push_reply(alloc, log, scene, 8)?;
+    push_received(alloc, log, scene, 6)?;
+    push_received(alloc, log, scene, 8)
+}
+
+/// Appends what two messages tell.
+fn push_messages(
+    alloc: Global,
+    log: &mut String,
+    schema: &Schema,
+    tree: &Tree,
+    stack: &StackEntries,
+) -> Result<(), AllocError>
+    requires { IsSound schema.now }
+{
+    for number in [CALL, ASK] {
+        if let Some(row) = schema.message(number) {
+            let scene = Scene {
+                schema,
+                tree,
+                stack,
+                row,
+            };
+            push_message(alloc, log, scene)?;
+        }
+    }
+    Ok(())
+}
+
+/// Appends who lives, and the numbers of requests and actors.
+fn push_numbers(log: &mut String, tree: &Tree) -> Result<(), AllocError> {
+    let (kid, top) = (lives_as(tree, 0, 6), lives_otherwise(tree, 1, 6));
+    write!(log, "{kid} {top} ")?;
+    write!(
+        log,
+        "{} {} ",
         seq_of(Side::Parent, 3),
-        seq_of(Side::Child, 3),
-        id_of(Side::Parent, 3),
-        id_of(Side::Child, 3)
-    )?)
+        seq_of(Side::Child, 3)
+    )?;
+    writeln!(log, "{} {}", id_of(Side::Parent, 3), id_of(Side::Child, 3))
+}
+
+fn tell_with_tree(
+    alloc: Global,
+    log: &mut String,
+    schema: &Schema,
+    tree: &mut Tree,
+) -> Result<(), AllocError>
+    requires { IsSound schema.now }
+{
+    insert_kid(tree)?;
+    push_numbers(log, tree)?;
+    let stack = StackEntries::new(alloc)?;
+    let done = push_messages(alloc, log, schema, tree, &stack);
+    drop(stack);
+    done
+}
+
+/// Appends what a tree of two actors tells, and what two messages of a schema do.
+pub fn tell(alloc: Global, schema: &Schema, log: &mut String) -> Result<(), AllocError>
+    requires { IsSound schema.now }
+{
+    let mut tree = Tree::new(alloc, 1)?;
+    let done = tell_with_tree(alloc, log, schema, &mut tree);
+    drop(tree);
+    done
 }
 
 #[test]
 fn requests_of_an_end(rt: HostRuntime) -> Result<(), Fail> {
-    let alloc = rt.alloc();
-    let schema = the_schema(alloc)?;
-    let called = texts_of(alloc, &schema, CALL)?;
-    let asked = texts_of(alloc, &schema, ASK)?;
-    drop(schema);
+    let found = told_of_schema(rt.alloc(), SchemaCase::Messages)?;
     check(
         &rt,
-        "a sync message",
-        &called,
-        "none Closed none -3 call
+        found.as_str(),
+        "true true 3 -3 14 12
+none Closed none -3 call
 none Closed DeadValue -3 call
 6 Closed DeadActor -3 call
 65541 DeadActor Closed none
 65541 DeadActor Closed DeadValue
 ok resume ok none
-ok resume ok none",
-    );
-    check(
-        &rt,
-        "an async message",
-        &asked,
-        "none Closed none -3 send
+ok resume ok none
+none Closed none -3 send
 none Closed DeadValue -3 send
 6 Closed DeadActor -3 send
 65541 DeadActor Closed none
 65541 DeadActor Closed none
 ok resume ok none
-ok resume ok none",
+ok resume ok none
+",
     );
-    let numbers = numbers_text(alloc)?;
-    check(&rt, "numbers", &numbers, "true true 3 -3 14 12");
     Ok(())
 }

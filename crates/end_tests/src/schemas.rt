@@ -1,18 +1,17 @@
-ghost use Rattle.std.specs.Prelude.{IfOk};
+ghost use Rattle.std.specs.Prelude.{◌≡◌, ◌∷◌, ◌++◌, [], pos, IfOk, OnOk};
 ghost use Rattle.ipdl_base.specs.Sound.{IsSound};
 
+use actor_tree::Tree;
 use ipdl_base::{MemoryFiles, Schema};
 use schema_of_text::schema_of;
-use std::alloc::Global;
+use std::alloc::{AllocError, Global};
 use std::test::Fail;
 
 /// The id of the top actor.
 pub const TOP: i32 = 2147483647;
 
-/// The numbers of the messages of the top protocol, which has the number 1: a constructor, one with a
-/// promise and one that is sync.
-pub const KID: u32 = 65536;
-
+/// The numbers of the messages of the top protocol, which has the number 1: one with a promise and one
+/// that is sync.
 pub const ASK: u32 = 65538;
 
 pub const CALL: u32 = 65540;
@@ -44,14 +43,29 @@ both:
     ),
 ];
 
-/// The schema of the one program.
-pub fn the_schema(alloc: Global) -> Result<Schema, Fail>
-    ensures { IfOk result IsSound }
-{
+/// The files of the one program, in memory.
+fn files(alloc: Global) -> Result<MemoryFiles, AllocError> {
     let mut files = Vec::new(alloc);
     for (name, text) in FILES {
         let name = String::from_str(alloc, name)?;
         files.push((name, Vec::from_slice(alloc, text.as_bytes())?))?;
     }
-    schema_of(alloc, MemoryFiles::new(files, Vec::new(alloc)), "PTop.ipdl")
+    Ok(MemoryFiles::new(files, Vec::new(alloc)))
+}
+
+/// The schema of the one program.
+pub fn the_schema(alloc: Global) -> Result<Schema, Fail>
+    ensures { IfOk result IsSound }
+{
+    schema_of(alloc, files(alloc)?, "PTop.ipdl")
+}
+
+/// Adds an actor of the protocol 0 below the top one.
+pub fn insert_kid(tree: &mut Tree) -> Result<(), AllocError>
+    ensures { OnOk result (tree.new ≡ tree.old ++ record { id = pos 6; protocol = 0; manager = pos 2147483647 } ∷ []) }
+{
+    match tree.insert(6, 0, TOP) {
+        Ok(()) => Ok(()),
+        Err(_) => Err(AllocError),
+    }
 }

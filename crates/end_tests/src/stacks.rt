@@ -1,15 +1,16 @@
-ghost use Rattle.std.specs.Prelude.{◌≡◌};
+ghost use Rattle.std.specs.Prelude.{◌≡◌, []};
 
-use super::checks::{answer_text, check, number_text, refusal_text, top_text};
+use super::checks::{answer_text, check, push_three, refusal_text, top_text};
+use super::parts::{Case, told};
 use super::schemas::{ASK, CALL, TOP};
-use end_parts::{CopiedAnswer, StackEntries};
+use end_parts::{CopiedAnswer, DispatchEntry, StackEntries};
 use ipdl_base::{Body, Level, Message, Reason, Values};
 use nesting_core::{Answer, Head, SendHead};
-use std::alloc::Global;
+use std::alloc::AllocError;
 use std::test::Fail;
 
 /// The head of a sync message of level `inside_sync`.
-fn head_of(seq: i32) -> Head
+pub fn head_of(seq: i32) -> Head
     ensures { result.seq ≡ seq }
 {
     Head {
@@ -20,69 +21,108 @@ fn head_of(seq: i32) -> Head
     }
 }
 
-/// The reply without values to the call of a number.
-fn reply_to_call(seq: i32) -> Message {
-    Message {
+/// Whether the innermost call waits for the reply without values to the call of a number.
+fn waits_for(stack: &StackEntries, seq: i32) -> bool {
+    let reply = Message {
         route: TOP,
         number: CALL + 1,
         seq,
         transaction: seq,
         made: 0,
         body: Body::Reply(Values::Nothing),
-    }
+    };
+    stack.is_waited_for(&reply)
 }
 
-/// A stack and what its calls say of it, before it changes.
-fn shown(alloc: Global, stack: &StackEntries) -> Result<String, Fail> {
+/// What the calls of a stack say of it, before it changes.
+#[derive(Clone, Copy)]
+struct StackReport {
+    top: &'static str,
+    has_wait: bool,
+    refusal: &'static str,
+    transaction: i32,
+}
+
+fn shown(stack: &StackEntries) -> StackReport {
     let send = SendHead {
         sync: true,
         level: Level::InsideSync,
     };
-    Ok(format!(in alloc;
-        "{} {} {} {}",
-        top_text(stack.top()),
-        stack.has_wait(),
-        refusal_text(stack.refusal(&send)),
-        stack.transaction(9)
-    )?)
-}
-
-/// What is on top, where it is a dispatch.
-fn dispatch_text(alloc: Global, stack: &StackEntries) -> Result<String, Fail> {
-    match stack.dispatch_on_top() {
-        None => Ok(String::from_str(alloc, "none")?),
-        Some(entry) => {
-            Ok(format!(in alloc; "{} {} {}", entry.head.seq, entry.number, entry.resolves)?)
-        }
+    StackReport {
+        top: top_text(stack.top()),
+        has_wait: stack.has_wait(),
+        refusal: refusal_text(stack.refusal(&send)),
+        transaction: stack.transaction(9),
     }
 }
 
-/// A call that goes on.
-fn resumed_text(alloc: Global, stack: &mut StackEntries) -> Result<String, Fail> {
-    match stack.take_answered() {
-        None => Ok(String::from_str(alloc, "none")?),
-        Some(call) => {
-            Ok(format!(in alloc;
-                "{} {} {}",
-                call.seq,
-                call.number,
-                answer_text(&call.given.answer)
-            )?)
-        }
+fn push_shown(log: &mut String, shown: StackReport) -> Result<(), AllocError> {
+    let StackReport {
+        top,
+        has_wait,
+        refusal,
+        transaction,
+    } = shown;
+    write!(log, "{top} {has_wait} {refusal} {transaction}")
+}
+
+/// Appends what was on top, where it was a dispatch.
+fn push_dispatch(log: &mut String, entry: Option<DispatchEntry>) -> Result<(), AllocError> {
+    match entry {
+        None => log.push_str("none, "),
+        Some(entry) => write!(
+            log,
+            "{} {} {}, ",
+            entry.head.seq, entry.number, entry.resolves
+        ),
     }
 }
 
-/// A call under a handler: it is answered, and then the handler returns.
-fn call_under_handler(alloc: Global) -> Result<String, Fail> {
-    let mut stack = StackEntries::new(alloc)?;
+/// A call that went on.
+#[derive(Clone, Copy)]
+struct Resumed {
+    seq: i32,
+    number: u32,
+    answer: &'static str,
+}
+
+/// Lets a call go on, if one may.
+fn resume(stack: &mut StackEntries) -> Option<Resumed> {
+    let call = stack.take_answered()?;
+    let (seq, number) = (call.seq, call.number);
+    let answer = answer_text(&call.given.answer);
+    Some(Resumed {
+        seq,
+        number,
+        answer,
+    })
+}
+
+/// Appends a call that went on, and what the stack said then.
+fn push_resumed(
+    log: &mut String,
+    call: Option<Resumed>,
+    left: StackReport,
+) -> Result<(), AllocError> {
+    match call {
+        None => log.push_str("none, ")?,
+        Some(call) => write!(log, "{} {} {}, ", call.seq, call.number, call.answer)?,
+    }
+    push_shown(log, left)
+}
+
+/// A call under a handler: it is answered, and then goes on.
+pub fn call_under_handler(stack: &mut StackEntries, log: &mut String) -> Result<(), AllocError>
+    requires { stack.old ≡ [] }
+{
     stack.push_dispatch(head_of(-1), TOP, ASK, true);
-    let handled = dispatch_text(alloc, &stack)?;
+    push_dispatch(log, stack.dispatch_on_top())?;
     stack.release(-1);
-    let released = dispatch_text(alloc, &stack)?;
+    push_dispatch(log, stack.dispatch_on_top())?;
     stack.push_wait(head_of(1), TOP, CALL);
-    let waits = shown(alloc, &stack)?;
-    let mine = stack.is_waited_for(&reply_to_call(1));
-    let other = stack.is_waited_for(&reply_to_call(2));
+    push_shown(log, shown(stack))?;
+    let (mine, other) = (waits_for(stack, 1), waits_for(stack, 2));
+    write!(log, ", {mine} {other}, ")?;
     stack.answer_wait(
         1,
         CopiedAnswer {
@@ -90,51 +130,48 @@ fn call_under_handler(alloc: Global) -> Result<String, Fail> {
             copy: None,
         },
     );
-    let resumed = resumed_text(alloc, &mut stack)?;
-    let left = shown(alloc, &stack)?;
-    Ok(format!(in alloc; "{handled}, {released}, {waits}, {mine} {other}, {resumed}, {left}")?)
+    let resumed = resume(stack);
+    push_resumed(log, resumed, shown(stack))
 }
 
 /// The other end dies under two waits.
-fn death_under_waits(alloc: Global) -> Result<String, Fail> {
-    let mut stack = StackEntries::new(alloc)?;
+pub fn death_under_waits(stack: &mut StackEntries, log: &mut String) -> Result<(), AllocError>
+    requires { stack.old ≡ [] }
+{
     stack.push_wait(head_of(1), TOP, CALL);
     stack.push_wait(head_of(2), TOP, CALL);
-    let first = number_text(alloc, stack.fail_next())?;
-    let second = number_text(alloc, stack.fail_next())?;
-    let third = number_text(alloc, stack.fail_next())?;
-    let resumed = resumed_text(alloc, &mut stack)?;
+    let failed = [stack.fail_next(), stack.fail_next(), stack.fail_next()];
+    let resumed = resume(stack);
     stack.clear();
-    let left = shown(alloc, &stack)?;
-    Ok(format!(in alloc; "{first} {second} {third}, {resumed}, {left}")?)
+    push_three(log, failed)?;
+    log.push_str(", ")?;
+    push_resumed(log, resumed, shown(stack))
 }
 
 /// A handler that returns.
-fn return_of_handler(alloc: Global) -> Result<String, Fail> {
-    let mut stack = StackEntries::new(alloc)?;
+pub fn return_of_handler(stack: &mut StackEntries, log: &mut String) -> Result<(), AllocError>
+    requires { stack.old ≡ [] }
+{
     stack.push_dispatch(head_of(-1), TOP, ASK, false);
     stack.pop_dispatch();
-    shown(alloc, &stack)
+    push_shown(log, shown(stack))
 }
 
 #[test]
 fn stacks_of_an_end(rt: HostRuntime) -> Result<(), Fail> {
-    let alloc = rt.alloc();
-    let found = call_under_handler(alloc)?;
+    let cases = [
+        Case::CallUnderHandler,
+        Case::DeathUnderWaits,
+        Case::ReturnOfHandler,
+    ];
+    let found = told(rt.alloc(), &cases)?;
     check(
         &rt,
-        "a call under a handler",
-        &found,
-        "-1 65538 true, -1 65538 false, unanswered true none 1, true false, 1 65540 ActorDestroyed, dispatch false none -1",
+        found.as_str(),
+        "-1 65538 true, -1 65538 false, unanswered true none 1, true false, 1 65540 ActorDestroyed, dispatch false none -1
+2 1 none, 2 65540 ChannelClosed, empty false none 9
+empty false none 9
+",
     );
-    let found = death_under_waits(alloc)?;
-    check(
-        &rt,
-        "a death",
-        &found,
-        "2 1 none, 2 65540 ChannelClosed, empty false none 9",
-    );
-    let found = return_of_handler(alloc)?;
-    check(&rt, "a return", &found, "empty false none 9");
     Ok(())
 }
