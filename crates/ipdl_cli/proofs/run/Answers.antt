@@ -1,7 +1,9 @@
 use Rattle.std.proofs.Common.{◌≡◌, ℕ, List, [], ◌++◌, ◌∙◌, ap, drop, inl, inr, map, string_bytes, subst}
 use Rattle.std.specs.Prelude.{None, Some}
 use Rattle.std.proofs.lemmas.Option.{same_Some}
+use Rattle.std.specs.Process.{exit_status}
 use Rattle.file_log.specs.Log.{ReadEntry}
+use Rattle.file_log.specs.Recorded.{reads_of}
 use Rattle.ipdl_top.specs.Codes.{code_of}
 use Rattle.ipdl_top.specs.FileViews.{FileViews}
 use Rattle.ipdl_top.specs.declared.answer.CommandAnswer.{CommandAnswer}
@@ -23,7 +25,7 @@ returns-clause-answers g c =
     let call = c.exit_code_of.ensures in
     let new = c.exit_code_of.new in
     let ends = from_nothing (IsAnswerTo (map string_bytes (drop 1 c.args.all.now))) _ _ _ _ _ _ _ c.requires.unread c.requires.out_unused.bytes c.requires.err_unused.bytes
-        (subst (λ words. EndsByReads None (reads_of c.args.files.now) (reads_of new.files) (IsAnswerTo (map string_bytes words)) (exit_status c.exit_code_of.result) (record { old = Some (bytes_of c.args.out.now); new = Some (bytes_of new.out) }) (record { old = Some (bytes_of c.args.err.now); new = Some (bytes_of new.err) })) c.words_after_name.ensures call.reads) in
+    (subst (λ words. EndsByReads None (reads_of c.args.files.now) (reads_of new.files) (IsAnswerTo (map string_bytes words)) (exit_status c.exit_code_of.result) (record { old = Some (bytes_of c.args.out.now); new = Some (bytes_of new.out) }) (record { old = Some (bytes_of c.args.err.now); new = Some (bytes_of new.err) })) c.words_after_name-words.ensures call.reads) in
     record {
       status = ends.status;
       outcome = ends.outcome;
