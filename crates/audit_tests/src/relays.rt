@@ -12,7 +12,7 @@ use handler_script::Script;
 use history::history_text;
 use ipdl_base::{Schema, Side};
 use ipdl_top::Audit;
-use queue_link::{Open, TwoQueues};
+use queue_link::{Gate, TwoQueues};
 use std::alloc::Global;
 use std::sync::Wait;
 use std::test::Fail;
@@ -61,7 +61,7 @@ fn printed_at_once<R: Threads + Wait + Sync + AllocGlobal>(
     requires valid { IsValid schema.now script.now }
 {
     let world = World::open(rt.alloc(), schema, script, stop, MOST_EVENTS)?;
-    let (halves, answer) = TwoQueues::new(rt, Open).run_queues(world);
+    let (halves, answer) = TwoQueues::new(rt, Gate::Open).run_queues(world);
     printed(rt.alloc(), schema, &halves, answer)
 }
 

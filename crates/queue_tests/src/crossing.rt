@@ -1,83 +1,98 @@
-ghost use Rattle.ipdl_base.specs.Sound.{IsSound};
+//! Relays whose sides meet at the gate before their first steps, which no relay on one thread passes.
+ghost use Rattle.std.specs.Prelude.{◌≡◌};
 ghost use Rattle.handler_script.specs.Valid.{IsValid};
+ghost use Rattle.ipdl_base.specs.Sound.{IsSound};
+ghost use Rattle.world_core.specs.WorldView.{opening_of};
 
-use super::given::{PROTOCOL, RACE, script_of};
-use super::printouts::{is_relay_of_race, printed};
+use super::given::{script_of, source_named};
+use super::printouts::printed;
+use super::rows::row_named;
 use handler_script::Script;
 use history_of_text::schema_of;
 use ipdl_base::{Schema, Side};
-use queue_link::{Gate, TwoQueues};
+use queue_link::{Gate, MeetingPoint, TwoQueues};
 use std::alloc::Global;
 use std::sync::Wait;
-use std::sync::atomic::{AtomicU64, Ordering};
 use std::test::Fail;
-use std::thread::{Threads, yield_now};
-use world_core::{Relay, World};
+use std::thread::Threads;
+use world_core::{Halves, Relay, RunAnswer, World};
 
-/// The most turns that a side waits for the other one.
-const MOST_TURNS: u32 = 10_000_000;
-
-/// Holds each side before its first step until the other side is there too, and counts the steps.
-#[derive(Drop)]
+/// How many sides missed the other one at the gate of a relay, how many steps each came there with, and
+/// whether the relay printed its text.
+#[derive(Clone, Copy)]
 struct Crossing {
-    parent: AtomicU64,
-    child: AtomicU64,
-    /// How many sides came to the end of their turns.
-    missed: AtomicU64,
+    missed: u64,
+    parent: u64,
+    child: u64,
+    prints_text: bool,
 }
 
-impl Gate for Crossing {
-    fn pass(&self, side: Side, step: u32) {
-        let (own, other) = match side {
-            Side::Parent => (&self.parent, &self.child),
-            Side::Child => (&self.child, &self.parent),
-        };
-        own.fetch_add(1, Ordering::SeqCst);
-        if step != 1 {
-            return;
-        }
-        for _ in 0..MOST_TURNS {
-            if other.load(Ordering::SeqCst) != 0 {
-                return;
-            }
-            yield_now();
-        }
-        self.missed.fetch_add(1, Ordering::SeqCst);
-    }
+/// What any relay makes of a world.
+fn run_queues<D: Relay>(relay: &mut D, world: World<'_>) -> (Halves, RunAnswer)
+    requires ready { D.ready relay.old }
+    requires opening { world ≡ opening_of world.setting }
+{
+    relay.run_queues(world)
 }
 
-/// How many sides did not meet the other one at the gate of the race, whether the parent and whether
-/// the child came there, and whether the run was one of the race.
-fn crossed<R: Threads + Wait + Sync + AllocGlobal>(
+/// What is seen of a relay of a script whose sides meet at the gate, and which prints this text.
+fn crossing_of_script<R: Threads + Wait + Sync + AllocGlobal>(
     rt: &R,
     schema: &Schema,
     script: &Script,
-) -> Result<String, Fail>
+    wanted: &str,
+) -> Result<Crossing, Fail>
     requires sound { IsSound schema.now }
     requires valid { IsValid schema.now script.now }
 {
-    let gate = Crossing {
-        parent: AtomicU64::new(0),
-        child: AtomicU64::new(0),
-        missed: AtomicU64::new(0),
-    };
     let world = World::open(rt.alloc(), schema, script, None, 10_000)?;
-    let mut relay = TwoQueues::new(rt, gate);
-    let (halves, answer) = relay.run_with(world);
-    let text = printed(rt.alloc(), schema, &halves, answer);
-    let gate = relay.gate();
-    let missed = gate.missed.load(Ordering::SeqCst);
-    let parent = gate.parent.load(Ordering::SeqCst) != 0;
-    let child = gate.child.load(Ordering::SeqCst) != 0;
-    let is_race = is_relay_of_race(text?.as_str());
-    Ok(format!(in rt.alloc(); "{missed} {parent} {child} {is_race}")?)
+    let mut relay = TwoQueues::new(rt, Gate::Meeting(MeetingPoint::new()));
+    let (halves, answer) = run_queues(&mut relay, world);
+    let text = printed(rt.alloc(), schema, &halves, answer)?;
+    let Gate::Meeting(point) = relay.gate() else {
+        return Err("another gate".into());
+    };
+    Ok(Crossing {
+        missed: point.missed(),
+        parent: point.steps(Side::Parent),
+        child: point.steps(Side::Child),
+        prints_text: text.as_str() == wanted,
+    })
 }
 
+/// What is seen of the relay of a row.
+fn crossing_at_row<R: Threads + Wait + Sync + AllocGlobal>(
+    rt: &R,
+    name: &str,
+) -> Result<Crossing, Fail> {
+    let row = row_named(name).ok_or("no such row")?;
+    let source = source_named(row.script).ok_or("no such script")?;
+    let schema = schema_of(rt.alloc(), source.file)?;
+    let script = script_of(rt.alloc(), &schema, source)?;
+    crossing_of_script(rt, &schema, &script, row.printed)
+}
+
+/// Each side has four own steps: its call, and what follows of it and of the other's call. It comes to
+/// the gate with its call at least. How many of the others it does before its worker finds nothing to do
+/// depends on the threads.
 #[test]
-fn gate_crossing(rt: HostRuntime) -> Result<(), Fail> {
-    let schema = schema_of(rt.alloc(), PROTOCOL)?;
-    let script = script_of(rt.alloc(), &schema, RACE)?;
-    let shown = crossed(&rt, &schema, &script)?;
-    assert_eq!(rt; shown.as_str(), "0 true true true");
+fn gate_of_the_race(rt: HostRuntime) -> Result<(), Fail> {
+    let seen = crossing_at_row(&rt, "race")?;
+    assert_eq!(rt; seen.missed, 0);
+    assert!(rt; 1 <= seen.parent && seen.parent <= 4);
+    assert!(rt; 1 <= seen.child && seen.child <= 4);
+    assert!(rt; seen.prints_text);
+    Ok(())
+}
+
+/// Each side does all that its main has, three actions and two, and is closed then. So no packet comes to
+/// it, and it comes to the gate exactly so often.
+#[test]
+fn gate_of_two_closes(rt: HostRuntime) -> Result<(), Fail> {
+    let seen = crossing_at_row(&rt, "both-close")?;
+    assert_eq!(rt; seen.missed, 0);
+    assert_eq!(rt; seen.parent, 3);
+    assert_eq!(rt; seen.child, 2);
+    assert!(rt; seen.prints_text);
     Ok(())
 }

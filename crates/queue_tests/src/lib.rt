@@ -1,4 +1,5 @@
-//! Tests of runs whose sides go on at once and meet in two queues alone (docs/relay.md).
+//! Tests of relays whose sides go on at once and meet in two queues alone (docs/relay.md): with what
+//! each prints, and with a gate at which both sides meet.
 #![tactic(auto)]
 
 #[cfg(test)]
@@ -9,3 +10,5 @@ mod given;
 mod printouts;
 #[cfg(test)]
 mod relays;
+#[cfg(test)]
+mod rows;

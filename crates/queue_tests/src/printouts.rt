@@ -1,3 +1,4 @@
+//! What a relay prints.
 ghost use Rattle.ipdl_base.specs.Sound.{IsSound};
 
 use history::{History, history_text};
@@ -37,22 +38,4 @@ pub fn printed(
     text.push_str(half_text(alloc, schema, &halves.child)?.as_str())?;
     writeln!(text, "{}", ending_of(answer))?;
     Ok(text)
-}
-
-/// How many lines of a text are this one.
-pub fn count_of(text: &str, wanted: &str) -> u32 {
-    let mut count = 0u32;
-    for line in text.lines() {
-        if line == wanted {
-            count = count.wrapping_add(1);
-        }
-    }
-    count
-}
-
-/// Whether each side's call of the race was answered once, and the run finished.
-pub fn is_relay_of_race(text: &str) -> bool {
-    count_of(text, "parent resume 1 ok (20)") == 1
-        && count_of(text, "child resume -1 ok (10)") == 1
-        && text.ends_with("\nfinished\n")
 }
