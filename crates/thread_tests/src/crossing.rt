@@ -8,46 +8,25 @@ use history_of_text::schema_of;
 use ipdl_base::{Schema, Side};
 use std::alloc::Global;
 use std::sync::Wait;
-use std::sync::atomic::{AtomicU64, Ordering};
 use std::test::Fail;
-use std::thread::{Threads, yield_now};
-use thread_link::{Gate, TwoThreads};
-use world_core::World;
+use std::thread::Threads;
+use thread_link::{Gate, MeetingPoint, TwoThreads};
+use world_core::{Driver, World};
 
-/// The most turns that a side waits for the other one.
-const MOST_TURNS: u32 = 10_000_000;
-
-/// Holds each side before its first step until the other side is there too, and counts the steps.
-#[derive(Drop)]
-struct Crossing {
-    parent: AtomicU64,
-    child: AtomicU64,
-    /// How many sides came to the end of their turns.
-    missed: AtomicU64,
-}
-
-impl Gate for Crossing {
-    fn pass(&self, side: Side, step: u32) {
-        let (own, other) = match side {
-            Side::Parent => (&self.parent, &self.child),
-            Side::Child => (&self.child, &self.parent),
-        };
-        own.fetch_add(1, Ordering::SeqCst);
-        if step != 1 {
-            return;
+/// How many steps the parent and the child came to a gate with, and how many sides did not meet the other one there.
+fn told_by(alloc: Global, gate: &Gate) -> Result<String, Fail> {
+    match gate {
+        Gate::Open => Err("a gate that counts nothing".into()),
+        Gate::Meeting(point) => {
+            let parent = point.steps(Side::Parent);
+            let child = point.steps(Side::Child);
+            let missed = point.missed();
+            Ok(format!(in alloc; "{parent} {child} {missed}")?)
         }
-        for _ in 0..MOST_TURNS {
-            if other.load(Ordering::SeqCst) != 0 {
-                return;
-            }
-            yield_now();
-        }
-        self.missed.fetch_add(1, Ordering::SeqCst);
     }
 }
 
-/// How often each side passed the gate in the race, how many did not meet the other one there, and
-/// whether the run was one of the race.
+/// What the meeting point tells of the race, and whether the run was one of the race.
 fn crossed<R: Threads + Wait + Sync + AllocGlobal>(
     rt: &R,
     schema: &Schema,
@@ -56,22 +35,14 @@ fn crossed<R: Threads + Wait + Sync + AllocGlobal>(
     requires sound { IsSound schema.now }
     requires valid { IsValid schema.now script.now }
 {
-    let gate = Crossing {
-        parent: AtomicU64::new(0),
-        child: AtomicU64::new(0),
-        missed: AtomicU64::new(0),
-    };
     let world = World::open(rt.alloc(), schema, script, None, 10_000)?;
-    let mut driver = TwoThreads::new(rt, gate);
-    let (world, answer) = driver.drive_with(world);
+    let mut driver = TwoThreads::new(rt, Gate::Meeting(MeetingPoint::new()));
+    let (world, answer) = driver.drive(world);
     let text = printed(rt.alloc(), schema, &world, answer);
     drop(world);
-    let gate = driver.gate();
-    let parent = gate.parent.load(Ordering::SeqCst);
-    let child = gate.child.load(Ordering::SeqCst);
-    let missed = gate.missed.load(Ordering::SeqCst);
     let is_race = is_run_race(text?.as_str());
-    Ok(format!(in rt.alloc(); "{parent} {child} {missed} {is_race}")?)
+    let told = told_by(rt.alloc(), driver.gate())?;
+    Ok(format!(in rt.alloc(); "{told} {is_race}")?)
 }
 
 #[test]

@@ -10,7 +10,7 @@ use ipdl_base::{Schema, Side};
 use std::sync::Wait;
 use std::test::Fail;
 use std::thread::Threads;
-use thread_link::{Open, TwoThreads};
+use thread_link::{Gate, TwoThreads};
 use world_core::{Driver, Stop, World};
 
 /// What a run of a script prints whose sides go on at once.
@@ -26,8 +26,8 @@ fn run<R: Threads + Wait + Sync + AllocGlobal>(
     requires small { limit ≤ 20000 }
 {
     let world = World::open(rt.alloc(), schema, script, stop, limit)?;
-    let mut driver = TwoThreads::new(rt, Open);
-    let (world, answer) = driver.drive_with(world);
+    let mut driver = TwoThreads::new(rt, Gate::Open);
+    let (world, answer) = driver.drive(world);
     let text = printed(rt.alloc(), schema, &world, answer);
     drop(world);
     text
