@@ -362,7 +362,263 @@ child return 4
   answer 4 ok (#4)
 parent deliver reply 4
 parent resume 4 ok (#4)
+====
+PR.ipdl 1 an actor is deleted in the midst of a call
+child new a 2147483647 PR.PK() = sent -1 4 +1
+parent deliver = done +0
+parent take = handle -1 at 2147483647 65536 makes 4 +0
+parent return = done +0
+child send 2147483647 PR.Count() = sent -2 0 +1
+parent send 2147483647 PR.Visit(#4) = sent 1 0 +1
+child deliver = done +0
+child take = handle 1 at 2147483647 65540 makes 0 +0
+child send 4 PK.__delete__() = sent -3 0 +1
+child return (#4) = done +1
+parent deliver = done +0
+parent take = nothing +0
+parent deliver = done +0
+parent take = nothing +0
+parent deliver = done +0
+parent resume = goes on +0
+parent take = handle -2 at 2147483647 65538 makes 0 +0
+parent return (1) = done +1
+parent take = handle -3 at 4 4 makes 0 +0
+parent return = done +0
+parent lives 4 = no +0
+child deliver = done +0
+child resume = goes on +0
+--
+child send -1 to 2147483647 PR.PK()
+  built 4 PK
+parent deliver request -1
+parent take -1 at 2147483647 PR.PK()
+  built 4 PK
+parent return -1
+child call -2/-2 to 2147483647 PR.Count()
+parent call 1/1 to 2147483647 PR.Visit(#4)
+child deliver request 1
+child take 1 at 2147483647 PR.Visit(#4)
+child send -3 to 4 PK.__delete__()
+  fall 4 Deletion
+child return 1
+  answer 1 fault HandlerRejected
+parent deliver request -2
+parent deliver request -3
+parent deliver reply 1
+parent resume 1 fault HandlerRejected
+parent take -2 at 2147483647 PR.Count()
+parent return -2
+  answer -2 ok (1)
+parent take -3 at 4 PK.__delete__()
+parent return -3
+  fall 4 Deletion
+child deliver reply -2
+child resume -2 ok (1)
+====
+PHub.ipdl 0 calls of both ends, and what interrupts them
+child new t 2147483647 PHub.PTab(null) = sent -1 4 +1
+parent deliver = done +0
+parent take = handle -1 at 2147483647 0 makes 4 +0
+parent return (true) = done +1
+child deliver = done +0
+child resume = goes on +0
+parent send 4 PTab.Ping() = sent 1 0 +1
+child send 2147483647 PHub.Push(some #4) = sent -2 0 +1
+parent deliver = done +0
+parent take = handle -2 at 2147483647 4 makes 0 +0
+parent return = done +0
+child new u 2147483647 PHub.PTab(#4) = sent -3 8 +1
+parent deliver = done +0
+parent take = handle -3 at 2147483647 0 makes 8 +0
+child deliver = done +0
+child take = nothing +0
+parent return (false) = done +1
+child deliver = done +0
+child resume = goes on +0
+child take = handle 1 at 4 65538 makes 0 +0
+child send 4 PTab.__delete__() = sent -4 0 +1
+parent deliver = done +0
+parent take = handle -4 at 4 65536 makes 0 +0
+parent return = done +0
+parent lives 4 = no +0
+child return (#8) = done +1
+parent deliver = done +0
+parent resume = goes on +0
+child send 2147483647 PHub.Wait(@1 5) = sent -5 0 +1
+parent send 2147483647 PHub.Call(3) = sent 2 0 +1
+child deliver = done +0
+child take = handle 2 at 2147483647 6 makes 0 +0
+child return (#8) = done +1
+parent deliver = done +0
+parent take = nothing +0
+parent deliver = done +0
+parent resume = goes on +0
+parent take = handle -5 at 2147483647 2 makes 0 +0
+parent return (@0 #8) = done +1
+child deliver = done +0
+child resume = goes on +0
+--
+child call -1/-1 to 2147483647 PHub.PTab(null)
+  built 4 PTab
+parent deliver request -1
+parent take -1 at 2147483647 PHub.PTab(null)
+  built 4 PTab
+parent return -1
+  answer -1 ok (true)
+child deliver reply -1
+child resume -1 ok (true)
+parent call 1/1 to 4 PTab.Ping()
+child send -2 to 2147483647 PHub.Push(some #4)
+parent deliver request -2
+parent take -2 at 2147483647 PHub.Push(some #4)
+parent return -2
+child call -3/-3 to 2147483647 PHub.PTab(#4)
+  built 8 PTab
+parent deliver request -3
+parent take -3 at 2147483647 PHub.PTab(#4)
+  built 8 PTab
+child deliver request 1
+parent return -3
+  answer -3 ok (false)
+child deliver reply -3
+child resume -3 ok (false)
+child take 1 at 4 PTab.Ping()
+child send -4 to 4 PTab.__delete__()
+  fall 4 Deletion
+parent deliver request -4
+parent take -4 at 4 PTab.__delete__()
+parent return -4
+  fall 4 Deletion
+child return 1
+  answer 1 ok (#8)
+parent deliver reply 1
+parent resume 1 ok (#8)
+child call -5/-5 to 2147483647 PHub.Wait(@1 5)
+parent call 2/2 to 2147483647 PHub.Call(3)
+child deliver request 2
+child take 2 at 2147483647 PHub.Call(3)
+child return 2
+  answer 2 ok (#8)
+parent deliver request -5
+parent deliver reply 2
+parent resume 2 ok (#8)
+parent take -5 at 2147483647 PHub.Wait(@1 5)
+parent return -5
+  answer -5 ok (@0 #8)
+child deliver reply -5
+child resume -5 ok (@0 #8)
+====
+PC.ipdl 0 requests that are replaced in the midst of a call
+parent send 2147483647 PC.Hold() = sent 1 0 +1
+child send 2147483647 PC.Urge(1) = sent -1 0 +1
+child send 2147483647 PC.Urge(2) = sent -2 0 +1
+child send 2147483647 PC.Up(1) = sent -3 0 +1
+child send 2147483647 PC.Urge(3) = sent -4 0 +1
+parent deliver = done +0
+parent deliver = done +1
+parent take = handle -2 at 2147483647 8 makes 0 resolver +0
+parent resolve -2 (true) = sent +1
+parent return = done +0
+parent deliver = done +0
+parent take = nothing +0
+parent deliver = done +0
+parent take = handle -4 at 2147483647 8 makes 0 resolver +0
+parent return = done +1
+child deliver = done +0
+child take = handle 1 at 2147483647 10 makes 0 +0
+child return = done +1
+parent deliver = done +0
+parent resume = goes on +0
+parent take = handle -3 at 2147483647 0 makes 0 +0
+parent return = done +0
+child deliver = done +0
+child deliver = done +0
+child deliver = done +0
+child take = settled +0
+child take = settled +0
+child take = settled +0
+--
+parent call 1/1 to 2147483647 PC.Hold()
+child send -1 to 2147483647 PC.Urge(1)
+child send -2 to 2147483647 PC.Urge(2)
+child send -3 to 2147483647 PC.Up(1)
+child send -4 to 2147483647 PC.Urge(3)
+parent deliver request -1
+parent deliver request -2
+  replaced -1
+  answer -1 fault ResolverDestroyed
+parent take -2 at 2147483647 PC.Urge(2)
+parent resolve -2 (true)
+parent return -2
+parent deliver request -3
+parent deliver request -4
+parent take -4 at 2147483647 PC.Urge(3)
+parent return -4
+  answer -4 fault ResolverDestroyed
+child deliver request 1
+child take 1 at 2147483647 PC.Hold()
+child return 1
+  answer 1 ok ()
+parent deliver reply 1
+parent resume 1 ok ()
+parent take -3 at 2147483647 PC.Up(1)
+parent return -3
+child deliver reply -1
+child deliver reply -2
+child deliver reply -4
+child take reply -1
+  settle -1 rejected ResolverDestroyed
+child take reply -2
+  settle -2 resolved (true)
+child take reply -4
+  settle -4 rejected ResolverDestroyed
+====
+PLz.ipdl 0 the outbox goes ahead of a call and of an answer
+parent send 2147483647 PLz.Hold() = sent 1 0 +1
+child deliver = done +0
+child take = handle 1 at 2147483647 6 makes 0 +0
+child send 2147483647 PLz.Lz(1) = sent -1 0 +0
+child send 2147483647 PLz.Back() = sent -2 0 +2
+parent deliver = done +0
+parent take = nothing +0
+parent deliver = done +0
+parent take = handle -2 at 2147483647 4 makes 0 +0
+parent return = done +1
+child deliver = done +0
+child resume = goes on +0
+child send 2147483647 PLz.Lz(2) = sent -3 0 +0
+child return = done +2
+parent deliver = done +0
+parent deliver = done +0
+parent resume = goes on +0
+parent take = handle -1 at 2147483647 0 makes 0 +0
+parent return = done +0
+parent take = handle -3 at 2147483647 0 makes 0 +0
+parent return = done +0
+--
+parent call 1/1 to 2147483647 PLz.Hold()
+child deliver request 1
+child take 1 at 2147483647 PLz.Hold()
+child send -1 to 2147483647 PLz.Lz(1)
+child call -2/1 to 2147483647 PLz.Back()
+parent deliver request -1
+parent deliver request -2
+parent take -2 at 2147483647 PLz.Back()
+parent return -2
+  answer -2 ok ()
+child deliver reply -2
+child resume -2 ok ()
+child send -3 to 2147483647 PLz.Lz(2)
+child return 1
+  answer 1 ok ()
+parent deliver request -3
+parent deliver reply 1
+parent resume 1 ok ()
+parent take -1 at 2147483647 PLz.Lz(1)
+parent return -1
+parent take -3 at 2147483647 PLz.Lz(2)
+parent return -3
 ";
 
 /// How many rows these are.
-pub const ACTOR_COUNT: &str = "7";
+pub const ACTOR_COUNT: &str = "11";

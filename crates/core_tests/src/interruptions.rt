@@ -64,9 +64,31 @@ fn shown(stack: &[Frame], side: Side, what: &What) -> Option<Pair> {
     })
 }
 
-/// How many lines take a request while a call waits that it may not interrupt, by the report of what
-/// may.
-pub fn unlisted(alloc: Global, schema: &Schema, top: u32, history: &History) -> Result<u32, Fail>
+/// How many lines take a request while a call waits, and how many of them take one that it may not be
+/// interrupted by, by the report of what may.
+#[derive(Clone, Copy)]
+pub struct TakeCounts {
+    pub taken: u32,
+    pub unlisted: u32,
+}
+
+impl TakeCounts {
+    /// Counts one more, which the report lists or not.
+    fn count(&mut self, is_listed: bool) {
+        self.taken = self.taken.wrapping_add(1);
+        if !is_listed {
+            self.unlisted = self.unlisted.wrapping_add(1);
+        }
+    }
+}
+
+/// The counts of the takes that the lines of a history show.
+pub fn take_counts_of(
+    alloc: Global,
+    schema: &Schema,
+    top: u32,
+    history: &History,
+) -> Result<TakeCounts, Fail>
     requires { IsSound schema.now }
 {
     if top as usize >= schema.protocols.len() {
@@ -75,27 +97,29 @@ pub fn unlisted(alloc: Global, schema: &Schema, top: u32, history: &History) -> 
     let listed = pairs(alloc, schema, top)?;
     let mut parent = Vec::new(alloc);
     let mut child = Vec::new(alloc);
-    let mut count = 0u32;
+    let mut found = TakeCounts {
+        taken: 0,
+        unlisted: 0,
+    };
     for line in history.lines() {
         let stack = match line.side {
             Side::Parent => &mut parent,
             Side::Child => &mut child,
         };
         if let Some(pair) = shown(stack.as_slice(), line.side, &line.what) {
-            if !listed.as_slice().contains(&pair) {
-                count = count.wrapping_add(1);
-            }
+            found.count(listed.as_slice().contains(&pair));
         }
         note(stack, &line.what)?;
     }
-    Ok(count)
+    Ok(found)
 }
 
-/// How many of these lines of PW are unlisted.
-fn unlisted_of(alloc: Global, lines: &str) -> Result<u32, Fail> {
+/// How many of these lines of PW take a request while a call waits, and how many of those are unlisted.
+fn counts_of(alloc: Global, lines: &str) -> Result<(u32, u32), Fail> {
     let schema = schema_of(alloc, "PW.ipdl")?;
     let history = history_of(alloc, &schema, lines)?;
-    unlisted(alloc, &schema, 0, &history)
+    let found = take_counts_of(alloc, &schema, 0, &history)?;
+    Ok((found.taken, found.unlisted))
 }
 
 /// A message of level `inside_cpow` may interrupt the parent's call, one of level `not` may not; and
@@ -106,15 +130,15 @@ fn interruptions(rt: HostRuntime) -> Result<(), Fail> {
     let listed = "parent call 1/1 to 2147483647 PW.CallC()
 parent take -1 at 2147483647 PW.Poke()
 ";
-    assert_eq!(rt; unlisted_of(alloc, listed)?, 0);
+    assert_eq!(rt; counts_of(alloc, listed)?, (1, 0));
     let other = "parent call 1/1 to 2147483647 PW.CallC()
 parent take -1 at 2147483647 PW.Base()
 ";
-    assert_eq!(rt; unlisted_of(alloc, other)?, 1);
+    assert_eq!(rt; counts_of(alloc, other)?, (1, 1));
     let behind = "parent call 1/1 to 2147483647 PW.CallC()
 parent deliver reply 1
 parent take -1 at 2147483647 PW.Base()
 ";
-    assert_eq!(rt; unlisted_of(alloc, behind)?, 0);
+    assert_eq!(rt; counts_of(alloc, behind)?, (0, 0));
     Ok(())
 }

@@ -17,6 +17,8 @@ mod nesting_rows;
 #[cfg(test)]
 mod packet_rows;
 #[cfg(test)]
+mod programs;
+#[cfg(test)]
 mod resolver_rows;
 #[cfg(test)]
 mod rows;

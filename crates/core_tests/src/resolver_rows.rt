@@ -261,7 +261,68 @@ parent reject -3
 child deliver reply -3
 child take reply -3
   settle -3 rejected HandlerRejected
+====
+PQ.ipdl 0 a kept resolver is used by the handler that interrupts a call
+child send 2147483647 PQ.Get() = sent -1 0 +1
+parent deliver = done +0
+parent take = handle -1 at 2147483647 0 makes 0 resolver +0
+parent keep -1 k = kept +0
+parent return = done +0
+parent send 2147483647 PQ.Hold() = sent 1 0 +1
+child send 2147483647 PQ.Get() = sent -2 0 +1
+parent deliver = done +0
+parent take = nothing +0
+child deliver = done +0
+child take = handle 1 at 2147483647 6 makes 0 +0
+child send 2147483647 PQ.Back() = sent -3 0 +1
+parent deliver = done +0
+parent take = handle -3 at 2147483647 4 makes 0 +0
+parent resolve k PQ.Get(7) = sent +1
+parent return (3) = done +1
+child deliver = done +0
+child deliver = done +0
+child resume = goes on +0
+child return (4) = done +1
+child take = settled +0
+parent deliver = done +0
+parent resume = goes on +0
+parent take = handle -2 at 2147483647 0 makes 0 resolver +0
+parent return = done +1
+child deliver = done +0
+child take = settled +0
+--
+child send -1 to 2147483647 PQ.Get()
+parent deliver request -1
+parent take -1 at 2147483647 PQ.Get()
+parent keep -1 k
+parent return -1
+parent call 1/1 to 2147483647 PQ.Hold()
+child send -2 to 2147483647 PQ.Get()
+parent deliver request -2
+child deliver request 1
+child take 1 at 2147483647 PQ.Hold()
+child call -3/1 to 2147483647 PQ.Back()
+parent deliver request -3
+parent take -3 at 2147483647 PQ.Back()
+parent resolve -1 (7)
+parent return -3
+  answer -3 ok (3)
+child deliver reply -1
+child deliver reply -3
+child resume -3 ok (3)
+child return 1
+  answer 1 ok (4)
+child take reply -1
+  settle -1 resolved (7)
+parent deliver reply 1
+parent resume 1 ok (4)
+parent take -2 at 2147483647 PQ.Get()
+parent return -2
+  answer -2 fault ResolverDestroyed
+child deliver reply -2
+child take reply -2
+  settle -2 rejected ResolverDestroyed
 ";
 
 /// How many rows these are.
-pub const RESOLVER_COUNT: &str = "5";
+pub const RESOLVER_COUNT: &str = "6";

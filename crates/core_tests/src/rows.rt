@@ -2,12 +2,12 @@ ghost use Rattle.ipdl_base.specs.Sound.{IsSound};
 
 use super::actor_rows::{ACTOR_COUNT, ACTOR_ROWS};
 use super::calls::TestedEnd;
-use super::interruptions::unlisted;
+use super::interruptions::take_counts_of;
 use super::nesting_rows::{NESTING_COUNT, NESTING_ROWS};
 use super::packet_rows::{PACKET_COUNT, PACKET_ROWS};
+use super::programs::schema_of;
 use super::resolver_rows::{RESOLVER_COUNT, RESOLVER_ROWS};
 use history::{History, history_text};
-use history_of_text::schema_of;
 use ipdl_base::{Schema, Side};
 use std::alloc::Global;
 use std::test::Fail;
@@ -77,8 +77,15 @@ fn call_line(scene: &mut Scene, line: &str) -> Result<(), Fail> {
     }
 }
 
-/// What a row gives: each of its calls with its answer, and the lines that both ends print.
-fn played(alloc: Global, schema: &Schema, top: u32, calls: &str) -> Result<String, Fail>
+/// What a row gives: each of its calls with its answer, and the lines that both ends print. What it
+/// takes while a call waits is counted, and listed in the report of what may interrupt a wait.
+fn played(
+    alloc: Global,
+    schema: &Schema,
+    top: u32,
+    calls: &str,
+    taken: &mut u32,
+) -> Result<String, Fail>
     requires { IsSound schema.now }
 {
     let mut scene = Scene {
@@ -99,9 +106,11 @@ fn played(alloc: Global, schema: &Schema, top: u32, calls: &str) -> Result<Strin
     drop(parent);
     drop(child);
     done?;
-    if unlisted(alloc, schema, top, &lines)? > 0 {
+    let found = take_counts_of(alloc, schema, top, &lines)?;
+    if found.unlisted > 0 {
         return Err("a wait is interrupted by what the report does not list".into());
     }
+    *taken = taken.wrapping_add(found.taken);
     with_lines(alloc, schema, &lines, log)
 }
 
@@ -143,24 +152,24 @@ fn expanded(alloc: Global, text: &str) -> Result<String, Fail> {
 }
 
 /// What a row gives, where its head names the file and the number of the top protocol.
-fn given(alloc: Global, head: &str, calls: &str) -> Result<String, Fail> {
+fn given(alloc: Global, head: &str, calls: &str, taken: &mut u32) -> Result<String, Fail> {
     let (word, rest) = head.split_once(" ").ok_or("a row without its file")?;
     let (top, _) = rest
         .split_once(" ")
         .ok_or("a row without its top protocol")?;
     let schema = schema_of(alloc, word)?;
-    played(alloc, &schema, top.parse::<u32>()?, calls)
+    played(alloc, &schema, top.parse::<u32>()?, calls, taken)
 }
 
-/// Notes a row that gives something else than it says.
-fn check(alloc: Global, row: &str, wrong: &mut String) -> Result<(), Fail> {
+/// Notes a row that gives something else than it says, and counts what it takes while a call waits.
+fn check(alloc: Global, row: &str, wrong: &mut String, taken: &mut u32) -> Result<(), Fail> {
     let whole = expanded(alloc, row)?;
     let (head, wanted) = whole
         .as_str()
         .split_once("\n")
         .ok_or("a row without calls")?;
     let (calls, _) = wanted.split_once("--\n").ok_or("a row without lines")?;
-    let found = given(alloc, head, calls)?;
+    let found = given(alloc, head, calls, taken)?;
     if found.as_str() != wanted {
         writeln!(wrong, "{head}\n{found}")?;
     }
@@ -174,12 +183,54 @@ fn check(alloc: Global, row: &str, wrong: &mut String) -> Result<(), Fail> {
 fn checked(alloc: Global, rows: &str) -> Result<String, Fail> {
     let mut shown = String::new(alloc);
     let mut count = 0u32;
+    let mut taken = 0u32;
     for row in rows.split("====\n") {
-        check(alloc, row, &mut shown)?;
+        check(alloc, row, &mut shown, &mut taken)?;
         count = count.wrapping_add(1);
     }
     write!(shown, "{count}")?;
     Ok(shown)
+}
+
+/// How many requests the rows of each program take while a call waits.
+const TAKEN: &str = "PC.ipdl 2
+PHub.ipdl 4
+PLz.ipdl 1
+PQ.ipdl 1
+PR.ipdl 1
+PTwo.ipdl 2
+PW.ipdl 64
+";
+
+/// How many requests the rows of a program take while a call waits.
+fn taken_in(alloc: Global, program: &str, wrong: &mut String) -> Result<u32, Fail> {
+    let mut taken = 0u32;
+    for rows in [RESOLVER_ROWS, ACTOR_ROWS, NESTING_ROWS, PACKET_ROWS] {
+        for row in rows.split("====\n") {
+            if row.starts_with(program) {
+                check(alloc, row, wrong, &mut taken)?;
+            }
+        }
+    }
+    Ok(taken)
+}
+
+/// The same of each program.
+fn taken_in_all(alloc: Global) -> Result<String, Fail> {
+    let mut shown = String::new(alloc);
+    for line in TAKEN.lines() {
+        let (program, _) = line.split_once(" ").ok_or("a program without its count")?;
+        let taken = taken_in(alloc, program, &mut shown)?;
+        writeln!(shown, "{program} {taken}")?;
+    }
+    Ok(shown)
+}
+
+/// Each program has rows in which a request is taken while a call waits.
+#[test]
+fn taken_under_waits(rt: HostRuntime) -> Result<(), Fail> {
+    assert_eq!(rt; taken_in_all(rt.alloc())?.as_str(), TAKEN);
+    Ok(())
 }
 
 /// Rows on resolvers, names, and ends that have closed.
