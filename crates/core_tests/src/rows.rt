@@ -12,14 +12,13 @@ use ipdl_base::{Schema, Side};
 use std::alloc::Global;
 use std::test::Fail;
 
-/// Two ends, and what was written of them.
-#[derive(Drop)]
-struct Scene<'s> {
+/// A row of calls: the schema of its program, the number of the top protocol, and its lines.
+#[derive(Clone, Copy)]
+struct CallRow<'s> {
     alloc: Global,
-    parent: TestedEnd<'s>,
-    child: TestedEnd<'s>,
-    lines: History,
-    log: String,
+    schema: &'s Schema,
+    top: u32,
+    calls: &'s str,
 }
 
 /// Does a call at an end, and writes its answer and the count of its packets. A call that finds no
@@ -52,85 +51,95 @@ fn again(alloc: Global, end: &mut TestedEnd, text: &str) -> Result<String, Fail>
 }
 
 /// Does the call of a line, which begins with its side and ends before ` = `.
-fn call_line(scene: &mut Scene, line: &str) -> Result<(), Fail> {
+fn call_line(
+    alloc: Global,
+    parent: &mut TestedEnd,
+    child: &mut TestedEnd,
+    lines: &mut History,
+    log: &mut String,
+    line: &str,
+) -> Result<(), Fail> {
     let (text, _) = line.split_once(" = ").ok_or("a call without its answer")?;
-    write!(scene.log, "{text}")?;
+    write!(log, "{text}")?;
     let (side, text) = text.split_once(" ").ok_or("a side alone")?;
     match side {
-        "parent" => call(
-            scene.alloc,
-            &mut scene.parent,
-            &mut scene.child,
-            &mut scene.lines,
-            &mut scene.log,
-            text,
-        ),
-        "child" => call(
-            scene.alloc,
-            &mut scene.child,
-            &mut scene.parent,
-            &mut scene.lines,
-            &mut scene.log,
-            text,
-        ),
+        "parent" => call(alloc, parent, child, lines, log, text),
+        "child" => call(alloc, child, parent, lines, log, text),
         _ => Err("no side".into()),
     }
 }
 
-/// What a row gives: each of its calls with its answer, and the lines that both ends print. What it
-/// takes while a call waits is counted, and listed in the report of what may interrupt a wait.
-fn played(
-    alloc: Global,
-    schema: &Schema,
-    top: u32,
-    calls: &str,
-    taken: &mut u32,
-) -> Result<String, Fail>
-    requires { IsSound schema.now }
+/// Appends the lines that both ends print.
+fn push_lines(row: CallRow, lines: &History, log: &mut String) -> Result<(), Fail>
+    requires { IsSound row.schema.now }
 {
-    let mut scene = Scene {
-        alloc,
-        parent: TestedEnd::open(alloc, Side::Parent, schema, top)?,
-        child: TestedEnd::open(alloc, Side::Child, schema, top)?,
-        lines: History::new(alloc),
-        log: String::new(alloc),
-    };
-    let done = play(&mut scene, calls);
-    let Scene {
-        alloc: _alloc,
-        parent,
-        child,
-        lines,
-        log,
-    } = scene;
-    drop(parent);
-    drop(child);
-    done?;
-    let found = take_counts_of(alloc, schema, top, &lines)?;
+    let text = history_text(row.alloc, row.schema, lines)?;
+    writeln!(log, "--")?;
+    write!(log, "{}", str::from_utf8(text.as_slice())?)?;
+    Ok(())
+}
+
+/// Plays the calls of a row between two ends. What is taken while a call waits is counted, and listed
+/// in the report of what may interrupt a wait.
+fn play_lines(
+    row: CallRow,
+    parent: &mut TestedEnd,
+    child: &mut TestedEnd,
+    lines: &mut History,
+    log: &mut String,
+    taken: &mut u32,
+) -> Result<(), Fail>
+    requires { IsSound row.schema.now }
+{
+    for line in row.calls.lines() {
+        call_line(row.alloc, parent, child, lines, log, line)?;
+    }
+    let found = take_counts_of(row.alloc, row.schema, row.top, lines)?;
     if found.unlisted > 0 {
         return Err("a wait is interrupted by what the report does not list".into());
     }
     *taken = taken.wrapping_add(found.taken);
-    with_lines(alloc, schema, &lines, log)
+    push_lines(row, lines, log)
 }
 
-/// Plays the calls of a row.
-fn play(scene: &mut Scene, calls: &str) -> Result<(), Fail> {
-    for line in calls.lines() {
-        call_line(scene, line)?;
-    }
-    Ok(())
-}
-
-/// The log with the text of the lines behind it.
-fn with_lines(alloc: Global, schema: &Schema, lines: &History, log: String) -> Result<String, Fail>
-    requires { IsSound schema.now }
+fn play_between(
+    row: CallRow,
+    parent: &mut TestedEnd,
+    child: &mut TestedEnd,
+    log: &mut String,
+    taken: &mut u32,
+) -> Result<(), Fail>
+    requires { IsSound row.schema.now }
 {
-    let mut log = log;
-    let text = history_text(alloc, schema, lines)?;
-    writeln!(log, "--")?;
-    write!(log, "{}", str::from_utf8(text.as_slice())?)?;
-    Ok(log)
+    let mut lines = History::new(row.alloc);
+    let done = play_lines(row, parent, child, &mut lines, log, taken);
+    drop(lines);
+    done
+}
+
+fn play_with_parent(
+    row: CallRow,
+    parent: &mut TestedEnd,
+    log: &mut String,
+    taken: &mut u32,
+) -> Result<(), Fail>
+    requires { IsSound row.schema.now }
+{
+    let mut child = TestedEnd::open(row.alloc, Side::Child, row.schema, row.top)?;
+    let done = play_between(row, parent, &mut child, log, taken);
+    drop(child);
+    done
+}
+
+/// Plays a row between two new ends, and writes each of its calls with its answer, and the lines that
+/// both ends print.
+fn play(row: CallRow, log: &mut String, taken: &mut u32) -> Result<(), Fail>
+    requires { IsSound row.schema.now }
+{
+    let mut parent = TestedEnd::open(row.alloc, Side::Parent, row.schema, row.top)?;
+    let done = play_with_parent(row, &mut parent, log, taken);
+    drop(parent);
+    done
 }
 
 /// A text in which each `%N` is so many letters.
@@ -157,8 +166,19 @@ fn given(alloc: Global, head: &str, calls: &str, taken: &mut u32) -> Result<Stri
     let (top, _) = rest
         .split_once(" ")
         .ok_or("a row without its top protocol")?;
+    let top = top.parse::<u32>()?;
     let schema = schema_of(alloc, word)?;
-    played(alloc, &schema, top.parse::<u32>()?, calls, taken)
+    let mut log = String::new(alloc);
+    let row = CallRow {
+        alloc,
+        schema: &schema,
+        top,
+        calls,
+    };
+    let done = play(row, &mut log, taken);
+    drop(schema);
+    done?;
+    Ok(log)
 }
 
 /// Notes a row that gives something else than it says, and counts what it takes while a call waits.
