@@ -38,7 +38,6 @@ use Rattle.channel_model.specs.Acts as acts
 use Rattle.channel_model.specs.Answers as answering
 use Rattle.channel_model.specs.Deliveries as delivery
 use Rattle.channel_model.specs.Ends.{End, Packet, message, StackEntry, PromiseEntry, Naming, NameContent, actor, resolver, Resolver}
-use Rattle.channel_model.specs.Events.{Event}
 use Rattle.channel_model.specs.Events as event
 use Rattle.channel_model.specs.Falls as falls
 use Rattle.channel_model.specs.Names.{held_by_name, let_go, renamed, without_name}

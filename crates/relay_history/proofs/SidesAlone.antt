@@ -1,21 +1,20 @@
 -- Each side of a run of a script is a run of one end by itself.
-use Rattle.std.proofs.Common.{◌≡◌, Bool, true, false, ◌&&◌, if◌then◌else◌, List, [], ◌∷◌, ◌++◌, map, Option, Some, None, is_some, refl, sym, ap, subst, ◌∙◌}
+use Rattle.std.proofs.Common.{◌≡◌, Bool, true, false, ◌&&◌, if◌then◌else◌, List, [], ◌∷◌, ◌++◌, Option, Some, None, is_some, refl, sym, ap, subst, ◌∙◌}
 use Rattle.std.specs.List.{AllByRecursion}
 use Rattle.ipdl_base.specs.declared.kinds.Side.{Side}
 use Rattle.ipdl_base.specs.declared.kinds.Side.TheVariants as sides
 use Rattle.ipdl_base.specs.declared.line.Line.{Line}
-use Rattle.ipdl_base.specs.declared.line.What.{What}
 use Rattle.ipdl_base.specs.Sound.{IsSound}
 use Rattle.alone_laws.specs.Alone.{Alone}
 use Rattle.alone_laws.specs.AloneRuns.{RunsAlone}
 use Rattle.alone_laws.specs.AloneRuns as alone
 use Rattle.alone_laws.proofs.AloneRuns.{one_end_obeys_alone}
-use Rattle.channel_model.specs.Ends.{End, Packet, World, end_of, link_to}
+use Rattle.channel_model.specs.Ends.{End, Packet, end_of, link_to}
 use Rattle.channel_model.specs.Events.{Event}
 use Rattle.channel_model.specs.Events as event
 use Rattle.channel_model.specs.Fitting.{FitsPacket}
 use Rattle.channel_model.specs.Numbers.{other}
-use Rattle.channel_model.specs.Outputs.{Output, is_open, line_at}
+use Rattle.channel_model.specs.Outputs.{Output, is_open}
 use Rattle.channel_model.specs.Runs.{RunState, is_delivery}
 use Rattle.channel_model.specs.Steps.{first_packet, step}
 use Rattle.script_steps.specs.Choices.{Choice, Setting, beginning_of, event_by, may_deliver, own_event, played}
@@ -25,7 +24,7 @@ use Rattle.script_runs.specs.Laws.{FitsCase, HasLimit}
 use Rattle.script_runs.proofs.CaseRuns.{IsCase, case-fits, case-next}
 use Rattle.relay_runs.proofs.Sides.{by-sides}
 use Rattle.relay_history.specs.OneHistory.{side_lines}
-use Rattle.relay_history.specs.SidesAlone.{SideObeysAlone, SideRunsAlone, SidesObeyAlone, SidesRunAlone}
+use Rattle.relay_history.specs.SidesAlone.{SideRunsAlone, SidesObeyAlone, SidesRunAlone}
 use Rattle.relay_history.proofs.OneHistory.{end-here, end-there, lines-here, lines-there, link-splits, own-step, printed-at}
 
 module _ (setting : Setting) (sound : IsSound setting.schema) (limit : HasLimit setting) where
