@@ -29,7 +29,8 @@ pub struct SharedLink {
     pub(crate) link: Link,
     pub(crate) parent: SideState,
     pub(crate) child: SideState,
-    /// A side wanted memory, or had something left to do but as many events as it may have.
+    /// A side gave up: memory ran out, or it had something left to do but as many events as it may have, or the other side
+    /// did not begin.
     pub(crate) over: bool,
 }
 
