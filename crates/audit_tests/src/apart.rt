@@ -11,8 +11,8 @@ use std::alloc::Global;
 use std::sync::Wait;
 use std::test::Fail;
 use std::thread::Threads;
-use thread_link::{Open, TwoThreads};
-use world_core::{RunAnswer, World};
+use thread_link::{Gate, TwoThreads};
+use world_core::{Driver, RunAnswer, World};
 
 /// The last line of what a run prints.
 pub fn ending_of(answer: RunAnswer) -> &'static str {
@@ -45,8 +45,8 @@ fn printed<R: Threads + Wait + Sync + AllocGlobal>(
         return Err("a limit that is too large".into());
     }
     let world = World::open(rt.alloc(), schema, script, None, limit)?;
-    let mut driver = TwoThreads::new(rt, Open);
-    let (world, answer) = driver.drive_with(world);
+    let mut driver = TwoThreads::new(rt, Gate::Open);
+    let (world, answer) = driver.drive(world);
     let text = printed_of(rt.alloc(), &world, answer);
     drop(world);
     text

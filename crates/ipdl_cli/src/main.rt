@@ -22,7 +22,7 @@ use std::process::ExitCode;
 use std::rt::{Env, Files};
 use std::sync::Wait;
 use std::thread::Threads;
-use thread_link::{Open, TwoThreads};
+use thread_link::{Gate, TwoThreads};
 
 /// The words of the command, which stand behind the program's name; an error is want of memory.
 fn command_words<R: Env + AllocGlobal>(rt: &R) -> Result<Vec<String>, AllocError> {
@@ -57,7 +57,7 @@ fn run<'r, R: Files + Threads + Wait + Sync + AllocGlobal, O: Write, E: Write>(
     ensures usage { exit_status result ≡ 2 → IsNoCommand (map string_bytes words.now) }
     ensures write_fault { exit_status result ≡ 4 → (0 < faults_of out.new) ⊎ (0 < faults_of err.new) }
 {
-    let mut driver = TwoThreads::new(rt, Open);
+    let mut driver = TwoThreads::new(rt, Gate::Open);
     let mut relay = TwoQueues::new(rt, Open);
     exit_code_of(rt.alloc(), words, files, out, err, &mut driver, &mut relay)
 }
