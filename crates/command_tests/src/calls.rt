@@ -40,7 +40,7 @@ struct Row {
 
 /// What a call leaves, and how many files it read.
 #[derive(Drop)]
-struct Left {
+pub struct Left {
     status: Status,
     out: MemorySink,
     err: MemorySink,
@@ -94,23 +94,22 @@ fn files(alloc: Global, sources: Sources, failing: u64) -> Result<MemoryFiles, A
 }
 
 /// A sink that takes so many bytes at once, of which the write with this number, from 1, fails.
-fn sink(alloc: Global, piece: usize, failing: u64) -> Result<MemorySink, AllocError> {
+pub fn sink(alloc: Global, piece: usize, failing: u64) -> Result<MemorySink, AllocError> {
     MemorySink::new(alloc, piece.max(1), 4000, vec![in alloc; failing]?)
 }
 
-/// What a call with these words leaves, where `out` takes so many bytes at once, and the write to it
-/// with this number, from 1, fails.
-fn call(
+/// What a call with these words leaves on these sinks.
+pub fn call_on(
     alloc: Global,
     words: &str,
     files: MemoryFiles,
-    piece: usize,
-    failing: u64,
+    out: MemorySink,
+    err: MemorySink,
 ) -> Result<Left, AllocError> {
     let words = strings(alloc, words)?;
     let mut files = RecordedFiles::new(CountedFiles { files, reads: 0 });
-    let mut out = sink(alloc, piece, failing)?;
-    let mut err = sink(alloc, 1000, 0)?;
+    let mut out = out;
+    let mut err = err;
     let mut driver = OneThread::new(Vec::new(alloc));
     let mut relay = OneThread::new(Vec::new(alloc));
     let status = ipdl(
@@ -131,19 +130,30 @@ fn call(
     })
 }
 
+/// What a call with these words leaves, where `out` takes so many bytes at once, and the write to it
+/// with this number, from 1, fails.
+fn call(
+    alloc: Global,
+    words: &str,
+    files: MemoryFiles,
+    piece: usize,
+    failing: u64,
+) -> Result<Left, AllocError> {
+    let out = sink(alloc, piece, failing)?;
+    let err = sink(alloc, 1000, 0)?;
+    call_on(alloc, words, files, out, err)
+}
+
 /// Notes what a call leaves, where it is not this.
-fn note(
+pub fn note(
     words: &str,
     left: &Left,
     code: u8,
     out: &[u8],
-    err: &str,
+    err: &[u8],
     wrong: &mut String,
 ) -> Result<(), AllocError> {
-    if left.status.code() == code
-        && left.out.written() == out
-        && left.err.written() == err.as_bytes()
-    {
+    if left.status.code() == code && left.out.written() == out && left.err.written() == err {
         return Ok(());
     }
     let out = str::from_utf8(left.out.written()).unwrap_or("no text");
@@ -157,7 +167,7 @@ fn byte_of(digits: &[u8]) -> Result<u8, Fail> {
 }
 
 /// The bytes of a text, or of digits behind `hex `.
-fn bytes_of(alloc: Global, text: &str) -> Result<Vec<u8>, Fail> {
+pub fn bytes_of(alloc: Global, text: &str) -> Result<Vec<u8>, Fail> {
     let Some(digits) = text.strip_prefix("hex ") else {
         return Ok(Vec::from_slice(alloc, text.as_bytes())?);
     };
@@ -179,15 +189,25 @@ fn push_files(alloc: Global, pieces: &str, files: &mut Vec<(String, Vec<u8>)>) -
 }
 
 /// The files of pieces, and these behind them.
-fn files_of(alloc: Global, pieces: &str, shared: &str) -> Result<MemoryFiles, Fail> {
+pub fn files_of(alloc: Global, pieces: &str, shared: &str) -> Result<MemoryFiles, Fail> {
     let mut files = Vec::new(alloc);
     push_files(alloc, pieces, &mut files)?;
     push_files(alloc, shared, &mut files)?;
     Ok(MemoryFiles::new(files, Vec::new(alloc)))
 }
 
-/// Notes a row of calls that leaves something else.
-fn check(alloc: Global, row: &str, shared: &str, wrong: &mut String) -> Result<(), Fail> {
+/// A row of calls, taken apart.
+#[derive(Clone, Copy)]
+pub struct CallRow<'a> {
+    pub words: &'a str,
+    pub code: &'a str,
+    pub out: &'a str,
+    pub err: &'a str,
+    pub pieces: &'a str,
+}
+
+/// The parts of a row of calls.
+pub fn call_row(row: &str) -> Result<CallRow<'_>, Fail> {
     let (head, rest) = row
         .split_once("\n@ ")
         .ok_or("a row without what is written")?;
@@ -196,14 +216,28 @@ fn check(alloc: Global, row: &str, shared: &str, wrong: &mut String) -> Result<(
     let (out, rest) = rest.split_once("@ ").ok_or("a row without its report")?;
     let (err, pieces) = rest.split_once("@ ").unwrap_or((rest, ""));
     let err = if err == "usage\n" { USAGE } else { err };
-    let left = call(alloc, words, files_of(alloc, pieces, shared)?, 1000, 0)?;
-    let out = bytes_of(alloc, out)?;
-    Ok(note(
+    Ok(CallRow {
         words,
-        &left,
-        code.parse::<u8>()?,
-        out.as_slice(),
+        code,
+        out,
         err,
+        pieces,
+    })
+}
+
+/// Notes a row of calls that leaves something else.
+fn check(alloc: Global, row: &str, shared: &str, wrong: &mut String) -> Result<(), Fail> {
+    let row = call_row(row)?;
+    let files = files_of(alloc, row.pieces, shared)?;
+    let left = call(alloc, row.words, files, 1000, 0)?;
+    let out = bytes_of(alloc, row.out)?;
+    let code = row.code.parse::<u8>()?;
+    Ok(note(
+        row.words,
+        &left,
+        code,
+        out.as_slice(),
+        row.err.as_bytes(),
         wrong,
     )?)
 }
@@ -252,7 +286,14 @@ message 65536 child async not plain normal Tell()
 
 /// As `note`, of a row.
 fn note_row(row: &Row, left: &Left, wrong: &mut String) -> Result<(), AllocError> {
-    note(row.words, left, row.status.code(), row.out, row.err, wrong)
+    note(
+        row.words,
+        left,
+        row.status.code(),
+        row.out,
+        row.err.as_bytes(),
+        wrong,
+    )
 }
 
 /// Words for the program of two files and its list.

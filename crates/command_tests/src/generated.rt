@@ -156,14 +156,34 @@ fn largest(rt: HostRuntime) -> Result<(), Fail> {
     Ok(())
 }
 
+/// The table of the files of every case.
+const TABLE: &str = "protocol 0 PGen sync inside_sync
+manages PLeaf
+message 0 parent async not plain constructor PLeaf()
+message 2 parent async not compress normal Up(int32_t n)
+protocol 1 PLeaf sync inside_sync
+manager PGen
+message 65536 parent sync inside_sync plain normal Ask(int32_t n) returns (int32_t r)
+message 65538 parent async not plain normal Get(int32_t n) returns (int32_t r)
+message 65540 parent async not plain delete __delete__()
+message 65542 child sync inside_sync plain normal Back(int32_t n) returns (int32_t r)
+";
+
+/// The files of a case break no rule, whichever of them is named, and have this table.
 #[test]
 fn files_break_no_rule(rt: HostRuntime) -> Result<(), Fail> {
     let alloc = rt.alloc();
-    let table = printed(alloc, "PGen.ipdl", files_of(alloc, 1, 1)?)?;
-    assert!(rt;
-        table
-            .as_str()
-            .starts_with("protocol 0 PGen sync inside_sync\n")
+    assert_eq!(rt;
+        printed(alloc, "PGen.ipdl", files_of(alloc, 1, 1)?)?.as_str(),
+        TABLE
+    );
+    assert_eq!(rt;
+        printed(alloc, "PLeaf.ipdl", files_of(alloc, 7, 3)?)?.as_str(),
+        TABLE
+    );
+    assert_eq!(rt;
+        printed(alloc, "PGen.ipdl", files_of(alloc, 1000, 100)?)?.as_str(),
+        TABLE
     );
     Ok(())
 }

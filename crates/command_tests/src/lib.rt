@@ -22,3 +22,5 @@ mod run_rows;
 mod wait_rows;
 #[cfg(test)]
 mod words;
+#[cfg(test)]
+mod writes;
