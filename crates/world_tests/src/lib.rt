@@ -22,6 +22,8 @@ mod feeds;
 #[cfg(test)]
 mod given;
 #[cfg(test)]
+mod half_lines;
+#[cfg(test)]
 mod halves;
 #[cfg(test)]
 mod laws;

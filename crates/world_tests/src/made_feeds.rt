@@ -1,4 +1,4 @@
-//! Feeds of made files: honest frames, cut, changed, left out, repeated and in other orders.
+//! Feeds of made files: honest frames, whole, cut, with a bit turned, left out, and repeated.
 ghost use Rattle.ipdl_base.specs.Sound.{IsSound};
 ghost use Rattle.handler_script.specs.Valid.{IsValid};
 
@@ -11,10 +11,14 @@ use ipdl_base::{Schema, Side};
 use law_checks::{Law, holds};
 use std::alloc::Global;
 use std::test::Fail;
-use world_core::feed;
+use world_core::{Fed, FeedFault, feed};
 
-/// Cases: the file of a protocol, then the script of the parent, and behind `----` frames that a child may
-/// send. `====` stands between two cases.
+/// How many files are made of each case.
+const FILES: u32 = 1_000;
+
+/// Cases: the file of a protocol; then the script of the parent; and after `----` what an honest child may
+/// send, each frame with the line of its delivery and the line that has its values. `====` stands between two
+/// cases.
 const CASES: &str = "PQ.ipdl
 parent main
 send top PQ.Get()
@@ -24,11 +28,11 @@ parent on PQ.Get
 resolve (7)
 end
 ----
-4950443204000000ffffff7f0100000008000000010000000000000005000000
-4950443204000000ffffff7f0200000000000000ffffffff0000000005000000
-4950443204000000ffffff7f0100000008000000020000000000000006000000
-4950443200000000ffffff7f0000000000000000feffffff00000000
-4950443200000000000000000000ffff000000000000000000000000
+4950443204000000ffffff7f0100000008000000010000000000000005000000: parent deliver reply 1:   settle 1 resolved (5)
+4950443204000000ffffff7f0200000000000000ffffffff0000000005000000: parent deliver request -1: parent take -1 at 2147483647 PQ.Tell(5)
+4950443204000000ffffff7f0100000008000000020000000000000006000000: parent deliver reply 2:   settle 2 resolved (6)
+4950443200000000ffffff7f0000000000000000feffffff00000000: parent deliver request -2: parent take -2 at 2147483647 PQ.Get()
+4950443200000000000000000000ffff000000000000000000000000: parent deliver goodbye: parent shut NormalShutdown
 ====
 PW.ipdl
 parent main
@@ -41,11 +45,11 @@ send top PW.CallC()
 return (10)
 end
 ----
-4950443200000000ffffff7f0000000003000000ffffffffffffffff
-4950443204000000ffffff7f0700000009000000020000000100000005000000
-4950443204000000ffffff7f0700000009000000010000000100000006000000
-4950443200000000ffffff7f0200000004000000feffffff00000000
-4950443204000000ffffff7f0700000009000000040000000400000007000000
+4950443200000000ffffff7f0000000003000000ffffffff01000000: parent deliver request -1: parent take -1 at 2147483647 PW.CallP()
+4950443204000000ffffff7f0700000009000000020000000100000005000000: parent deliver reply 2: parent resume 2 ok (5)
+4950443204000000ffffff7f0700000009000000010000000100000006000000: parent deliver reply 1: parent resume 1 ok (6)
+4950443200000000ffffff7f0200000004000000feffffff00000000: parent deliver request -2: parent take -2 at 2147483647 PW.Poke()
+4950443204000000ffffff7f0700000009000000040000000400000007000000: parent deliver reply 4: parent resume 4 ok (7)
 ====
 POwn.ipdl
 parent on POwn.PTmp
@@ -53,11 +57,79 @@ send made PTmp.Hi()
 send top POwn.Mark(made)
 end
 ----
-4950443204000000ffffff7f0000000000000000ffffffff0000000004000000
-4950443200000000040000000000010000000000feffffff00000000
-4950443204000000ffffff7f0000000000000000fdffffff0000000008000000
-4950443200000000040000000200010000000000fcffffff00000000
-4950443200000000080000000000010000000000fbffffff00000000";
+4950443204000000ffffff7f0000000000000000ffffffff0000000004000000: parent deliver request -1:   built 4 PTmp
+4950443200000000040000000000010000000000feffffff00000000: parent deliver request -2: parent take -2 at 4 PTmp.Hi()
+4950443204000000ffffff7f0000000000000000fdffffff0000000008000000: parent deliver request -3:   built 8 PTmp
+4950443200000000040000000200010000000000fcffffff00000000: parent deliver request -4: parent take -4 at 4 PTmp.__delete__()
+4950443200000000080000000000010000000000fbffffff00000000: parent deliver request -5: parent take -5 at 8 PTmp.Hi()
+====
+PHub.ipdl
+parent on PHub.PTab
+send made PTab.Get()
+return (true)
+end
+parent on PHub.Wait
+return ($1)
+end
+----
+4950443208000000ffffff7f0000000005000000ffffffffffffffff0400000000000000: parent deliver request -1:   built 4 PTab
+495044320c000000ffffff7f0c00000040000000feffffff00000000040000000200000061620000: parent deliver request -2: parent take -2 at 2147483647 PHub.Set(#4, \"ab\")
+495044320800000004000000050001000800000001000000000000000100000078000000: parent deliver reply 1:   settle 1 resolved (\"x\")
+4950443208000000ffffff7f0200000003000000fdfffffffdffffff0100000005000000: parent deliver request -3: parent take -3 at 2147483647 PHub.Wait(@1 5)
+4950443208000000ffffff7f0400000004000000fcffffff000000000100000004000000: parent deliver request -4: parent take -4 at 2147483647 PHub.Push(some #4)";
+
+/// What the feeds of all made files have together at least: so many files, of which so many keep the laws of
+/// one end; so many deliveries; so many values of whole frames that are printed as they were sent; so many files
+/// that are as the child sends them; and so many feeds that end without a fault, or with each.
+///
+/// There are 1,000 files for each of four cases. Of twenty frames four have a bit turned, in one word of ten,
+/// and one is cut; of twenty places one is left out, one has its frame twice, and one the first frame after
+/// its own. Over all places and bits, about 2,700 first frames are whole and in their place, and 590 files are as
+/// the child sends them: so the first five counts are far below what is expected. The counts for rules 1 to 4,
+/// 7 to 9, 11 to 13 and 15 and for stray replies are below what is expected if the first frame of each file is
+/// the only one to which something is done; those for rules 5, 6 and 14, for short bytes and for no fault, if
+/// one frame of each file is. A route or a value that is another actor's takes more than one bit, so that fault
+/// has no count.
+const FLOORS: &str = "4000 file
+4000 lawful
+4000 delivery
+4000 value
+300 honest
+300 no fault
+25 short
+80 stray
+25 rule 1
+50 rule 2
+70 rule 3
+40 rule 4
+5 rule 5
+1 rule 6
+3 rule 7
+20 rule 8
+3 rule 9
+1 rule 11
+300 rule 12
+30 rule 13
+4 rule 14
+80 rule 15";
+
+/// A frame of a case, as hexadecimal digits, with the line of its delivery and the line that has its values.
+#[derive(Clone, Copy)]
+struct FrameRow<'a> {
+    digits: &'a str,
+    delivery: &'a str,
+    saying: &'a str,
+}
+
+/// A file that is made of frames: its bytes; the frames that are whole in it, in order, up to the first that is
+/// not; and whether it is as the child sends it.
+#[derive(Drop)]
+struct MadeFile<'a> {
+    bytes: Vec<u8>,
+    whole: Vec<FrameRow<'a>>,
+    all_whole: bool,
+    honest: bool,
+}
 
 /// Numbers that seem to come by chance.
 #[derive(Clone, Copy)]
@@ -74,89 +146,232 @@ impl Dice {
             .wrapping_add(1_013_904_223);
         (self.state >> 9).checked_rem(below).unwrap_or(0)
     }
+
+    /// A place in a frame, more often the first byte of a word of four bytes.
+    fn place(&mut self) -> usize {
+        let word = self.roll(10).wrapping_mul(4);
+        let byte = self.roll(2).wrapping_mul(self.roll(4));
+        word.wrapping_add(byte) as usize
+    }
 }
 
-/// Appends a frame, whole, cut, or with a bit turned.
-fn push_frame(dice: &mut Dice, frame: &[u8], out: &mut Vec<u8>) -> Result<(), Fail> {
-    let act = dice.roll(12);
-    let place = dice.roll(36) as usize;
-    let bit = dice.roll(8);
+/// The frame that a line of a case spells.
+fn frame_row(line: &str) -> Option<FrameRow<'_>> {
+    let (digits, rest) = line.split_once(": ")?;
+    let (delivery, saying) = rest.split_once(": ")?;
+    Some(FrameRow {
+        digits,
+        delivery,
+        saying,
+    })
+}
+
+/// Appends the bytes of a frame up to a place, where it is cut, or all of them with a bit of that place turned.
+fn push_changed(
+    frame: &[u8],
+    place: usize,
+    bit: Option<u32>,
+    out: &mut Vec<u8>,
+) -> Result<(), Fail> {
     for (at, byte) in frame.iter().enumerate() {
-        if act == 0 && at == place {
-            return Ok(());
-        }
-        if act == 1 && at == place {
-            out.push(*byte ^ 1u8.wrapping_shl(bit))?;
-        } else {
-            out.push(*byte)?;
+        match bit {
+            None if at == place => return Ok(()),
+            Some(bit) if at == place => out.push(*byte ^ 1u8.wrapping_shl(bit))?,
+            _ => out.push(*byte)?,
         }
     }
     Ok(())
 }
 
-/// A file of a case: of each of its frames some, none, or one more, and sometimes another one between.
-fn file_of(alloc: Global, dice: &mut Dice, frames: &str) -> Result<Vec<u8>, Fail> {
-    let mut out = Vec::new(alloc);
-    for word in frames.split("\n") {
-        let frame = bytes_of(alloc, word)?;
-        let act = dice.roll(9);
-        if act != 0 {
-            push_frame(dice, frame.as_slice(), &mut out)?;
+/// Appends a frame to a file, whole, cut, or with a bit turned.
+fn push_frame<'a>(
+    alloc: Global,
+    dice: &mut Dice,
+    row: FrameRow<'a>,
+    file: &mut MadeFile<'a>,
+) -> Result<(), Fail> {
+    let act = dice.roll(20);
+    let place = dice.place();
+    let bit = dice.roll(8);
+    let frame = bytes_of(alloc, row.digits)?;
+    if act > 4 || place >= frame.len() {
+        if file.all_whole {
+            file.whole.push(row)?;
         }
-        if act == 1 {
-            push_frame(dice, frame.as_slice(), &mut out)?;
-        }
-        if act == 2 {
-            let first = frames.split("\n").next().unwrap_or("");
-            let other = bytes_of(alloc, first)?;
-            push_frame(dice, other.as_slice(), &mut out)?;
-        }
+        file.bytes.extend_from_slice(frame.as_slice())?;
+        return Ok(());
     }
-    Ok(out)
+    file.all_whole = false;
+    file.honest = false;
+    let turned = if act == 0 { None } else { Some(bit) };
+    push_changed(frame.as_slice(), place, turned, &mut file.bytes)
 }
 
-/// How many of so many feeds of made files keep the laws of one end.
-fn lawful_feeds(
+/// A file of a case: of each of its frames one, none, or two, and sometimes the first one between.
+fn file_of<'a>(alloc: Global, dice: &mut Dice, frames: &'a str) -> Result<MadeFile<'a>, Fail> {
+    let mut file = MadeFile {
+        bytes: Vec::new(alloc),
+        whole: Vec::new(alloc),
+        all_whole: true,
+        honest: true,
+    };
+    let mut first = None;
+    for line in frames.lines() {
+        let row = frame_row(line).ok_or("a frame without its lines")?;
+        let begin = first.unwrap_or(row);
+        first = Some(begin);
+        let act = dice.roll(20);
+        if act != 0 {
+            push_frame(alloc, dice, row, &mut file)?;
+        }
+        if act == 1 {
+            push_frame(alloc, dice, row, &mut file)?;
+        }
+        if act == 2 {
+            push_frame(alloc, dice, begin, &mut file)?;
+        }
+        if act < 3 {
+            file.honest = false;
+        }
+    }
+    Ok(file)
+}
+
+/// Whether this is a line of a text.
+fn has_line(text: &str, wanted: &str) -> bool {
+    for line in text.lines() {
+        if line == wanted {
+            return true;
+        }
+    }
+    false
+}
+
+/// Notes each delivery of what a feed prints. Notes a value for each of the frames that were whole, where the
+/// text has its delivery in its turn and the line of its values, and a difference where it has not.
+fn note_deliveries(text: &str, whole: &[FrameRow<'_>], log: &mut String) -> Result<(), Fail> {
+    let mut next = 0usize;
+    for line in text.lines() {
+        if line.starts_with("parent deliver ") && line != "parent deliver broken" {
+            log.push_str("delivery\n")?;
+            if let Some(row) = whole.get(next) {
+                let same = line == row.delivery && has_line(text, row.saying);
+                log.push_str(if same { "value\n" } else { "difference\n" })?;
+            }
+            next = next.saturating_add(1);
+        }
+    }
+    Ok(())
+}
+
+/// Notes the fault that is kept.
+fn note_fault(fault: Option<FeedFault>, log: &mut String) -> Result<(), Fail> {
+    match fault {
+        None => writeln!(log, "no fault")?,
+        Some(FeedFault::Short(_, _)) => writeln!(log, "short")?,
+        Some(FeedFault::Bad(_, rule)) => writeln!(log, "rule {rule}")?,
+        Some(FeedFault::Stray(_, _)) => writeln!(log, "stray")?,
+        Some(FeedFault::WrongActor(_, _)) => writeln!(log, "wrong actor")?,
+    }
+    Ok(())
+}
+
+/// How many lines of a text are this one.
+fn count_of(text: &str, wanted: &str) -> u32 {
+    let mut count = 0u32;
+    for line in text.lines() {
+        if line == wanted {
+            count = count.wrapping_add(1);
+        }
+    }
+    count
+}
+
+/// What there is to note of the feed of a file.
+fn notes_of(alloc: Global, schema: &Schema, fed: &Fed, file: &MadeFile<'_>) -> Result<String, Fail>
+    requires { IsSound schema.now }
+{
+    let mut notes = String::from_str(alloc, "file\n")?;
+    if holds(alloc, Law::Fallen, schema, &fed.history)? && is_alone(schema, fed.history.lines()) {
+        notes.push_str("lawful\n")?;
+    }
+    let lines = fed.transcript(alloc, schema)?;
+    let text = str::from_utf8(lines.as_slice())?;
+    note_deliveries(text, file.whole.as_slice(), &mut notes)?;
+    note_fault(fed.fault, &mut notes)?;
+    if file.honest && fed.fault.is_none() && count_of(notes.as_str(), "value") == 5 {
+        notes.push_str("honest\n")?;
+    }
+    Ok(notes)
+}
+
+/// Notes the feeds of the files of a case.
+fn note_feeds(
     alloc: Global,
     schema: &Schema,
     script: &Script,
     frames: &str,
-    files: u32,
-) -> Result<u32, Fail>
+    mut dice: Dice,
+    log: &mut String,
+) -> Result<(), Fail>
     requires sound { IsSound schema.now }
     requires valid { IsValid schema.now script.now }
 {
-    let mut lawful = 0u32;
-    for seed in 0..files {
-        let mut dice = Dice { state: seed };
-        let bytes = file_of(alloc, &mut dice, frames)?;
-        let fed = feed(alloc, schema, script, Side::Parent, 100, bytes.as_slice())?;
-        if holds(alloc, Law::Fallen, schema, &fed.history)?
-            && is_alone(schema, fed.history.lines())
-        {
-            lawful = lawful.wrapping_add(1);
+    for _ in 0..FILES {
+        let file = file_of(alloc, &mut dice, frames)?;
+        let bytes = file.bytes.as_slice();
+        let fed = feed(alloc, schema, script, Side::Parent, 100, bytes)?;
+        let notes = notes_of(alloc, schema, &fed, &file)?;
+        log.push_str(notes.as_str())?;
+        let honest = count_of(notes.as_str(), "honest");
+        if file.honest && honest == 0 {
+            log.push_str("difference\n")?;
         }
     }
-    Ok(lawful)
+    Ok(())
 }
 
-/// The same of a case that a text spells.
-fn lawful_case(alloc: Global, text: &str, files: u32) -> Result<u32, Fail> {
+/// Notes the feeds of a case that a text spells, by numbers that begin with this one.
+fn note_case(alloc: Global, text: &str, number: u32, log: &mut String) -> Result<(), Fail> {
     let (file, rest) = text.split_once("\n").ok_or("a case without its script")?;
     let (script, frames) = rest
         .split_once("----\n")
         .ok_or("a case without its frames")?;
     let schema = schema_of(alloc, file)?;
     let script = script_of(alloc, &schema, file, script)?;
-    lawful_feeds(alloc, &schema, &script, frames.trim_end(), files)
+    let dice = Dice { state: number };
+    note_feeds(alloc, &schema, &script, frames, dice, log)
+}
+
+/// What is noted of all feeds.
+fn noted(alloc: Global) -> Result<String, Fail> {
+    let mut log = String::new(alloc);
+    let mut number = 0u32;
+    for case in CASES.split("====\n") {
+        number = number.wrapping_add(1);
+        note_case(alloc, case, number, &mut log)?;
+    }
+    Ok(log)
+}
+
+/// The counts that are below their floor, and how many differences there are.
+fn missing(alloc: Global) -> Result<String, Fail> {
+    let log = noted(alloc)?;
+    let mut shown = String::new(alloc);
+    for line in FLOORS.lines() {
+        let (floor, key) = line.split_once(" ").ok_or("a floor without its key")?;
+        let count = count_of(log.as_str(), key);
+        if count < floor.parse::<u32>()? {
+            writeln!(shown, "{key}: {count}")?;
+        }
+    }
+    let differences = count_of(log.as_str(), "difference");
+    write!(shown, "{differences}")?;
+    Ok(shown)
 }
 
 #[test]
 fn made_files(rt: HostRuntime) -> Result<(), Fail> {
-    let mut lawful = 0u32;
-    for case in CASES.split("====\n") {
-        lawful = lawful.wrapping_add(lawful_case(rt.alloc(), case, 200)?);
-    }
-    assert_eq!(rt; lawful, 600);
+    assert_eq!(rt; missing(rt.alloc())?.as_str(), "0");
     Ok(())
 }
