@@ -1,0 +1,7 @@
+//! That each text has an answer as a sync list: it spells sections, or has a first line that is not
+//! of the format. No function that runs.
+#![tactic(auto)]
+
+mod laws;
+
+pub use laws::lists_have_answers;
