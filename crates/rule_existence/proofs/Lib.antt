@@ -1,0 +1,4 @@
+pub mod Listed
+pub mod TypesNamed
+pub mod TypesDeclared
+pub mod TypesListed

@@ -1,0 +1,7 @@
+ghost use Rattle.rule_existence.specs.Laws.{TypeFindingsAreListed};
+
+/// The law of the findings on types: for every program some list has exactly those of the rules on types,
+/// names of declarations and attributes.
+pub fn type_findings_are_listed()
+    ensures { TypeFindingsAreListed }
+{}
