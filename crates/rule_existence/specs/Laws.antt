@@ -1,9 +1,14 @@
 -- What programs break is listed.
 use Rattle.std.specs.Prelude.{List}
 use Rattle.ipdl_syntax.specs.declared.program.Entry.{Entry}
+use Rattle.manager_rules.specs.Broken.{BrokenAt as ManagersBrokenAt}
 use Rattle.report_existence.specs.Laws.{IsListed}
 use Rattle.type_rules.specs.Broken.{BrokenAt as TypesBrokenAt}
 
 -- For every program some list has exactly the findings of the rules on types, names of declarations and attributes.
 abbrev pub TypeFindingsAreListed : Type 0
 TypeFindingsAreListed = (program : List Entry) → IsListed (TypesBrokenAt program)
+
+-- For every program some list has exactly the findings of the rules on managers and on what protocols manage.
+abbrev pub ManagerFindingsAreListed : Type 0
+ManagerFindingsAreListed = (program : List Entry) → IsListed (ManagersBrokenAt program)
