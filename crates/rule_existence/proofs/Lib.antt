@@ -6,3 +6,4 @@ pub mod MessagesKinds
 pub mod MessagesPlaces
 pub mod MessagesDecided
 pub mod MessagesListed
+pub mod ListsListed
