@@ -112,23 +112,20 @@ module _ (in_order : RelaysComeInOrder) (setting : Setting) (is : IsRunnable set
   turn_case side state relay = by_own side state relay (own_event setting side (half_of side state)) refl
 
   -- the sides take turns until two of them do nothing
-  HasLast : Side → ℕ → RelayState → Type 0
+  abbrev HasLast : Side → ℕ → RelayState → Type 0
   HasLast side idle state = (last : RelayState) × (ending : RunEnding) × RelayTurns setting side idle state last ending
 
   has_last : (fuel idle : ℕ) (side : Side) (state : RelayState) → IsRelay setting state → 6 * setting.limit + idle ≤ 3 * events state + fuel → HasLast side idle state
-  unfolding HasLast
   has_last fuel zero side state relay few = (state, at_rest, rests side state)
   has_last zero (suc idle) side state relay few = let most = few_events state relay in absurd (omega (arith, few, most))
-  has_last (suc fuel) (suc idle) side state relay few = by (turn_case side state relay)
+  has_last (suc fuel) (suc idle) side state relay few = by (λ left from further less. has_last fuel left (other side) from further less) (turn_case side state relay)
     where
-      by : TurnCase setting side state → HasLast side (suc idle) state
-      unfolding HasLast
-      by (goes next e further more) = let rest = has_last fuel 2 (other side) next further (omega (arith, few, more)) in (rest.0, rest.1, goes_on side idle state next rest.0 rest.1 e rest.2)
-      by (waits e) = let rest = has_last fuel idle (other side) state relay (omega (arith, few)) in (rest.0, rest.1, passes side idle state rest.0 rest.1 e rest.2)
-      by (fails e) = (state, at_limit side, stops side idle state e)
+      by : ((left : ℕ) (from : RelayState) → IsRelay setting from → 6 * setting.limit + left ≤ 3 * events from + fuel → HasLast (other side) left from) → TurnCase setting side state → HasLast side (suc idle) state
+      by then (goes next e further more) = let rest = then 2 next further (omega (arith, few, more)) in (rest.0, rest.1, goes_on side idle state next rest.0 rest.1 e rest.2)
+      by then (waits e) = let rest = then idle state relay (omega (arith, few)) in (rest.0, rest.1, passes side idle state rest.0 rest.1 e rest.2)
+      by then (fails e) = (state, at_limit side, stops side idle state e)
 
 pub relays_end : RelaysComeInOrder → RelaysEnd
-unfolding HasLast
 relays_end in_order setting is =
     let l = has_last in_order setting is (6 * setting.limit + 2) 2 sides.Parent (opening_relay setting) stays (omega arith) in
     (l.0.parent.lines, l.0.child.lines, l.1, record { last = l.0; turns = l.2; parent_lines = refl; child_lines = refl })

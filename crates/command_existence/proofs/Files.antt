@@ -33,41 +33,39 @@ key_decided [] w = inr (λ v h. h.0)
 key_decided (x ∷ xs) w = by (text_or_not (key_of x) (key_of w)) (key_decided xs w)
   where
     none : (key_of x ≡ key_of w → ⊥) → ((v : Text) → HasKey xs w v → ⊥) → (v : Text) → (x ≡ v) ⊎ HasWord xs v → key_of v ≡ key_of w → ⊥
-    unfolding HasKey
     none differ later v (inl e) same = differ (subst (λ y. key_of y ≡ key_of w) (sym e) same)
     none differ later v (inr h) same = later v (h, same)
 
     by : (key_of x ≡ key_of w) ⊎ (key_of x ≡ key_of w → ⊥) → Decided (HasKey xs w) → Decided (HasKey (x ∷ xs) w)
-    unfolding HasKey
     by (inl same) later = inl (x, (inl refl, same))
     by (inr differ) (inl (v, h)) = inl (v, (inr h.0, h.1))
     by (inr differ) (inr later) = inr (λ v h. none differ later v h.0 h.1)
 
 -- the files that more words name after those that are listed
 listed_after : (seen rest files : List Text) → AreListed seen files → Decided (AreListed (seen ++ rest))
+unfolding HasKey
 listed_after seen [] files listed = inl (files, subst (λ ws. AreListed ws files) (sym (append-nil seen)) listed)
-listed_after seen (w ∷ rest) files listed = by (file_or_not w) (key_decided files w)
+listed_after seen (w ∷ rest) files listed = by (λ more h. listed_after (seen ++ w ∷ []) rest more h) (file_or_not w) (key_decided files w)
   where
-    goes_on : (more : List Text) → AreListed (seen ++ w ∷ []) more → Decided (AreListed (seen ++ w ∷ rest))
-    goes_on more h = subst (λ ws. Decided (AreListed ws)) (append_assoc seen (w ∷ []) rest) (listed_after (seen ++ w ∷ []) rest more h)
+    so : Decided (AreListed ((seen ++ w ∷ []) ++ rest)) → Decided (AreListed (seen ++ w ∷ rest))
+    so = subst (λ ws. Decided (AreListed ws)) (append_assoc seen (w ∷ []) rest)
 
-    by_word : (v : Text) → HasWord files v → key_of v ≡ key_of w → (v ≡ w) ⊎ (v ≡ w → ⊥) → Decided (AreListed (seen ++ w ∷ rest))
-    by_word v stands same (inl e) = goes_on files (again_listed seen files w listed (subst (HasWord files) e stands))
-    by_word v stands same (inr differ) = inr (λ all. key_listed seen rest files all v w listed stands same differ)
+    by_word : ((more : List Text) → AreListed (seen ++ w ∷ []) more → Decided (AreListed ((seen ++ w ∷ []) ++ rest))) → (v : Text) → HasWord files v → key_of v ≡ key_of w → (v ≡ w) ⊎ (v ≡ w → ⊥) → Decided (AreListed (seen ++ w ∷ rest))
+    by_word goes v stands same (inl e) = so (goes files (again_listed seen files w listed (subst (HasWord files) e stands)))
+    by_word goes v stands same (inr differ) = inr (λ all. key_listed seen rest files all v w listed stands same differ)
 
-    by : IsFileWord w ⊎ (IsFileWord w → ⊥) → Decided (HasKey files w) → Decided (AreListed (seen ++ w ∷ rest))
-    unfolding HasKey
-    by (inr no_file) key = inr (λ all. not_listed seen rest all w no_file)
-    by (inl file) (inl (v, h)) = by_word v h.0 h.1 (text_or_not v w)
-    by (inl file) (inr fresh) =
-        ⊎_elim (λ (few : length files < 4096). goes_on (files ++ w ∷ []) (new_listed seen files w listed file (λ v stands same. fresh v (stands, same)) few))
+    by : ((more : List Text) → AreListed (seen ++ w ∷ []) more → Decided (AreListed ((seen ++ w ∷ []) ++ rest))) → IsFileWord w ⊎ (IsFileWord w → ⊥) → Decided (HasKey files w) → Decided (AreListed (seen ++ w ∷ rest))
+    by goes (inr no_file) key = inr (λ all. not_listed seen rest all w no_file)
+    by goes (inl file) (inl (v, h)) = by_word goes v h.0 h.1 (text_or_not v w)
+    by goes (inl file) (inr fresh) =
+        ⊎_elim (λ (few : length files < 4096). so (goes (files ++ w ∷ []) (new_listed seen files w listed file (λ v stands same. fresh v (stands, same)) few)))
         (λ (full : 4096 ≤ length files). inr (λ all. full_listed seen rest files all w listed (λ v stands same. fresh v (stands, same)) full)) (cases_lt (length files) 4096)
 
 pub files_decided : (words : List Text) → Decided (AreFiles words)
 files_decided words = by (listed_after [] words [] (record { files_are = refl; each = tt; most = omega arith; keys = λ v w h. absurd h }))
   where
     some : (files : List Text) → AreListed words files → Decided (AreFiles words)
-    some [] listed = inr (λ files is. let least = is.least in let same : length files ≡ length [] = ap length (is.listed.files_are ∙ sym listed.files_are) in omega (arith, least, same))
+    some [] listed = inr (λ files is. let least = is.least in let same : files ≡ [] = is.listed.files_are ∙ sym listed.files_are in let long : length files ≡ 0 = ap length same in omega (arith, least, long))
     some (f ∷ fs) listed = inl (f ∷ fs, record { listed = listed; least = omega arith })
 
     by : Decided (AreListed words) → Decided (AreFiles words)

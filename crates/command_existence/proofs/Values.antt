@@ -11,9 +11,9 @@ use Rattle.schedules.specs.declared.stop.Stop.{Stop}
 use Rattle.schedules.specs.declared.turn.Turn.{Turn}
 use Rattle.command_words.specs.Compile.{IsPath}
 use Rattle.command_words.specs.Feed.{IsSide}
-use Rattle.command_words.specs.Found.{pieces}
 use Rattle.command_words.specs.Frames.{IsConversion, IsTwo}
 use Rattle.command_words.specs.Gen.{IsActors, IsCount}
+use Rattle.command_words.specs.Listed.{pieces}
 use Rattle.command_words.specs.RunOptions.{IsDeath, IsLimit, IsNumber, IsSchedule, IsStopOf, letter_for, letter_of, word_of}
 use Rattle.command_words.proofs.Pieces.{dirs_pass, pieces_are}
 use Rattle.report_existence.proofs.Lists.{BeginsWith, EndsWith, begins_or_not, ends_or_not, same_or_not}

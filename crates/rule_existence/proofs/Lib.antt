@@ -5,3 +5,8 @@ pub mod TypesListed
 pub mod ManagersFound
 pub mod ManagersCycles
 pub mod ManagersListed
+pub mod MessagesKinds
+pub mod MessagesPlaces
+pub mod MessagesDecided
+pub mod MessagesListed
+pub mod ListsListed

@@ -4,4 +4,7 @@
 
 mod laws;
 
-pub use laws::{manager_findings_are_listed, type_findings_are_listed};
+pub use laws::{
+    list_findings_are_listed, manager_findings_are_listed, message_findings_are_listed,
+    type_findings_are_listed,
+};

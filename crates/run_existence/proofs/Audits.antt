@@ -51,21 +51,19 @@ module _ (setting : Setting) (state : RunState) where
   ends_or_not at_rest = true_or_not (is_quiet setting state)
   ends_or_not (at_limit side) = both_or_not (false_or_not (is_within setting side state)) (false_or_not (is_quiet_at setting state side))
 
+  abbrev EndsWithLines : List (List ℕ) → RunEnding → Type 0
+  EndsWithLines lines ending = EndsAs setting state ending × (lines ≡ printed_lines setting state ++ ending_line ending ∷ [])
+
+  whole_or_not : (lines : List (List ℕ)) → ((ending : RunEnding) × EndsWithLines lines ending) ⊎ ((ending : RunEnding) → EndsWithLines lines ending → ⊥)
+      → ((ending : RunEnding) × EndsAs setting state ending × (lines ≡ printed_lines setting state ++ ending_line ending ∷ []))
+      ⊎ ((ending : RunEnding) × EndsAs setting state ending × (lines ≡ printed_lines setting state ++ ending_line ending ∷ []) → ⊥)
+  whole_or_not lines (inl h) = inl (h.0, h.1.0, h.1.1)
+  whole_or_not lines (inr none) = inr (λ h. none h.0 (h.1, h.2))
+
   printed_or_not : (lines : List (List ℕ)) → ArePrinted setting state lines ⊎ (ArePrinted setting state lines → ⊥)
-  printed_or_not lines = either_or_not (begins_or_not text_or_not lines (printed_lines setting state)) (by (some_ending Ends (λ ending. both_or_not (ends_or_not ending) (same_or_not text_or_not lines (whole ending)))))
-    where
-      whole : RunEnding → List (List ℕ)
-      whole ending = printed_lines setting state ++ ending_line ending ∷ []
-
-      Ends : RunEnding → Type 0
-      Ends ending = EndsAs setting state ending × (lines ≡ whole ending)
-
-      by : ((ending : RunEnding) × Ends ending) ⊎ ((ending : RunEnding) → Ends ending → ⊥)
-          → ((ending : RunEnding) × EndsAs setting state ending × (lines ≡ printed_lines setting state ++ ending_line ending ∷ []))
-          ⊎ ((ending : RunEnding) × EndsAs setting state ending × (lines ≡ printed_lines setting state ++ ending_line ending ∷ []) → ⊥)
-      unfolding whole Ends
-      by (inl h) = inl (h.0, h.1.0, h.1.1)
-      by (inr none) = inr (λ h. none h.0 (h.1, h.2))
+  printed_or_not lines =
+      either_or_not (begins_or_not text_or_not lines (printed_lines setting state))
+      (whole_or_not lines (some_ending (EndsWithLines lines) (λ ending. both_or_not (ends_or_not ending) (same_or_not text_or_not lines (printed_lines setting state ++ ending_line ending ∷ [])))))
 
 -- A run follows what lines tell
 
@@ -77,17 +75,16 @@ module _ (setting : Setting) where
   has_done : (first rest : List Choice) (state : RunState) → played setting first (beginning_of setting) ≡ Some state → HasDone (first ++ rest)
   unfolding HasDone
   has_done first [] state plays = (first, state, plays, inl (append-nil first))
-  has_done first (choice ∷ rest) state plays = by (chosen setting choice state) refl
+  has_done first (choice ∷ rest) state plays = by (λ next goes. has_done (first ++ choice ∷ []) rest next goes) (chosen setting choice state) refl
     where
-      by : (found : Option RunState) → chosen setting choice state ≡ found → HasDone (first ++ choice ∷ rest)
-      unfolding HasDone
-      by None e = (
+      by : ((next : RunState) → played setting (first ++ choice ∷ []) (beginning_of setting) ≡ Some next → HasDone ((first ++ choice ∷ []) ++ rest)) → (found : Option RunState) → chosen setting choice state ≡ found → HasDone (first ++ choice ∷ rest)
+      by then None e = (
         first,
         state,
         plays,
         inr (record { first = first; choice = choice; rest = rest; told_are = refl; state = state; plays = plays; impossible = e; others = []; done_are = sym (append-nil first) }),
       )
-      by (Some next) e = subst HasDone (append_assoc first (choice ∷ []) rest) (has_done (first ++ choice ∷ []) rest next (played-last setting first choice (beginning_of setting) state next plays e))
+      by then (Some next) e = subst HasDone (append_assoc first (choice ∷ []) rest) (then next (played-last setting first choice (beginning_of setting) state next plays e))
 
   follows : (lines : List (List ℕ)) → (last : RunState) × Follows setting lines last
   unfolding HasDone
@@ -99,33 +96,44 @@ module _ (setting : Setting) (is : IsRunnable setting) (text : List ℕ) where
   abbrev lines : List (List ℕ)
   lines = text_lines text
 
-  Starts : ℕ → Type 0
+  abbrev Starts : ℕ → Type 0
   Starts count = AreFirstLines setting (take count lines)
 
   -- no line at all is how each text begins that a run prints
   starts_at_none : Starts 0
-  unfolding Starts
   starts_at_none =
       let e = cases_end setting [] (beginning_of setting) is.sound is.valid is.limit refl in
       let whole : List ℕ = transcript_text setting.schema e.last.lines ++ ending_line e.ending in
       record { whole = whole; legal = record { choices = e.more; state = e.last; plays = e.plays; ending = e.ending; ends = e.ends; is = refl }; others = text_lines whole; is = refl }
 
   starts_or_not : (count : ℕ) → Starts count ⊎ (Starts count → ⊥)
-  unfolding Starts
   starts_or_not count =
       let f = follows setting lines in
       let d = replays_decide setting (take count lines) (drop count lines) f.0 is.sound is.valid is.limit (subst (λ ls. Follows setting ls f.0) (sym (take-append-drop count lines)) f.1) in
       ⊎_elim (λ (h : ArePrinted setting f.0 (take count lines)). inl (d.1 h)) (λ (none : ArePrinted setting f.0 (take count lines) → ⊥). inr (λ h. none (d.0 h))) (printed_or_not setting f.0 (take count lines))
 
-  so_far : (count : ℕ) → count ≤ length lines → ((more : ℕ) → more ≤ length lines → count < more → Starts more → ⊥) → (n : ℕ) × AreLegalSoFar setting text n
-  so_far count within none = by count within none (starts_or_not count)
-    where
-      by : (k : ℕ) → k ≤ length lines → ((more : ℕ) → more ≤ length lines → k < more → Starts more → ⊥) → Starts k ⊎ (Starts k → ⊥) → (n : ℕ) × AreLegalSoFar setting text n
-      unfolding Starts
-      by k within none (inl h) =
-          (k, record { there = within; first = h; most = λ more there first. ⊎_elim (λ (past : k < more). absurd (none more there past first)) (λ (most : more ≤ k). most) (cases_lt k more) })
-      by zero within none (inr no_start) = absurd (no_start starts_at_none)
-      by (suc k) within none (inr no_start) = so_far k (omega arith) (λ more there past first. ⊎_elim (λ (later : suc k < more). none more there later first) (λ (here : more ≤ suc k). no_start (subst Starts (omega arith) first)) (cases_lt (suc k) more))
+  abbrev NoneAfter : ℕ → Type 0
+  NoneAfter count = (more : ℕ) → more ≤ length lines → count < more → Starts more → ⊥
+
+  here : (count : ℕ) → count ≤ length lines → NoneAfter count → Starts count → AreLegalSoFar setting text count
+  here count within none starts = record {
+    there = within;
+    first = starts;
+    most = λ more there first. ⊎_elim (λ (past : count < more). absurd (none more there past first)) (λ (most : more ≤ count). most) (cases_lt count more);
+  }
+
+  none_earlier : (count : ℕ) → NoneAfter (suc count) → (Starts (suc count) → ⊥) → NoneAfter count
+  none_earlier count none no_start more there past first =
+      ⊎_elim (λ (later : suc count < more). none more there later first) (λ (most : more ≤ suc count). no_start (subst Starts (omega arith) first)) (cases_lt (suc count) more)
+
+  so_far : (count : ℕ) → count ≤ length lines → NoneAfter count → (n : ℕ) × AreLegalSoFar setting text n
+  so_far zero within none = (0, here 0 within none starts_at_none)
+  so_far (suc count) within none =
+      ⊎_elim (λ (starts : Starts (suc count)). (suc count, here (suc count) within none starts))
+      (λ (no_start : Starts (suc count) → ⊥). so_far count (omega arith) (none_earlier count none no_start)) (starts_or_not (suc count))
+
+  abbrev Ends : RunState → RunEnding → Type 0
+  Ends last ending = EndsAs setting last ending × (text ≡ transcript_text setting.schema last.lines ++ ending_line ending)
 
   legal_or_not : IsLegalText setting text ⊎ (IsLegalText setting text → ⊥)
   legal_or_not =
@@ -133,13 +141,9 @@ module _ (setting : Setting) (is : IsRunnable setting) (text : List ℕ) where
       let d = legal_texts_decide setting text f.0 is.sound is.valid f.1 in
       by f.0 d (some_ending (Ends f.0) (λ ending. both_or_not (ends_or_not setting f.0 ending) (text_or_not text (transcript_text setting.schema f.0.lines ++ ending_line ending))))
     where
-      Ends : RunState → RunEnding → Type 0
-      Ends last ending = EndsAs setting last ending × (text ≡ transcript_text setting.schema last.lines ++ ending_line ending)
-
       by : (last : RunState) → (IsLegalText setting text → (ending : RunEnding) × EndsAs setting last ending × (text ≡ transcript_text setting.schema last.lines ++ ending_line ending))
           × ((ending : RunEnding) × EndsAs setting last ending × (text ≡ transcript_text setting.schema last.lines ++ ending_line ending) → IsLegalText setting text)
           → ((ending : RunEnding) × Ends last ending) ⊎ ((ending : RunEnding) → Ends last ending → ⊥) → IsLegalText setting text ⊎ (IsLegalText setting text → ⊥)
-      unfolding Ends
       by last d (inl h) = inl (d.1 (h.0, h.1.0, h.1.1))
       by last d (inr none) = inr (λ legal. let h = d.0 legal in none h.0 (h.1, h.2))
 

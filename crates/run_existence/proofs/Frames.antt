@@ -25,16 +25,16 @@ module _ (schema : Schema) (sound : IsSound schema) where
   has_frames : (fuel offset : ℕ) (bytes : List ℕ) → AreBytes bytes → length bytes ≤ fuel → HasFrames schema offset bytes
   has_frames fuel offset [] are few = ([], None, ends offset)
   has_frames zero offset (b ∷ bs) are few = absurd (omega arith)
-  has_frames (suc fuel) offset (b ∷ bs) are few = by (cases schema sound (b ∷ bs) are).some
+  has_frames (suc fuel) offset (b ∷ bs) are few = by (λ after rest fits less. has_frames fuel after rest fits less) (cases schema sound (b ∷ bs) are).some
     where
-      by : SomeBegins (layout_at (b ∷ bs)) schema (b ∷ bs) → HasFrames schema offset (b ∷ bs)
-      by (inl (message, n, begins)) =
+      by : ((after : ℕ) (rest : List ℕ) → AreBytes rest → length rest ≤ fuel → HasFrames schema after rest) → SomeBegins (layout_at (b ∷ bs)) schema (b ∷ bs) → HasFrames schema offset (b ∷ bs)
+      by more (inl (message, n, begins)) =
           let some = some_bytes (layout_at (b ∷ bs)) schema (b ∷ bs) message n begins in
           let less = length-drop n (b ∷ bs) in
-          let rest = has_frames fuel (offset + n) (drop n (b ∷ bs)) (bytes_behind n (b ∷ bs) are) (omega arith) in
+          let rest = more (offset + n) (drop n (b ∷ bs)) (bytes_behind n (b ∷ bs) are) (omega arith) in
           (placed_at offset message ∷ rest.0, rest.1, frame offset n (b ∷ bs) message rest.0 rest.1 begins rest.2)
-      by (inr (inl (missing, short))) = ([], Some (Short offset missing), faults offset (b ∷ bs) (Short offset missing) (λ e. cc) (refl, short))
-      by (inr (inr (within, rule, bad))) =
+      by more (inr (inl (missing, short))) = ([], Some (Short offset missing), faults offset (b ∷ bs) (Short offset missing) (λ e. cc) (refl, short))
+      by more (inr (inr (within, rule, bad))) =
           ([], Some (Broken (offset + within) (frame_rule rule)), faults offset (b ∷ bs) (Broken (offset + within) (frame_rule rule)) (λ e. cc) (within, rule, bad, refl, refl))
 
 pub bytes_have_frames : BytesHaveFrames

@@ -88,27 +88,33 @@ module _ (schema : Schema) (sound : IsSound schema) (top : ℕ) where
     sound_so : AreSound schema top types built
     live : is_built built top ≡ true
 
-  all_known : (fuel : ℕ) (types : List ℕ) (built : List Bool) → IsSoFar types built → known types + unbuilt built < fuel → HasKnown schema top
-  all_known zero types built at few = absurd (omega arith)
-  all_known (suc fuel) types built at few = by_types (lesser_or_closed schema types built)
-    where
-      by_messages : ((t : ℕ) → IsClosedType schema types built t) → ((row : MessageRow) × IsMessageOf schema.protocols row × Builds types built row) ⊎ ((row : MessageRow) → IsMessageOf schema.protocols row → IsClosedMessage types built row) → HasKnown schema top
-      by_messages closed (inl (row, of, b)) =
-          let more = slice_set built b.protocol true in
-          let look : MessagesLook schema types (λ (seen : MessageRow). seen ≡ row) built more true = message-built schema types built row b.protocol b.kind (right-message schema sound built at.count row of) b.missing b.sent in
-          let less = look.less refl in
-          all_known fuel types more (record { size = at.size; count = look.size ∙ at.count; sound_so = look.sound top at.sound_so; live = look.kept top at.live }) (omega (arith, few, less))
-      by_messages closed (inr quiet) = (types, built, record { sound = at.sound_so; closed = record { top_built = at.live; all_types = closed; all_messages = quiet } })
+  -- what is known where so much more is
+  abbrev FromHere : ℕ → Type 0
+  FromHere fuel = (types : List ℕ) (built : List Bool) → IsSoFar types built → known types + unbuilt built < fuel → HasKnown schema top
 
-      by_types : ((t : ℕ) × HasLesser schema types built t) ⊎ ((t : ℕ) → IsClosedType schema types built t) → HasKnown schema top
-      by_types (inl (t, h)) =
-          let within : t < length types = subst (λ n. t < n) (sym at.size) (slice_get_within schema.types t h.row h.is) in
-          let before : ℕ = slice_index_or types t too_many in
-          let lower = slice_set types t (row_least types built h.row) in
-          let look : TypeLook schema built t types lower true = lower-by schema built t types h.row h.is within (row_least types built h.row) before refl (get_or_default types t too_many before within) h.less in
-          let less = look.less refl in
-          all_known fuel lower built (record { size = look.size ∙ at.size; count = at.count; sound_so = look.sound top at.sound_so; live = at.live }) (omega (arith, few, less))
-      by_types (inr closed) = by_messages closed (builds_or_closed schema types built)
+  by_messages : (fuel : ℕ) → FromHere fuel → (types : List ℕ) (built : List Bool) → IsSoFar types built → known types + unbuilt built < suc fuel → ((t : ℕ) → IsClosedType schema types built t)
+      → ((row : MessageRow) × IsMessageOf schema.protocols row × Builds types built row) ⊎ ((row : MessageRow) → IsMessageOf schema.protocols row → IsClosedMessage types built row) → HasKnown schema top
+  by_messages fuel then types built at few closed (inl (row, of, b)) =
+      let more = slice_set built b.protocol true in
+      let look : MessagesLook schema types (λ (seen : MessageRow). seen ≡ row) built more true = message-built schema types built row b.protocol b.kind (right-message schema sound built at.count row of) b.missing b.sent in
+      let less = look.less refl in
+      then types more (record { size = at.size; count = look.size ∙ at.count; sound_so = look.sound top at.sound_so; live = look.kept top at.live }) (omega (arith, few, less))
+  by_messages fuel then types built at few closed (inr quiet) = (types, built, record { sound = at.sound_so; closed = record { top_built = at.live; all_types = closed; all_messages = quiet } })
+
+  by_types : (fuel : ℕ) → FromHere fuel → (types : List ℕ) (built : List Bool) → IsSoFar types built → known types + unbuilt built < suc fuel
+      → ((t : ℕ) × HasLesser schema types built t) ⊎ ((t : ℕ) → IsClosedType schema types built t) → HasKnown schema top
+  by_types fuel then types built at few (inl (t, h)) =
+      let within : t < length types = subst (λ n. t < n) (sym at.size) (slice_get_within schema.types t h.row h.is) in
+      let before : ℕ = slice_index_or types t too_many in
+      let lower = slice_set types t (row_least types built h.row) in
+      let look : TypeLook schema built t types lower true = lower-by schema built t types h.row h.is within (row_least types built h.row) before refl (get_or_default types t too_many before within) h.less in
+      let less = look.less refl in
+      then lower built (record { size = look.size ∙ at.size; count = at.count; sound_so = look.sound top at.sound_so; live = at.live }) (omega (arith, few, less))
+  by_types fuel then types built at few (inr closed) = by_messages fuel then types built at few closed (builds_or_closed schema types built)
+
+  all_known : (fuel : ℕ) → FromHere fuel
+  all_known zero types built at few = absurd (omega arith)
+  all_known (suc fuel) types built at few = by_types fuel (λ more more_built at_more less. all_known fuel more more_built at_more less) types built at few (lesser_or_closed schema types built)
 
   has_known : top < length schema.protocols → HasKnown schema top
   has_known there =

@@ -117,32 +117,32 @@ module _ (setting : Setting) (is : IsRunnable setting) where
   has_rest : (fuel idle : ℕ) (side : Side) (state : RunState) → IsReached setting state → 6 * setting.limit + idle ≤ 3 * events state + fuel → HasLast (Rests setting side idle state)
   has_rest fuel zero side state at few = record { last = state; ending = at_rest; leads_to = rests side state; case = at.case; spent = tt }
   has_rest zero (suc idle) side state at few = let most = few_events state at in absurd (omega (arith, few, most))
-  has_rest (suc fuel) (suc idle) side state at few = by (turn_case (whole_turn side) state at)
+  has_rest (suc fuel) (suc idle) side state at few = by (λ left from reached less. has_rest fuel left (other side) from reached less) (turn_case (whole_turn side) state at)
     where
-      by : TurnCase setting (whole_turn side) state → HasLast (Rests setting side (suc idle) state)
-      by (goes next e l) =
+      by : ((left : ℕ) (from : RunState) → IsReached setting from → 6 * setting.limit + left ≤ 3 * events from + fuel → HasLast (Rests setting (other side) left from)) → TurnCase setting (whole_turn side) state → HasLast (Rests setting side (suc idle) state)
+      by then (goes next e l) =
           let more = l.more in
-          let rest = has_rest fuel 2 (other side) next l.reached (omega (arith, few, more)) in
+          let rest = then 2 next l.reached (omega (arith, few, more)) in
           record { last = rest.last; ending = rest.ending; leads_to = goes_on side idle state next rest.last rest.ending e rest.leads_to; case = rest.case; spent = rest.spent }
-      by (waits e) =
-          let rest = has_rest fuel idle (other side) state at (omega (arith, few)) in
+      by then (waits e) =
+          let rest = then idle state at (omega (arith, few)) in
           record { last = rest.last; ending = rest.ending; leads_to = passes side idle state rest.last rest.ending e rest.leads_to; case = rest.case; spent = rest.spent }
-      by (fails e full busy) = record { last = state; ending = at_limit side; leads_to = stops side idle state e; case = at.case; spent = (full, busy) }
+      by then (fails e full busy) = record { last = state; ending = at_limit side; leads_to = stops side idle state e; case = at.case; spent = (full, busy) }
 
   has_run : (word : List Turn) (state : RunState) → IsReached setting state → HasLast (Picks setting word state)
   has_run [] state at =
       let rest = has_rest (6 * setting.limit + 2) 2 sides.Parent state at (omega arith) in
       record { last = rest.last; ending = rest.ending; leads_to = word_ends state rest.last rest.ending rest.leads_to; case = rest.case; spent = rest.spent }
-  has_run (turn ∷ word) state at = by (turn_case turn state at)
+  has_run (turn ∷ word) state at = by (λ from reached. has_run word from reached) (turn_case turn state at)
     where
-      by : TurnCase setting turn state → HasLast (Picks setting (turn ∷ word) state)
-      by (goes next e l) =
-          let rest = has_run word next l.reached in
+      by : ((from : RunState) → IsReached setting from → HasLast (Picks setting word from)) → TurnCase setting turn state → HasLast (Picks setting (turn ∷ word) state)
+      by then (goes next e l) =
+          let rest = then next l.reached in
           record { last = rest.last; ending = rest.ending; leads_to = turn_leads turn word state next rest.last rest.ending e rest.leads_to; case = rest.case; spent = rest.spent }
-      by (waits e) =
-          let rest = has_run word state at in
+      by then (waits e) =
+          let rest = then state at in
           record { last = rest.last; ending = rest.ending; leads_to = turn_idles turn word state rest.last rest.ending e rest.leads_to; case = rest.case; spent = rest.spent }
-      by (fails e full busy) = record { last = state; ending = at_limit turn.side; leads_to = turn_exceeds turn word state e; case = at.case; spent = (full, busy) }
+      by then (fails e full busy) = record { last = state; ending = at_limit turn.side; leads_to = turn_exceeds turn word state e; case = at.case; spent = (full, busy) }
 
   -- a run that leads to a last state ends there
   ends_so : (word : List Turn) (last : RunState) (ending : RunEnding) → Picks setting word (beginning_of setting) last ending → IsSpentAt last ending → EndsAs setting last ending
