@@ -141,7 +141,7 @@ read_rejected from = option_map (λ found. forms.RejectKept found.0 found.1) (wh
 
 -- behind `resolve`, where a bracket stands first or does not
 abbrev resolved_by : List ScriptToken → Option (Unit {0} × List ScriptToken) → Option Statement
-resolved_by from (Some open) = option_map forms.Resolve (whole (read_arguments from))
+resolved_by from (Some bracket_mark) = option_map forms.Resolve (whole (read_arguments from))
 resolved_by from None = option_map (λ found. forms.ResolveKept found.0 found.1) (whole (read_both (read_single name_of from) read_call))
 
 -- behind a side: `main`, or `on` and a message
@@ -228,9 +228,9 @@ opened_by-finds side from found read = elim (cases_Bool (bytes_eq found.0 (codes
 -- behind `resolve` and `reject`
 
 resolved_by-finds : (from : List ScriptToken) (o : Option (Unit {0} × List ScriptToken)) → Finds (AtFront (marked 40) from) o → Finds (IsBehind keyword.Resolve from) (resolved_by from o)
-resolved_by-finds from (Some open) at =
+resolved_by-finds from (Some bracket_mark) at =
     finds_as (λ vs. arguments vs from []) (IsBehind keyword.Resolve from) forms.Resolve (λ vs h. (refl, h))
-    (λ none. only_resolve from none (λ n c h. mark_no_name 40 n from open.1 h.0 at h.1))
+    (λ none. only_resolve from none (λ n c h. mark_no_name 40 n from bracket_mark.1 h.0 at h.1))
     (whole (read_arguments from))
     (whole_finds arguments same_arguments from (read_arguments from) (arguments_find from))
 resolved_by-finds from None closed =

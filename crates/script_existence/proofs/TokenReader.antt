@@ -38,18 +38,18 @@ number_finds limit from = number_by-finds limit from (take_while is_digit from) 
 
 -- Bytes in quotes
 
-abbrev Bytes : Type 0
+abbrev pub Bytes : Type 0
 Bytes = List ℕ → Option (ℕ × List ℕ)
 
-abbrev one_more : ℕ → List ℕ × List ℕ → List ℕ × List ℕ
+abbrev pub one_more : ℕ → List ℕ × List ℕ → List ℕ × List ℕ
 one_more b found = (b ∷ found.0, found.1)
 
-abbrev bytes_by : (List ℕ → List ℕ × List ℕ) → List ℕ → Option (ℕ × List ℕ) → List ℕ × List ℕ
+abbrev pub bytes_by : (List ℕ → List ℕ × List ℕ) → List ℕ → Option (ℕ × List ℕ) → List ℕ × List ℕ
 bytes_by more from None = ([], from)
 bytes_by more from (Some found) = one_more found.0 (more found.1)
 
 -- the bytes at the front, each as `at` finds it, at most so many; and what is left
-abbrev read_bytes : Bytes → ℕ → List ℕ → List ℕ × List ℕ
+abbrev pub read_bytes : Bytes → ℕ → List ℕ → List ℕ × List ℕ
 read_bytes at zero from = ([], from)
 read_bytes at (suc n) from = bytes_by (read_bytes at n) from (at from)
 
@@ -73,15 +73,15 @@ bytes_find : (at : Bytes) → Shortens at → (n : ℕ) (from : List ℕ) → le
 bytes_find at shortens zero from below = absurd (omega arith)
 bytes_find at shortens (suc n) from below = bytes_by-finds at shortens n (bytes_find at shortens n) from below (at from) refl
 
-abbrev quoted_by : List ℕ → List ℕ → Option (List ℕ × List ℕ)
+abbrev pub quoted_by : List ℕ → List ℕ → Option (List ℕ × List ℕ)
 quoted_by bytes [] = None
 quoted_by bytes (b ∷ to) = if b == 34 then Some (bytes, to) else None
 
-abbrev quoted : List ℕ × List ℕ → Option (List ℕ × List ℕ)
+abbrev pub quoted : List ℕ × List ℕ → Option (List ℕ × List ℕ)
 quoted found = quoted_by found.0 found.1
 
 -- the bytes up to a quote, and what is left behind it
-abbrev read_quoted : Bytes → List ℕ → Option (List ℕ × List ℕ)
+abbrev pub read_quoted : Bytes → List ℕ → Option (List ℕ × List ℕ)
 read_quoted at from = quoted (read_bytes at (suc (length from)) from)
 
 quoted_by-finds : (at : Bytes) → ((to : List ℕ) → at (34 ∷ to) ≡ None) → (from bytes rest : List ℕ) → InSequence at bytes from rest → at rest ≡ None → Finds (AtFront (InQuotes at) from) (quoted_by bytes rest)
@@ -98,14 +98,17 @@ quoted_finds at shortens quote from =
 
 -- two hexadecimal digits take some of the text, and so does a byte of a text between quotes
 
-tail_is : (make : ℕ → ℕ) (o : Option ℕ) (rest : List ℕ) (b : ℕ) (to : List ℕ) → option_map (λ c. (make c, rest)) o ≡ Some (b, to) → rest ≡ to
-tail_is make None rest b to e = absurd (let no : ⊥ = cc in no)
-tail_is make (Some c) rest b to e = ap (λ (o : Option (ℕ × List ℕ)). (unwrap_or o (0, [])).1) e
+abbrev before_rest : Option ℕ → List ℕ → Option (ℕ × List ℕ)
+before_rest o rest = option_map (λ c. (c, rest)) o
+
+tail_is : (o : Option ℕ) (rest : List ℕ) (b : ℕ) (to : List ℕ) → before_rest o rest ≡ Some (b, to) → rest ≡ to
+tail_is None rest b to e = absurd (let no : ⊥ = cc in no)
+tail_is (Some c) rest b to e = ap (λ (o : Option (ℕ × List ℕ)). (unwrap_or o (0, [])).1) e
 
 hex_shortens : Shortens hex_at
 hex_shortens [] b to e = absurd (let no : ⊥ = cc in no)
 hex_shortens (high ∷ []) b to e = absurd (let no : ⊥ = cc in no)
-hex_shortens (high ∷ low ∷ rest) b to e = let same = ap length (tail_is (λ c. c) (hex_byte high low) rest b to e) in omega arith
+hex_shortens (high ∷ low ∷ rest) b to e = let same = ap length (tail_is (hex_byte high low) rest b to e) in omega arith
 
 ascii_same : (o : Option (ℕ × List ℕ)) (found : ℕ × List ℕ) → option_and_then if_ascii o ≡ Some found → o ≡ Some found
 ascii_same None found e = absurd (let no : ⊥ = cc in no)
@@ -118,7 +121,7 @@ escaped_shortens : Shortens escaped_at
 escaped_shortens [] b to e = absurd (let no : ⊥ = cc in no)
 escaped_shortens (c ∷ rest) b to e = elim (cases_Bool (c == 120)) [
   | inl hex ↦ (let shorter = hex_shortens rest b to (ascii_same (hex_at rest) (b, to) (rw hex at e)) in omega arith)
-  | inr other ↦ (let same = ap length (tail_is (λ d. d) (escape c) rest b to (rw other at e)) in omega arith)
+  | inr other ↦ (let same = ap length (tail_is (escape c) rest b to (rw other at e)) in omega arith)
 ]
 
 character_shortens : Shortens character_at
@@ -127,7 +130,7 @@ character_shortens (c ∷ rest) b to e = elim (cases_Bool (c == 34)) [
   | inl quote ↦ absurd (let none : None ≡ Some (b, to) = rw quote at e in let no : ⊥ = cc in no)
   | inr no_quote ↦ elim (cases_Bool (c == 92)) [
       | inl escaped ↦ (let shorter = escaped_shortens rest b to (rw (no_quote, escaped) at e) in omega arith)
-      | inr plain ↦ (let same = ap length (tail_is (λ d. d) (Some c) rest b to (rw (no_quote, plain) at e)) in omega arith)
+      | inr plain ↦ (let same = ap length (tail_is (Some c) rest b to (rw (no_quote, plain) at e)) in omega arith)
     ]
 ]
 

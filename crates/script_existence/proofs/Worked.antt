@@ -1,5 +1,5 @@
 -- Worked lines, and a worked text.
-use Rattle.std.proofs.Common.{◌≡◌, ℕ, pos, negsuc, false, List, [], ◌∷◌, refl}
+use Rattle.std.proofs.Common.{◌≡◌, ℕ, pos, negsuc, false, List, [], ◌∷◌, Some, refl}
 use Rattle.std.specs.Prelude.{codes}
 use denote.RawPtr.{null_ptr}
 use Rattle.ipdl_base.specs.Plain.{one_box}
@@ -14,7 +14,9 @@ use Rattle.script_reader.specs.declared.written.WrittenValue.{WrittenValue, Unio
 use Rattle.script_reader.specs.declared.written.WrittenValue.TheVariants as written
 use Rattle.script_reader.specs.declared.written.WrittenValues.{WrittenValues, First'}
 use Rattle.script_reader.specs.declared.written.WrittenValues.TheVariants as values
+use Rattle.script_reader.specs.Tokens.{character_at}
 use Rattle.script_existence.proofs.LineReader.{reading_of, readings_of}
+use Rattle.script_existence.proofs.TokenReader.{read_quoted}
 
 -- a line that is this statement
 abbrev says : Statement → LineReading
@@ -47,7 +49,7 @@ unclosed : reading_of (codes "return (1") ≡ reading.NoStatement
 unclosed = refl
 
 -- a text with an escape, and bytes of half a digit
-escape : reading_of (codes "send top P.M(\"a\\x41\")") ≡ says (forms.Send whos.Top (record { message = record { protocol = codes "P"; message = codes "M" }; values = and_then (written.Atom (atom.Text (codes "aA"))) values.Nothing }))
+escape : read_quoted character_at (codes "a\\x41\", 1") ≡ Some (codes "aA", codes ", 1")
 escape = refl
 
 half : reading_of (codes "return (h\"0\")") ≡ reading.NoStatement
