@@ -1,5 +1,5 @@
 -- Whether something holds is decided: tests, what is in an option, orders, and types.
-use Rattle.std.proofs.Common.{◌≡◌, ◌⊎◌, ℕ, Bool, true, false, List, ℤ, pos, ◌≤ℤ◌, Option, Some, None, inl, inr, refl, ap, ◌∙◌, sym, arith}
+use Rattle.std.proofs.Common.{◌≡◌, ◌⊎◌, ℕ, Bool, true, false, ℤ, ◌≤ℤ◌, Option, Some, None, inl, inr, refl, ap, ◌∙◌, sym, arith}
 use Rattle.std.specs.Prelude.{IsSomeAnd}
 use Rattle.std.specs.Bool.{Decides}
 use Rattle.std.proofs.lemmas.Bool.{true≢false, cases_Bool, cases_eq}

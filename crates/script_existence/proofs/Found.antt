@@ -1,5 +1,5 @@
 -- What is found, or that nothing is.
-use Rattle.std.proofs.Common.{◌≡◌, Option, Some, None, option_map, option_and_then}
+use Rattle.std.proofs.Common.{Option, Some, None, option_map, option_and_then}
 
 -- this is found; or nothing is that holds
 abbrev pub Finds : {X : Type 0} → (X → Type 0) → Option X → Type 0

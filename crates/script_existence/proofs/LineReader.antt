@@ -1,6 +1,6 @@
 -- What a line says, as a function; so each line says something, and the lines of each text are read.
-use Rattle.std.proofs.Common.{◌≡◌, ◌⊎◌, ℕ, ◌<◌, ◌≤◌, ltb, ◌==◌, Bool, true, false, List, [], ◌∷◌, length, map, Option, Some, None, option_and_then, inl, inr, refl, sym, ap, ◌∙◌, subst, arith}
-use Rattle.std.proofs.lemmas.Bool.{cases_Bool, eqb-true, eqb-false, ltb-true, ltb-false}
+use Rattle.std.proofs.Common.{◌≡◌, ℕ, ◌≤◌, ltb, ◌==◌, Bool, true, false, List, [], ◌∷◌, length, map, Option, Some, None, option_and_then, inl, inr, refl, sym, ap, ◌∙◌, subst}
+use Rattle.std.proofs.lemmas.Bool.{eqb-true, eqb-false, ltb-true, ltb-false}
 use denote.RawPtr.{null_ptr}
 use Rattle.script_reader.specs.declared.line.LineReading.{LineReading}
 use Rattle.script_reader.specs.declared.line.LineReading.TheVariants as reading

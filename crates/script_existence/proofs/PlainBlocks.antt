@@ -1,5 +1,5 @@
 -- The blocks of lines have every box at one place.
-use Rattle.std.proofs.Common.{◌≡◌, ℕ, ◌==◌, true, false, if◌then◌else◌, List, [], ◌∷◌, ◌++◌, map, length, filter_map, Option, Some, None, unwrap_or, option_map, inl, inr, refl, ap, ap₂, ◌∙◌}
+use Rattle.std.proofs.Common.{◌≡◌, ℕ, ◌==◌, List, [], ◌∷◌, ◌++◌, map, length, filter_map, Option, Some, None, unwrap_or, option_map, inl, inr, refl, ap, ap₂, ◌∙◌}
 use Rattle.std.specs.List.{cons_option}
 use Rattle.std.specs.Option.{option_map_or}
 use Rattle.std.proofs.lemmas.Bool.{cases_Bool}
@@ -35,7 +35,7 @@ use Rattle.handler_script.specs.Broken.{types_of}
 use Rattle.handler_script.specs.Messages.{named}
 use Rattle.handler_script.specs.Plain.{plain_term, plain_terms, plain_action, plain_block}
 use Rattle.handler_script.specs.ScriptOf.{inside, typed, action_by, action_of, reply_of, first_of, block_of, blocks_at, blocks_of}
-use Rattle.handler_script.specs.Terms.{number_of, bytes_term, who_term, atom_term, term_of, elements_of, terms_of}
+use Rattle.handler_script.specs.Terms.{bytes_term, who_term, atom_term, term_of, elements_of, terms_of}
 
 -- Terms
 

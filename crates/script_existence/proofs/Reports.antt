@@ -1,5 +1,5 @@
 -- The findings of a text are listed, so there is the report of the rules that it breaks.
-use Rattle.std.proofs.Common.{◌≡◌, ◌≢◌, ◌⊎◌, ℕ, zero, suc, ◌+◌, List, [], ◌∷◌, map, take, drop, slice_get, Contains, Option, Some, inl, inr, refl, sym, ap, subst, ⊎_elim}
+use Rattle.std.proofs.Common.{◌≡◌, ◌≢◌, ◌⊎◌, ℕ, zero, suc, ◌+◌, List, [], ◌∷◌, map, take, drop, slice_get, Contains, inl, inr, refl, sym, ap, subst}
 use Rattle.std.proofs.lemmas.Option.{same_Some}
 use Rattle.ipdl_base.specs.declared.finding.Finding.{Finding}
 use Rattle.ipdl_base.specs.declared.finding.Place.{Place}
@@ -17,7 +17,7 @@ use Rattle.report_existence.proofs.Finite.{contains_none, contains_more, contain
 use Rattle.report_existence.proofs.Sorted.{report_of}
 use Rattle.script_existence.specs.Laws.{ReportsExist}
 use Rattle.script_existence.proofs.Decided.{IsDecided, some_decided}
-use Rattle.script_existence.proofs.LineReader.{readings_of, texts_have_readings}
+use Rattle.script_existence.proofs.LineReader.{texts_have_readings}
 use Rattle.script_existence.proofs.RulesListed.{line_listed}
 
 -- Findings at one place

@@ -1,6 +1,6 @@
 -- The rules that a line breaks are listed.
-use Rattle.std.proofs.Common.{◌≡◌, ◌≢◌, ◌⊎◌, ℕ, Bool, true, false, List, [], ◌∷◌, slice_get, Option, Some, None, is_some, inl, inr, refl, sym, ⊎_elim}
-use Rattle.std.specs.Prelude.{IsTrue, IsSome, IsNone, IsSomeAnd, option_and_then}
+use Rattle.std.proofs.Common.{◌≡◌, ◌⊎◌, Bool, false, List, slice_get, Option, Some, None, is_some, inl, inr, sym}
+use Rattle.std.specs.Prelude.{IsTrue, IsNone, IsSomeAnd, option_and_then}
 use Rattle.std.specs.List.{list_any}
 use Rattle.ipdl_base.specs.declared.finding.Rule.{Rule}
 use Rattle.ipdl_base.specs.declared.finding.TheConstants.Rule as rule
@@ -12,12 +12,11 @@ use Rattle.script_reader.specs.declared.line.LineReading.TheVariants as line
 use Rattle.script_reader.specs.declared.statement.Statement.{Statement}
 use Rattle.script_reader.specs.declared.statement.Statement.TheVariants as forms
 use Rattle.script_reader.specs.declared.written.WrittenValues.{WrittenValues}
-use Rattle.handler_script.specs.Blocks.{opens, closes, answers, IsInBlock, IsFollowed, BlockContext, standing_of, side_of, given_in, handled_in}
+use Rattle.handler_script.specs.Blocks.{opens, closes, answers, IsFollowed, BlockContext, standing_of, side_of, given_in, handled_in}
 use Rattle.handler_script.specs.Broken.{is_main, IsSecondMain, IsInside, BreaksBlocks, NamesNone, sent, is_misdirected, IsMissent, is_uncarried, IsUnsent, is_absent, is_no_actor, types_by, AreUnfit, ValuesBreak, is_unknown, IsMisplaced, IsNotAllowed, OpeningBreaks, BlockBreaks, InsideBreaks, MessageBreaks, StatementBreaks, LineBreaks}
 use Rattle.handler_script.specs.Knowing.{place_of}
 use Rattle.handler_script.specs.Mentions.{any_mentions, values_of, who_of, message_of, speaks_of}
 use Rattle.handler_script.specs.Messages.{named, sends, resolves, replies, is_constructor}
-use Rattle.handler_script.specs.Terms.{EachFits}
 use Rattle.handler_script.proofs.Standing.{at_place, in_block}
 use Rattle.report_existence.specs.Laws.{IsListed}
 use Rattle.report_existence.proofs.Finite.{either_or_not, both_or_not, not_or, same_places, no_place, one_place, either_place, when}

@@ -1,5 +1,5 @@
 -- The statement that tokens are, as a function, and that it finds one exactly where there is one.
-use Rattle.std.proofs.Common.{◌≡◌, ℕ, true, false, if◌then◌else◌, List, [], ◌∷◌, Option, Some, None, option_map, option_and_then, inl, inr, refl, sym, ap, ◌∙◌, subst}
+use Rattle.std.proofs.Common.{◌≡◌, ℕ, false, if◌then◌else◌, List, [], ◌∷◌, Option, Some, None, option_map, option_and_then, inl, inr, refl, sym, ap, ◌∙◌, subst}
 use Rattle.std.specs.Prelude.{codes}
 use Rattle.std.specs.Str.{bytes_eq}
 use Rattle.std.proofs.lemmas.Bool.{cases_Bool, true≢false}
@@ -17,7 +17,7 @@ use Rattle.script_reader.specs.declared.token.ScriptToken.TheVariants as token
 use Rattle.script_reader.specs.declared.written.Who.{Who}
 use Rattle.script_reader.specs.declared.written.WrittenValues.{WrittenValues}
 use Rattle.script_reader.specs.Grammar.{name_of, name, who_of, who, keyword_of, message, listed, arguments, call, keyword_for, behind_keyword, statement}
-use Rattle.script_reader.specs.Parts.{Part, ◌⨾◌, mark, word, single}
+use Rattle.script_reader.specs.Parts.{Part, ◌⨾◌, word, single}
 use Rattle.script_reader.specs.Reading.{IsBehind}
 use Rattle.script_reader.proofs.StatementForms.{same_word, same_name, same_who, same_message, same_arguments, same_call, not_behind, not_whole, only_send, only_new, only_let, only_resolve, only_reject, only_keep, only_return, only_on, mark_no_name}
 use Rattle.script_reader.proofs.ValueForms.{one_single, tail_of}
@@ -214,15 +214,15 @@ opened_by-finds : (side : Side) (from : List ScriptToken) (found : List ℕ × L
 opened_by-finds side from found read = elim (cases_Bool (bytes_eq found.0 (codes "main"))) [
   | inl main ↦ rw main (main_finds side from found.0 found.1 read ((bytes_eq-Decides found.0 (codes "main")).0 main))
   | inr no_main ↦ elim (cases_Bool (bytes_eq found.0 (codes "on"))) [
-      | inl on ↦ (
-          let is = (bytes_eq-Decides found.0 (codes "on")).0 on in
-          rw (no_main, on) (finds_as (λ m. message m found.1 []) (IsBehind (keyword.Side side) from) (forms.On side)
-          (λ m h. (refl, (found.1, read ∙ ap (λ v. token.Word v ∷ found.1) is, h)))
-          (only_on side from found.0 found.1 read is)
-          (whole (read_message found.1))
-          (whole_finds message same_message found.1 (read_message found.1) (message_finds found.1))))
-      | inr no_on ↦ rw (no_main, no_on) (neither_word side from found.0 found.1 read (not_it found.0 (codes "main") no_main) (not_it found.0 (codes "on") no_on))
-    ]
+    | inl on ↦ (
+        let is = (bytes_eq-Decides found.0 (codes "on")).0 on in
+        rw (no_main, on) (finds_as (λ m. message m found.1 []) (IsBehind (keyword.Side side) from) (forms.On side)
+        (λ m h. (refl, (found.1, read ∙ ap (λ v. token.Word v ∷ found.1) is, h)))
+        (only_on side from found.0 found.1 read is)
+        (whole (read_message found.1))
+        (whole_finds message same_message found.1 (read_message found.1) (message_finds found.1))))
+    | inr no_on ↦ rw (no_main, no_on) (neither_word side from found.0 found.1 read (not_it found.0 (codes "main") no_main) (not_it found.0 (codes "on") no_on))
+  ]
 ]
 
 -- behind `resolve` and `reject`

@@ -129,9 +129,9 @@ character_shortens [] b to e = absurd (let no : ⊥ = cc in no)
 character_shortens (c ∷ rest) b to e = elim (cases_Bool (c == 34)) [
   | inl quote ↦ absurd (let none : None ≡ Some (b, to) = rw quote at e in let no : ⊥ = cc in no)
   | inr no_quote ↦ elim (cases_Bool (c == 92)) [
-      | inl escaped ↦ (let shorter = escaped_shortens rest b to (rw (no_quote, escaped) at e) in omega arith)
-      | inr plain ↦ (let same = ap length (tail_is (Some c) rest b to (rw (no_quote, plain) at e)) in omega arith)
-    ]
+    | inl escaped ↦ (let shorter = escaped_shortens rest b to (rw (no_quote, escaped) at e) in omega arith)
+    | inr plain ↦ (let same = ap length (tail_is (Some c) rest b to (rw (no_quote, plain) at e)) in omega arith)
+  ]
 ]
 
 -- Tokens

@@ -1,5 +1,5 @@
 -- The value at the front of tokens, as a function, and that it finds one exactly where there is one.
-use Rattle.std.proofs.Common.{◌≡◌, ℕ, zero, suc, ◌<◌, ◌≤◌, ◌==◌, true, false, if◌then◌else◌, List, [], ◌∷◌, drop, length, Option, Some, None, option_map, option_and_then, inl, inr, refl, sym, ap, ◌∙◌, subst, arith}
+use Rattle.std.proofs.Common.{◌≡◌, ℕ, zero, suc, ◌<◌, ◌==◌, if◌then◌else◌, List, [], ◌∷◌, drop, length, Option, Some, None, option_map, option_and_then, inl, inr, refl, sym, ap, ◌∙◌, subst, arith}
 use Rattle.std.specs.Prelude.{codes}
 use Rattle.std.specs.Str.{bytes_eq}
 use Rattle.std.proofs.lemmas.Bool.{cases_Bool, eqb-true, eqb-false}
@@ -136,9 +136,9 @@ opens_with : (t : ScriptToken) (rest : List ScriptToken) → Opens (begin_with t
 opens_with (token.Mark b) rest = elim (cases_Bool (b == 123)) [
   | inl curly ↦ rw curly (ap (λ c. token.Mark c ∷ rest) (eqb-true b 123 curly))
   | inr other ↦ elim (cases_Bool (b == 91)) [
-      | inl square ↦ rw (other, square) (ap (λ c. token.Mark c ∷ rest) (eqb-true b 91 square))
-      | inr neither ↦ rw (other, neither) tt
-    ]
+    | inl square ↦ rw (other, square) (ap (λ c. token.Mark c ∷ rest) (eqb-true b 91 square))
+    | inr neither ↦ rw (other, neither) tt
+  ]
 ]
 opens_with (token.Index n) rest = refl
 opens_with (token.Word w) rest = elim (cases_Bool (bytes_eq w (codes "some"))) [

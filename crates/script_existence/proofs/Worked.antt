@@ -1,5 +1,5 @@
 -- Worked lines, and a worked text.
-use Rattle.std.proofs.Common.{◌≡◌, ℕ, pos, negsuc, false, List, [], ◌∷◌, Some, refl}
+use Rattle.std.proofs.Common.{◌≡◌, negsuc, [], ◌∷◌, Some, refl}
 use Rattle.std.specs.Prelude.{codes}
 use denote.RawPtr.{null_ptr}
 use Rattle.ipdl_base.specs.Plain.{one_box}
