@@ -54,14 +54,14 @@ named_by (f ∷ files) key c = elim (Contains-append_cases (row_of f.source.cont
 ]
 
 -- and a key that includes name is named by one of them
-included_by : (includes : List Include) (key : List ℕ) → Contains (named_keys includes) key → (n : ℕ) × (i : Include) × (slice_get includes n ≡ Some i) × Contains (named_key i.kind i.name) key
+pub included_by : (includes : List Include) (key : List ℕ) → Contains (named_keys includes) key → (n : ℕ) × (i : Include) × (slice_get includes n ≡ Some i) × Contains (named_key i.kind i.name) key
 included_by [] key c = absurd (in_none key c)
 included_by (i ∷ is) key c = elim (Contains-append_cases (named_key i.kind i.name) (named_keys is) key c) [
   | inl here ↦ (0, i, refl, here)
   | inr there ↦ (let r = included_by is key there in (suc r.0, r.1, r.2, r.3))
 ]
 
-fewer_named : (rows : List (List (List ℕ))) (n : ℕ) (key : List ℕ) → Contains (all_named (take n rows)) key → Contains (all_named rows) key
+pub fewer_named : (rows : List (List (List ℕ))) (n : ℕ) (key : List ℕ) → Contains (all_named (take n rows)) key → Contains (all_named rows) key
 fewer_named [] zero key c = c
 fewer_named [] (suc n) key c = c
 fewer_named (row ∷ rows) zero key c = absurd (in_none key c)

@@ -38,7 +38,7 @@ abbrev pub AreReached : LoadInput → List (List ℕ) → List ReachedFile → T
 AreReached given list files = (number : ℕ) (key : List ℕ) (file : ReachedFile) → slice_get list number ≡ Some key → slice_get files number ≡ Some file → IsReached given list number key file
 
 -- an element of a list with one more is one of the list, or that one
-got_last : {X : Type 0} (xs : List X) (y : X) (n : ℕ) (x : X) → slice_get (xs ++ y ∷ []) n ≡ Some x → (slice_get xs n ≡ Some x) ⊎ ((n ≡ length xs) × (y ≡ x))
+pub got_last : {X : Type 0} (xs : List X) (y : X) (n : ℕ) (x : X) → slice_get (xs ++ y ∷ []) n ≡ Some x → (slice_get xs n ≡ Some x) ⊎ ((n ≡ length xs) × (y ≡ x))
 got_last [] y zero x e = inr (refl, same_Some _ _ e)
 got_last [] y (suc n) x e = absurd (let none : ⊥ = cc in none)
 got_last (z ∷ xs) y zero x e = inl e
@@ -63,7 +63,7 @@ pub long_more : (list row : List (List ℕ)) → length list ≤ length (add_key
 long_more list [] = omega arith
 long_more list (k ∷ row) = let a = long_one list k in let b = long_more (add_key list k) row in omega arith
 
-added : (list row : List (List ℕ)) (n : ℕ) (key : List ℕ) → slice_get (add_keys list row) n ≡ Some key → (slice_get list n ≡ Some key) ⊎ ((length list ≤ n) × Contains row key)
+pub added : (list row : List (List ℕ)) (n : ℕ) (key : List ℕ) → slice_get (add_keys list row) n ≡ Some key → (slice_get list n ≡ Some key) ⊎ ((length list ≤ n) × Contains row key)
 added list [] n key e = inl e
 added list (k ∷ row) n key e = elim (added (add_key list k) row n key e) [
   | inl mid ↦ elim (added_one list k n key mid) [ inl h ↦ inl h | inr h ↦ inr (h.0, subst (Contains (k ∷ row)) h.1 (in_head k row)) ]
@@ -108,7 +108,7 @@ named_push files file =
     ∙ ap (λ ks. all_named (rows_of files) ++ ks) (append-nil (row_of file.source.content))
 
 -- what is named by the first rows is named by them when more follow
-take_named : (rows more : List (List (List ℕ))) (n : ℕ) (key : List ℕ) → Contains (all_named (take n rows)) key → Contains (all_named (take n (rows ++ more))) key
+pub take_named : (rows more : List (List (List ℕ))) (n : ℕ) (key : List ℕ) → Contains (all_named (take n rows)) key → Contains (all_named (take n (rows ++ more))) key
 take_named [] more zero key c = c
 take_named [] more (suc n) key c = absurd (in_none key c)
 take_named (row ∷ rows) more zero key c = c

@@ -16,17 +16,17 @@ use Rattle.frame_list.specs.declared.list.PlacedMessage.{PlacedMessage}
 use Rattle.frame_list.specs.Frames.{Holds, ends, faults, frame, IsFault, layout_at, frame_rule, placed_at, all_plain}
 use Rattle.schema_laws.specs.Frames.{OneListOfFrames}
 
-bytes_behind : (n : ℕ) (bytes : List ℕ) → AreBytes bytes → AreBytes (drop n bytes)
+pub bytes_behind : (n : ℕ) (bytes : List ℕ) → AreBytes bytes → AreBytes (drop n bytes)
 bytes_behind zero bytes are = are
 bytes_behind (suc n) [] are = are
 bytes_behind (suc n) (b ∷ bytes) are = bytes_behind n bytes (λ i. are (suc i))
 
-lengths : (marked : Bool) → HasLengths (if marked then NEW else OLD)
+pub lengths : (marked : Bool) → HasLengths (if marked then NEW else OLD)
 lengths true = omega arith
 lengths false = omega arith
 
 module _ (s : Schema) (sound : IsSound s) where
-  cases : (bytes : List ℕ) → AreBytes bytes → ThreeCases (layout_at bytes) s bytes
+  pub cases : (bytes : List ℕ) → AreBytes bytes → ThreeCases (layout_at bytes) s bytes
   cases bytes are = three_cases (layout_at bytes) (lengths (bytes_eq (take 4 bytes) MARK)) s sound bytes are
 
   one_fault : (offset : ℕ) (bytes : List ℕ) → AreBytes bytes → (fault other : FrameListFault) → IsFault s offset bytes fault → IsFault s offset bytes other → fault ≡ other

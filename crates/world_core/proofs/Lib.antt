@@ -23,7 +23,7 @@ mod OwnRuns
 pub mod SplitHalves
 mod Meetings
 mod Apart
-mod KeptEnds
+pub mod KeptEnds
 pub mod KeptHalves
 mod RelayLoop
 mod FeedEnds
