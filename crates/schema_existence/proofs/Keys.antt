@@ -1,14 +1,13 @@
 -- What has a key, in the order of keys.
-use Rattle.std.proofs.Common.{◌≡◌, ◌⊎◌, List, Option, Some, IsSome, is_some, refl, sym, ap, ◌∙◌, inl, inr, true≢false, Ordering, Less, Equal, Greater}
+use Rattle.std.proofs.Common.{◌≡◌, ◌⊎◌, List, Option, Some, IsSome, is_some, refl, sym, ap, ◌∙◌, inl, inr, true, Ordering, Less, Equal, Greater}
 use Rattle.std.specs.Prelude.{◌↔◌}
 use Rattle.std.specs.Cmp.{IsTotalOrder}
 use Rattle.std.specs.List.{AllPairs, Contains}
 use Rattle.std.specs.Ordering.{ordering_reverse}
-use Rattle.std.proofs.lemmas.Bool.{cases_Bool}
 use Rattle.std.proofs.lemmas.Option.{same_Some}
 use Rattle.program_schema.proofs.Numberings.{some_of}
 use Rattle.report_existence.proofs.Ordered.{IsOrder, in_order}
-use Rattle.name_existence.proofs.Decisions.{of_list}
+use Rattle.name_existence.proofs.Decisions.{bool_or_not, of_list}
 
 module _ {X K : Type 0} (key : X → Option K) (cmp : K × X → K × X → Ordering) where
   -- the key of one is before that of another
@@ -34,6 +33,6 @@ module _ {X K : Type 0} (key : X → Option K) (cmp : K × X → K × X → Orde
   -- all that have keys, which stand among these, in the order of the keys
   pub in_key_order : (xs : List X) → ((x : X) → IsSome (key x) → Contains xs x) → (all : List X) × AllPairs (HasKeyBefore key cmp) all × ((x : X) → Contains all x ↔ IsSome (key x))
   in_key_order xs within =
-      let listed = of_list (λ x. IsSome (key x)) (λ x. elim (cases_Bool (is_some (key x))) [ inl some ↦ inl some | inr none ↦ inr (λ some. true≢false (sym some ∙ none)) ]) xs within in
+      let listed = of_list (λ x. IsSome (key x)) (λ x. bool_or_not (is_some (key x)) true) xs within in
       let all = in_order key_order listed.0 (λ x h. (listed.1 x).0 h) in
       (all.0, all.1, λ x. (λ h. (listed.1 x).0 ((all.2 x).0 h), λ some. (all.2 x).1 ((listed.1 x).1 some)))
