@@ -1,14 +1,12 @@
--- What is decided: equality of numbers, texts and options, and what is made of decided parts; and what is listed where it is decided.
+-- What is decided: equality of numbers, texts and options, and what is made of decided parts. What is decided is listed, where a list has all of which it holds.
 use Rattle.std.proofs.Common.{◌≡◌, ◌⊎◌, ℕ, ◌<◌, Bool, true, false, List, [], ◌∷◌, Contains, Any, Option, Some, None, refl, sym, ap, subst, inl, inr, ⊎_elim, arith, IsSomeAnd}
 use Rattle.std.proofs.lemmas.Bool.{cases_lt}
-use Rattle.std.proofs.lemmas.Bool.Decides.{eqb_tells, not_from_Decides}
-use Rattle.std.specs.Str.{bytes_eq}
-use Rattle.std.proofs.lemmas.Slice.Eq.{bytes_eq-Decides}
-use Rattle.ipdl_base.proofs.Ends.{by_test}
+use Rattle.std.proofs.lemmas.Bool.Decides.{eqb_tells}
 use Rattle.report_existence.proofs.Finite.{contains_none, contains_more, contains_cases, either_or_not, both_or_not, same_places, of_any, when}
 use Rattle.report_existence.specs.Laws.{IsListed}
+use Rattle.report_existence.proofs.Lists.{same_or_not, some_or_each}
 
--- what follows from a decided part, and has it follow
+-- what is equivalent to something decided is decided
 pub like_or_not : {P Q : Type 0} → (P → Q) → (Q → P) → P ⊎ (P → ⊥) → Q ⊎ (Q → ⊥)
 like_or_not to from (inl p) = inl (to p)
 like_or_not to from (inr none) = inr (λ q. none (from q))
@@ -35,7 +33,7 @@ bool_or_not false true = inr (λ e. cc)
 -- texts
 
 pub text_or_not : (a b : List ℕ) → (a ≡ b) ⊎ (a ≡ b → ⊥)
-text_or_not a b = by_test (bytes_eq a b) (λ t. inl ((bytes_eq-Decides a b).0 t)) (λ f. inr (not_from_Decides (bytes_eq a b) (bytes_eq-Decides a b) f))
+text_or_not a b = same_or_not number_or_not a b
 
 -- options
 
@@ -69,12 +67,11 @@ contains_or_not each (y ∷ xs) x = like_or_not (contains_more y xs x) (contains
 
 -- all elements have it, or one has it not
 pub all_or_not : {X : Type 0} (P : X → Type 0) → ((x : X) → P x ⊎ (P x → ⊥)) → (xs : List X) → ((x : X) → Contains xs x → P x) ⊎ (((x : X) → Contains xs x → P x) → ⊥)
-all_or_not P each [] = inl (λ x c. absurd (contains_none x c))
-all_or_not {X} P each (y ∷ xs) =
-    like_or_not
-    (λ (h : P y × ((x : X) → Contains xs x → P x)) x c. ⊎_elim (λ (e : y ≡ x). subst P e h.0) (λ (more : Contains xs x). h.1 x more) (contains_cases y xs x c))
-    (λ h. (h y (contains_more y xs y (inl refl)), λ x c. h x (contains_more y xs x (inr c))))
-    (both_or_not (each y) (all_or_not P each xs))
+all_or_not {X} P each xs =
+    ⊎_elim
+    (λ (s : (x : X) × Contains xs x × (P x → ⊥)). inr (λ h. s.2 (h s.0 s.1)))
+    (λ (every : (x : X) → Contains xs x → P x). inl every)
+    (some_or_each (λ x. P x → ⊥) P (λ x. ⊎_elim (λ (h : P x). inr h) (λ (none : P x → ⊥). inl none) (each x)) xs)
 
 -- those of a list of which something holds, where it holds of no other
 pub of_list : {X : Type 0} (P : X → Type 0) → ((x : X) → P x ⊎ (P x → ⊥)) → (xs : List X) → ((x : X) → P x → Contains xs x) → IsListed P
