@@ -13,7 +13,6 @@ use Rattle.include_graph.specs.Reach.{IsReach}
 use Rattle.include_graph.specs.Rules.{IsBroken}
 use Rattle.include_graph.specs.Sources.{LoadInput, text_of}
 use Rattle.ipdl_syntax.specs.declared.program.Entry.{Entry}
-use Rattle.ipdl_syntax.specs.Programs.{IsProgram}
 use Rattle.ipdl_top.specs.declared.answer.CommandAnswer.{CommandAnswer}
 use Rattle.ipdl_top.specs.declared.checked.CheckResult.TheVariants.{Clean}
 use Rattle.ipdl_top.specs.declared.status.Status.TheVariants as status
@@ -23,13 +22,15 @@ use Rattle.ipdl_top.specs.Report.{broken_answer}
 use Rattle.ipdl_top.specs.Waits.{IsTop}
 use Rattle.ipdl_top.proofs.Tops.{has_top}
 use Rattle.list_existence.specs.Laws.{ListsHaveAnswers}
+use Rattle.manager_rules.specs.Broken as managers
+use Rattle.message_rules.specs.Broken as messages
 use Rattle.program_schema.specs.Clean.{IsClean}
 use Rattle.program_schema.specs.Laws.{CleanIsSound}
 use Rattle.proto_rules.specs.Broken as protocols
 use Rattle.report_existence.specs.Laws.{IsListed}
 use Rattle.report_existence.proofs.Finite.{contains_none, either_place, no_place}
 use Rattle.report_existence.proofs.Sorted.{report_of}
-use Rattle.rule_existence.specs.Laws.{ListRulesAreListed, ProtocolRulesAreListed, TypeRulesAreListed}
+use Rattle.rule_existence.specs.Laws.{ListFindingsAreListed, ManagerFindingsAreListed, MessageFindingsAreListed, TypeFindingsAreListed}
 use Rattle.schema_existence.specs.Laws.{CleanProgramsHaveSchemas}
 use Rattle.sync_list.specs.declared.list.Section.{Section}
 use Rattle.sync_list.specs.Broken as sync
@@ -42,9 +43,10 @@ pub record CompilationLaws : Type 0 where
   pub findings : FindingsAreListed
   pub programs : CleanFilesHavePrograms
   pub lists : ListsHaveAnswers
-  pub types : TypeRulesAreListed
-  pub protocols : ProtocolRulesAreListed
-  pub list_rules : ListRulesAreListed
+  pub types : TypeFindingsAreListed
+  pub managers : ManagerFindingsAreListed
+  pub messages : MessageFindingsAreListed
+  pub list_rules : ListFindingsAreListed
   pub schemas : CleanProgramsHaveSchemas
   pub sound : CleanIsSound
 
@@ -72,14 +74,15 @@ module _ (laws : CompilationLaws) (Says : Schema → CommandAnswer → Type 0) (
   abbrev HasCompilation : Type 0
   HasCompilation = (answer : CommandAnswer) × IsCompilation Says given lists list answer
 
-  of_list : (program : List Entry) → IsProgram program → (sections : Option (List Section)) → IsListed (λ f. IsSomeAnd sections (λ ss. sync.BrokenAt program ss f))
-  of_list program whole None = no_place (λ f. IsSomeAnd None (λ ss. sync.BrokenAt program ss f)) (λ f h. h)
-  of_list program whole (Some ss) = laws.list_rules program whole ss
+  of_list : (program : List Entry) (sections : Option (List Section)) → IsListed (λ f. IsSomeAnd sections (λ ss. sync.BrokenAt program ss f))
+  of_list program None = no_place (λ f. IsSomeAnd None (λ ss. sync.BrokenAt program ss f)) (λ f h. h)
+  of_list program (Some ss) = laws.list_rules program ss
 
-  rules_listed : (program : List Entry) → IsProgram program → (sections : Option (List Section)) → IsListed (BreaksRules program sections)
-  rules_listed program whole sections =
-      either_place (types.BrokenAt program) (λ f. protocols.BrokenAt program f ⊎ IsSomeAnd sections (λ ss. sync.BrokenAt program ss f)) (laws.types program whole)
-      (either_place (protocols.BrokenAt program) (λ f. IsSomeAnd sections (λ ss. sync.BrokenAt program ss f)) (laws.protocols program whole) (of_list program whole sections))
+  rules_listed : (program : List Entry) (sections : Option (List Section)) → IsListed (BreaksRules program sections)
+  rules_listed program sections =
+      either_place (types.BrokenAt program) (λ f. protocols.BrokenAt program f ⊎ IsSomeAnd sections (λ ss. sync.BrokenAt program ss f)) (laws.types program)
+      (either_place (protocols.BrokenAt program) (λ f. IsSomeAnd sections (λ ss. sync.BrokenAt program ss f))
+      (either_place (managers.BrokenAt program) (messages.BrokenAt program) (laws.managers program) (laws.messages program)) (of_list program sections))
 
   -- what is said of a schema that was read
   of_schema : (schema : Schema) → IsSchemaRead given lists list schema → IsSound schema → HasCompilation
@@ -113,7 +116,7 @@ module _ (laws : CompilationLaws) (Says : Schema → CommandAnswer → Type 0) (
   of_files keys words reach (breaks f fault) (none clean) = absurd (clean f (inr fault))
   of_files keys words reach (spells sections are no_fault) (none clean) =
       let h : HasProgram given = laws.programs given keys words reach (λ f b. clean f (inl b)) in
-      of_program h sections are (report_case (BreaksRules h.program sections) (rules_listed h.program h.is_program sections))
+      of_program h sections are (report_case (BreaksRules h.program sections) (rules_listed h.program sections))
 
   -- A compilation has an answer.
   pub has_compilation : AreFileWords given.words → HasCompilation

@@ -8,9 +8,14 @@ use law_statements::{decides_fallen, decides_readable, laws_want_readable_lines}
 use list_existence::lists_have_answers;
 use program_schema::clean_is_sound;
 use progress_laws::{histories_are_weighed, still_worlds_rest};
-use relay_history::{finished_relays_wait_for_nothing, relays_are_histories, relays_come_in_order, sides_obey_alone};
+use relay_history::{
+    finished_relays_wait_for_nothing, relays_are_histories, relays_come_in_order, sides_obey_alone,
+};
 use relay_laws::relays_obey_alone;
-use rule_existence::{list_rules_are_listed, protocol_rules_are_listed, type_rules_are_listed};
+use rule_existence::{
+    list_findings_are_listed, manager_findings_are_listed, message_findings_are_listed,
+    type_findings_are_listed,
+};
 use run_existence::{bytes_have_frames, texts_are_decided, wait_reports_exist, words_have_runs};
 use schema_existence::clean_programs_have_schemas;
 use script_existence::scripts_exist;
@@ -47,9 +52,10 @@ pub fn one_answer<D: Driver, Q: Relay>(driver: &D, relay: &Q)
     findings_are_listed();
     clean_files_have_programs();
     lists_have_answers();
-    type_rules_are_listed();
-    protocol_rules_are_listed();
-    list_rules_are_listed();
+    type_findings_are_listed();
+    manager_findings_are_listed();
+    message_findings_are_listed();
+    list_findings_are_listed();
     clean_programs_have_schemas();
     clean_is_sound();
     scripts_exist();

@@ -9,9 +9,10 @@ returns g c = law.exactly_one_answer (record {
     findings = c.findings_are_listed.ensures;
     programs = c.clean_files_have_programs.ensures;
     lists = c.lists_have_answers.ensures;
-    types = c.type_rules_are_listed.ensures;
-    protocols = c.protocol_rules_are_listed.ensures;
-    list_rules = c.list_rules_are_listed.ensures;
+    types = c.type_findings_are_listed.ensures;
+    managers = c.manager_findings_are_listed.ensures;
+    messages = c.message_findings_are_listed.ensures;
+    list_rules = c.list_findings_are_listed.ensures;
     schemas = c.clean_programs_have_schemas.ensures;
     sound = c.clean_is_sound.ensures;
   };
