@@ -38,8 +38,9 @@ number_finds limit from = number_by-finds limit from (take_while is_digit from) 
 
 -- Bytes in quotes
 
-abbrev pub Bytes : Type 0
-Bytes = List ℕ → Option (ℕ × List ℕ)
+-- a byte at the front, and what is left
+abbrev pub ByteReader : Type 0
+ByteReader = List ℕ → Option (ℕ × List ℕ)
 
 abbrev pub one_more : ℕ → List ℕ × List ℕ → List ℕ × List ℕ
 one_more b found = (b ∷ found.0, found.1)
@@ -49,19 +50,19 @@ bytes_by more from None = ([], from)
 bytes_by more from (Some found) = one_more found.0 (more found.1)
 
 -- the bytes at the front, each as `at` finds it, at most so many; and what is left
-abbrev pub read_bytes : Bytes → ℕ → List ℕ → List ℕ × List ℕ
+abbrev pub read_bytes : ByteReader → ℕ → List ℕ → List ℕ × List ℕ
 read_bytes at zero from = ([], from)
 read_bytes at (suc n) from = bytes_by (read_bytes at n) from (at from)
 
 -- each byte that is found takes some of the text
-abbrev Shortens : Bytes → Type 0
+abbrev Shortens : ByteReader → Type 0
 Shortens at = (from : List ℕ) (b : ℕ) (to : List ℕ) → at from ≡ Some (b, to) → length to < length from
 
 -- these bytes are found, as far as more are
-abbrev FindsAll : Bytes → List ℕ → List ℕ × List ℕ → Type 0
+abbrev FindsAll : ByteReader → List ℕ → List ℕ × List ℕ → Type 0
 FindsAll at from found = InSequence at found.0 from found.1 × (at found.1 ≡ None)
 
-bytes_by-finds : (at : Bytes) → Shortens at → (n : ℕ) → ((from : List ℕ) → length from < n → FindsAll at from (read_bytes at n from))
+bytes_by-finds : (at : ByteReader) → Shortens at → (n : ℕ) → ((from : List ℕ) → length from < n → FindsAll at from (read_bytes at n from))
     → (from : List ℕ) → length from < suc n → (o : Option (ℕ × List ℕ)) → at from ≡ o → FindsAll at from (bytes_by (read_bytes at n) from o)
 bytes_by-finds at shortens n more from below None e = (refl, e)
 bytes_by-finds at shortens n more from below (Some found) e =
@@ -69,7 +70,7 @@ bytes_by-finds at shortens n more from below (Some found) e =
     let rest = more found.1 (omega arith) in
     ((found.1, e, rest.0), rest.1)
 
-bytes_find : (at : Bytes) → Shortens at → (n : ℕ) (from : List ℕ) → length from < n → FindsAll at from (read_bytes at n from)
+bytes_find : (at : ByteReader) → Shortens at → (n : ℕ) (from : List ℕ) → length from < n → FindsAll at from (read_bytes at n from)
 bytes_find at shortens zero from below = absurd (omega arith)
 bytes_find at shortens (suc n) from below = bytes_by-finds at shortens n (bytes_find at shortens n) from below (at from) refl
 
@@ -81,17 +82,17 @@ abbrev pub quoted : List ℕ × List ℕ → Option (List ℕ × List ℕ)
 quoted found = quoted_by found.0 found.1
 
 -- the bytes up to a quote, and what is left behind it
-abbrev pub read_quoted : Bytes → List ℕ → Option (List ℕ × List ℕ)
+abbrev pub read_quoted : ByteReader → List ℕ → Option (List ℕ × List ℕ)
 read_quoted at from = quoted (read_bytes at (suc (length from)) from)
 
-quoted_by-finds : (at : Bytes) → ((to : List ℕ) → at (34 ∷ to) ≡ None) → (from bytes rest : List ℕ) → InSequence at bytes from rest → at rest ≡ None → Finds (AtFront (InQuotes at) from) (quoted_by bytes rest)
+quoted_by-finds : (at : ByteReader) → ((to : List ℕ) → at (34 ∷ to) ≡ None) → (from bytes rest : List ℕ) → InSequence at bytes from rest → at rest ≡ None → Finds (AtFront (InQuotes at) from) (quoted_by bytes rest)
 quoted_by-finds at quote from bytes [] s ends = λ found h. none_in_quotes at bytes from [] quote (record { found = s }) ends (λ to e. let no : ⊥ = cc in no) found.0 found.1 h
 quoted_by-finds at quote from bytes (b ∷ to) s ends = elim (cases_Bool (b == 34)) [
   | inl is ↦ rw is (let P : ℕ → Type 0 = λ c. InSequence at bytes from (c ∷ to) in subst P (eqb-true b 34 is) s)
   | inr other ↦ rw other (λ found h. none_in_quotes at bytes from (b ∷ to) quote (record { found = s }) ends (λ more e. eqb-false b 34 other (let same : b ≡ 34 = cc in same)) found.0 found.1 h)
 ]
 
-quoted_finds : (at : Bytes) → Shortens at → ((to : List ℕ) → at (34 ∷ to) ≡ None) → (from : List ℕ) → Finds (AtFront (InQuotes at) from) (read_quoted at from)
+quoted_finds : (at : ByteReader) → Shortens at → ((to : List ℕ) → at (34 ∷ to) ≡ None) → (from : List ℕ) → Finds (AtFront (InQuotes at) from) (read_quoted at from)
 quoted_finds at shortens quote from =
     let found = bytes_find at shortens (suc (length from)) from (omega arith) in
     quoted_by-finds at quote from (read_bytes at (suc (length from)) from).0 (read_bytes at (suc (length from)) from).1 found.0 found.1
@@ -183,14 +184,14 @@ token_finds from = token_of-finds (class_of from) from
 behind_shorter : (test : ℕ → Bool) (from : List ℕ) → length (behind test from) + prefix_len test from ≡ length from
 behind_shorter test from = let within = prefix_len-le-length test from in omega (arith, length-drop (prefix_len test from) from)
 
-sequence_shorter : (at : Bytes) → Shortens at → (bytes from to : List ℕ) → InSequence at bytes from to → length to ≤ length from
+sequence_shorter : (at : ByteReader) → Shortens at → (bytes from to : List ℕ) → InSequence at bytes from to → length to ≤ length from
 sequence_shorter at shortens [] from to s = omega (arith, ap length s)
 sequence_shorter at shortens (b ∷ bytes) from to s =
     let first = shortens from b s.0 s.1 in
     let rest = sequence_shorter at shortens bytes s.0 to s.2 in
     omega arith
 
-quotes_shorter : (at : Bytes) → Shortens at → (bytes from to : List ℕ) → InQuotes at bytes from to → length to < length from
+quotes_shorter : (at : ByteReader) → Shortens at → (bytes from to : List ℕ) → InQuotes at bytes from to → length to < length from
 quotes_shorter at shortens bytes from to s = let rest = sequence_shorter at shortens bytes from (34 ∷ to) s in omega arith
 
 digits_shorter : (limit n : ℕ) (from to : List ℕ) → IsNumber limit n from to → length to < length from

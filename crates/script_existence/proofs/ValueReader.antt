@@ -201,21 +201,21 @@ module _ (n : ℕ) (r : Readers) (find : FindBelow n r) where
 
   listed_by-finds : (c : Bracket) (from : List ScriptToken) → length from < suc n → (o : Option (Unit {0} × List ScriptToken)) → Finds (AtFront (marked (closing c)) from) o → Finds (AtFront (grammar.listed c) from) (listed_by r c from o)
   listed_by-finds c from below (Some closed) h = h
-  listed_by-finds c from below None never =
+  listed_by-finds c from below None unclosed =
       finds_then (AtFront grammar.value from) (AtFront (grammar.listed c) from) (values_behind r c)
       (λ first h.
       let shorter = value_shorter first.0 from first.1 h in
       finds_as (AtFront (grammar.more c) first.1) (AtFront (grammar.listed c) from) (λ found. (First' one_box first.0 one_box found.0, found.1)) (λ found k. (first.1, h, k))
-      (λ none found. no_listed_more c (closing c) from from first.1 first.0 refl (λ to. never (tt, to)) refl h (λ vs to. none (vs, to)) found.0 found.1)
+      (λ none found. no_listed_more c (closing c) from from first.1 first.0 refl (λ to. unclosed (tt, to)) refl h (λ vs to. none (vs, to)) found.0 found.1)
       (r.more c first.1)
       (find.more c first.1 (omega arith)))
-      (λ none found. no_listed_value c (closing c) from from refl (λ to. never (tt, to)) refl (λ v to. none (v, to)) found.0 found.1)
+      (λ none found. no_listed_value c (closing c) from from refl (λ to. unclosed (tt, to)) refl (λ v to. none (v, to)) found.0 found.1)
       (value_with r from)
       (value_with-finds from below)
 
   more_by-finds : (c : Bracket) (from : List ScriptToken) → length from < suc n → (o : Option (Unit {0} × List ScriptToken)) → Finds (AtFront (marked (closing c)) from) o → Finds (AtFront (grammar.more c) from) (more_by r c from o)
   more_by-finds c from below (Some closed) h = h
-  more_by-finds c from below None never =
+  more_by-finds c from below None unclosed =
       finds_then (AtFront (marked 44) from) (AtFront (grammar.more c) from) (λ comma. values_at r c comma.1)
       (λ comma at.
       let size = ap length at in
@@ -223,13 +223,13 @@ module _ (n : ℕ) (r : Readers) (find : FindBelow n r) where
       (λ first h.
       let shorter = value_shorter first.0 comma.1 first.1 h in
       finds_as (AtFront (grammar.more c) first.1) (AtFront (grammar.more c) from) (λ found. (First' one_box first.0 one_box found.0, found.1)) (λ found k. (comma.1, at, (first.1, h, k)))
-      (λ none found. no_more_more c (closing c) from from comma.1 first.1 first.0 refl (λ to. never (tt, to)) refl at h (λ vs to. none (vs, to)) found.0 found.1)
+      (λ none found. no_more_more c (closing c) from from comma.1 first.1 first.0 refl (λ to. unclosed (tt, to)) refl at h (λ vs to. none (vs, to)) found.0 found.1)
       (r.more c first.1)
       (find.more c first.1 (omega arith)))
-      (λ none found. no_more_value c (closing c) from from comma.1 refl (λ to. never (tt, to)) refl at (λ v to. none (v, to)) found.0 found.1)
+      (λ none found. no_more_value c (closing c) from from comma.1 refl (λ to. unclosed (tt, to)) refl at (λ v to. none (v, to)) found.0 found.1)
       (value_with r comma.1)
       (value_with-finds comma.1 (omega arith)))
-      (λ none found. no_more_comma c (closing c) from from refl (λ to. never (tt, to)) refl (λ to. none (tt, to)) found.0 found.1)
+      (λ none found. no_more_comma c (closing c) from from refl (λ to. unclosed (tt, to)) refl (λ to. none (tt, to)) found.0 found.1)
       (read_mark 44 from)
       (mark_finds 44 from)
 
