@@ -1,6 +1,6 @@
 -- Each type, parameter, message and protocol of a clean program has a row.
 use Rattle.std.proofs.Common.{◌≡◌, ◌+◌, ◌*◌, ℕ, List, [], ◌∷◌, Option, Some, None, IsSome, refl, sym, true≢false}
-use Rattle.std.specs.List.{All, AllZip, Contains}
+use Rattle.std.specs.List.{AllZip, Contains}
 use Rattle.std.specs.Option.{ForSome}
 use Rattle.std.proofs.lemmas.List.Elements.{All-contains}
 use Rattle.ipdl_base.specs.declared.schema.Kind.{Kind}
@@ -15,9 +15,7 @@ use Rattle.ipdl_syntax.specs.declared.tree.MessageDecl.{MessageDecl}
 use Rattle.ipdl_syntax.specs.declared.tree.NameAt.{NameAt}
 use Rattle.ipdl_syntax.specs.declared.tree.Param.{Param}
 use Rattle.ipdl_syntax.specs.declared.tree.ProtocolDecl.{ProtocolDecl}
-use Rattle.ipdl_syntax.specs.declared.tree.StructDecl.{StructDecl}
 use Rattle.ipdl_syntax.specs.declared.tree.TypeSpec.{TypeSpec}
-use Rattle.ipdl_syntax.specs.declared.tree.UnionDecl.{UnionDecl}
 use Rattle.name_table.specs.declared.decl.DeclId.{DeclId}
 use Rattle.name_table.specs.declared.decl.DeclId.TheVariants.{Builtin, Using, Struct, Union, Protocol, Endpoint}
 use Rattle.name_table.specs.declared.kinds.MessageKind.{MessageKind}
@@ -34,7 +32,7 @@ use Rattle.actor_tables.specs.SchemaSource.{FindsSole, ParamsFindSole, NamesFind
 use Rattle.actor_tables.proofs.CleanProtocols.{protocol_sole}
 use Rattle.actor_tables.proofs.CleanTypes.{struct_sole, union_sole}
 use Rattle.schema_existence.proofs.Carried.{carried_flag}
-use Rattle.schema_existence.proofs.Shapes.{AreNumbers, number_of_name, type_shape}
+use Rattle.schema_existence.proofs.Shapes.{IsNumberingOf, number_of_name, type_shape}
 use Rattle.schema_existence.proofs.Types.{struct_there, union_there}
 
 -- Where each member has a row, there are rows.
@@ -53,10 +51,10 @@ rows_from R index (x ∷ xs) each =
     let rest = rows_from R (index + 1) xs (λ k z h. each k z (in_tail x xs z h)) in
     (first.0 ∷ rest.0, (first.1, rest.1))
 
-module _ (program : List Entry) (n : Numbering) (are : AreNumbers program n) where
+module _ (program : List Entry) (n : Numbering) (numbered : IsNumberingOf program n) where
   param_rows : (file : ℕ) (params : List Param) → ParamsFindSole program file params → (rows : List ParamRow) × AreParamRows program n file params rows
   param_rows file params sole = rows_beside (IsParamRow program n file) params (λ p among.
-      let s = type_shape program n are file p.spec (All-contains (λ (p : Param). FindsSole program file p.spec.base) params p sole among) in
+      let s = type_shape program n numbered file p.spec (All-contains (λ (p : Param). FindsSole program file p.spec.base) params p sole among) in
       (record { name = p.name; shape = s.0 }, record { name = refl; shape = s.1 }))
 
   return_rows : (file : ℕ) (returns : Option (List Param)) → ForSome returns (ParamsFindSole program file) → (rows : Option (List ParamRow)) × AreReturnRows program n file returns rows
@@ -65,11 +63,11 @@ module _ (program : List Entry) (n : Numbering) (are : AreNumbers program n) whe
 
   name_rows : (file : ℕ) (names : List NameAt) → NamesFindSole program file names → (rows : List ℕ) × AllZip (λ (at : NameAt) m. IsNumberOfName program n file at.name m) names rows
   name_rows file names sole = rows_beside (λ (at : NameAt) m. IsNumberOfName program n file at.name m) names (λ at among.
-      number_of_name program n are file at.name (All-contains (λ (at : NameAt). FindsSoleProtocol program file at.name) names at sole among))
+      number_of_name program n numbered file at.name (All-contains (λ (at : NameAt). FindsSoleProtocol program file at.name) names at sole among))
 
   row_kind : (file : ℕ) (p : ProtocolDecl) (m : MessageDecl) → (IsKindOf p m kind.Constructor → FindsSoleProtocol program file m.name) → (k : MessageKind) → IsKindOf p m k → (told : Kind) × IsRowKind program n file p m told
   row_kind file p m made kind.Normal is = (Normal, is)
-  row_kind file p m made kind.Constructor is = let number = number_of_name program n are file m.name (made is) in (Constructor number.0, (is, number.1))
+  row_kind file p m made kind.Constructor is = let number = number_of_name program n numbered file m.name (made is) in (Constructor number.0, (is, number.1))
   row_kind file p m made kind.Destructor is = (Delete, is)
 
   message_row : (types : List TypeRow) (number file : ℕ) (p : ProtocolDecl) (index : ℕ) (m : MessageDecl) → MessageFindsSole program file p m → (told : MessageRow) × IsMessageRow program n types number file p index m told
@@ -126,7 +124,7 @@ module _ (program : List Entry) (n : Numbering) (are : AreNumbers program n) whe
   type_row clean (Union file index) some =
       let u = union_there program file index some in
       let sole = union_sole program file index u.0 clean u.1 in
-      let components = rows_beside (IsShapeOf program n file) u.0.components (λ spec among. type_shape program n are file spec (All-contains (λ (t : TypeSpec). FindsSole program file t.base) u.0.components spec sole among)) in
+      let components = rows_beside (IsShapeOf program n file) u.0.components (λ spec among. type_shape program n numbered file spec (All-contains (λ (t : TypeSpec). FindsSole program file t.base) u.0.components spec sole among)) in
       (row.Union u.0.full components.0, and_some (union_of program file index) (λ v. (u.0.full ≡ v.full) × AllZip (IsShapeOf program n file) v.components components.0) u.0 u.1 (refl, components.1))
   type_row clean (Builtin type) some = absurd (true≢false (sym some))
   type_row clean (Using file index) some = absurd (true≢false (sym some))

@@ -1,5 +1,5 @@
 -- Each type that a clean program writes has a shape.
-use Rattle.std.proofs.Common.{◌≡◌, ℕ, Bool, List, [], ◌∷◌, Option, IsSome, refl}
+use Rattle.std.proofs.Common.{ℕ, Bool, List, [], ◌∷◌, Option, IsSome, refl}
 use Rattle.ipdl_base.specs.Plain.{one_box}
 use Rattle.ipdl_base.specs.declared.schema.Shape.{Shape}
 use Rattle.ipdl_base.specs.declared.schema.Shape as shape
@@ -24,11 +24,12 @@ use Rattle.actor_tables.specs.SchemaSource.{IsThere, FindsSole, FindsSoleProtoco
 use Rattle.actor_tables.proofs.Sight.{one_there, protocol_found}
 use Rattle.name_existence.proofs.Names.{names_have_answers, protocol_names_have_answers}
 
--- The numbers of a program's protocols, structs and unions.
-pub record AreNumbers (program : List Entry) (n : Numbering) : Type 0 where
+-- A numbering is that of the program.
+pub record IsNumberingOf (program : List Entry) (n : Numbering) : Type 0 where
   pub files : AreProtocolFiles program n.files
   pub types : AreTypes program n.types
 
+-- a shape with suffixes round one of which this holds
 suffixed : (Holds : Shape → Type 0) (after : List Suffix) (s : Shape) → Holds s → (whole : Shape) × IsSuffixed Holds after whole
 suffixed Holds [] s holds = (s, holds)
 suffixed Holds (Array ∷ rest) s holds = suffixed (IsSuffixedBy Array Holds) rest (shape.Array' one_box s) holds
@@ -40,6 +41,7 @@ one_found program file text argument found.None counts sole = absurd (sole.0 cou
 one_found program file text argument (found.One d) counts sole = (d, counts)
 one_found program file text argument (found.Many d e) counts sole = absurd (sole.1 (d, e, counts))
 
+-- a name that finds neither no protocol nor two finds one
 one_protocol_found : (program : List Entry) (file : ℕ) (text : List ℕ) (r : Found) → Counts (FindsAsProtocol program file text) r → FindsSoleProtocol program file text → (other : ℕ) × FindsOneProtocol program file text other
 one_protocol_found program file text found.None counts sole = absurd (sole.some counts)
 one_protocol_found program file text (found.One (Protocol other)) counts sole = (other, counts)
@@ -50,13 +52,16 @@ one_protocol_found program file text (found.One (Union other index)) counts sole
 one_protocol_found program file text (found.One (Endpoint other managed)) counts sole = absurd counts.0
 one_protocol_found program file text (found.Many d e) counts sole = absurd (sole.one d e counts)
 
-module _ (program : List Entry) (n : Numbering) (are : AreNumbers program n) where
+module _ (program : List Entry) (n : Numbering) (numbered : IsNumberingOf program n) where
+  -- what is there has a number
+
   file_number : (file : ℕ) → IsSome (protocol_of program file) → (number : ℕ) × IsProtocolNumber n number file
-  file_number file there = place_in n.files file ((are.files.exact file).1 there)
+  file_number file there = place_in n.files file ((numbered.files.exact file).1 there)
 
   type_number : (d : DeclId) → IsSome (place_of program d) → (number : ℕ) × IsTypeNumber n number d
-  type_number d there = place_in n.types d ((are.types.exact d).1 there)
+  type_number d there = place_in n.types d ((numbered.types.exact d).1 there)
 
+  -- what a name finds stands for a shape
   decl_shape : (nullable : Bool) (d : DeclId) → IsThere program d → (s : Shape) × IsShapeOfDecl program n nullable d s
   decl_shape nullable (Builtin type) there = (shape.Builtin type, refl)
   decl_shape nullable (Using file index) there = let full = some_of (full_name_of program (Using file index)) there in (shape.Using full.0, full.1)
@@ -64,6 +69,8 @@ module _ (program : List Entry) (n : Numbering) (are : AreNumbers program n) whe
   decl_shape nullable (Union file index) there = let number = type_number (Union file index) there in (shape.Named number.0, number.1)
   decl_shape nullable (Protocol file) there = let number = file_number file there in (shape.Actor number.0 nullable, (number.1, refl))
   decl_shape nullable (Endpoint file managed) there = let number = file_number file there in (shape.Endpoint number.0 managed, (number.1, refl))
+
+  -- so does a base in which each name finds one declaration, and a type
 
   base_shape : (file : ℕ) (nullable : Bool) (base : Base) → FindsSole program file base → (s : Shape) × IsShapeOfBase program n file nullable base s
   base_shape file nullable (Named text argument) sole =
@@ -76,7 +83,6 @@ module _ (program : List Entry) (n : Numbering) (are : AreNumbers program n) whe
       let whole = suffixed (IsShapeOfBase program n file inner_nullable inner) after s.0 s.1 in
       (shape.Unique' one_box whole.0, whole.1)
 
-  -- a type in which each name finds one declaration has a shape
   pub type_shape : (file : ℕ) (spec : TypeSpec) → FindsSole program file spec.base → (s : Shape) × IsShapeOf program n file spec s
   type_shape file spec sole =
       let s = base_shape file spec.nullable spec.base sole in
