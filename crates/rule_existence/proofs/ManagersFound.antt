@@ -1,23 +1,18 @@
 -- What the name of a protocol finds, and what holds of it, is decided.
-use Rattle.std.proofs.Common.{◌≡◌, ◌⊎◌, ◌∙◌, ℕ, ◌≤◌, false, true≢false, List, Option, Some, None, refl, sym, ap, subst, inl, inr, ⊎_elim, arith}
-use Rattle.std.proofs.lemmas.Bool.{cases_lt}
+use Rattle.std.proofs.Common.{◌≡◌, ◌⊎◌, ◌∙◌, ℕ, false, true≢false, List, Option, Some, None, refl, sym, ap, subst, inl, inr}
 use Rattle.std.proofs.lemmas.Option.{none-some}
-use Rattle.ipdl_base.specs.declared.kinds.Semantics.{Semantics}
-use Rattle.ipdl_base.specs.declared.kinds.Semantics.TheVariants.{Async, Sync}
 use Rattle.ipdl_syntax.specs.declared.program.Entry.{Entry}
 use Rattle.ipdl_syntax.specs.declared.tree.ProtocolDecl.{ProtocolDecl}
 use Rattle.name_table.specs.declared.decl.DeclId.{DeclId}
 use Rattle.name_table.specs.declared.decl.DeclId.TheVariants.{Protocol}
 use Rattle.name_table.specs.declared.decl.Found.{Found}
 use Rattle.name_table.specs.declared.decl.Found.TheVariants as found
-use Rattle.name_table.specs.declared.strength.Strength.{Strength}
 use Rattle.name_table.specs.Decls.{FindsNoProtocol, FindsOneProtocol, protocol_of}
 use Rattle.name_table.specs.Finds.{Counts, FindsAsProtocol}
-use Rattle.name_table.specs.Kinds.{Converts, level_number}
 use Rattle.manager_rules.specs.Broken.{FindsWith, HasMessage}
 use Rattle.manager_rules.proofs.Counted.{one_number}
 use Rattle.manager_rules.proofs.Found.{with_told}
-use Rattle.report_existence.proofs.Finite.{any_or_not, both_or_not, either_or_not}
+use Rattle.report_existence.proofs.Finite.{any_or_not}
 use Rattle.name_existence.proofs.Decisions.{like_or_not, text_or_not}
 use Rattle.name_existence.proofs.Names.{decl_or_not, protocol_names_have_answers}
 
@@ -61,22 +56,7 @@ module _ (Holds : ℕ → ProtocolDecl → Type 0) (decided : (other : ℕ) (q :
   pub with_or_not : FindsWith Holds program file name ⊎ (FindsWith Holds program file name → ⊥)
   with_or_not = let a = protocol_names_have_answers program file name in found_by a.0 a.1
 
--- Messages, and strengths
+-- Messages
 
 pub message_or_not : (p : ProtocolDecl) (name : List ℕ) → HasMessage p name ⊎ (HasMessage p name → ⊥)
 message_or_not p name = any_or_not (λ m. m.name ≡ name) (λ m. text_or_not m.name name) p.messages
-
-at_most_or_not : (a b : ℕ) → (a ≤ b) ⊎ (a ≤ b → ⊥)
-at_most_or_not a b = ⊎_elim (λ less. inr (λ h. omega (arith, less, h))) (λ h. inl h) (cases_lt b a)
-
-semantics_or_not : (a b : Semantics) → (a ≡ b) ⊎ (a ≡ b → ⊥)
-semantics_or_not Async Async = inl refl
-semantics_or_not Sync Sync = inl refl
-semantics_or_not Async Sync = inr (λ e. cc)
-semantics_or_not Sync Async = inr (λ e. cc)
-
-pub converts_or_not : (a b : Strength) → Converts a b ⊎ (Converts a b → ⊥)
-converts_or_not a b =
-    like_or_not (λ h. record { least = h.0; most = h.1.0; semantics = h.1.1 }) (λ h. (h.least, (h.most, h.semantics)))
-    (both_or_not (at_most_or_not (level_number b.least) (level_number a.least))
-    (both_or_not (at_most_or_not (level_number a.most) (level_number b.most)) (either_or_not (semantics_or_not a.semantics Async) (semantics_or_not b.semantics Sync))))

@@ -12,10 +12,6 @@ use Rattle.sync_list.specs.declared.list.Section.{Section}
 abbrev pub TypeFindingsAreListed : Type 0
 TypeFindingsAreListed = (program : List Entry) → IsListed (TypesBrokenAt program)
 
--- For every program some list has exactly the findings of the rules on managers and on what protocols manage.
-abbrev pub ManagerFindingsAreListed : Type 0
-ManagerFindingsAreListed = (program : List Entry) → IsListed (ManagersBrokenAt program)
-
 -- For every program some list has exactly the findings of the rules on messages.
 abbrev pub MessageFindingsAreListed : Type 0
 MessageFindingsAreListed = (program : List Entry) → IsListed (MessagesBrokenAt program)
@@ -23,3 +19,7 @@ MessageFindingsAreListed = (program : List Entry) → IsListed (MessagesBrokenAt
 -- For every program and the sections of every sync list some list has exactly the findings of the rules of the sync list.
 abbrev pub ListFindingsAreListed : Type 0
 ListFindingsAreListed = (program : List Entry) (sections : List Section) → IsListed (ListBrokenAt program sections)
+
+-- For every program some list has exactly the findings of the rules on managers and on what protocols manage.
+abbrev pub ManagerFindingsAreListed : Type 0
+ManagerFindingsAreListed = (program : List Entry) → IsListed (ManagersBrokenAt program)
