@@ -121,9 +121,9 @@ module _ (in_order : RelaysComeInOrder) (setting : Setting) (is : IsRunnable set
   has_last (suc fuel) (suc idle) side state relay few = by (λ left from further less. has_last fuel left (other side) from further less) (turn_case side state relay)
     where
       by : ((left : ℕ) (from : RelayState) → IsRelay setting from → 6 * setting.limit + left ≤ 3 * events from + fuel → HasLast (other side) left from) → TurnCase setting side state → HasLast side (suc idle) state
-      by then (goes next e further more) = let rest = then 2 next further (omega (arith, few, more)) in (rest.0, rest.1, goes_on side idle state next rest.0 rest.1 e rest.2)
-      by then (waits e) = let rest = then idle state relay (omega (arith, few)) in (rest.0, rest.1, passes side idle state rest.0 rest.1 e rest.2)
-      by then (fails e) = (state, at_limit side, stops side idle state e)
+      by onward (goes next e further more) = let rest = onward 2 next further (omega (arith, few, more)) in (rest.0, rest.1, goes_on side idle state next rest.0 rest.1 e rest.2)
+      by onward (waits e) = let rest = onward idle state relay (omega (arith, few)) in (rest.0, rest.1, passes side idle state rest.0 rest.1 e rest.2)
+      by onward (fails e) = (state, at_limit side, stops side idle state e)
 
 pub relays_end : RelaysComeInOrder → RelaysEnd
 relays_end in_order setting is =

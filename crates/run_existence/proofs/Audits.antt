@@ -1,6 +1,6 @@
 -- How far a text is what a run prints is decided.
-use Rattle.std.proofs.Common.{◌≡◌, ◌⊎◌, ℕ, zero, suc, ◌<◌, ◌≤◌, Bool, true, false, List, [], ◌∷◌, ◌++◌, length, take, drop, Option, Some, None, refl, sym, ap, subst, ◌∙◌, inl, inr, ⊎_elim, arith, append_assoc, le_refl}
-use Rattle.std.proofs.lemmas.Bool.{cases_Bool, cases_eq, cases_lt}
+use Rattle.std.proofs.Common.{◌≡◌, ◌⊎◌, ℕ, zero, suc, ◌<◌, ◌≤◌, Bool, true, false, List, [], ◌∷◌, ◌++◌, length, take, drop, Option, Some, None, refl, sym, subst, inl, inr, ⊎_elim, arith, append_assoc, le_refl}
+use Rattle.std.proofs.lemmas.Bool.{cases_eq, cases_lt}
 use Rattle.std.proofs.lemmas.List.{append-nil, take-append-drop}
 use Rattle.ipdl_base.specs.declared.kinds.Side.TheVariants as sides
 use Rattle.channel_model.specs.Runs.{RunState}
@@ -15,7 +15,7 @@ use Rattle.script_transcripts.proofs.Ends.{cases_end}
 use Rattle.script_transcripts.proofs.Fronts.{legal_texts_decide, replays_decide}
 use Rattle.script_transcripts.specs.Legal.{AreFirstLines, AreLegalSoFar, IsLegalText}
 use Rattle.transcript_laws.specs.TextLines.{text_lines}
-use Rattle.run_existence.specs.Laws.{IsDecidedText, IsRunnable, TextsAreDecided}
+use Rattle.run_existence.specs.Laws.{IsRunnable, TextsAreDecided}
 use Rattle.report_existence.proofs.Lists.{begins_or_not, same_or_not}
 
 -- Decisions
@@ -78,13 +78,13 @@ module _ (setting : Setting) where
   has_done first (choice ∷ rest) state plays = by (λ next goes. has_done (first ++ choice ∷ []) rest next goes) (chosen setting choice state) refl
     where
       by : ((next : RunState) → played setting (first ++ choice ∷ []) (beginning_of setting) ≡ Some next → HasDone ((first ++ choice ∷ []) ++ rest)) → (found : Option RunState) → chosen setting choice state ≡ found → HasDone (first ++ choice ∷ rest)
-      by then None e = (
+      by onward None e = (
         first,
         state,
         plays,
         inr (record { first = first; choice = choice; rest = rest; told_are = refl; state = state; plays = plays; impossible = e; others = []; done_are = sym (append-nil first) }),
       )
-      by then (Some next) e = subst HasDone (append_assoc first (choice ∷ []) rest) (then next (played-last setting first choice (beginning_of setting) state next plays e))
+      by onward (Some next) e = subst HasDone (append_assoc first (choice ∷ []) rest) (onward next (played-last setting first choice (beginning_of setting) state next plays e))
 
   follows : (lines : List (List ℕ)) → (last : RunState) × Follows setting lines last
   unfolding HasDone
@@ -124,7 +124,7 @@ module _ (setting : Setting) (is : IsRunnable setting) (text : List ℕ) where
 
   none_earlier : (count : ℕ) → NoneAfter (suc count) → (Starts (suc count) → ⊥) → NoneAfter count
   none_earlier count none no_start more there past first =
-      ⊎_elim (λ (later : suc count < more). none more there later first) (λ (most : more ≤ suc count). no_start (subst Starts (omega arith) first)) (cases_lt (suc count) more)
+      ⊎_elim (λ (later : suc count < more). none more there later first) (λ (most : more ≤ suc count). let same : more ≡ suc count = omega (arith, past, most) in no_start (subst Starts same first)) (cases_lt (suc count) more)
 
   so_far : (count : ℕ) → count ≤ length lines → NoneAfter count → (n : ℕ) × AreLegalSoFar setting text n
   so_far zero within none = (0, here 0 within none starts_at_none)

@@ -1,11 +1,10 @@
 -- Bytes hold frames, and after them nothing or a fault.
-use Rattle.std.proofs.Common.{◌≡◌, ℕ, zero, suc, ◌+◌, ◌<◌, ◌≤◌, List, [], ◌∷◌, length, drop, take, Option, Some, None, inl, inr, refl, sym, arith, length-drop, le_refl}
+use Rattle.std.proofs.Common.{ℕ, zero, suc, ◌+◌, ◌<◌, ◌≤◌, List, [], ◌∷◌, length, drop, take, Some, None, inl, inr, refl, arith, length-drop, le_refl}
 use Rattle.std.proofs.lemmas.List.{length-take-le}
 use Rattle.ipdl_base.specs.declared.message.Message.{Message}
 use Rattle.ipdl_base.specs.declared.schema.Schema.{Schema}
 use Rattle.ipdl_base.specs.Sound.{IsSound}
 use Rattle.value_types.specs.declared.layout.Layout.{Layout}
-use Rattle.value_types.specs.Sizes.{payload_size}
 use Rattle.value_codec.specs.Decoding.{FrameBegins}
 use Rattle.value_codec.specs.Laws.{AreBytes, SomeBegins}
 use Rattle.value_codec.proofs.Cases.{one_spelling}

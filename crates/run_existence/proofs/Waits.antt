@@ -1,5 +1,5 @@
 -- What may interrupt a wait is found for every sound schema.
-use Rattle.std.proofs.Common.{◌≡◌, ◌⊎◌, ℕ, zero, suc, ◌+◌, ◌<◌, ◌≤◌, Bool, true, false, List, [], ◌∷◌, Contains, length, Option, Some, None, refl, sym, ap, subst, ◌∙◌, inl, inr, ⊎_elim, arith, le_refl}
+use Rattle.std.proofs.Common.{◌≡◌, ◌⊎◌, ℕ, zero, suc, ◌+◌, ◌<◌, ◌≤◌, Bool, true, false, List, Contains, length, Option, Some, None, refl, sym, subst, ◌∙◌, inl, inr, ⊎_elim, arith}
 use Rattle.std.specs.List.{slice_get, slice_set, slice_index_or}
 use Rattle.std.proofs.Math.ListN.{replicate}
 use Rattle.std.proofs.lemmas.Bool.{cases_Bool, cases_lt}
@@ -12,7 +12,7 @@ use Rattle.ipdl_base.specs.declared.schema.ProtocolRow.{ProtocolRow}
 use Rattle.ipdl_base.specs.declared.schema.Schema.{Schema}
 use Rattle.ipdl_base.specs.declared.schema.TypeRow.{TypeRow}
 use Rattle.ipdl_base.specs.Sound.{IsSound}
-use Rattle.wait_report.specs.Least.{AreClosed, AreSound, IsClosedMessage, IsClosedType, IsKnown, IsMessageOf, MessagesLook, TypeLook, can_send, is_built, known, row_least, too_many, unbuilt}
+use Rattle.wait_report.specs.Least.{AreSound, IsClosedMessage, IsClosedType, IsKnown, IsMessageOf, MessagesLook, TypeLook, can_send, is_built, known, row_least, too_many, unbuilt}
 use Rattle.wait_report.proofs.Looks.{message-built}
 use Rattle.wait_report.proofs.SchemaRows.{right-message}
 use Rattle.wait_report.proofs.SoundValues.{first-sound, lower-by}
@@ -94,23 +94,23 @@ module _ (schema : Schema) (sound : IsSound schema) (top : ℕ) where
 
   by_messages : (fuel : ℕ) → FromHere fuel → (types : List ℕ) (built : List Bool) → IsSoFar types built → known types + unbuilt built < suc fuel → ((t : ℕ) → IsClosedType schema types built t)
       → ((row : MessageRow) × IsMessageOf schema.protocols row × Builds types built row) ⊎ ((row : MessageRow) → IsMessageOf schema.protocols row → IsClosedMessage types built row) → HasKnown schema top
-  by_messages fuel then types built at few closed (inl (row, of, b)) =
+  by_messages fuel onward types built at few closed (inl (row, of, b)) =
       let more = slice_set built b.protocol true in
       let look : MessagesLook schema types (λ (seen : MessageRow). seen ≡ row) built more true = message-built schema types built row b.protocol b.kind (right-message schema sound built at.count row of) b.missing b.sent in
       let less = look.less refl in
-      then types more (record { size = at.size; count = look.size ∙ at.count; sound_so = look.sound top at.sound_so; live = look.kept top at.live }) (omega (arith, few, less))
-  by_messages fuel then types built at few closed (inr quiet) = (types, built, record { sound = at.sound_so; closed = record { top_built = at.live; all_types = closed; all_messages = quiet } })
+      onward types more (record { size = at.size; count = look.size ∙ at.count; sound_so = look.sound top at.sound_so; live = look.kept top at.live }) (omega (arith, few, less))
+  by_messages fuel onward types built at few closed (inr quiet) = (types, built, record { sound = at.sound_so; closed = record { top_built = at.live; all_types = closed; all_messages = quiet } })
 
   by_types : (fuel : ℕ) → FromHere fuel → (types : List ℕ) (built : List Bool) → IsSoFar types built → known types + unbuilt built < suc fuel
       → ((t : ℕ) × HasLesser schema types built t) ⊎ ((t : ℕ) → IsClosedType schema types built t) → HasKnown schema top
-  by_types fuel then types built at few (inl (t, h)) =
+  by_types fuel onward types built at few (inl (t, h)) =
       let within : t < length types = subst (λ n. t < n) (sym at.size) (slice_get_within schema.types t h.row h.is) in
       let before : ℕ = slice_index_or types t too_many in
       let lower = slice_set types t (row_least types built h.row) in
       let look : TypeLook schema built t types lower true = lower-by schema built t types h.row h.is within (row_least types built h.row) before refl (get_or_default types t too_many before within) h.less in
       let less = look.less refl in
-      then lower built (record { size = look.size ∙ at.size; count = at.count; sound_so = look.sound top at.sound_so; live = at.live }) (omega (arith, few, less))
-  by_types fuel then types built at few (inr closed) = by_messages fuel then types built at few closed (builds_or_closed schema types built)
+      onward lower built (record { size = look.size ∙ at.size; count = at.count; sound_so = look.sound top at.sound_so; live = at.live }) (omega (arith, few, less))
+  by_types fuel onward types built at few (inr closed) = by_messages fuel onward types built at few closed (builds_or_closed schema types built)
 
   all_known : (fuel : ℕ) → FromHere fuel
   all_known zero types built at few = absurd (omega arith)

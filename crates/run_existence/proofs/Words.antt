@@ -1,5 +1,5 @@
 -- Every word of turns makes a run that ends.
-use Rattle.std.proofs.Common.{◌≡◌, ℕ, zero, suc, ◌+◌, ◌*◌, ◌<◌, ◌≤◌, Bool, true, false, not, ◌&&◌, if◌then◌else◌, List, [], ◌∷◌, ◌++◌, Option, Some, None, is_some, refl, sym, ap, subst, ◌∙◌, ⊎_elim, arith}
+use Rattle.std.proofs.Common.{◌≡◌, ℕ, zero, suc, ◌+◌, ◌*◌, ◌≤◌, Bool, true, false, not, ◌&&◌, if◌then◌else◌, List, [], ◌∷◌, Option, Some, None, is_some, refl, sym, ap, ◌∙◌, ⊎_elim, arith}
 use Rattle.std.proofs.lemmas.Bool.{cases_Bool}
 use Rattle.ipdl_base.specs.declared.kinds.Side.{Side}
 use Rattle.ipdl_base.specs.declared.kinds.Side.TheVariants as sides
@@ -84,8 +84,8 @@ module _ (setting : Setting) (is : IsRunnable setting) where
       let printed = step-prints setting.schema (end_of choice.side state.world) (link_to choice.side state.world) c.event made.output made.is in
       let grows : (side : Side) → (progress_of side next.lines).events ≡ (progress_of side state.lines).events + (if same_side choice.side side then 1 else 0) =
       λ side.
-          ap (λ ls. (progress_of side ls).events) made.lines ∙ step-counted (end_of choice.side state.world) c.event made.output state.lines side printed
-          ∙ ap (λ (s : Side). (progress_of side state.lines).events + (if same_side s side then 1 else 0)) own
+      ap (λ ls. (progress_of side ls).events) made.lines ∙ step-counted (end_of choice.side state.world) c.event made.output state.lines side printed
+      ∙ ap (λ (s : Side). (progress_of side state.lines).events + (if same_side s side then 1 else 0)) own
       in
       let parent = grows sides.Parent in
       let child = grows sides.Child in
@@ -120,14 +120,14 @@ module _ (setting : Setting) (is : IsRunnable setting) where
   has_rest (suc fuel) (suc idle) side state at few = by (λ left from reached less. has_rest fuel left (other side) from reached less) (turn_case (whole_turn side) state at)
     where
       by : ((left : ℕ) (from : RunState) → IsReached setting from → 6 * setting.limit + left ≤ 3 * events from + fuel → HasLast (Rests setting (other side) left from)) → TurnCase setting (whole_turn side) state → HasLast (Rests setting side (suc idle) state)
-      by then (goes next e l) =
+      by onward (goes next e l) =
           let more = l.more in
-          let rest = then 2 next l.reached (omega (arith, few, more)) in
+          let rest = onward 2 next l.reached (omega (arith, few, more)) in
           record { last = rest.last; ending = rest.ending; leads_to = goes_on side idle state next rest.last rest.ending e rest.leads_to; case = rest.case; spent = rest.spent }
-      by then (waits e) =
-          let rest = then idle state at (omega (arith, few)) in
+      by onward (waits e) =
+          let rest = onward idle state at (omega (arith, few)) in
           record { last = rest.last; ending = rest.ending; leads_to = passes side idle state rest.last rest.ending e rest.leads_to; case = rest.case; spent = rest.spent }
-      by then (fails e full busy) = record { last = state; ending = at_limit side; leads_to = stops side idle state e; case = at.case; spent = (full, busy) }
+      by onward (fails e full busy) = record { last = state; ending = at_limit side; leads_to = stops side idle state e; case = at.case; spent = (full, busy) }
 
   has_run : (word : List Turn) (state : RunState) → IsReached setting state → HasLast (Picks setting word state)
   has_run [] state at =
@@ -136,13 +136,13 @@ module _ (setting : Setting) (is : IsRunnable setting) where
   has_run (turn ∷ word) state at = by (λ from reached. has_run word from reached) (turn_case turn state at)
     where
       by : ((from : RunState) → IsReached setting from → HasLast (Picks setting word from)) → TurnCase setting turn state → HasLast (Picks setting (turn ∷ word) state)
-      by then (goes next e l) =
-          let rest = then next l.reached in
+      by onward (goes next e l) =
+          let rest = onward next l.reached in
           record { last = rest.last; ending = rest.ending; leads_to = turn_leads turn word state next rest.last rest.ending e rest.leads_to; case = rest.case; spent = rest.spent }
-      by then (waits e) =
-          let rest = then state at in
+      by onward (waits e) =
+          let rest = onward state at in
           record { last = rest.last; ending = rest.ending; leads_to = turn_idles turn word state rest.last rest.ending e rest.leads_to; case = rest.case; spent = rest.spent }
-      by then (fails e full busy) = record { last = state; ending = at_limit turn.side; leads_to = turn_exceeds turn word state e; case = at.case; spent = (full, busy) }
+      by onward (fails e full busy) = record { last = state; ending = at_limit turn.side; leads_to = turn_exceeds turn word state e; case = at.case; spent = (full, busy) }
 
   -- a run that leads to a last state ends there
   ends_so : (word : List Turn) (last : RunState) (ending : RunEnding) → Picks setting word (beginning_of setting) last ending → IsSpentAt last ending → EndsAs setting last ending
