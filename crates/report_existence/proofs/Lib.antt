@@ -1,3 +1,4 @@
 pub mod Finite
+pub mod Lists
 pub mod Ordered
 pub mod Sorted

@@ -1,0 +1,6 @@
+mod Answers
+mod Compiled
+mod Lists
+mod Relays
+mod Said
+mod Words

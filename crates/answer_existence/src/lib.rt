@@ -1,0 +1,7 @@
+//! The law that words have exactly one answer, and what drives a run or a relay to its end. No function that
+//! runs.
+#![tactic(auto)]
+
+mod laws;
+
+pub use laws::{one_answer, relays_end, words_drive_all};

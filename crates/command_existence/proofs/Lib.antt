@@ -1,0 +1,4 @@
+mod Commands
+mod Files
+mod Values
+mod Words

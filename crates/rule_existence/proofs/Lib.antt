@@ -1,0 +1,12 @@
+pub mod Listed
+pub mod TypesNamed
+pub mod TypesDeclared
+pub mod TypesListed
+pub mod MessagesKinds
+pub mod MessagesPlaces
+pub mod MessagesDecided
+pub mod MessagesListed
+pub mod ListsListed
+pub mod ManagersFound
+pub mod ManagersCycles
+pub mod ManagersListed

@@ -1,0 +1,10 @@
+//! Laws of what programs break: for every program some list has exactly the findings of its rules. No
+//! function that runs.
+#![tactic(auto)]
+
+mod laws;
+
+pub use laws::{
+    list_findings_are_listed, manager_findings_are_listed, message_findings_are_listed,
+    type_findings_are_listed,
+};

@@ -1,0 +1,4 @@
+mod Audits
+mod Frames
+mod Waits
+mod Words

@@ -1,0 +1,7 @@
+mod Carried
+mod Files
+mod Keys
+mod Rows
+mod Schema
+mod Shapes
+mod Types

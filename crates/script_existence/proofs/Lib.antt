@@ -1,0 +1,12 @@
+mod Decided
+mod FitsDecided
+mod Found
+mod LineReader
+mod PlainBlocks
+mod Reports
+mod RulesListed
+mod Scripts
+mod StatementReader
+mod TokenReader
+mod ValueReader
+mod Worked

@@ -1,0 +1,7 @@
+//! Laws of what there is for a handler script: each line has a reading, each text has the report of the
+//! rules that it breaks, and a script or a report that is not empty. No function that runs.
+#![tactic(auto)]
+
+mod laws;
+
+pub use laws::{lines_have_readings, reports_exist, scripts_exist, texts_have_readings};
