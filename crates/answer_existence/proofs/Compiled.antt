@@ -70,7 +70,7 @@ abbrev pub SaysSomething : (Schema → CommandAnswer → Type 0) → (Schema →
 SaysSomething Says Is = (schema : Schema) → IsSound schema → Is schema → (answer : CommandAnswer) × Says schema answer
 
 module _ (laws : CompilationLaws) (Says : Schema → CommandAnswer → Type 0) (Is : Schema → Type 0) (says : SaysSomething Says Is) (given : LoadInput) (lists : FileMap) (list : Option (List ℕ))
-  (is : (schema : Schema) → IsSchemaRead given lists list schema → IsSound schema → Is schema) where
+    (is : (schema : Schema) → IsSchemaRead given lists list schema → IsSound schema → Is schema) where
   abbrev HasCompilation : Type 0
   HasCompilation = (answer : CommandAnswer) × IsCompilation Says given lists list answer
 

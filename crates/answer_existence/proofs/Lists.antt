@@ -10,7 +10,7 @@ use Rattle.list_existence.specs.Laws.{HasBadLine, HasSections, ListsHaveAnswers}
 use Rattle.report_existence.specs.Laws.{IsListed}
 use Rattle.report_existence.proofs.Finite.{no_place, one_place, same_places}
 use Rattle.sync_list.specs.declared.list.Section.{Section}
-use Rattle.ipdl_top.specs.Lists.{AreSections, IsFaultOfList, IsListFault, finding_at}
+use Rattle.ipdl_top.specs.Lists.{AreSections, IsFaultOfList, finding_at}
 use Rattle.ipdl_top.proofs.Compilations.{no_fault, one_list_fault}
 
 -- what a list that is named or not is, as the file of a number: its sections, or what it breaks

@@ -1,5 +1,5 @@
 -- Every relay in turns comes to an end.
-use Rattle.std.proofs.Common.{◌≡◌, ℕ, suc, zero, ◌+◌, ◌*◌, ◌<◌, ◌≤◌, Bool, true, false, if◌then◌else◌, List, [], ◌∷◌, ◌++◌, Option, Some, None, is_some, refl, sym, ap, subst, ◌∙◌, arith}
+use Rattle.std.proofs.Common.{◌≡◌, ℕ, suc, zero, ◌+◌, ◌*◌, ◌≤◌, Bool, true, false, if◌then◌else◌, [], ◌∷◌, Option, Some, None, is_some, refl, ap, ◌∙◌, arith}
 use Rattle.std.specs.Option.{option_map_or}
 use Rattle.ipdl_base.specs.declared.kinds.Side.{Side}
 use Rattle.ipdl_base.specs.declared.kinds.Side.TheVariants as sides
@@ -12,7 +12,7 @@ use Rattle.channel_model.specs.Steps.{step}
 use Rattle.relay_history.specs.Laws.{RelaysComeInOrder}
 use Rattle.relay_runs.specs.HalfRuns.{HalfRun, HalfState, behind, behind_packet, delivered_for, is_within, own_event}
 use Rattle.relay_runs.specs.RelaySteps.{IsRelay, RelayState, acts, gets, half_of, next_packet, opening_relay, stays, steps, with_half}
-use Rattle.relay_runs.specs.Relays.{IsHalfRunPair, RelayTurns, RelayedByTurns, behind_next, behind_own, exceeds, goes_on, idles, leads, packet_turn, passes, relay_turn, rests, stops, turn_by, within}
+use Rattle.relay_runs.specs.Relays.{IsHalfRunPair, RelayTurns, behind_next, behind_own, exceeds, goes_on, idles, leads, packet_turn, passes, relay_turn, rests, stops, turn_by}
 use Rattle.run_existence.specs.Laws.{IsRunnable}
 use Rattle.script_steps.specs.Choices.{Setting}
 use Rattle.script_steps.specs.Progress.{progress_of}

@@ -1,5 +1,5 @@
 -- What each command says of a sound schema is there.
-use Rattle.std.proofs.Common.{◌≡◌, ◌≢◌, ◌⊎◌, ℕ, ◌<◌, ◌≤◌, ◌+◌, Bool, List, [], ◌∷◌, ◌++◌, length, Option, Some, None, refl, sym, ap, subst, ◌∙◌, inl, inr, ⊎_elim, arith}
+use Rattle.std.proofs.Common.{◌≡◌, ◌⊎◌, ℕ, ◌<◌, ◌≤◌, ◌+◌, Bool, List, [], ◌∷◌, length, Option, Some, None, refl, sym, subst, inl, inr, ⊎_elim, arith}
 use Rattle.std.proofs.lemmas.Bool.{cases_lt}
 use Rattle.command_words.specs.Feed.{FeedCourse}
 use Rattle.command_words.specs.Relay.{RelayCourse}
@@ -19,7 +19,7 @@ use Rattle.ipdl_top.specs.declared.audited.Audit.{Audit}
 use Rattle.ipdl_top.specs.declared.audited.Audit.TheVariants as audit
 use Rattle.ipdl_top.specs.declared.rendering.Rendering.{Rendering}
 use Rattle.ipdl_top.specs.declared.status.Status.TheVariants as status
-use Rattle.ipdl_top.specs.Audit.{SaysAudited, SaysAuditedOf, absent_text_answer, audit_answer, larger_text_answer}
+use Rattle.ipdl_top.specs.Audit.{SaysAuditedOf, absent_text_answer, audit_answer, larger_text_answer}
 use Rattle.ipdl_top.specs.Audited.{IsAudited, audited_setting}
 use Rattle.ipdl_top.specs.Feed.{SaysFed, SaysFedOf, feed_answer, feed_setting}
 use Rattle.ipdl_top.specs.Frames.{SaysFrames, absent_answer, frames_answer, frames_out, larger_answer}
@@ -28,7 +28,7 @@ use Rattle.ipdl_top.specs.Report.{broken_answer}
 use Rattle.ipdl_top.specs.Run.{Driving, SaysHistory, answer_of, run_answer, setting_by}
 use Rattle.ipdl_top.specs.RunSteps.{IsMadeUnless}
 use Rattle.ipdl_top.specs.Scripts.{SaysByScript, SaysOfHeld, unreadable_answer}
-use Rattle.ipdl_top.specs.Waits.{IsTop, SaysWaits, waits_text}
+use Rattle.ipdl_top.specs.Waits.{SaysWaits, waits_text}
 use Rattle.ipdl_top.proofs.Relays.{RelayedLaws, says_relayed}
 use Rattle.ipdl_top.proofs.Runs.{says_history}
 use Rattle.law_statements.specs.Laws.{DecidesFallen, DecidesReadable, LawsWantReadable}
@@ -106,11 +106,11 @@ module _ (laws : SayingLaws) where
   of_text Says name text schema top small sound there says =
       ⊎_elim
       (λ script.
-          let s = says script.0 (script_valid text schema top script.0 small sound there script.1) in
-          (s.0, inr (small, inr (record { script = script.0; script_of = script.1; says = s.1 }))))
+      let s = says script.0 (script_valid text schema top script.0 small sound there script.1) in
+      (s.0, inr (small, inr (record { script = script.0; script_of = script.1; says = s.1 }))))
       (λ broken.
-          let report : Report = record { findings = broken.0; names = name ∷ [] } in
-          (broken_answer status.BadScript report, inr (small, inl (record { report = report; holds = record { is_report = broken.1; some = broken.2; called = refl }; says = refl }))))
+      let report : Report = record { findings = broken.0; names = name ∷ [] } in
+      (broken_answer status.BadScript report, inr (small, inl (record { report = report; holds = record { is_report = broken.1; some = broken.2; called = refl }; says = refl }))))
       (laws.scripts text schema top)
 
   of_held : (Says : Script → CommandAnswer → Type 0) (name : List ℕ) (held : Option (List ℕ)) (schema : Schema) (top : ℕ) → IsSound schema → top < length schema.protocols → SaysOfScripts schema Says
@@ -120,7 +120,7 @@ module _ (laws : SayingLaws) where
       ⊎_elim (λ (large : MOST_BYTES < length text). (unreadable_answer name, inl (large, refl)))
       (λ (small : length text ≤ MOST_BYTES). of_text Says name text schema top small sound there says) (cases_lt MOST_BYTES (length text))
 
-  by_script : (Says : Schema → Script → CommandAnswer → Type 0) (name : List ℕ) (held : Option (List ℕ)) (file : List ℕ) → ((schema : Schema) → IsSound schema → SaysOfScripts schema (Says schema))
+  pub by_script : (Says : Schema → Script → CommandAnswer → Type 0) (name : List ℕ) (held : Option (List ℕ)) (file : List ℕ) → ((schema : Schema) → IsSound schema → SaysOfScripts schema (Says schema))
       → SaysSomething (λ schema. SaysByScript (Says schema) name held file schema) (HasTop file)
   by_script Says name held file says schema sound (top, is_top) =
       let s = of_held (Says schema) name held schema top sound is_top.there (says schema sound) in (s.0, record { top = top; is_top = is_top; says = s.1 })
@@ -143,7 +143,7 @@ module _ (laws : SayingLaws) where
         let answer : CommandAnswer = run_answer shown d.after.setting.schema d.after.state.lines d.ending in (
           answer,
           says_history laws.runs laws.lawful laws.rests laws.weighed laws.sides Gives shown course schema script (opening_of setting) d.after (answer_of d.ending) answer sound few refl
-          (made (opening_of setting) d.after d.ending d.gives) d.about d.stands d.case (record { ending = d.ending; ends = refl; says = refl }),
+              (made (opening_of setting) d.after d.ending d.gives) d.about d.stands d.case (record { ending = d.ending; ends = refl; says = refl }),
         )
 
     history_by : (schedule : Option (List Turn)) → course.schedule ≡ schedule → (course.schedule ≡ None → DrivesAll Gives) → (schema : Schema) → IsSound schema → SaysOfScripts schema (SaysHistory Gives shown course schema)

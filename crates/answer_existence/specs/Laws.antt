@@ -4,7 +4,7 @@ use Rattle.std.specs.List.{AllByRecursion}
 use Rattle.std.specs.Str.{IsUtf8}
 use Rattle.command_words.specs.Relay.{IsRelay, RelayCourse}
 use Rattle.command_words.specs.Run.{Course, IsRun}
-use Rattle.file_log.specs.Files.{FileMap}
+use Rattle.ipdl_base.specs.Outside.{FileMap}
 use Rattle.ipdl_base.specs.declared.line.Line.{Line}
 use Rattle.ipdl_top.specs.declared.answer.CommandAnswer.{CommandAnswer}
 use Rattle.ipdl_top.specs.CommandAnswer.{IsAnswer}

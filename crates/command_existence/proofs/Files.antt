@@ -10,8 +10,8 @@ use Rattle.command_words.specs.Operands.{AreScriptOperands}
 use Rattle.command_words.specs.Run.{AreRunOperands}
 use Rattle.command_words.specs.Waits.{IsOperand}
 use Rattle.command_words.proofs.FileLists.{again_listed, full_listed, key_listed, new_listed, not_listed}
-use Rattle.report_existence.proofs.Lists.{EndsWith, ends_or_not}
-use Rattle.command_existence.proofs.Values.{Decided, Text, rounds_decided, text_or_not}
+use Rattle.report_existence.proofs.Lists.{EndsWith, ends_or_not, text_or_not}
+use Rattle.command_existence.proofs.Values.{Decided, Text, rounds_decided}
 
 -- Lists of files
 

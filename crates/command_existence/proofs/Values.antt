@@ -16,7 +16,7 @@ use Rattle.command_words.specs.Gen.{IsActors, IsCount}
 use Rattle.command_words.specs.Listed.{pieces}
 use Rattle.command_words.specs.RunOptions.{IsDeath, IsLimit, IsNumber, IsSchedule, IsStopOf, letter_for, letter_of, word_of}
 use Rattle.command_words.proofs.Pieces.{dirs_pass, pieces_are}
-use Rattle.report_existence.proofs.Lists.{BeginsWith, EndsWith, begins_or_not, ends_or_not, same_or_not}
+use Rattle.report_existence.proofs.Lists.{BeginsWith, EndsWith, begins_or_not, ends_or_not, text_or_not}
 
 abbrev pub Text : Type 0
 Text = List ℕ
@@ -24,9 +24,6 @@ Text = List ℕ
 -- something has this, or nothing has
 abbrev pub Decided : {X : Type 0} → (X → Type 0) → Type 0
 Decided {X} Has = ((x : X) × Has x) ⊎ ((x : X) → Has x → ⊥)
-
-pub text_or_not : (a b : Text) → (a ≡ b) ⊎ (a ≡ b → ⊥)
-text_or_not = same_or_not cases_eq
 
 -- Numbers
 
@@ -151,9 +148,9 @@ side_death side text = by (begins_or_not cases_eq (word_of side ++ codes ":") te
     by_number number e (inl (n, is)) =
         ⊎_elim
         (λ (past : 20000 < n). inr (λ m other.
-            let text_same = append_cancel_left (word_of side ++ codes ":") other.number number (append_assoc (word_of side) (codes ":") other.number ∙ sym other.text_is ∙ e) in
-            let same = same_number number n m is (subst (λ t. IsNumber t m) text_same other.is_number) in
-            let few = other.most in omega (arith, past, same, few)))
+        let text_same = append_cancel_left (word_of side ++ codes ":") other.number number (append_assoc (word_of side) (codes ":") other.number ∙ sym other.text_is ∙ e) in
+        let same = same_number number n m is (subst (λ t. IsNumber t m) text_same other.is_number) in
+        let few = other.most in omega (arith, past, same, few)))
         (λ (few : n ≤ 20000). inl (n, record { number = number; text_is = e ∙ append_assoc (word_of side) (codes ":") number; is_number = is; most = few }))
         (cases_lt 20000 n)
 

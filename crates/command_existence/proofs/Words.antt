@@ -12,9 +12,10 @@ use Rattle.command_words.specs.Relay.{relay_word}
 use Rattle.command_words.specs.Run.{run_word}
 use Rattle.command_words.specs.Waits.{waits_word}
 use Rattle.command_words.proofs.OneCommand.{for_compile, none_behind_audit, none_behind_feed, none_behind_frames, none_behind_gen, none_behind_relay, none_behind_run, none_behind_waits, none_for_compile}
+use Rattle.report_existence.proofs.Lists.{text_or_not}
 use Rattle.command_existence.specs.Laws.{WordsAreDecided}
 use Rattle.command_existence.proofs.Commands.{audit_decided, compile_decided, feed_decided, frames_decided, gen_decided, relay_decided, run_decided, waits_decided}
-use Rattle.command_existence.proofs.Values.{Text, text_or_not}
+use Rattle.command_existence.proofs.Values.{Text}
 
 -- the words are a command, or none
 abbrev IsDecided : List Text → Type 0

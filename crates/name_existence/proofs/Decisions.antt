@@ -1,4 +1,4 @@
--- What is decided: equality of numbers, texts and options, and what is made of decided parts. What is decided is listed, where a list has all of which it holds.
+-- What is decided: which number is below, equality of options, and what is made of decided parts. What is decided is listed, where a list has all of which it holds.
 use Rattle.std.proofs.Common.{◌≡◌, ◌⊎◌, ℕ, ◌<◌, Bool, true, false, List, [], ◌∷◌, Contains, Any, Option, Some, None, refl, sym, ap, subst, inl, inr, ⊎_elim, arith, IsSomeAnd}
 use Rattle.std.proofs.lemmas.Bool.{cases_lt}
 use Rattle.std.proofs.lemmas.Bool.Decides.{eqb_tells}
@@ -16,24 +16,8 @@ three_or_not p q r = like_or_not (λ h. (h.0, h.1.0, h.1.1)) (λ h. (h.0, (h.1, 
 
 -- numbers
 
-pub number_or_not : (a b : ℕ) → (a ≡ b) ⊎ (a ≡ b → ⊥)
-number_or_not a b = ⊎_elim (λ e. inl e.1) (λ n. inr n.1) (eqb_tells a b)
-
 pub below_or_not : (a b : ℕ) → (a < b) ⊎ (a < b → ⊥)
 below_or_not a b = ⊎_elim (λ less. inl less) (λ above. inr (λ less. omega (arith, less, above))) (cases_lt a b)
-
--- truth values
-
-pub bool_or_not : (a b : Bool) → (a ≡ b) ⊎ (a ≡ b → ⊥)
-bool_or_not true true = inl refl
-bool_or_not false false = inl refl
-bool_or_not true false = inr (λ e. cc)
-bool_or_not false true = inr (λ e. cc)
-
--- texts
-
-pub text_or_not : (a b : List ℕ) → (a ≡ b) ⊎ (a ≡ b → ⊥)
-text_or_not a b = same_or_not number_or_not a b
 
 -- options
 

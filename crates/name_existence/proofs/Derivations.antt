@@ -1,6 +1,6 @@
 -- Which nodes are derived is decided.
 use Rattle.std.proofs.Common.{◌≡◌, ◌⊎◌, ℕ, zero, suc, ◌<◌, List, [], ◌∷◌, Contains, Any, Some, length, slice_get, refl, sym, subst, inl, inr, ⊎_elim, arith, IsSomeAnd, ◌≤◌}
-use Rattle.std.proofs.lemmas.Bool.{cases_lt}
+use Rattle.std.proofs.lemmas.Bool.{cases_lt, cases_eq}
 use Rattle.std.proofs.lemmas.Option.{slice_get_within}
 use Rattle.least_fixed_points.specs.declared.nodes.Need.{Need}
 use Rattle.least_fixed_points.specs.declared.nodes.Need.TheVariants.{All, One}
@@ -9,7 +9,7 @@ use Rattle.least_fixed_points.specs.Derived.{IsDerived, all, one}
 use Rattle.report_existence.proofs.Finite.{any_or_not, contains_more}
 use Rattle.name_existence.specs.Laws.{DerivationsAreDecided}
 use Rattle.name_existence.proofs.Least.{least_or_not}
-use Rattle.name_existence.proofs.Decisions.{all_or_not, contains_or_not, number_or_not, some_and_or_not, there_is, there}
+use Rattle.name_existence.proofs.Decisions.{all_or_not, contains_or_not, some_and_or_not, there_is, there}
 
 -- the numbers below a number
 abbrev pub numbers_below : ℕ → List ℕ
@@ -30,8 +30,8 @@ abbrev Step : List Node → List ℕ → ℕ → Type 0
 Step nodes marks k = IsSomeAnd (slice_get nodes k) (λ node. IsMet marks node.need node.parts.items)
 
 met_or_not : (marks : List ℕ) (need : Need) (parts : List ℕ) → IsMet marks need parts ⊎ (IsMet marks need parts → ⊥)
-met_or_not marks All parts = all_or_not (Contains marks) (contains_or_not number_or_not marks) parts
-met_or_not marks One parts = any_or_not (Contains marks) (contains_or_not number_or_not marks) parts
+met_or_not marks All parts = all_or_not (Contains marks) (contains_or_not cases_eq marks) parts
+met_or_not marks One parts = any_or_not (Contains marks) (contains_or_not cases_eq marks) parts
 
 step_derives : (nodes : List Node) (marks : List ℕ) → ((k : ℕ) → Contains marks k → IsDerived nodes k) → (k : ℕ) (node : Node) → slice_get nodes k ≡ Some node → (need : Need) → node.need ≡ need → IsMet marks need node.parts.items → IsDerived nodes k
 step_derives nodes marks sound k node at All is met = all node at is (λ part c. sound part (met part c))

@@ -1,4 +1,6 @@
 -- Every name finds none, one, or two that differ.
+use Rattle.report_existence.proofs.Lists.{text_or_not, bool_or_not}
+use Rattle.std.proofs.lemmas.Bool.{cases_eq}
 use Rattle.std.proofs.Common.{◌≡◌, ◌≢◌, ◌⊎◌, ◌∙◌, ℕ, Bool, true, false, List, [], ◌∷◌, ◌++◌, Any, Contains, Option, Some, None, IsSomeAnd, map, refl, sym, ap, subst, inl, inr, ⊎_elim}
 use Rattle.std.proofs.lemmas.List.Elements.{Contains-append_left, Contains-append_right}
 use Rattle.std.proofs.lemmas.Option.{none-some, same_Some}
@@ -18,14 +20,14 @@ use Rattle.type_rules.proofs.Lists.{contains_map}
 use Rattle.report_existence.specs.Laws.{IsListed}
 use Rattle.report_existence.proofs.Finite.{contains_none, contains_more, contains_cases, either_or_not, both_or_not, not_or, any_or_not}
 use Rattle.name_existence.specs.Laws.{NamesHaveAnswers, ProtocolNamesHaveAnswers}
-use Rattle.name_existence.proofs.Decisions.{like_or_not, number_or_not, below_or_not, text_or_not, none_or_not, some_and_or_not, of_list, some_or_none, bool_or_not}
+use Rattle.name_existence.proofs.Decisions.{like_or_not, below_or_not, none_or_not, some_and_or_not, of_list, some_or_none}
 use Rattle.name_existence.proofs.Sights.{sees_or_not, sees_declared}
 use Rattle.name_existence.proofs.Texts.{builtins, is_builtin, builtin_or_not, names_type_or_not, type_or_none, name_of_or_not, inner_or_none, managed_or_none}
 
 -- Declarations
 
 place_or_not : (file place other there : ℕ) → ((file ≡ other) × (place ≡ there)) ⊎ ((file ≡ other) × (place ≡ there) → ⊥)
-place_or_not file place other there = both_or_not (number_or_not file other) (number_or_not place there)
+place_or_not file place other there = both_or_not (cases_eq file other) (cases_eq place there)
 
 pub decl_or_not : (a b : DeclId) → (a ≡ b) ⊎ (a ≡ b → ⊥)
 decl_or_not (Builtin a) (Builtin b) = like_or_not (ap Builtin) (λ e. cc) (builtin_or_not a b)
@@ -36,9 +38,9 @@ decl_or_not (Struct f i) (Struct g j) = like_or_not (λ h. ap (λ n. Struct n i)
 decl_or_not (Struct f i) _ = inr (λ e. cc)
 decl_or_not (Union f i) (Union g j) = like_or_not (λ h. ap (λ n. Union n i) h.0 ∙ ap (Union g) h.1) (λ e. (cc, cc)) (place_or_not f i g j)
 decl_or_not (Union f i) _ = inr (λ e. cc)
-decl_or_not (Protocol f) (Protocol g) = like_or_not (ap Protocol) (λ e. cc) (number_or_not f g)
+decl_or_not (Protocol f) (Protocol g) = like_or_not (ap Protocol) (λ e. cc) (cases_eq f g)
 decl_or_not (Protocol f) _ = inr (λ e. cc)
-decl_or_not (Endpoint f a) (Endpoint g b) = like_or_not (λ h. ap (λ n. Endpoint n a) h.0 ∙ ap (Endpoint g) h.1) (λ e. (cc, cc)) (both_or_not (number_or_not f g) (bool_or_not a b))
+decl_or_not (Endpoint f a) (Endpoint g b) = like_or_not (λ h. ap (λ n. Endpoint n a) h.0 ∙ ap (Endpoint g) h.1) (λ e. (cc, cc)) (both_or_not (cases_eq f g) (bool_or_not a b))
 decl_or_not (Endpoint f a) _ = inr (λ e. cc)
 
 -- what a program declares, without names
@@ -111,7 +113,7 @@ names_builtin_or_not program file full =
 -- The first using of a name
 
 before_or_not : (file place other there : ℕ) → IsBefore file place other there ⊎ (IsBefore file place other there → ⊥)
-before_or_not file place other there = either_or_not (below_or_not file other) (both_or_not (number_or_not file other) (below_or_not place there))
+before_or_not file place other there = either_or_not (below_or_not file other) (both_or_not (cases_eq file other) (below_or_not place there))
 
 -- a using of this name that the file sees stands before a place
 abbrev IsEarlier : List Entry → ℕ → List ℕ → ℕ → ℕ → DeclId → Type 0

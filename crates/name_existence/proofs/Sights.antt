@@ -1,4 +1,6 @@
 -- What a file sees is decided, and so it is listed.
+use Rattle.report_existence.proofs.Lists.{text_or_not}
+use Rattle.std.proofs.lemmas.Bool.{cases_eq}
 use Rattle.std.proofs.Common.{◌≡◌, ◌⊎◌, ℕ, ◌<◌, List, Contains, Any, Some, None, length, refl, sym, subst, inl, inr, slice_get}
 use Rattle.ipdl_syntax.specs.declared.program.Entry.{Entry}
 use Rattle.name_table.specs.declared.decl.DeclId.{DeclId}
@@ -11,7 +13,7 @@ use Rattle.name_table.proofs.Order.{all_declared}
 use Rattle.name_table.proofs.Seeing.{sees_shown, shown_sees}
 use Rattle.report_existence.proofs.Finite.{either_or_not, both_or_not, any_or_not}
 use Rattle.name_existence.specs.Laws.{SightsAreListed}
-use Rattle.name_existence.proofs.Decisions.{below_or_not, like_or_not, number_or_not, text_or_not, none_or_not, option_or_not, some_and_or_not, contains_or_not, of_list}
+use Rattle.name_existence.proofs.Decisions.{below_or_not, like_or_not, none_or_not, option_or_not, some_and_or_not, contains_or_not, of_list}
 use Rattle.name_existence.proofs.Derivations.{numbers_below, is_below}
 use Rattle.name_existence.proofs.Least.{least_or_not}
 
@@ -19,10 +21,10 @@ header_or_not : (program : List Entry) (file : ℕ) → IsHeader program file �
 header_or_not program file = some_and_or_not (slice_get program file) (λ entry. entry.unit.protocol ≡ None) (λ entry. none_or_not entry.unit.protocol)
 
 includes_or_not : (program : List Entry) (file other : ℕ) → Includes program file other ⊎ (Includes program file other → ⊥)
-includes_or_not program file other = some_and_or_not (slice_get program file) (λ entry. Contains entry.includes other) (λ entry. contains_or_not number_or_not entry.includes other)
+includes_or_not program file other = some_and_or_not (slice_get program file) (λ entry. Contains entry.includes other) (λ entry. contains_or_not cases_eq entry.includes other)
 
 followed_or_not : (program : List Entry) (from file : ℕ) → IsFollowed program from file ⊎ (IsFollowed program from file → ⊥)
-followed_or_not program from file = either_or_not (number_or_not file from) (header_or_not program file)
+followed_or_not program from file = either_or_not (cases_eq file from) (header_or_not program file)
 
 -- from marked files a step leads to the file that all is reached from, and to what a marked file includes that is followed
 abbrev Step : List Entry → ℕ → List ℕ → ℕ → Type 0
@@ -31,7 +33,7 @@ Step program from marks file = (file < length program) × ((file ≡ from) ⊎ A
 step_or_not : (program : List Entry) (from : ℕ) (marks : List ℕ) (file : ℕ) → Step program from marks file ⊎ (Step program from marks file → ⊥)
 step_or_not program from marks file =
     both_or_not (below_or_not file (length program))
-    (either_or_not (number_or_not file from)
+    (either_or_not (cases_eq file from)
     (any_or_not (λ before. IsFollowed program from before × Includes program before file) (λ before. both_or_not (followed_or_not program from before) (includes_or_not program before file)) marks))
 
 step_reaches : (program : List Entry) (from : ℕ) (marks : List ℕ) → ((file : ℕ) → Contains marks file → Reaches program from file) → (file : ℕ) → Step program from marks file → Reaches program from file

@@ -1,4 +1,6 @@
 -- Names of builtin types, and the argument in a name.
+use Rattle.report_existence.proofs.Lists.{text_or_not}
+use Rattle.std.proofs.lemmas.Bool.{cases_eq}
 use Rattle.std.proofs.Common.{◌≡◌, ◌⊎◌, ◌∙◌, ℕ, ◌-◌, Bool, true, false, true≢false, ◌||◌, List, [], ◌∷◌, ◌++◌, Contains, Option, Some, length, take, drop, refl, sym, ap, inl, inr, arith, length-append}
 use Rattle.std.specs.List.{list_any}
 use Rattle.std.specs.Str.{bytes_eq}
@@ -12,7 +14,7 @@ use Rattle.ipdl_syntax.specs.Grammar.{whole_name}
 use Rattle.name_table.specs.Finds.{builtin_full_name, IsNameOfBuiltin, IsNameOf}
 use Rattle.name_table.proofs.BuiltinNames.{one_builtin}
 use Rattle.report_existence.proofs.Finite.{contains_more, either_or_not, both_or_not, not_or, any_or_not}
-use Rattle.name_existence.proofs.Decisions.{like_or_not, three_or_not, number_or_not, text_or_not, none_or_not, contains_or_not}
+use Rattle.name_existence.proofs.Decisions.{like_or_not, three_or_not, none_or_not, contains_or_not}
 
 -- Builtin types
 
@@ -73,8 +75,8 @@ managed_or_none P each = like_or_not to from (either_or_not (each false) (each t
 pub name_of_or_not : (text : List ℕ) (argument : Option (List ℕ)) (full : List ℕ) → IsNameOf text argument full ⊎ (IsNameOf text argument full → ⊥)
 name_of_or_not text argument full =
     either_or_not
-    (both_or_not (text_or_not full (whole_name text argument)) (not_or (contains_or_not number_or_not text 60)))
-    (three_or_not (none_or_not argument) (text_or_not (short_name full) text) (not_or (contains_or_not number_or_not full 60)))
+    (both_or_not (text_or_not full (whole_name text argument)) (not_or (contains_or_not cases_eq text 60)))
+    (three_or_not (none_or_not argument) (text_or_not (short_name full) text) (not_or (contains_or_not cases_eq full 60)))
 
 -- what stands between a front with `<` and the last byte
 abbrev inner_of : List ℕ → List ℕ → List ℕ

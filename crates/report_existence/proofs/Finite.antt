@@ -1,6 +1,8 @@
 -- Lists of exactly the things of which something holds, put together from such lists.
-use Rattle.std.proofs.Common.{◌≡◌, ◌⊎◌, zero, suc, List, [], ◌∷◌, ◌++◌, Any, Contains, map, ap, refl, sym, subst, inl, inr, ⊎_elim, arith}
+use Rattle.std.proofs.Common.{◌≡◌, ◌⊎◌, ℕ, zero, suc, List, [], ◌∷◌, ◌++◌, Any, Contains, map, ap, refl, sym, subst, inl, inr, ⊎_elim, arith}
 use Rattle.std.proofs.lemmas.List.Elements.{Contains-append_left, Contains-append_right, Contains-append_cases}
+use Rattle.std.proofs.lemmas.Option.{none-some, same_Some}
+use Rattle.findings.specs.Gains.{AtSome}
 use Rattle.ipdl_base.specs.declared.finding.Finding.{Finding}
 use Rattle.ipdl_base.specs.declared.finding.Place.{Place}
 use Rattle.ipdl_base.specs.declared.finding.Rule.{Rule}
@@ -86,6 +88,26 @@ of_any (x ∷ xs) Holds each =
     same_places (λ p. Holds x p ⊎ Any (λ y. Holds y p) xs) (λ p. Any (λ y. Holds y p) (x ∷ xs))
     (λ p. any_more (λ y. Holds y p) x xs) (λ p. any_cases (λ y. Holds y p) x xs)
     (either_place (Holds x) (λ p. Any (λ y. Holds y p) xs) (each x) (of_any xs Holds each))
+
+-- those that have it at some element with its index
+
+none_at : {X : Type 0} (Holds : ℕ → X → Type 0) → AtSome Holds [] → ⊥
+none_at Holds (index, x, e, h) = none-some x e
+
+at_cases : {X : Type 0} (Holds : ℕ → X → Type 0) (x : X) (xs : List X) → AtSome Holds (x ∷ xs) → Holds 0 x ⊎ AtSome (λ index. Holds (suc index)) xs
+at_cases Holds x xs (zero, y, e, h) = inl (subst (Holds 0) (sym (same_Some x y e)) h)
+at_cases Holds x xs (suc index, y, e, h) = inr (index, y, e, h)
+
+at_more : {X : Type 0} (Holds : ℕ → X → Type 0) (x : X) (xs : List X) → Holds 0 x ⊎ AtSome (λ index. Holds (suc index)) xs → AtSome Holds (x ∷ xs)
+at_more Holds x xs (inl h) = (0, x, refl, h)
+at_more Holds x xs (inr (index, y, e, h)) = (suc index, y, e, h)
+
+pub of_some : {X Y : Type 0} (xs : List X) (Holds : ℕ → X → Y → Type 0) → ((index : ℕ) (x : X) → IsListed (Holds index x)) → IsListed (λ p. AtSome (λ index x. Holds index x p) xs)
+of_some [] Holds each = no_place (λ p. AtSome (λ index x. Holds index x p) []) (λ p. none_at (λ index x. Holds index x p))
+of_some (x ∷ xs) Holds each =
+    same_places (λ p. Holds 0 x p ⊎ AtSome (λ index z. Holds (suc index) z p) xs) (λ p. AtSome (λ index z. Holds index z p) (x ∷ xs))
+    (λ p. at_more (λ index z. Holds index z p) x xs) (λ p. at_cases (λ index z. Holds index z p) x xs)
+    (either_place (Holds 0 x) (λ p. AtSome (λ index z. Holds (suc index) z p) xs) (each 0 x) (of_some xs (λ index. Holds (suc index)) (λ index. each (suc index))))
 
 -- Findings of one rule
 

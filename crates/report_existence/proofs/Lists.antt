@@ -1,5 +1,6 @@
--- Decisions on lists, where their elements are decided.
-use Rattle.std.proofs.Common.{◌≡◌, ◌⊎◌, List, [], ◌∷◌, ◌++◌, Contains, refl, sym, inl, inr, ⊎_elim, subst}
+-- Decisions on lists, where their elements are decided, and on texts and truth values.
+use Rattle.std.proofs.Common.{◌≡◌, ◌⊎◌, ℕ, Bool, true, false, List, [], ◌∷◌, ◌++◌, Contains, refl, sym, inl, inr, ⊎_elim, subst}
+use Rattle.std.proofs.lemmas.Bool.{cases_eq}
 use Rattle.report_existence.proofs.Finite.{contains_cases, contains_more, contains_none}
 
 same_head : {X : Type 0} (x y : X) (xs ys : List X) → x ∷ xs ≡ y ∷ ys → x ≡ y
@@ -19,6 +20,15 @@ same_or_not {X} each (x ∷ xs) (y ∷ ys) = by (each x y) (same_or_not each xs 
     by (inl e) (inl f) = inl (λ i. e i ∷ f i)
     by (inl e) (inr differ) = inr (λ g. differ (same_tail x y xs ys g))
     by (inr differ) rest = inr (λ g. differ (same_head x y xs ys g))
+
+pub text_or_not : (a b : List ℕ) → (a ≡ b) ⊎ (a ≡ b → ⊥)
+text_or_not = same_or_not cases_eq
+
+pub bool_or_not : (a b : Bool) → (a ≡ b) ⊎ (a ≡ b → ⊥)
+bool_or_not true true = inl refl
+bool_or_not false false = inl refl
+bool_or_not true false = inr (λ e. cc)
+bool_or_not false true = inr (λ e. cc)
 
 -- a list begins with another, and so it is that and others
 abbrev pub BeginsWith : {X : Type 0} → List X → List X → Type 0

@@ -1,4 +1,5 @@
 -- The findings of all rules on a sync list are listed.
+use Rattle.report_existence.proofs.Lists.{bool_or_not, text_or_not}
 use Rattle.std.proofs.Common.{◌≡◌, ◌⊎◌, ℕ, true, List, Any, IsSomeAnd}
 use Rattle.ipdl_base.specs.Words.{short_name}
 use Rattle.ipdl_base.specs.declared.finding.TheConstants.Rule as rule
@@ -11,7 +12,7 @@ use Rattle.sync_list.specs.Broken.{AtSection, HasMessage, HasNoDescription, IsRe
 use Rattle.sync_list.specs.declared.list.Section.{Section}
 use Rattle.report_existence.specs.Laws.{IsListed}
 use Rattle.report_existence.proofs.Finite.{any_or_not, both_or_not, either_place, not_or, of_any, of_rule, same_places}
-use Rattle.name_existence.proofs.Decisions.{bool_or_not, like_or_not, some_and_or_not, text_or_not, three_or_not}
+use Rattle.name_existence.proofs.Decisions.{like_or_not, some_and_or_not, three_or_not}
 use Rattle.rule_existence.specs.Laws.{ListFindingsAreListed}
 use Rattle.rule_existence.proofs.Listed.{at_place}
 use Rattle.rule_existence.proofs.MessagesKinds.{same_semantics_or_not}

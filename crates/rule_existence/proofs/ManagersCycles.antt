@@ -1,4 +1,5 @@
 -- Which protocols name each other as managers, and which are in cycles of managers, is decided.
+use Rattle.std.proofs.lemmas.Bool.{cases_eq}
 use Rattle.std.proofs.Common.{◌≢◌, ◌⊎◌, ℕ, List, Contains, Any, length, inl, inr}
 use Rattle.ipdl_syntax.specs.declared.program.Entry.{Entry}
 use Rattle.ipdl_syntax.specs.declared.tree.ProtocolDecl.{ProtocolDecl}
@@ -6,7 +7,7 @@ use Rattle.name_table.specs.Decls.{FindsOneProtocol, protocol_of}
 use Rattle.manager_rules.specs.Managers.{HasManager, IsInCycle, LeadsTo, Manages, NamesManager, more, one}
 use Rattle.manager_rules.proofs.Bonds.{protocol_within}
 use Rattle.report_existence.proofs.Finite.{any_or_not, both_or_not, either_or_not, not_or}
-use Rattle.name_existence.proofs.Decisions.{like_or_not, number_or_not, some_and_or_not, there, there_is}
+use Rattle.name_existence.proofs.Decisions.{like_or_not, some_and_or_not, there, there_is}
 use Rattle.name_existence.proofs.Derivations.{is_below, numbers_below}
 use Rattle.name_existence.proofs.Least.{least_or_not}
 use Rattle.rule_existence.proofs.ManagersFound.{one_protocol_or_not}
@@ -64,5 +65,5 @@ cycle_or_not program file =
     (λ (i, other, below, at, (differs, (to, back))). record { other = other; differs = differs; there = to; back = back })
     (λ h. let c = leads_below h.back in (c.0, h.other, c.1, c.2, (h.differs, (h.there, h.back))))
     (any_or_not (λ other. (other ≢ file) × (LeadsTo program file other × LeadsTo program other file))
-    (λ other. both_or_not (not_or (number_or_not other file)) (both_or_not (leads_or_not program file other) (leads_or_not program other file)))
+    (λ other. both_or_not (not_or (cases_eq other file)) (both_or_not (leads_or_not program file other) (leads_or_not program other file)))
     (numbers_below (length program)))

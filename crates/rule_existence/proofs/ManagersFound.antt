@@ -1,4 +1,5 @@
 -- What the name of a protocol finds, and what holds of it, is decided.
+use Rattle.report_existence.proofs.Lists.{text_or_not}
 use Rattle.std.proofs.Common.{◌≡◌, ◌⊎◌, ◌∙◌, ℕ, false, true≢false, List, Option, Some, None, refl, sym, ap, subst, inl, inr}
 use Rattle.std.proofs.lemmas.Option.{none-some}
 use Rattle.ipdl_syntax.specs.declared.program.Entry.{Entry}
@@ -13,7 +14,7 @@ use Rattle.manager_rules.specs.Broken.{FindsWith, HasMessage}
 use Rattle.manager_rules.proofs.Counted.{one_number}
 use Rattle.manager_rules.proofs.Found.{with_told}
 use Rattle.report_existence.proofs.Finite.{any_or_not}
-use Rattle.name_existence.proofs.Decisions.{like_or_not, text_or_not}
+use Rattle.name_existence.proofs.Decisions.{like_or_not}
 use Rattle.name_existence.proofs.Names.{decl_or_not, protocol_names_have_answers}
 
 -- No protocol, and one

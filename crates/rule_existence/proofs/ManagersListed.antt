@@ -11,9 +11,9 @@ use Rattle.name_table.specs.Kinds.{Converts, strength_of_protocol}
 use Rattle.manager_rules.specs.Broken.{AtName, FindsWith, HasMessage, IsDisagreement, IsManagerCycle, IsMissingConstructor, IsMissingDestructor, IsRepeatedName, IsStrongerThanManager, IsUnknownProtocol, IsUnmanagedConstructor, SomeProtocol, messages_at, names_at}
 use Rattle.manager_rules.specs.Managers.{IsInCycle, Manages, NamesManager}
 use Rattle.report_existence.specs.Laws.{IsListed}
-use Rattle.report_existence.proofs.Finite.{both_or_not, either_place, not_or, of_any, of_rule, same_places}
+use Rattle.report_existence.proofs.Finite.{both_or_not, either_place, not_or, of_any, of_rule, same_places, of_some}
 use Rattle.rule_existence.specs.Laws.{ManagerFindingsAreListed}
-use Rattle.rule_existence.proofs.Listed.{at_place, of_repeated, of_some}
+use Rattle.rule_existence.proofs.Listed.{at_place, of_repeated}
 use Rattle.rule_existence.proofs.ManagersCycles.{cycle_or_not, manages_or_not, names_manager_or_not}
 use Rattle.rule_existence.proofs.ManagersFound.{message_or_not, no_protocol_or_not, with_or_not}
 use Rattle.rule_existence.proofs.MessagesKinds.{converts_or_not}

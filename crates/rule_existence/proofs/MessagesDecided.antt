@@ -1,4 +1,5 @@
 -- Whether a single message breaks a rule is decided.
+use Rattle.report_existence.proofs.Lists.{bool_or_not}
 use Rattle.std.proofs.Common.{◌⊎◌, ℕ, true}
 use Rattle.std.specs.Prelude.{is_some}
 use Rattle.ipdl_base.specs.declared.kinds.Level.TheVariants.{Not, InsideSync, InsideCpow}
@@ -10,7 +11,7 @@ use Rattle.name_table.specs.declared.kinds.MessageKind.{MessageKind}
 use Rattle.name_table.specs.declared.kinds.MessageKind.TheVariants as kind
 use Rattle.message_rules.specs.Messages.{IsAsyncInsideSync, IsBadCompress, IsBadLazy, IsBadMaker, IsInsideCpowToChild, IsPlainAsync, IsPlainSyncToChild, IsStronger, IsToChild, IsTooMany}
 use Rattle.report_existence.proofs.Finite.{both_or_not, either_or_not, not_or}
-use Rattle.name_existence.proofs.Decisions.{bool_or_not, like_or_not, three_or_not}
+use Rattle.name_existence.proofs.Decisions.{like_or_not, three_or_not}
 use Rattle.rule_existence.proofs.MessagesKinds.{at_most_or_not, converts_or_not, parent_or_not, plain_or_not, same_kind_or_not, same_level_or_not, same_semantics_or_not}
 
 pub too_many_or_not : (index : ℕ) → IsTooMany index ⊎ (IsTooMany index → ⊥)

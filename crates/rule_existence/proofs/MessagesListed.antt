@@ -9,9 +9,9 @@ use Rattle.findings.specs.Repeats.{IsRepeatedAt}
 use Rattle.message_rules.specs.Broken.{IsRepeatedParameter, SomeMessage, returns_of}
 use Rattle.message_rules.specs.Messages.{IsAsyncInsideSync, IsBadCompress, IsBadLazy, IsBadMaker, IsInsideCpowToChild, IsPlainSyncToChild, IsStronger, IsTooMany}
 use Rattle.report_existence.specs.Laws.{IsListed}
-use Rattle.report_existence.proofs.Finite.{either_place, of_any, of_rule}
+use Rattle.report_existence.proofs.Finite.{either_place, of_any, of_rule, of_some}
 use Rattle.rule_existence.specs.Laws.{MessageFindingsAreListed}
-use Rattle.rule_existence.proofs.Listed.{at_place, of_repeated, of_some}
+use Rattle.rule_existence.proofs.Listed.{at_place, of_repeated}
 use Rattle.rule_existence.proofs.MessagesDecided.{bad_compress_or_not, bad_lazy_or_not, bad_maker_or_not, inside_cpow_or_not, inside_sync_or_not, plain_sync_or_not, stronger_or_not, too_many_or_not}
 use Rattle.rule_existence.proofs.MessagesPlaces.{of_protocols}
 

@@ -1,4 +1,5 @@
 -- The rules on the names of declarations and fields, and on attributes: the places at which they are broken are listed.
+use Rattle.report_existence.proofs.Lists.{bool_or_not, text_or_not}
 use Rattle.std.proofs.Common.{◌≡◌, ◌⊎◌, ℕ, true, List, Any, Option, Some, codes, map, refl, inl, inr, Ordering, Less, Equal, Greater}
 use Rattle.ipdl_base.specs.Builtins.{builtin_name}
 use Rattle.ipdl_base.specs.Words.{short_name}
@@ -15,7 +16,7 @@ use Rattle.written_parts.specs.declared.attributes.Bearer.{Bearer}
 use Rattle.written_parts.specs.declared.attributes.Bearer.TheVariants.{Protocol, Message}
 use Rattle.report_existence.specs.Laws.{IsListed}
 use Rattle.report_existence.proofs.Finite.{any_or_not, both_or_not, either_or_not, either_place, not_or, of_any}
-use Rattle.name_existence.proofs.Decisions.{bool_or_not, like_or_not, none_or_not, option_or_not, text_or_not}
+use Rattle.name_existence.proofs.Decisions.{like_or_not, none_or_not, option_or_not}
 use Rattle.name_existence.proofs.Texts.{managed_or_none, type_or_none}
 use Rattle.rule_existence.proofs.Listed.{at_place, of_repeated}
 

@@ -1,4 +1,5 @@
 -- The rules on the names of types, on `nullable` and on definedness: the places at which they are broken are listed.
+use Rattle.report_existence.proofs.Lists.{bool_or_not}
 use Rattle.std.proofs.Common.{◌≡◌, ◌⊎◌, ◌∙◌, ℕ, true, List, Any, Option, sym, subst, inl, inr}
 use Rattle.ipdl_syntax.specs.declared.program.Entry.{Entry}
 use Rattle.ipdl_syntax.specs.declared.tree.Base.{Base, Named, Unique'}
@@ -13,11 +14,11 @@ use Rattle.type_rules.specs.Defined.{IsDefined, IsDefinedStruct, IsDefinedUnion,
 use Rattle.type_rules.specs.TypeNames.{IsActor, IsAmbiguous, IsAmbiguousType, IsNoActor, IsNullableNonActor, IsUnknown, IsUnknownType}
 use Rattle.written_parts.specs.Types.{written_types}
 use Rattle.report_existence.specs.Laws.{IsListed}
-use Rattle.report_existence.proofs.Finite.{any_or_not, both_or_not, either_place, not_or, of_any, same_places}
-use Rattle.name_existence.proofs.Decisions.{all_or_not, bool_or_not, like_or_not}
+use Rattle.report_existence.proofs.Finite.{any_or_not, both_or_not, either_place, not_or, of_any, same_places, of_some}
+use Rattle.name_existence.proofs.Decisions.{all_or_not, like_or_not}
 use Rattle.name_existence.proofs.Defined.{types_are_decided}
 use Rattle.name_existence.proofs.Names.{names_have_answers}
-use Rattle.rule_existence.proofs.Listed.{at_place, of_some}
+use Rattle.rule_existence.proofs.Listed.{at_place}
 
 -- Names of types
 

@@ -16,20 +16,9 @@ use Rattle.script_transcripts.proofs.Fronts.{legal_texts_decide, replays_decide}
 use Rattle.script_transcripts.specs.Legal.{AreFirstLines, AreLegalSoFar, IsLegalText}
 use Rattle.transcript_laws.specs.TextLines.{text_lines}
 use Rattle.run_existence.specs.Laws.{IsRunnable, TextsAreDecided}
-use Rattle.report_existence.proofs.Lists.{begins_or_not, same_or_not}
+use Rattle.report_existence.proofs.Lists.{begins_or_not, bool_or_not, same_or_not, text_or_not}
 
 -- Decisions
-
-true_or_not : (b : Bool) → (b ≡ true) ⊎ (b ≡ true → ⊥)
-true_or_not true = inl refl
-true_or_not false = inr (λ e. cc)
-
-false_or_not : (b : Bool) → (b ≡ false) ⊎ (b ≡ false → ⊥)
-false_or_not true = inr (λ e. cc)
-false_or_not false = inl refl
-
-text_or_not : (a b : List ℕ) → (a ≡ b) ⊎ (a ≡ b → ⊥)
-text_or_not = same_or_not cases_eq
 
 some_ending : (P : RunEnding → Type 0) → ((ending : RunEnding) → P ending ⊎ (P ending → ⊥)) → ((ending : RunEnding) × P ending) ⊎ ((ending : RunEnding) → P ending → ⊥)
 some_ending P each =
@@ -48,8 +37,8 @@ some_ending P each =
 
 module _ (setting : Setting) (state : RunState) where
   ends_or_not : (ending : RunEnding) → EndsAs setting state ending ⊎ (EndsAs setting state ending → ⊥)
-  ends_or_not at_rest = true_or_not (is_quiet setting state)
-  ends_or_not (at_limit side) = both_or_not (false_or_not (is_within setting side state)) (false_or_not (is_quiet_at setting state side))
+  ends_or_not at_rest = bool_or_not (is_quiet setting state) true
+  ends_or_not (at_limit side) = both_or_not (bool_or_not (is_within setting side state) false) (bool_or_not (is_quiet_at setting state side) false)
 
   abbrev EndsWithLines : List (List ℕ) → RunEnding → Type 0
   EndsWithLines lines ending = EndsAs setting state ending × (lines ≡ printed_lines setting state ++ ending_line ending ∷ [])

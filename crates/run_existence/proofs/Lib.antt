@@ -2,3 +2,4 @@ mod Audits
 mod Frames
 mod Waits
 mod Words
+mod Worked

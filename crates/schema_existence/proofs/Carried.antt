@@ -1,4 +1,6 @@
 -- Whether a type mentions one that is not carried is decided.
+use Rattle.std.proofs.lemmas.Bool.{cases_eq}
+use Rattle.report_existence.proofs.Lists.{bool_or_not}
 use Rattle.std.proofs.Common.{◌≡◌, ◌⊎◌, ℕ, Bool, true, false, List, Any, Contains, length, Option, Some, None, IsSomeAnd, slice_get, refl, sym, subst, inl, inr, true≢false}
 use Rattle.std.specs.Prelude.{◌↔◌, IsTrue}
 use Rattle.std.proofs.lemmas.Option.{slice_get_within}
@@ -9,7 +11,7 @@ use Rattle.ipdl_base.specs.declared.schema.Shape.{Shape, Builtin, Using, Actor, 
 use Rattle.ipdl_base.specs.declared.schema.TypeRow.{TypeRow}
 use Rattle.ipdl_base.specs.declared.schema.TypeRow.TheVariants.{Struct, Union}
 use Rattle.report_existence.proofs.Finite.{any_or_not, either_or_not}
-use Rattle.name_existence.proofs.Decisions.{bool_or_not, contains_or_not, like_or_not, number_or_not, some_and_or_not}
+use Rattle.name_existence.proofs.Decisions.{contains_or_not, like_or_not, some_and_or_not}
 use Rattle.name_existence.proofs.Derivations.{is_below, numbers_below}
 use Rattle.name_existence.proofs.Least.{closed_marks}
 
@@ -26,7 +28,7 @@ EndsIn marks _ = ⊥
 end_or_not : (marks : List ℕ) (s : Shape) → EndsIn marks s ⊎ (EndsIn marks s → ⊥)
 end_or_not marks (Builtin b) = bool_or_not (is_carried b) false
 end_or_not marks (Endpoint p managed) = inl tt
-end_or_not marks (Named t) = contains_or_not number_or_not marks t
+end_or_not marks (Named t) = contains_or_not cases_eq marks t
 end_or_not marks (Array' at s) = end_or_not marks s
 end_or_not marks (Maybe' at s) = end_or_not marks s
 end_or_not marks (Unique' at s) = end_or_not marks s

@@ -1,4 +1,5 @@
 -- What has a key, in the order of keys.
+use Rattle.report_existence.proofs.Lists.{bool_or_not}
 use Rattle.std.proofs.Common.{◌≡◌, ◌⊎◌, List, Option, Some, IsSome, is_some, refl, sym, ap, ◌∙◌, inl, inr, true, Ordering, Less, Equal, Greater}
 use Rattle.std.specs.Prelude.{◌↔◌}
 use Rattle.std.specs.Cmp.{IsTotalOrder}
@@ -7,7 +8,7 @@ use Rattle.std.specs.Ordering.{ordering_reverse}
 use Rattle.std.proofs.lemmas.Option.{same_Some}
 use Rattle.program_schema.proofs.Numberings.{some_of}
 use Rattle.report_existence.proofs.Ordered.{IsOrder, in_order}
-use Rattle.name_existence.proofs.Decisions.{bool_or_not, of_list}
+use Rattle.name_existence.proofs.Decisions.{of_list}
 
 module _ {X K : Type 0} (key : X → Option K) (cmp : K × X → K × X → Ordering) where
   -- the key of one is before that of another

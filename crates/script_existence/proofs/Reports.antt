@@ -13,7 +13,7 @@ use Rattle.script_reader.specs.declared.line.LineReading.{LineReading}
 use Rattle.handler_script.specs.Blocks.{statements}
 use Rattle.handler_script.specs.Broken.{LineBreaks, line_place, whole_place, HasManager, IsBrokenAt, IsBrokenByLine, IsBrokenByTop, IsBroken}
 use Rattle.report_existence.specs.Laws.{IsListed}
-use Rattle.report_existence.proofs.Finite.{contains_none, contains_more, contains_cases, same_places, no_place, either_place, when, of_rule}
+use Rattle.report_existence.proofs.Finite.{contains_none, contains_more, contains_cases, same_places, no_place, either_place, when, of_rule, of_some}
 use Rattle.report_existence.proofs.Sorted.{report_of}
 use Rattle.script_existence.specs.Laws.{ReportsExist}
 use Rattle.script_existence.proofs.Decided.{IsDecided, some_decided}
@@ -48,26 +48,6 @@ of_place place P (rules, exact) = (
     λ h. place_from place rules f h.0 ((exact f.rule).1 h.1),
   ),
 )
-
--- What holds at some element, by its index
-
-none_at : {X : Type 0} (Holds : ℕ → X → Type 0) → AtSome Holds [] → ⊥
-none_at Holds (i, x, e, h) = let no : ⊥ = cc in no
-
-at_cases : {X : Type 0} (Holds : ℕ → X → Type 0) (x : X) (xs : List X) → AtSome Holds (x ∷ xs) → Holds 0 x ⊎ AtSome (λ i. Holds (suc i)) xs
-at_cases Holds x xs (zero, y, e, h) = inl (subst (Holds 0) (sym (same_Some _ _ e)) h)
-at_cases Holds x xs (suc i, y, e, h) = inr (i, y, e, h)
-
-at_more : {X : Type 0} (Holds : ℕ → X → Type 0) (x : X) (xs : List X) → Holds 0 x ⊎ AtSome (λ i. Holds (suc i)) xs → AtSome Holds (x ∷ xs)
-at_more Holds x xs (inl h) = (0, x, refl, h)
-at_more Holds x xs (inr (i, y, e, h)) = (suc i, y, e, h)
-
-of_some : {X Y : Type 0} (xs : List X) (Holds : ℕ → X → Y → Type 0) → ((i : ℕ) (x : X) → IsListed (Holds i x)) → IsListed (λ y. AtSome (λ i x. Holds i x y) xs)
-of_some [] Holds each = no_place (λ y. AtSome (λ i x. Holds i x y) []) (λ y. none_at (λ i x. Holds i x y))
-of_some (x ∷ xs) Holds each =
-    same_places (λ y. Holds 0 x y ⊎ AtSome (λ i z. Holds (suc i) z y) xs) (λ y. AtSome (λ i z. Holds i z y) (x ∷ xs))
-    (λ y. at_more (λ i z. Holds i z y) x xs) (λ y. at_cases (λ i z. Holds i z y) x xs)
-    (either_place (Holds 0 x) (λ y. AtSome (λ i z. Holds (suc i) z y) xs) (each 0 x) (of_some xs (λ i. Holds (suc i)) (λ i. each (suc i))))
 
 -- The findings of lines
 
