@@ -1,4 +1,4 @@
--- Lists of exactly the places at which a rule is broken, by how the rules are told.
+-- Lists of exactly the places at which a rule is broken, by the shapes that the rules have.
 use Rattle.report_existence.proofs.Lists.{text_or_not}
 use Rattle.std.proofs.Common.{◌≡◌, ◌⊎◌, ℕ, zero, suc, List, [], ◌∷◌, Contains, map, take, refl, sym, subst, inl, inr}
 use Rattle.std.proofs.lemmas.Option.{none-some, same_Some}

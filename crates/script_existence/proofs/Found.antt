@@ -6,7 +6,7 @@ abbrev pub Finds : {X : Type 0} → (X → Type 0) → Option X → Type 0
 Finds {X} Holds None = (x : X) → ¬ Holds x
 Finds {X} Holds (Some x) = Holds x
 
--- this stands at the front, and that is left behind it
+-- this stands at the front, and that is left after it
 abbrev pub AtFront : {X Y : Type 0} → (X → Y → Y → Type 0) → Y → X × Y → Type 0
 AtFront Holds from found = Holds found.0 from found.1
 
@@ -17,7 +17,7 @@ pub finds_as : {X Z : Type 0} (Part : X → Type 0) (Whole : Z → Type 0) (f : 
 finds_as Part Whole f some none None h = none h
 finds_as Part Whole f some none (Some x) h = some x h
 
--- and what is found behind a part
+-- and what is found after a part
 pub finds_then : {X Z : Type 0} (Part : X → Type 0) (Whole : Z → Type 0) (next : X → Option Z)
     → ((x : X) → Part x → Finds Whole (next x)) → (((x : X) → ¬ Part x) → (z : Z) → ¬ Whole z)
     → (o : Option X) → Finds Part o → Finds Whole (option_and_then next o)

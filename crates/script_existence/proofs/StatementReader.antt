@@ -24,7 +24,7 @@ use Rattle.script_reader.proofs.ValueForms.{one_single, tail_of}
 use Rattle.script_existence.proofs.Found.{Finds, AtFront, finds_as, finds_then, finds_also}
 use Rattle.script_existence.proofs.ValueReader.{read_single, single_finds, read_mark, marked, mark_finds, read_listed, listed_finds}
 
--- Parts one behind another
+-- Parts one after another
 
 -- such a part ends at one place
 abbrev EndsOnce : {X : Type 0} → (X → Part) → Type 0
@@ -36,7 +36,7 @@ Both P Q both = P both.0 ⨾ Q both.1
 abbrev second : {X Z : Type 0} → (List ScriptToken → Option (Z × List ScriptToken)) → X × List ScriptToken → Option ((X × Z) × List ScriptToken)
 second next found = option_map (λ more. ((found.0, more.0), more.1)) (next found.1)
 
--- one part, and behind it another
+-- one part, and after it another
 abbrev read_both : {X Z : Type 0} → Option (X × List ScriptToken) → (List ScriptToken → Option (Z × List ScriptToken)) → Option ((X × Z) × List ScriptToken)
 read_both first next = option_and_then (second next) first
 
@@ -62,7 +62,7 @@ abbrev whole_by : {X : Type 0} → X → List ScriptToken → Option X
 whole_by x [] = Some x
 whole_by x (t ∷ rest) = None
 
--- a part behind which no token is left
+-- a part after which no token is left
 abbrev whole : {X : Type 0} → Option (X × List ScriptToken) → Option X
 whole o = option_and_then (λ found. whole_by found.0 found.1) o
 
@@ -134,23 +134,23 @@ abbrev ended : Statement → List ScriptToken → Option Statement
 ended s [] = Some s
 ended s (t ∷ rest) = None
 
--- behind `reject`: nothing, or a name and a message
+-- after `reject`: nothing, or a name and a message
 abbrev read_rejected : List ScriptToken → Option Statement
 read_rejected [] = Some forms.Reject
 read_rejected from = option_map (λ found. forms.RejectKept found.0 found.1) (whole (read_both (read_single name_of from) read_message))
 
--- behind `resolve`, where a bracket stands first or does not
+-- after `resolve`, where a bracket stands first or does not
 abbrev resolved_by : List ScriptToken → Option (Unit {0} × List ScriptToken) → Option Statement
 resolved_by from (Some bracket_mark) = option_map forms.Resolve (whole (read_arguments from))
 resolved_by from None = option_map (λ found. forms.ResolveKept found.0 found.1) (whole (read_both (read_single name_of from) read_call))
 
--- behind a side: `main`, or `on` and a message
+-- after a side: `main`, or `on` and a message
 abbrev opened_by : Side → List ℕ × List ScriptToken → Option Statement
 opened_by side found =
     if bytes_eq found.0 (codes "main") then ended (forms.Main side) found.1 else
     (if bytes_eq found.0 (codes "on") then option_map (forms.On side) (whole (read_message found.1)) else None)
 
--- the statement behind a keyword
+-- the statement after a keyword
 abbrev read_behind : Keyword → List ScriptToken → Option Statement
 read_behind (keyword.Side side) from = option_and_then (opened_by side) (read_word from)
 read_behind keyword.End from = ended forms.End from
@@ -168,7 +168,7 @@ read_behind keyword.Return from = option_map forms.Return (whole (read_arguments
 abbrev pub read_statement : List ScriptToken → Option Statement
 read_statement from = option_and_then (λ found. read_behind found.0 found.1) (read_single keyword_of from)
 
--- no statement of one word stands behind its keyword where tokens are left
+-- no statement of one word stands after its keyword where tokens are left
 
 only_end : (from : List ScriptToken) → ¬ (from ≡ []) → (s : Statement) → ¬ IsBehind keyword.End from s
 only_end from some forms.End h = some h.1
@@ -186,7 +186,7 @@ ended-finds : (k : Keyword) (s : Statement) (from : List ScriptToken) → (from 
 ended-finds k s [] is none = is refl
 ended-finds k s (t ∷ rest) is none = none (λ e. let no : ⊥ = cc in no)
 
--- behind a side
+-- after a side
 
 no_word : (side : Side) (from : List ScriptToken) → ((found : List ℕ × List ScriptToken) → ¬ word found.0 from found.1) → (s : Statement) → ¬ IsBehind (keyword.Side side) from s
 no_word side from none (forms.Main t) h = none (codes "main", []) h.1
@@ -225,7 +225,7 @@ opened_by-finds side from found read = elim (cases_Bool (bytes_eq found.0 (codes
   ]
 ]
 
--- behind `resolve` and `reject`
+-- after `resolve` and `reject`
 
 resolved_by-finds : (from : List ScriptToken) (o : Option (Unit {0} × List ScriptToken)) → Finds (AtFront (marked 40) from) o → Finds (IsBehind keyword.Resolve from) (resolved_by from o)
 resolved_by-finds from (Some bracket_mark) at =
@@ -250,7 +250,7 @@ rejected_finds (t ∷ rest) =
     (whole_finds (Both name message) (both_once name message same_name same_message) from (read_both (read_single name_of from) read_message)
     (both_find name message same_name from (read_single name_of from) (single_finds name_of from) read_message message_finds))
 
--- behind each keyword
+-- after each keyword
 
 behind_finds : (k : Keyword) (from : List ScriptToken) → Finds (IsBehind k from) (read_behind k from)
 behind_finds (keyword.Side side) from = finds_then (AtFront word from) (IsBehind (keyword.Side side) from) (opened_by side) (opened_by-finds side from) (no_word side from) (read_word from) (word_finds from)

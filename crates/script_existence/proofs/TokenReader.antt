@@ -81,7 +81,7 @@ quoted_by bytes (b ∷ to) = if b == 34 then Some (bytes, to) else None
 abbrev pub quoted : List ℕ × List ℕ → Option (List ℕ × List ℕ)
 quoted found = quoted_by found.0 found.1
 
--- the bytes up to a quote, and what is left behind it
+-- the bytes up to a quote, and what is left after it
 abbrev pub read_quoted : ByteReader → List ℕ → Option (List ℕ × List ℕ)
 read_quoted at from = quoted (read_bytes at (suc (length from)) from)
 

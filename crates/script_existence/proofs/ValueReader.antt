@@ -90,7 +90,7 @@ abbrev more_by : Readers → Bracket → List ScriptToken → Option (Unit {0} �
 more_by r c from (Some closed) = Some (values.Nothing, closed.1)
 more_by r c from None = option_and_then (λ comma. values_at r c comma.1) (read_mark 44 from)
 
--- the readers that use these for what is inside and behind
+-- the readers that use these for what is inside, and for what comes after
 abbrev next_readers : Readers → Readers
 next_readers r = record {
   value = value_with r;

@@ -22,7 +22,7 @@ use Rattle.script_existence.proofs.TokenReader.{read_quoted}
 abbrev says : Statement → LineReading
 says s = reading.Statement (record { ptr = null_ptr; alloc = record { memory = record { seal = tt } }; value = s })
 
--- values one behind another
+-- values one after another
 abbrev and_then : WrittenValue → WrittenValues → WrittenValues
 and_then v vs = First' one_box v one_box vs
 
@@ -30,7 +30,7 @@ and_then v vs = First' one_box v one_box vs
 block : readings_of (codes "child on Ping.Hi # no\n\nchild on Ping.Hi\n # a comment\n\tlet asker $1\n reject\nend") ≡ reading.NoStatement ∷ reading.Silent ∷ says (forms.On side.Child (record { protocol = codes "Ping"; message = codes "Hi" })) ∷ reading.Silent ∷ says (forms.Let (codes "asker") (whos.Param 1)) ∷ says forms.Reject ∷ says forms.End ∷ []
 block = refl
 
--- a main, and a word of a side with nothing behind it
+-- a main, and a word of a side with nothing after it
 main : reading_of (codes "parent main") ≡ says (forms.Main side.Parent)
 main = refl
 
