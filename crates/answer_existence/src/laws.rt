@@ -1,3 +1,6 @@
+//! The laws that words have exactly one answer, that turns bring every relay to an end, and that words of turns
+//! drive every run.
+
 ghost use Rattle.answer_existence.specs.Laws.{ExactlyOneAnswer, RelaysEnd, WordsDriveAll};
 
 use command_existence::words_are_decided;

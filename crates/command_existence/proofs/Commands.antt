@@ -1,28 +1,25 @@
 -- What the words after the first word of a command say, or that they say nothing, is decided.
-use Rattle.std.proofs.Common.{◌≡◌, ◌≢◌, ◌⊎◌, ◌∙◌, ℕ, Bool, List, [], ◌∷◌, Option, refl, sym, ap, subst, inl, inr, arith, codes}
+use Rattle.std.proofs.Common.{◌≡◌, ◌≢◌, ◌⊎◌, ◌∙◌, List, [], ◌∷◌, Option, refl, sym, ap, subst, inl, inr, arith, codes}
 use Rattle.std.specs.Prelude.{slice_index}
 use Rattle.std.specs.List.{AllByRecursion}
 use Rattle.std.specs.Str.{IsUtf8}
 use Rattle.clap.specs.Words.{Kinds, fault_of}
-use Rattle.ipdl_base.specs.declared.kinds.Side.{Side}
-use Rattle.schedules.specs.declared.stop.Stop.{Stop}
-use Rattle.schedules.specs.declared.turn.Turn.{Turn}
-use Rattle.command_words.specs.Audit.{IsNoAudit, SaysAudit, audit_options, audit_word}
-use Rattle.command_words.specs.Command.{CommandView, IsNoCommand, Say, audit, compile, feed, frames, gen, relay, run, waits}
-use Rattle.command_words.specs.Compile.{AreFiles, IsCompile, IsForCompile, IsNoCompile, IsPath, compile_options}
-use Rattle.command_words.specs.Feed.{FeedCourse, IsNoFeed, IsSide, SaysFeed, feed_options, feed_word}
+use Rattle.command_words.specs.Audit.{IsNoAudit, audit_options, audit_word}
+use Rattle.command_words.specs.Command.{CommandView, Say, audit, compile, feed, frames, gen, relay, run, waits}
+use Rattle.command_words.specs.Compile.{AreFiles, IsForCompile, IsNoCompile, IsPath, compile_options}
+use Rattle.command_words.specs.Feed.{IsNoFeed, IsSide, feed_options, feed_word}
 use Rattle.command_words.specs.Forms.{form_of, own_id}
-use Rattle.command_words.specs.Frames.{AreOperands, IsConversion, IsNoFrames, SaysFrames, frames_options, frames_word}
-use Rattle.command_words.specs.Gen.{IsActors, IsNoGen, IsRounds, SaysGen, gen_options, gen_word}
+use Rattle.command_words.specs.Frames.{AreOperands, IsConversion, IsNoFrames, frames_options, frames_word}
+use Rattle.command_words.specs.Gen.{IsActors, IsNoGen, IsRounds, gen_options, gen_word}
 use Rattle.command_words.specs.Operands.{AreScriptOperands}
 use Rattle.command_words.specs.Options.{Choice, EachOnce, Reads, WordUse, own_words, value_of}
-use Rattle.command_words.specs.Relay.{IsNoRelay, RelayCourse, SaysRelay, relay_options, relay_word}
-use Rattle.command_words.specs.Run.{AreRunOperands, Course, IsNoRun, SaysRun, run_options, run_word}
+use Rattle.command_words.specs.Relay.{IsNoRelay, relay_options, relay_word}
+use Rattle.command_words.specs.Run.{AreRunOperands, IsNoRun, run_options, run_word}
 use Rattle.command_words.specs.RunOptions.{IsDeath, IsLimit, IsSchedule}
 use Rattle.command_words.specs.Tables.{IsTable}
-use Rattle.command_words.specs.Waits.{IsNoWaits, IsOperand, SaysWaits, waits_word}
+use Rattle.command_words.specs.Waits.{IsNoWaits, IsOperand, waits_word}
 use Rattle.command_words.proofs.AuditFound.{audit_table}
-use Rattle.command_words.proofs.Compiled.{list_ne, path_ne, same_value, same_words, table}
+use Rattle.command_words.proofs.Compiled.{path_ne, same_value, same_words, table}
 use Rattle.command_words.proofs.FeedFound.{feed_table}
 use Rattle.command_words.proofs.FramesFound.{frames_table}
 use Rattle.command_words.proofs.GenFound.{gen_table}

@@ -1,12 +1,12 @@
 mod Contents
 mod Endings
-pub mod Findings
-pub mod Loads
+mod Findings
+mod Loads
 mod OfFiles
 mod Pieces
-pub mod Programs
-pub mod Reaches
+mod Programs
+mod Reaches
 mod Sources
-pub mod Texts
-pub mod Trees
+mod Texts
+mod Trees
 mod Worked

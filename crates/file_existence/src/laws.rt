@@ -1,3 +1,5 @@
+//! The laws of what files have: tokens or a fault, a tree or a syntax place, a reach, findings, a program.
+
 ghost use Rattle.file_existence.specs.Laws.{TextsHaveAnswers, TokensHaveAnswers, FilesHaveAnswers, ReachesExist, FindingsAreListed, CleanFilesHavePrograms, LoadsHaveAnswers};
 
 /// The law of texts: each text has tokens or a first fault.

@@ -1,3 +1,3 @@
 mod Forms
 mod Lines
-pub mod Lists
+mod Lists

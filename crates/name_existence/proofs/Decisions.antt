@@ -1,10 +1,9 @@
 -- What is decided: which number is below, equality of options, and what is made of decided parts. What is decided is listed, where a list has all of which it holds.
-use Rattle.std.proofs.Common.{◌≡◌, ◌⊎◌, ℕ, ◌<◌, Bool, true, false, List, [], ◌∷◌, Contains, Any, Option, Some, None, refl, sym, ap, subst, inl, inr, ⊎_elim, arith, IsSomeAnd}
+use Rattle.std.proofs.Common.{◌≡◌, ◌⊎◌, ℕ, ◌<◌, List, [], ◌∷◌, Contains, Any, Option, Some, None, refl, ap, subst, inl, inr, ⊎_elim, arith, IsSomeAnd}
 use Rattle.std.proofs.lemmas.Bool.{cases_lt}
-use Rattle.std.proofs.lemmas.Bool.Decides.{eqb_tells}
 use Rattle.report_existence.proofs.Finite.{contains_none, contains_more, contains_cases, either_or_not, both_or_not, same_places, of_any, when}
 use Rattle.report_existence.specs.Laws.{IsListed}
-use Rattle.report_existence.proofs.Lists.{same_or_not, some_or_each}
+use Rattle.report_existence.proofs.Lists.{some_or_each}
 
 -- what is equivalent to something decided is decided
 pub like_or_not : {P Q : Type 0} → (P → Q) → (Q → P) → P ⊎ (P → ⊥) → Q ⊎ (Q → ⊥)
@@ -34,14 +33,6 @@ none_or_not (Some x) = inr (λ e. cc)
 pub some_and_or_not : {X : Type 0} (o : Option X) (P : X → Type 0) → ((x : X) → P x ⊎ (P x → ⊥)) → IsSomeAnd o P ⊎ (IsSomeAnd o P → ⊥)
 some_and_or_not None P each = inr (λ h. h)
 some_and_or_not (Some x) P each = each x
-
--- what is said of what there may be says it of what there is
-pub there_is : {X : Type 0} (o : Option X) (P : X → Type 0) → IsSomeAnd o P → (x : X) × (o ≡ Some x) × P x
-there_is None P h = absurd h
-there_is (Some x) P h = (x, refl, h)
-
-pub there : {X : Type 0} (o : Option X) (P : X → Type 0) (x : X) → o ≡ Some x → P x → IsSomeAnd o P
-there {X} o P x e h = subst (λ (p : Option X). IsSomeAnd p P) (sym e) h
 
 -- elements
 

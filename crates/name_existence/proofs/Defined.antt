@@ -18,8 +18,9 @@ use Rattle.name_table.proofs.Order.{all_declared}
 use Rattle.type_rules.specs.Defined.{IsCompound, IsDefined, IsDefinedStruct, IsDefinedUnion, loose, atom, struct, union, inside}
 use Rattle.type_rules.proofs.Lists.{contains_map}
 use Rattle.report_existence.proofs.Finite.{any_or_not}
+use Rattle.program_schema.proofs.Unbroken.{and_some, some_and}
 use Rattle.name_existence.specs.Laws.{TypesAreDecided}
-use Rattle.name_existence.proofs.Decisions.{like_or_not, all_or_not, contains_or_not, some_and_or_not, there_is, there}
+use Rattle.name_existence.proofs.Decisions.{like_or_not, all_or_not, contains_or_not, some_and_or_not}
 use Rattle.name_existence.proofs.Least.{closed_marks}
 use Rattle.name_existence.proofs.Names.{decls, decl_or_not, names_have_answers}
 
@@ -75,10 +76,10 @@ step_or_not program marks _ = inr (λ h. h)
 
 one_defined : (program : List Entry) (file : ℕ) (name : List ℕ) (argument : Option (List ℕ)) (d : DeclId) → FindsOne program file name argument d → (IsCompound d → IsDefinedDecl program d) → IsDefined program file (Named name argument)
 one_defined program file name argument (decl.Struct other place) one defined =
-    let s = there_is (struct_of program other place) (IsDefinedStruct program other) (defined tt) in
+    let s = some_and (struct_of program other place) (IsDefinedStruct program other) (defined tt) in
     struct other place s.0 one s.1 s.2
 one_defined program file name argument (decl.Union other place) one defined =
-    let u = there_is (union_of program other place) (IsDefinedUnion program other) (defined tt) in
+    let u = some_and (union_of program other place) (IsDefinedUnion program other) (defined tt) in
     union other place u.0 u.2.0 one u.1 u.2.1 u.2.2
 one_defined program file name argument (decl.Builtin type) one defined = atom (decl.Builtin type) one (λ h. h)
 one_defined program file name argument (decl.Using other place) one defined = atom (decl.Using other place) one (λ h. h)
@@ -97,12 +98,12 @@ rests_defined program marks sound file (Unique' at nullable inner after place) r
 
 step_defined : (program : List Entry) (marks : List DeclId) → ((d : DeclId) → Contains marks d → IsDefinedDecl program d) → (d : DeclId) → Step program marks d → IsDefinedDecl program d
 step_defined program marks sound (decl.Struct file place) step =
-    let s = there_is (struct_of program file place) (λ s. (field : Param) → Contains s.fields field → Rests program marks file field.spec.base) step in
-    there (struct_of program file place) (IsDefinedStruct program file) s.0 s.1 (λ field c. rests_defined program marks sound file field.spec.base (s.2 field c))
+    let s = some_and (struct_of program file place) (λ s. (field : Param) → Contains s.fields field → Rests program marks file field.spec.base) step in
+    and_some (struct_of program file place) (IsDefinedStruct program file) s.0 s.1 (λ field c. rests_defined program marks sound file field.spec.base (s.2 field c))
 step_defined program marks sound (decl.Union file place) step =
-    let u = there_is (union_of program file place) (λ u. Any (λ component. Rests program marks file component.base) u.components) step in
+    let u = some_and (union_of program file place) (λ u. Any (λ component. Rests program marks file component.base) u.components) step in
     let c = u.2 in
-    there (union_of program file place) (IsDefinedUnion program file) u.0 u.1 (c.1, (c.0, c.2, c.3), rests_defined program marks sound file c.1.base c.4)
+    and_some (union_of program file place) (IsDefinedUnion program file) u.0 u.1 (c.1, (c.0, c.2, c.3), rests_defined program marks sound file c.1.base c.4)
 step_defined program marks sound _ step = absurd step
 
 -- What is defined rests on closed marks
@@ -128,11 +129,11 @@ module _ (program : List Entry) (marks : List DeclId) (closed : (d : DeclId) →
   defined_rests (struct other place s one of fields) = λ e two c.
       subst (Contains marks) (sym (one.1 e two.0))
       (closed (decl.Struct other place) (struct_declared program other place s of)
-      (there (struct_of program other place) (λ s. (field : Param) → Contains s.fields field → Rests program marks other field.spec.base) s of (λ field k. defined_rests (fields field k))))
+      (and_some (struct_of program other place) (λ s. (field : Param) → Contains s.fields field → Rests program marks other field.spec.base) s of (λ field k. defined_rests (fields field k))))
   defined_rests (union other place u component one of k defined) = λ e two c.
       subst (Contains marks) (sym (one.1 e two.0))
       (closed (decl.Union other place) (union_declared program other place u of)
-      (there (union_of program other place) (λ u. Any (λ component. Rests program marks other component.base) u.components) u of (k.0, component, k.1, k.2, defined_rests defined)))
+      (and_some (union_of program other place) (λ u. Any (λ component. Rests program marks other component.base) u.components) u of (k.0, component, k.1, k.2, defined_rests defined)))
   defined_rests (inside defined) = defined_rests defined
 
 pub types_are_decided : TypesAreDecided

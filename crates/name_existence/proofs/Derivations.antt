@@ -7,9 +7,10 @@ use Rattle.least_fixed_points.specs.declared.nodes.Need.TheVariants.{All, One}
 use Rattle.least_fixed_points.specs.declared.nodes.Node.{Node}
 use Rattle.least_fixed_points.specs.Derived.{IsDerived, all, one}
 use Rattle.report_existence.proofs.Finite.{any_or_not, contains_more}
+use Rattle.program_schema.proofs.Unbroken.{and_some, some_and}
 use Rattle.name_existence.specs.Laws.{DerivationsAreDecided}
 use Rattle.name_existence.proofs.Least.{least_or_not}
-use Rattle.name_existence.proofs.Decisions.{all_or_not, contains_or_not, some_and_or_not, there_is, there}
+use Rattle.name_existence.proofs.Decisions.{all_or_not, contains_or_not, some_and_or_not}
 
 -- the numbers below a number
 abbrev pub numbers_below : ℕ → List ℕ
@@ -40,22 +41,22 @@ step_derives nodes marks sound k node at One is (i, part, below, here, marked) =
 -- closed marks have what a step leads to
 marked : (nodes : List Node) (marks : List ℕ) → ((k : ℕ) → Contains (numbers_below (length nodes)) k → Step nodes marks k → Contains marks k) → (k : ℕ) → Step nodes marks k → Contains marks k
 marked nodes marks closed k s =
-    let node = there_is (slice_get nodes k) (λ node. IsMet marks node.need node.parts.items) s in
+    let node = some_and (slice_get nodes k) (λ node. IsMet marks node.need node.parts.items) s in
     closed k (is_below (length nodes) k (slice_get_within nodes k node.0 node.1)) s
 
 -- and from them a step leads to all that is derived
 derived_step : (nodes : List Node) (marks : List ℕ) → ((k : ℕ) → Contains (numbers_below (length nodes)) k → Step nodes marks k → Contains marks k) → {k : ℕ} → IsDerived nodes k → Step nodes marks k
 derived_step nodes marks closed (all {k} node at is parts) =
-    there (slice_get nodes k) (λ node. IsMet marks node.need node.parts.items) node at
+    and_some (slice_get nodes k) (λ node. IsMet marks node.need node.parts.items) node at
     (subst (λ n. IsMet marks n node.parts.items) (sym is) (λ part c. marked nodes marks closed part (derived_step nodes marks closed (parts part c))))
 derived_step nodes marks closed (one {k} node part at is c derived) =
-    there (slice_get nodes k) (λ node. IsMet marks node.need node.parts.items) node at
+    and_some (slice_get nodes k) (λ node. IsMet marks node.need node.parts.items) node at
     (subst (λ n. IsMet marks n node.parts.items) (sym is) (c.0, part, c.1, c.2, marked nodes marks closed part (derived_step nodes marks closed derived)))
 
 pub derivations_are_decided : DerivationsAreDecided
 derivations_are_decided nodes k =
     least_or_not (numbers_below (length nodes)) (IsDerived nodes) (Step nodes)
     (λ marks n. some_and_or_not (slice_get nodes n) (λ node. IsMet marks node.need node.parts.items) (λ node. met_or_not marks node.need node.parts.items))
-    (λ marks sound n s. let node = there_is (slice_get nodes n) (λ node. IsMet marks node.need node.parts.items) s in step_derives nodes marks sound n node.0 node.1 node.0.need refl node.2)
+    (λ marks sound n s. let node = some_and (slice_get nodes n) (λ node. IsMet marks node.need node.parts.items) s in step_derives nodes marks sound n node.0 node.1 node.0.need refl node.2)
     (λ marks closed n derived. derived_step nodes marks closed derived)
     k

@@ -1,7 +1,7 @@
 pub mod Least
 pub mod Decisions
 pub mod Derivations
-pub mod Sights
+mod Sights
 pub mod Texts
 pub mod Names
 pub mod Defined

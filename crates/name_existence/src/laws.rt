@@ -1,3 +1,5 @@
+//! The laws of what names find, of what a file sees and of which types are defined.
+
 ghost use Rattle.name_existence.specs.Laws.{DerivationsAreDecided, SightsAreListed, NamesHaveAnswers, ProtocolNamesHaveAnswers, TypesAreDecided};
 
 /// The law of least sets: each node is derived, or it is not.

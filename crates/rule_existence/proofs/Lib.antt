@@ -1,12 +1,12 @@
-pub mod Listed
-pub mod TypesNamed
-pub mod TypesDeclared
-pub mod TypesListed
-pub mod MessagesKinds
-pub mod MessagesPlaces
-pub mod MessagesDecided
-pub mod MessagesListed
-pub mod ListsListed
-pub mod ManagersFound
-pub mod ManagersCycles
-pub mod ManagersListed
+mod Listed
+mod TypesNamed
+mod TypesDeclared
+mod TypesListed
+mod MessagesKinds
+mod MessagesPlaces
+mod MessagesDecided
+mod MessagesListed
+mod ListsListed
+mod ManagersFound
+mod ManagersCycles
+mod ManagersListed

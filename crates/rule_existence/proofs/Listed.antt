@@ -1,12 +1,10 @@
 -- Lists of exactly the places at which a rule is broken, by the shapes that the rules have.
 use Rattle.report_existence.proofs.Lists.{text_or_not}
-use Rattle.std.proofs.Common.{◌≡◌, ◌⊎◌, ℕ, zero, suc, List, [], ◌∷◌, Contains, map, take, refl, sym, subst, inl, inr}
-use Rattle.std.proofs.lemmas.Option.{none-some, same_Some}
+use Rattle.std.proofs.Common.{◌≡◌, ◌⊎◌, ℕ, List, Contains, map, take}
 use Rattle.ipdl_base.specs.declared.finding.Place.{Place}
-use Rattle.findings.specs.Gains.{AtSome}
 use Rattle.findings.specs.Repeats.{IsRepeatedAt}
 use Rattle.report_existence.specs.Laws.{IsListed}
-use Rattle.report_existence.proofs.Finite.{same_places, no_place, either_place, when, of_some}
+use Rattle.report_existence.proofs.Finite.{same_places, when, of_some}
 use Rattle.name_existence.proofs.Decisions.{contains_or_not}
 
 -- the one place of what is decided

@@ -7,7 +7,8 @@ use Rattle.name_table.specs.Decls.{FindsOneProtocol, protocol_of}
 use Rattle.manager_rules.specs.Managers.{HasManager, IsInCycle, LeadsTo, Manages, NamesManager, more, one}
 use Rattle.manager_rules.proofs.Bonds.{protocol_within}
 use Rattle.report_existence.proofs.Finite.{any_or_not, both_or_not, either_or_not, not_or}
-use Rattle.name_existence.proofs.Decisions.{like_or_not, some_and_or_not, there, there_is}
+use Rattle.program_schema.proofs.Unbroken.{and_some, some_and}
+use Rattle.name_existence.proofs.Decisions.{like_or_not, some_and_or_not}
 use Rattle.name_existence.proofs.Derivations.{is_below, numbers_below}
 use Rattle.name_existence.proofs.Least.{least_or_not}
 use Rattle.rule_existence.proofs.ManagersFound.{one_protocol_or_not}
@@ -21,8 +22,8 @@ manages_or_not program file p other = any_or_not (λ n. FindsOneProtocol program
 manager_or_not : (program : List Entry) (file other : ℕ) → HasManager program file other ⊎ (HasManager program file other → ⊥)
 manager_or_not program file other =
     like_or_not
-    (λ h. let p = there_is (protocol_of program file) (λ p. NamesManager program file p other) h in record { protocol = p.0; there = p.1; names = p.2 })
-    (λ h. there (protocol_of program file) (λ p. NamesManager program file p other) h.protocol h.there h.names)
+    (λ h. let p = some_and (protocol_of program file) (λ p. NamesManager program file p other) h in record { protocol = p.0; there = p.1; names = p.2 })
+    (λ h. and_some (protocol_of program file) (λ p. NamesManager program file p other) h.protocol h.there h.names)
     (some_and_or_not (protocol_of program file) (λ p. NamesManager program file p other) (λ p. names_manager_or_not program file p other))
 
 -- Paths by managers

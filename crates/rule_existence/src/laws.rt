@@ -1,6 +1,6 @@
-ghost use Rattle.rule_existence.specs.Laws.{TypeFindingsAreListed};
-ghost use Rattle.rule_existence.specs.Laws.{MessageFindingsAreListed, ListFindingsAreListed};
-ghost use Rattle.rule_existence.specs.Laws.{ManagerFindingsAreListed};
+//! The laws that the findings of each group of rules are listed.
+
+ghost use Rattle.rule_existence.specs.Laws.{ListFindingsAreListed, ManagerFindingsAreListed, MessageFindingsAreListed, TypeFindingsAreListed};
 
 /// The law of the findings on types: for every program some list has exactly those of the rules on types,
 /// names of declarations and attributes.

@@ -1,6 +1,6 @@
 -- How far a text is what a run prints is decided.
-use Rattle.std.proofs.Common.{◌≡◌, ◌⊎◌, ℕ, zero, suc, ◌<◌, ◌≤◌, Bool, true, false, List, [], ◌∷◌, ◌++◌, length, take, drop, Option, Some, None, refl, sym, subst, inl, inr, ⊎_elim, arith, append_assoc, le_refl}
-use Rattle.std.proofs.lemmas.Bool.{cases_eq, cases_lt}
+use Rattle.std.proofs.Common.{◌≡◌, ◌⊎◌, ℕ, zero, suc, ◌<◌, ◌≤◌, true, false, List, [], ◌∷◌, ◌++◌, length, take, drop, Option, Some, None, refl, sym, subst, inl, inr, ⊎_elim, arith, append_assoc, le_refl}
+use Rattle.std.proofs.lemmas.Bool.{cases_lt}
 use Rattle.std.proofs.lemmas.List.{append-nil, take-append-drop}
 use Rattle.ipdl_base.specs.declared.kinds.Side.TheVariants as sides
 use Rattle.channel_model.specs.Runs.{RunState}

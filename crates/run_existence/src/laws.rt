@@ -1,3 +1,5 @@
+//! The laws that frames, runs, reports of waits and the answers of audits are there.
+
 ghost use Rattle.run_existence.specs.Laws.{BytesHaveFrames, TextsAreDecided, WaitReportsExist, WordsHaveRuns};
 
 /// The law of frames: for a sound schema all bytes hold frames, and after them nothing or a fault.

@@ -9,6 +9,6 @@ use Rattle.program_schema.specs.SchemaOf.{IsSchemaOf}
 abbrev pub HasSchema : List Entry → Type 0
 HasSchema program = (schema : Schema) × IsSchemaOf program schema
 
--- A program that breaks no rule on types and protocols has a schema.
+-- A program that breaks no rule on types, messages and managers, and whose protocols bear the names of their files, has a schema.
 abbrev pub CleanProgramsHaveSchemas : Type 0
 CleanProgramsHaveSchemas = (program : List Entry) → IsClean program → HasSchema program

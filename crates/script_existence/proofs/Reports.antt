@@ -1,19 +1,17 @@
 -- The findings of a text are listed, so there is the report of the rules that it breaks.
-use Rattle.std.proofs.Common.{◌≡◌, ◌≢◌, ◌⊎◌, ℕ, zero, suc, ◌+◌, List, [], ◌∷◌, map, take, drop, slice_get, Contains, inl, inr, refl, sym, ap, subst}
-use Rattle.std.proofs.lemmas.Option.{same_Some}
+use Rattle.std.proofs.Common.{◌≡◌, ◌≢◌, ℕ, ◌+◌, List, [], ◌∷◌, map, take, drop, slice_get, Contains, inl, inr, refl, ap}
 use Rattle.ipdl_base.specs.declared.finding.Finding.{Finding}
 use Rattle.ipdl_base.specs.declared.finding.Place.{Place}
 use Rattle.ipdl_base.specs.declared.finding.Rule.{Rule}
 use Rattle.ipdl_base.specs.declared.finding.TheConstants.Rule as rule
 use Rattle.ipdl_base.specs.declared.schema.ProtocolRow.{ProtocolRow}
 use Rattle.ipdl_base.specs.declared.schema.Schema.{Schema}
-use Rattle.findings.specs.Gains.{AtSome}
 use Rattle.findings.specs.Report as report
 use Rattle.script_reader.specs.declared.line.LineReading.{LineReading}
 use Rattle.handler_script.specs.Blocks.{statements}
 use Rattle.handler_script.specs.Broken.{LineBreaks, line_place, whole_place, HasManager, IsBrokenAt, IsBrokenByLine, IsBrokenByTop, IsBroken}
 use Rattle.report_existence.specs.Laws.{IsListed}
-use Rattle.report_existence.proofs.Finite.{contains_none, contains_more, contains_cases, same_places, no_place, either_place, when, of_rule, of_some}
+use Rattle.report_existence.proofs.Finite.{contains_none, contains_more, contains_cases, same_places, either_place, when, of_rule, of_some}
 use Rattle.report_existence.proofs.Sorted.{report_of}
 use Rattle.script_existence.specs.Laws.{ReportsExist}
 use Rattle.script_existence.proofs.Decided.{IsDecided, some_decided}

@@ -1,3 +1,5 @@
+//! The laws of what a handler script has: readings, a report or a script.
+
 ghost use Rattle.script_existence.specs.Laws.{LinesHaveReadings, TextsHaveReadings, ReportsExist, ScriptsExist};
 
 /// The law of lines: each line says something.
