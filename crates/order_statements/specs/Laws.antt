@@ -1,0 +1,21 @@
+-- Every legal history keeps the order, and every event in it gives what it owes.
+use Rattle.std.specs.Prelude.{ℕ, List}
+use Rattle.ipdl_base.specs.declared.line.Line.{Line}
+use Rattle.ipdl_base.specs.declared.schema.Schema.{Schema}
+use Rattle.ipdl_base.specs.Sound.{IsSound}
+use Rattle.channel_model.specs.Events.{Move}
+use Rattle.channel_model.specs.Runs.{history_of}
+use Rattle.order_statements.specs.Answers.{Answers}
+use Rattle.order_statements.specs.Effects.{Effects}
+use Rattle.order_statements.specs.Order.{Order}
+
+-- What events owe: the effects at their own end, and the answers between both ends.
+pub record Owed (schema : Schema) (lines : List Line) : Type 0 where
+  pub effects : Effects schema lines
+  pub answers : Answers schema lines
+
+abbrev pub HistoriesKeepOrder : Type 0
+HistoriesKeepOrder = (schema : Schema) → IsSound schema → (top : ℕ) (moves : List Move) → Order schema (history_of schema top moves)
+
+abbrev pub HistoriesGiveWhatIsOwed : Type 0
+HistoriesGiveWhatIsOwed = (schema : Schema) → IsSound schema → (top : ℕ) (moves : List Move) → Owed schema (history_of schema top moves)

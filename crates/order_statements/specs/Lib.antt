@@ -1,0 +1,5 @@
+pub mod Shape
+pub mod Order
+pub mod Effects
+pub mod Answers
+pub mod Laws
