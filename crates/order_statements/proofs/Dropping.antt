@@ -22,6 +22,7 @@ use Rattle.pending_queue.specs.declared.item.Item.{Item}
 use Rattle.pending_queue.specs.declared.item.Item.TheVariants as item
 use Rattle.channel_model.specs.Answers as answering
 use Rattle.channel_model.specs.Ends.{End, Packet, mark, message}
+use Rattle.channel_model.specs.Deliveries as delivery
 use Rattle.channel_model.specs.Events.{Event}
 use Rattle.channel_model.specs.Numbers.{is_sync_row}
 use Rattle.channel_model.specs.Outputs as outputs
@@ -36,7 +37,8 @@ use Rattle.history_reading.specs.Rows as rows
 use Rattle.law_statements.specs.Said.{line_of}
 use Rattle.order_statements.specs.Effects.{fault_due}
 use Rattle.order_statements.specs.Shape.{is_open, owes_reply}
-use Rattle.order_statements.proofs.StepLines.{FirstSaid, MadeOf, first-said, made-of, of_delivery, of_own}
+use Rattle.order_statements.proofs.StepLines.{MadeOf, answering-other, drops_or_returns, farewell-other, made-of, of_delivery, of_own, refusal-other, renaming-other, resume-other, send-other, shut-other, silent-parts, unknown-other}
+use Rattle.ipdl_base.specs.declared.kinds.Side.{Side}
 
 -- both words for an open end say the same
 pub open-same : (s : EndState) → is_open s ≡ outputs.is_open s
@@ -50,60 +52,10 @@ pub owes-same : (schema : Schema) (number : ℕ) (row : MessageRow) → message_
 owes-same schema number row found =
     ap (λ (o : Option MessageRow). option_map_or rows.is_sync_row o false || option_map_or rows.wants_row o false) found
 
--- nothing is said where nothing is to follow
-
-silent-part : {p q : Phase} {e f : End} {ws : List What} {ps : List Packet} → LaterPart p e ws ps f q → p.renames ≡ false → IsOver p → (ws ≡ []) × (q.renames ≡ false) × IsOver q
-silent-part (parts.unnames name may silent) renames over = let k : true ≡ false = sym may ∙ renames in cc
-silent-part (parts.lets_go name r may held opened) renames over = let k : true ≡ false = sym may ∙ renames in cc
-silent-part (parts.names more actors) renames over = (refl, renames, over)
-silent-part (parts.releases seq closed) renames over = (refl, renames, over)
-silent-part (parts.keeps seq name r held closed) renames over = (refl, renames, over)
-silent-part (parts.builds id protocol rest fresh built) renames over = let k : id ∷ rest ≡ [] = sym fresh ∙ over.0 in cc
-silent-part (parts.deletes id due) renames over = let k : deletion id ≡ nobody = sym due ∙ over.1 in cc
-silent-part (parts.falls why due) renames over = let k : closing why ≡ nobody = sym due ∙ over.1 in cc
-
-pub silent-parts : {p q : Phase} {e f : End} {ws : List What} {ps : List Packet} → LaterParts p e ws ps f q → p.renames ≡ false → IsOver p → ws ≡ []
-silent-parts parts.done renames over = refl
-silent-parts (parts.then {ws} {vs} part rest) renames over =
-    let a = silent-part part renames over in
-    ap (λ (xs : List What). xs ++ vs) a.0 ∙ silent-parts rest a.1 a.2
-
 module _ (schema : Schema) (n route : ℤ) (number : ℕ) (id : ℤ) where
-  abbrev is_drop : What → Bool
-  is_drop (what.Drop m r k i) = true
-  is_drop _ = false
-
   -- a first line that is no drop
-  no-drop : {A : Type 0} (w : What) (us vs more : List What) → is_drop w ≡ false → (w ∷ us) ++ vs ≡ what.Drop n route number id ∷ more → A
-  no-drop w us vs more other e = let same : w ≡ what.Drop n route number id = cc in let k : false ≡ true = sym other ∙ ap is_drop same in cc
-
-  refusal-other : (w : What) → IsRefusal schema w → is_drop w ≡ false
-  refusal-other (what.RefusedSend cause number) is = refl
-  refusal-other (what.RefusedClose cause) is = refl
-  refusal-other (what.RefusedResolve cause) is = refl
-  refusal-other (what.RefusedReject cause) is = refl
-  refusal-other _ is = absurd is
-
-  renaming-other : (w : What) → IsRenaming w → is_drop w ≡ false
-  renaming-other (what.Keep seq name) is = refl
-  renaming-other (what.Let name id) is = refl
-  renaming-other _ is = absurd is
-
-  send-other : (b : Bool) (m : Message) (vs : Values) → is_drop (if b then what.Call m.seq m.transaction m.route m.number vs else what.Send m.seq m.route m.number vs) ≡ false
-  send-other true m vs = refl
-  send-other false m vs = refl
-
-  answering-other : (seq : ℤ) (vs : Option Values) → is_drop (answering.answering_line seq vs) ≡ false
-  answering-other seq None = refl
-  answering-other seq (Some vs) = refl
-
-  shut-other : (last : Item) → is_drop (parts.shut_line last) ≡ false
-  shut-other (item.Message m sync level) = refl
-  shut-other item.Broken = refl
-
-  resume-other : (seq : ℤ) (a : Answer) → is_drop (return.resume_line seq a) ≡ false
-  resume-other seq (answer.Ok vs) = refl
-  resume-other seq (answer.Fault why) = refl
+  other-first : {A : Type 0} (w : What) (us vs more : List What) → drops_or_returns w ≡ false → (w ∷ us) ++ vs ≡ what.Drop n route number id ∷ more → A
+  other-first w us vs more other e = let same : w ≡ what.Drop n route number id = cc in let k : false ≡ true = sym other ∙ ap drops_or_returns same in cc
 
   fault-lines : (b : Bool) (q : AnsweredRequest) (why : Reason) → reply_lines b q (answer.Fault why) ≡ fault_due b q.seq why
   fault-lines true q why = refl
@@ -117,11 +69,11 @@ module _ (schema : Schema) (n route : ℤ) (number : ℕ) (id : ℤ) where
   Due e more = more ≡ fault_due (outputs.is_open e.state && owes_reply schema number) n reason.ActorDestroyed
 
   first-drop : {e f g : End} {us vs : List What} {ps qs : List Packet} {p q : Phase} → FirstPart schema e us ps f p → LaterParts p f vs qs g q → (more : List What) → us ++ vs ≡ what.Drop n route number id ∷ more → Due e more
-  first-drop {vs} (parts.refuses w is) later more e = no-drop w [] vs more (refusal-other w is) e
-  first-drop {vs} (parts.renames w is) later more e = no-drop w [] vs more (renaming-other w is) e
+  first-drop {vs} (parts.refuses w is) later more e = other-first w [] vs more (refusal-other schema w is) e
+  first-drop {vs} (parts.renames w is) later more e = other-first w [] vs more (renaming-other w is) e
   first-drop {vs} (parts.flushes {e = f} opened) later more e = cc
-  first-drop {vs} (parts.sends {e = f} row to values name sent) later more e = no-drop _ [] vs more (send-other (is_sync_row row) (send.request_of f row to values) values) e
-  first-drop {vs} (parts.answers by values r row found may accepted used) later more e = no-drop _ [] vs more (answering-other r.seq values) e
+  first-drop {vs} (parts.sends {e = f} row to values name sent) later more e = other-first _ [] vs more (send-other (is_sync_row row) (send.request_of f row to values) values) e
+  first-drop {vs} (parts.answers by values r row found may accepted used) later more e = other-first _ [] vs more (answering-other r.seq values) e
   first-drop (parts.closes opened none) later more e = cc
   first-drop (parts.dies opened) later more e = cc
   first-drop (parts.dies_silent closed dead) later more e = cc
@@ -143,40 +95,26 @@ module _ (schema : Schema) (n route : ℤ) (number : ℕ) (id : ℤ) where
       sym lines ∙ (silent-parts later refl (refl, refl) ∙ ap (λ (b : Bool). fault_due b n reason.ActorDestroyed) (sym (ap (λ (b : Bool). outputs.is_open f.state && b) nothing ∙ and-false (outputs.is_open f.state))))
   first-drop (parts.takes_reply m sync level a next body settling) later more e = cc
   first-drop (parts.settles m sync level row a next body found awaited) later more e = cc
-  first-drop {vs} (parts.shuts last next farewell) later more e = no-drop _ [] vs more (shut-other last) e
+  first-drop {vs} (parts.shuts last next farewell) later more e = other-first _ [] vs more (shut-other last) e
   first-drop (parts.returns entry row values told lost is told_is lost_is) later more e = cc
-  first-drop {vs} (parts.resumes {e = f} wait row top found) later more e = no-drop _ [] vs more (resume-other wait.seq _) e
+  first-drop {vs} (parts.resumes {e = f} wait row top found) later more e = other-first _ [] vs more (resume-other wait.seq _) e
 
   own-drop : {e g : End} {ws : List What} {ps : List Packet} {q : Phase} → OwnParts schema e ws ps g q → (more : List What) → ws ≡ what.Drop n route number id ∷ more → Due e more
   own-drop (parts.begun first later over) more e = first-drop first later more e
-
-  unknown-drop : {A : Type 0} (seq : ℤ) (body : Body) (more : List What) → parts.unknown_line seq body ∷ [] ≡ what.Drop n route number id ∷ more → A
-  unknown-drop seq (Request vs) more e = cc
-  unknown-drop seq (Reply vs) more e = cc
-  unknown-drop seq (Fault why) more e = cc
-  unknown-drop seq Goodbye more e = cc
 
   delivery-drop : {A : Type 0} {packet : Packet} {e g : End} {ws : List What} {ps : List Packet} {q : Phase} → DeliveryPart schema packet e ws ps g q → (more : List What) → ws ≡ what.Drop n route number id ∷ more → A
   delivery-drop (parts.gets_request m row vs body found none) more e = cc
   delivery-drop (parts.replaces m row vs old sync level replies body found rep is) more e = cc
   delivery-drop (parts.gets_answer m row a body found sync) more e = cc
   delivery-drop (parts.gets_reply m row a body found sync) more e = cc
-  delivery-drop (parts.drains (message m) farewell) more e = cc
-  delivery-drop (parts.drains mark farewell) more e = cc
-  delivery-drop (parts.passes_by m farewell found) more e = unknown-drop m.seq m.body more e
+  delivery-drop (parts.drains {e = f} packet farewell) more e = other-first _ (map what.Fails (delivery.unanswered f)) [] more (farewell-other packet) (append-nil _ ∙ e)
+  delivery-drop (parts.passes_by m farewell found) more e = other-first _ [] [] more (unknown-other m.seq m.body) e
 
--- the lines after that of a drop, in its step
-pub drop-lines : (schema : Schema) (e : End) (link : List Packet) (ev : Event) (output : Output) → step schema e link ev ≡ Some output → (n route : ℤ) (number : ℕ) (id : ℤ) (rest : List Line) → output.lines ≡ line_of e.side (what.Drop n route number id) ∷ rest
-    → rest ≡ map (line_of e.side) (fault_due (is_open e.state && owes_reply schema number) n reason.ActorDestroyed)
-drop-lines schema e link ev output is n route number id rest at = by (made-of schema e link ev output is)
+-- the effects of a drop
+pub drop-effects : (schema : Schema) (e : End) (link : List Packet) (ev : Event) (output : Output) → step schema e link ev ≡ Some output → (end : Side) (n route : ℤ) (number : ℕ) (id : ℤ) (effects : List What)
+    → output.lines ≡ map (line_of end) (what.Drop n route number id ∷ effects) → effects ≡ fault_due (is_open e.state && owes_reply schema number) n reason.ActorDestroyed
+drop-effects schema e link ev output is end n route number id effects at = by (made-of schema e link ev output is end (what.Drop n route number id ∷ effects) at)
   where
-    due : (m : List What) (f : FirstSaid e.side m (what.Drop n route number id) rest) → f.more ≡ fault_due (outputs.is_open e.state && owes_reply schema number) n reason.ActorDestroyed → rest ≡ map (line_of e.side) (fault_due (is_open e.state && owes_reply schema number) n reason.ActorDestroyed)
-    due m f same = f.lines ∙ ap (map (line_of e.side)) (same ∙ ap (λ (b : Bool). fault_due (b && owes_reply schema number) n reason.ActorDestroyed) (sym (open-same e.state)))
-
-    by : MadeOf schema e output → rest ≡ map (line_of e.side) (fault_due (is_open e.state && owes_reply schema number) n reason.ActorDestroyed)
-    by (of_own m) =
-        let f : FirstSaid e.side m.whats (what.Drop n route number id) rest = first-said e.side m.whats (what.Drop n route number id) rest (sym m.lines ∙ at) in
-        due m.whats f (own-drop schema n route number id m.parts f.more f.said)
-    by (of_delivery packet opened m) =
-        let f : FirstSaid e.side m.whats (what.Drop n route number id) rest = first-said e.side m.whats (what.Drop n route number id) rest (sym m.lines ∙ at) in
-        delivery-drop schema n route number id m.parts f.more f.said
+    by : MadeOf schema e output (what.Drop n route number id ∷ effects) → effects ≡ fault_due (is_open e.state && owes_reply schema number) n reason.ActorDestroyed
+    by (of_own parts) = own-drop schema n route number id parts effects refl ∙ ap (λ (b : Bool). fault_due (b && owes_reply schema number) n reason.ActorDestroyed) (sym (open-same e.state))
+    by (of_delivery packet opened part) = delivery-drop schema n route number id part effects refl
