@@ -1,4 +1,5 @@
 pub mod Places
 pub mod StepLines
+pub mod KeptAlong
 pub mod Dropping
 pub mod Returning
