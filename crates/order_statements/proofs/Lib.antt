@@ -3,3 +3,4 @@ pub mod StepLines
 pub mod KeptAlong
 pub mod Dropping
 pub mod Returning
+pub mod LateReplies
