@@ -4,3 +4,4 @@ pub mod KeptAlong
 pub mod Dropping
 pub mod Returning
 pub mod LateReplies
+pub mod Resolvers
