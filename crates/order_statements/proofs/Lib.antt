@@ -1,5 +1,8 @@
 pub mod Places
+pub mod ArrivedReplies
+pub mod Tells
 pub mod StepLines
+pub mod FirstLines
 pub mod KeptAlong
 pub mod Dropping
 pub mod Returning
