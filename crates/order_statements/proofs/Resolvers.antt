@@ -341,3 +341,98 @@ module _ (schema : Schema) where
             | inl j ↦ renamed-names (said ++ whats o.lines) k.1 before n other j unused
             | inr j ↦ kept-apart lets-go.more n other lets-go.unkept j
           ]))
+
+    -- Acts
+
+    told-names : (id : ℤ) (name : Option (List ℕ)) (o : Output) → Told said o → Told said (sends.names_actor id name o)
+    told-names id None o h = h
+    told-names id (Some name) o h = told-renamed name (Some (actor id)) o h
+
+    adds-posted : (lazy : Bool) (m : Message) → Adding (sends.posted_by lazy m)
+    adds-posted true m o = adds-silent o (sends.posted_by true m o) (λ told h. h) refl refl refl
+    adds-posted false m o = adds-put (message m) o
+
+    adds-awaits : (row : MessageRow) (m : Message) → Adding (sends.awaits_reply row m)
+    adds-awaits row m o =
+        adds-chain o (when (is_sync_row row) (on_end (λ e. record e { stack = sends.wait_for row m ∷ e.stack })) o) _
+        (adds-when (is_sync_row row) (on_end (λ e. record e { stack = sends.wait_for row m ∷ e.stack })) (λ n. adds-silent n _ (λ told h. ((λ dispatch wants used. cc), h)) refl refl refl) o)
+        (adds-when (makes_promise row) _ (λ n. adds-silent n _ (λ told h. h) refl refl refl) (when (is_sync_row row) (on_end (λ e. record e { stack = sends.wait_for row m ∷ e.stack })) o))
+
+    send-unkept : (b : Bool) (m : Message) (vs : Values) → IsUnkept (if b then what.Call m.seq m.transaction m.route m.number vs else what.Send m.seq m.route m.number vs)
+    send-unkept true m vs = refl
+    send-unkept false m vs = refl
+
+    module _ (e : End) where
+      told-sent : (refused : Option SendRefusal) (row : MessageRow) (m : Message) (vs : Values) (name : Option (List ℕ)) → Told said (beginning e) → Told said (sends.sent_unless refused row m vs name (beginning e))
+      told-sent (Some cause) row m vs name h = told-adds (beginning e) (line (what.RefusedSend cause row.number) (beginning e)) (adds-line (what.RefusedSend cause row.number) refl (beginning e)) h
+      told-sent None row m vs name h =
+          let begun : Output = line (sends.send_line row m vs) (beginning e) in
+          let counted : Output = on_end (λ x. record x { sent = x.sent + 1; constructors_sent = counting row.kind x.constructors_sent }) begun in
+          let posted : Output = sends.posted row m counted in
+          let waiting : Output = sends.awaits_reply row m posted in
+          let named : Output = sends.names_actor m.made name waiting in
+          let built : Output = sends.constructs m.made m.route row.kind named in
+          let first : Adds (beginning e) counted = adds-chain (beginning e) begun counted (adds-line (sends.send_line row m vs) (send-unkept (is_sync_row row) m vs) (beginning e)) (adds-silent begun counted (λ told k. k) refl refl refl) in
+          let before : Adds (beginning e) waiting = adds-chain (beginning e) counted waiting first (adds-chain counted posted waiting (adds-posted row.lazy m counted) (adds-awaits row m posted)) in
+          told-adds named _ (adds-chain named built _ (adds-constructs m.made m.route row.kind named) (adds-deletes m.route row.kind built)) (told-names m.made name waiting (told-adds (beginning e) waiting before h))
+
+      -- a resolver is used
+
+      answering-answers : (n : ℤ) (vs : Option Values) → has (shape.answered (answers.answering_line n vs ∷ [])) n ≡ true
+      answering-answers n None = ap (λ (b : Bool). b || false) ((Decides-int_eq n n).1 refl)
+      answering-answers n (Some vs) = ap (λ (b : Bool). b || false) ((Decides-int_eq n n).1 refl)
+
+      answering-unkept : (n : ℤ) (vs : Option Values) → IsUnkept (answers.answering_line n vs)
+      answering-unkept n None = refl
+      answering-unkept n (Some vs) = refl
+
+      resolver-seq : (seq : ℤ) (r : Resolver) → answers.handled_resolver e seq ≡ Some r → r.seq ≡ seq
+      resolver-seq seq r is = by (find (has_resolver seq) e.stack) refl is
+        where
+          by : (found : Option StackEntry) → find (has_resolver seq) e.stack ≡ found → option_map resolver_in found ≡ Some r → r.seq ≡ seq
+          by None at k = cc
+          by (Some entry) at k =
+              let same : resolver_in entry ≡ r = same_Some (resolver_in entry) r k in
+              let passes : has_resolver seq entry ≡ true = found-passes (has_resolver seq) e.stack entry at in
+              ap (λ (x : Resolver). x.seq) (sym same) ∙ (Decides-int_eq (head_of entry.frame).seq seq).0 (and-right entry.resolves (int_eq (head_of entry.frame).seq seq) (and-right (is_dispatch entry.frame) (entry.resolves && int_eq (head_of entry.frame).seq seq) passes))
+
+      told-resolved : (way : Answering) (vs : Option Values) (r : Resolver) → answers.resolver_used e way ≡ Some r → Told said (beginning e) → Told said (answers.resolved way vs r (beginning e))
+      told-resolved (handled seq) vs r used h =
+          let begun : Output = line (answers.answering_line r.seq vs) (beginning e) in
+          let told : Told said begun = told-adds (beginning e) begun (adds-line (answers.answering_line r.seq vs) (answering-unkept r.seq vs) (beginning e)) h in
+          let spent : IsSpent (said ++ whats begun.lines) seq =
+          inl (has-append number_answered said (answers.answering_line r.seq vs ∷ []) seq
+          ∙ or_right (has (shape.answered said) seq) (has (shape.answered (answers.answering_line r.seq vs ∷ [])) seq) (ap (has (shape.answered (answers.answering_line r.seq vs ∷ []))) (sym (resolver-seq seq r used)) ∙ answering-answers r.seq vs)) in
+          λ opened. let k = told opened in (released-keeps (said ++ whats begun.lines) seq e.stack spent k.0, k.1)
+      told-resolved (kept name number) vs r used h = λ opened.
+          let first : What = answers.answering_line r.seq vs in
+          let k = h opened in
+          let held : held_by_name name e.names ≡ Some (resolver r) = used-held number r (held_by_name name e.names) used in
+          let before : NamesHold said e.names = subst (λ (xs : List What). NamesHold xs e.names) (append-nil said) k.1 in
+          (stack-more said (first ∷ []) e.stack (subst (λ (xs : List What). AllHaveOrSpent schema xs e.stack) (append-nil said) k.0),
+          λ n other i unused. from before held n other i unused)
+        where
+          from : NamesHold said e.names → held_by_name name e.names ≡ Some (resolver r) → (n : ℤ) (other : List ℕ) → In (what.Keep n other) (said ++ answers.answering_line r.seq vs ∷ []) → has (shape.answered (said ++ answers.answering_line r.seq vs ∷ [])) n ≡ false
+              → (q : Resolver) × (held_by_name other (without_name name e.names) ≡ Some (resolver q)) × (q.seq ≡ n)
+          from before held n other i unused = elim (in-parts said (answers.answering_line r.seq vs ∷ []) i) [
+            | inl j ↦ by (before n other j (answered-before said (answers.answering_line r.seq vs ∷ []) n unused))
+            | inr j ↦ kept-apart (answers.answering_line r.seq vs ∷ []) n other (answering-unkept r.seq vs, tt) j
+          ]
+            where
+              by : (q : Resolver) × (held_by_name other e.names ≡ Some (resolver q)) × (q.seq ≡ n) → (q : Resolver) × (held_by_name other (without_name name e.names) ≡ Some (resolver q)) × (q.seq ≡ n)
+              by (q, other_held, seq) = elim (cases_Bool (bytes_eq other name)) [
+                | inl same ↦
+                    let both : Some (resolver q) ≡ Some (resolver r) = sym other_held ∙ (ap (λ (x : List ℕ). held_by_name x e.names) ((bytes_eq-Decides other name).0 same) ∙ held) in
+                    let one : q ≡ r = cc in
+                    absurd (answered-last said (answers.answering_line r.seq vs ∷ []) n (ap (has (shape.answered (answers.answering_line r.seq vs ∷ []))) (sym seq ∙ ap (λ (x : Resolver). x.seq) one) ∙ answering-answers r.seq vs) unused)
+                | inr apart ↦ (q, ap (held_by_name other) (sym (append-nil (without_name name e.names))) ∙ other-held name other e.names (resolver q) [] apart other_held, seq)
+              ]
+
+      refused-unkept : (cause : SendRefusal) (vs : Option Values) → IsUnkept (answers.refused_line cause vs)
+      refused-unkept cause None = refl
+      refused-unkept cause (Some vs) = refl
+
+      told-answered : (refused : Option SendRefusal) (way : Answering) (vs : Option Values) (used : Option Resolver) → answers.resolver_used e way ≡ used → Told said (beginning e) → Told said (answers.answered_unless refused way vs used (beginning e))
+      told-answered (Some cause) way vs used is h = told-adds (beginning e) _ (adds-line (answers.refused_line cause vs) (refused-unkept cause vs) (beginning e)) h
+      told-answered None way vs None is h = told-adds (beginning e) _ (adds-line (answers.refused_line _ vs) (refused-unkept _ vs) (beginning e)) h
+      told-answered None way vs (Some r) is h = told-resolved way vs r is h
