@@ -4,7 +4,9 @@ pub mod Tells
 pub mod StepLines
 pub mod FirstLines
 pub mod KeptAlong
+pub mod KeptSteps
 pub mod Dropping
 pub mod Returning
 pub mod LateReplies
 pub mod Resolvers
+pub mod OwedAnswers
