@@ -10,3 +10,4 @@ pub mod Returning
 pub mod LateReplies
 pub mod Resolvers
 pub mod OwedAnswers
+pub mod Handling
