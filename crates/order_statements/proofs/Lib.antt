@@ -11,3 +11,4 @@ pub mod LateReplies
 pub mod Resolvers
 pub mod OwedAnswers
 pub mod Handling
+pub mod AskedRequests
