@@ -12,3 +12,4 @@ pub mod Resolvers
 pub mod OwedAnswers
 pub mod Handling
 pub mod AskedRequests
+pub mod AnsweringLines
