@@ -6,6 +6,7 @@ use Rattle.std.proofs.lemmas.List.{append-nil}
 use Rattle.std.proofs.lemmas.Option.{same_Some}
 use Rattle.ipdl_base.specs.declared.kinds.EndState.{EndState}
 use Rattle.ipdl_base.specs.declared.kinds.Level.{Level}
+use Rattle.ipdl_base.specs.declared.kinds.Level.TheVariants.{Not}
 use Rattle.ipdl_base.specs.declared.kinds.Reason.{Reason}
 use Rattle.ipdl_base.specs.declared.kinds.Reason.TheVariants as reason
 use Rattle.ipdl_base.specs.declared.kinds.Destroy.{Destroy}
@@ -25,7 +26,7 @@ use Rattle.nesting_core.specs.declared.frame.Answer.TheVariants as answer
 use Rattle.nesting_core.specs.Frames.{head_of, is_dispatch}
 use Rattle.pending_queue.specs.declared.item.Item.{Item}
 use Rattle.pending_queue.specs.declared.item.Item.TheVariants as item
-use Rattle.pending_queue.specs.Compression.{are_alike, is_request, is_request_of, replaced}
+use Rattle.pending_queue.specs.Compression.{are_alike, is_request, is_request_of, replaced, staying}
 use Rattle.promise_table.specs.declared.promise.Outcome.{Outcome}
 use Rattle.promise_table.specs.declared.promise.Outcome.TheVariants.{Resolved, Rejected}
 use Rattle.channel_model.specs.Answers as answering
@@ -221,10 +222,10 @@ module _ (schema : Schema) (theirs : List Note) (said : List What) where
       by (resolver r) o t = (((r.route, o.origin.requested), t.0), promised-owes r.number o.origin.row o.origin.found o.promised)
 
   -- What a line of an answer tells.
-  record Tells (e : End) (front : List What) (n : ℤ) : Type 0 where
-    number : ℕ
-    owes : Owes schema theirs n number
-    how : IsAnswered e said front n
+  pub record Tells (e : End) (front : List What) (n : ℤ) : Type 0 where
+    pub number : ℕ
+    pub owes : Owes schema theirs n number
+    pub how : IsAnswered e said front n
 
   tells-asked : (e : End) (front : List What) (n : ℤ) (number : ℕ) → Asked n number → OwesReply number → Tells e front n
   tells-asked e front n number a o = record { number = number; owes = record { route = a.0.0; requested = a.0.1; owes = o }; how = was_taken a.1 }
@@ -238,9 +239,9 @@ module _ (schema : Schema) (theirs : List Note) (said : List What) where
   falls-none id why e = falls-have NoAnswer (record { rejected = λ n r. refl; fell = λ a w. refl }) id why e
 
   -- only a name that lets go of a resolver answers, at an open end
-  record LaterTells (e g : End) (front : List What) (n : ℤ) : Type 0 where
-    opened : is_open g.state ≡ true
-    tells : Tells e front n
+  pub record LaterTells (e g : End) (front : List What) (n : ℤ) : Type 0 where
+    pub opened : is_open g.state ≡ true
+    pub tells : Tells e front n
 
   part-answers : {p q : Phase} {e f : End} {ws : List What} {ps : List Packet} → LaterPart p e ws ps f q → (p.renames ≡ true → EndIs Asked OwesReply e) → (start : End) (before front : List What) (w : What) (rest : List What) (n : ℤ) → ws ≡ front ++ w ∷ rest → number_answered w ≡ Some n
       → LaterTells start f before n
@@ -375,3 +376,91 @@ module _ (schema : Schema) (theirs : List Note) (said : List What) where
           let t = top-asked x entry ret.on_top h in
           record { opened = ap is_open state-same ∙ o.0; tells = tells-at x (v ∷ front) (head_of entry.frame).seq n entry.number p.2 t.0 (t.1 o.1) }
   first-answers (parts.resumes {e = x} wait row top found) origins h front w rest n at is = none-there (_ ∷ []) front w rest n (resume-none wait.seq _, tt) at is
+
+  -- a part after which a name may let go of a resolver changes none
+  first-renames : {e f : End} {us : List What} {ps : List Packet} {p : Phase} → FirstPart schema e us ps f p → p.renames ≡ true → EndIs Asked OwesReply e → EndIs Asked OwesReply f
+  first-renames (parts.refuses v r) renames h = cc
+  first-renames (parts.renames v r) renames h = h
+  first-renames (parts.flushes opened) renames h = cc
+  first-renames (parts.sends {e = x} row route vs name sent) renames h = sent-is Asked OwesReply row (send.request_of x row route vs) x h
+  first-renames (parts.answers by vs r row found may accepted used) renames h = cc
+  first-renames (parts.closes opened none) renames h = cc
+  first-renames (parts.dies opened) renames h = cc
+  first-renames (parts.dies_silent closed dead) renames h = cc
+  first-renames (parts.takes m sync level row vs next body found stays) renames h = cc
+  first-renames (parts.drops m sync level row vs id told next body found gone is_told) renames h = cc
+  first-renames (parts.drops_unknown m sync level vs next body found) renames h = cc
+  first-renames (parts.takes_reply m sync level a next body settling) renames h = cc
+  first-renames (parts.settles m sync level row a next body found awaited) renames h = cc
+  first-renames (parts.shuts last next farewell) renames h = cc
+  first-renames (parts.returns entry row vs told lost ret told_is lost_is) renames h = cc
+  first-renames (parts.resumes wait row top found) renames h = cc
+
+  own-answers : {e g : End} {ws : List What} {ps : List Packet} {q : Phase} → OwnParts schema e ws ps g q → HasOrigins schema theirs e → EndIs Asked OwesReply e → (front : List What) (w : What) (rest : List What) (n : ℤ) → ws ≡ front ++ w ∷ rest → number_answered w ≡ Some n → LaterTells e g front n
+  own-answers {e} {g} (parts.begun {ws = us} {vs = vs} first later over) origins h front w rest n at is = by (place-in us vs front w rest at)
+    where
+      by : PlaceIn us vs front w rest → LaterTells e g front n
+      by (in_first between same) = let one = first-answers first origins h front w between n same is in record { opened = ap is_open (laters-state later) ∙ one.opened; tells = one.tells }
+      by (in_second after front_is same) = laters-answer later (λ r. first-renames first r h) e front after w rest n same is
+
+  -- Deliveries
+
+  alike-number : (m old : Message) (sync olds : Bool) (level older : Level) → are_alike (item.Message m sync level) (item.Message old olds older) ≡ true → old.number ≡ m.number
+  alike-number m old sync olds level older h =
+      eqb-true old.number m.number (and-right (is_request old.body) (old.number == m.number) (and-left (is_request old.body && old.number == m.number) (int_eq old.route m.route) (and-right (is_request m.body) (is_request_of m.number m.route (item.Message old olds older)) h)))
+
+  delivery-answers : {packet : Packet} {e f : End} {ws : List What} {ps : List Packet} {q : Phase} → DeliveryPart schema packet e ws ps f q → is_open e.state ≡ true → HasOrigins schema theirs e → (front : List What) (w : What) (rest : List What) (n : ℤ) → ws ≡ front ++ w ∷ rest → number_answered w ≡ Some n → LaterTells e f front n
+  delivery-answers (parts.gets_request m row vs body found none) opened origins front w rest n at is = none-there (_ ∷ []) front w rest n (refl, tt) at is
+  delivery-answers (parts.replaces {e = x} m row vs old sync level told body found rep is_told) opened origins front w rest n at is = by front at
+    where
+      new : Item
+      new = delivery.item_of row m
+
+      taken : TakenFrom x.arrived (staying row.compress (delivery.item_of row m) x.arrived) (item.Message old sync level)
+      taken = (replaced-taken row.compress new x.arrived (item.Message old sync level) rep).taken
+
+      alike : are_alike new (item.Message old sync level) ≡ true
+      alike = (replaced-taken row.compress new x.arrived (item.Message old sync level) rep).alike
+
+      old_body : (values : Values) × (old.body ≡ Request values)
+      old_body = request-body old.body (alike-request new (item.Message old sync level) alike)
+
+      asked : Origin schema theirs old.seq old.route old.number
+      asked = body-asked schema theirs old old_body.0 old_body.1 (all-behind (ItemOrigin schema theirs) taken.front (item.Message old sync level ∷ taken.back) (subst (AllByRecursion (ItemOrigin schema theirs)) taken.whole origins.arrived)).0
+
+      number_is : old.number ≡ m.number
+      number_is = alike-number m old (is_sync_row row) sync row.level level alike
+
+      loses : List What
+      loses = reply_lines told (request_answered old) (answer.Fault reason.ResolverDestroyed)
+
+      by : (front : List What) → what.DeliverRequest m.seq ∷ what.Replaced old.seq ∷ loses ≡ front ++ w ∷ rest → LaterTells x (end_behind told (delivery.counted row (delivery.item_of row m) x)) front n
+      by [] e = let same : what.DeliverRequest m.seq ≡ w = cc in let k : None ≡ Some n = ap number_answered same ∙ is in cc
+      by (v ∷ []) e = let same : what.Replaced old.seq ≡ w = cc in let k : None ≡ Some n = ap number_answered same ∙ is in cc
+      by (v ∷ u ∷ later) e =
+          let first : what.DeliverRequest m.seq ≡ v = cc in
+          let second : what.Replaced old.seq ≡ u = cc in
+          let more : loses ≡ later ++ w ∷ rest = cc in
+          let p = reply-place told (request_answered old) (answer.Fault reason.ResolverDestroyed) later w rest n more is in
+          let makes : makes_promise row ≡ true = sym is_told ∙ p.0 in
+          let owes : OwesReply old.number = owes-same schema old.number row (ap (message_of schema) number_is ∙ found) ∙ or_right (is_sync_row row) (makes_promise row) makes in
+          let front_is : v ∷ u ∷ later ≡ what.DeliverRequest m.seq ∷ what.Replaced n ∷ [] =
+          ap (λ (xs : List What). v ∷ u ∷ xs) p.1 ∙ (ap (λ (y : What). y ∷ u ∷ []) (sym first) ∙ (ap (λ (y : What). what.DeliverRequest m.seq ∷ y ∷ []) (sym second) ∙ ap (λ (k : ℤ). what.DeliverRequest m.seq ∷ what.Replaced k ∷ []) (sym p.2))) in
+          record {
+            opened = ap is_open (behind-state told (delivery.counted row (delivery.item_of row m) x)) ∙ opened;
+            tells = record {
+              number = old.number;
+              owes = subst (λ (k : ℤ). Owes schema theirs k old.number) (sym p.2) (record { route = old.route; requested = asked.requested; owes = owes });
+              how = is_replaced (subst (HasArrived x) (sym p.2) (one-arrived x _ old sync level old_body.0 taken old_body.1)) m.seq front_is;
+            };
+          }
+  delivery-answers (parts.gets_answer m row a body found sync) opened origins front w rest n at is = none-there (_ ∷ []) front w rest n (refl, tt) at is
+  delivery-answers (parts.gets_reply m row a body found sync) opened origins front w rest n at is = none-there (_ ∷ []) front w rest n (refl, tt) at is
+  delivery-answers (parts.drains {e = x} packet farewell) opened origins front w rest n at is =
+      none-there (parts.farewell_line packet ∷ map what.Fails (delivery.unanswered x)) front w rest n (farewell-none packet, mapped-lines NoAnswer what.Fails (delivery.unanswered x) (λ k. refl)) at is
+  delivery-answers (parts.passes_by m farewell found) opened origins front w rest n at is = none-there (_ ∷ []) front w rest n (unknown-none m.seq m.body, tt) at is
+
+  -- the request that a line of a step answers
+  pub step-answers : (e : End) (output : Output) (ws : List What) → MadeOf schema e output ws → HasOrigins schema theirs e → HandledWereTaken e said → (front : List What) (w : What) (rest : List What) (n : ℤ) → ws ≡ front ++ w ∷ rest → number_answered w ≡ Some n → LaterTells e output.end front n
+  step-answers e output ws (of_own own) origins taken front w rest n at is = own-answers own origins (end-asked e origins taken) front w rest n at is
+  step-answers e output ws (of_delivery packet opened part) origins taken front w rest n at is = delivery-answers part opened origins front w rest n at is
