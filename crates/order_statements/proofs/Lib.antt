@@ -13,3 +13,4 @@ pub mod OwedAnswers
 pub mod Handling
 pub mod AskedRequests
 pub mod AnsweringLines
+pub mod SaidCounts
