@@ -98,3 +98,110 @@ open-before own (w ∷ more) h = by (state_after w) refl (sym (ap is_open (state
     by : (o : Option EndState) → state_after w ≡ o → is_open (unwrap_or o (state_of own)) ≡ true → is_open (state_of own) ≡ true
     by None is k = k
     by (Some s) is k = absurd (false≢true (sym (not-open w s is) ∙ k))
+
+-- Requests that were delivered, and have left
+
+own-or-other : (end : Side) (front : List Line) (line : Line) → ((said_by end (front ++ line ∷ []) ≡ said_by end front ++ line.what ∷ []) × (line ≡ line_of end line.what)) ⊎ (said_by end (front ++ line ∷ []) ≡ said_by end front)
+own-or-other end front line = by end line.side line.what
+  where
+    by : (end side : Side) (w : What) → ((said_by end (front ++ line_of side w ∷ []) ≡ said_by end front ++ w ∷ []) × (line_of side w ≡ line_of end w)) ⊎ (said_by end (front ++ line_of side w ∷ []) ≡ said_by end front)
+    by Parent Parent w = inl (said-own Parent front w, refl)
+    by Child Child w = inl (said-own Child front w, refl)
+    by Parent Child w = inr (said-other Child front w)
+    by Child Parent w = inr (said-other Parent front w)
+
+said-first : (end : Side) (w : What) (ls : List Line) → said_by end (line_of end w ∷ ls) ≡ w ∷ said_by end ls
+said-first Parent w ls = refl
+said-first Child w ls = refl
+
+-- what was delivered is delivered still
+pub delivered-more : (own more : List What) (p : PacketKind) → has_packet (delivered own) p ≡ true → has_packet (delivered (own ++ more)) p ≡ true
+delivered-more own more p h =
+    ap (λ (ps : List PacketKind). has_packet ps p) (filter_map-append delivery own more)
+    ∙ (list_any-append (λ (q : PacketKind). same_packet q p) (delivered own) (delivered more) ∙ or_left (has_packet (delivered own) p) (has_packet (delivered more) p) h)
+
+effect-stays : (w : What) → is_event w ≡ false → number_gone w ≡ None
+effect-stays (what.Take n route number values) e = cc
+effect-stays (what.Drop n route number id) e = cc
+effect-stays _ e = refl
+
+module _ (schema : Schema) (lines : List Line) (prefix : Prefix schema lines) (end : Side) where
+  -- what has left was delivered
+  abbrev LeftWasDelivered : List Line → Type 0
+  LeftWasDelivered front = (n : ℤ) → has (gone (said_by end front)) n ≡ true → has_packet (delivered (said_by end front)) (kind.Request n) ≡ true
+
+  -- what was delivered in the last event has not left
+  abbrev pub LastHasNotLeft : List Line → Type 0
+  LastHasNotLeft front = (n : ℤ) → last_event (said_by end front) ≡ Some (what.DeliverRequest n) → has (gone (said_by end front)) n ≡ false
+
+  first-true : (b : Bool) → b || false ≡ true → b ≡ true
+  first-true true h = refl
+  first-true false h = cc
+
+  leaves-delivered : (front behind : List Line) (w : What) → lines ≡ front ++ line_of end w ∷ behind → (n : ℤ) → has (gone (w ∷ [])) n ≡ true → has_packet (delivered (said_by end front)) (kind.Request n) ≡ true
+  leaves-delivered front behind (what.Take m route number values) at n h =
+      let same : m ≡ n = (Decides-int_eq m n).0 (first-true (int_eq m n) h) in
+      ap (λ (k : ℤ). has_packet (delivered (said_by end front)) (kind.Request k)) (sym same) ∙ (prefix.takes end m route number values front behind at).0.delivered
+  leaves-delivered front behind (what.Drop m route number id) at n h =
+      let same : m ≡ n = (Decides-int_eq m n).0 (first-true (int_eq m n) h) in
+      ap (λ (k : ℤ). has_packet (delivered (said_by end front)) (kind.Request k)) (sym same) ∙ (prefix.drops end m route number id front behind at).0.delivered
+  leaves-delivered front behind _ at n h = cc
+
+  left-step : (front : List Line) (line : Line) (behind : List Line) → lines ≡ front ++ line ∷ behind → LeftWasDelivered front → LeftWasDelivered (front ++ line ∷ [])
+  left-step front line behind at h n = by (own-or-other end front line)
+    where
+      own : List What
+      own = said_by end front
+
+      said-then : said_by end (front ++ line ∷ []) ≡ said_by end front ++ line.what ∷ [] → line ≡ line_of end line.what → has (gone (said_by end front ++ line.what ∷ [])) n ≡ true → has_packet (delivered (said_by end front ++ line.what ∷ [])) (kind.Request n) ≡ true
+      said-then is same left = from (or_cases (has (gone (said_by end front)) n) (has (gone (line.what ∷ [])) n) (sym (has-append number_gone (said_by end front) (line.what ∷ []) n) ∙ left))
+        where
+          from : (has (gone (said_by end front)) n ≡ true) ⊎ (has (gone (line.what ∷ [])) n ≡ true) → has_packet (delivered (said_by end front ++ line.what ∷ [])) (kind.Request n) ≡ true
+          from (inl k) = delivered-more (said_by end front) (line.what ∷ []) (kind.Request n) (h n k)
+          from (inr k) = delivered-more (said_by end front) (line.what ∷ []) (kind.Request n) (leaves-delivered front behind line.what (at ∙ ap (λ (l : Line). front ++ l ∷ behind) same) n k)
+
+      by : ((said_by end (front ++ line ∷ []) ≡ said_by end front ++ line.what ∷ []) × (line ≡ line_of end line.what)) ⊎ (said_by end (front ++ line ∷ []) ≡ said_by end front) → has (gone (said_by end (front ++ line ∷ []))) n ≡ true → has_packet (delivered (said_by end (front ++ line ∷ []))) (kind.Request n) ≡ true
+      by (inl (is, same)) left = subst (λ (ws : List What). has_packet (delivered ws) (kind.Request n) ≡ true) (sym is) (said-then is same (subst (λ (ws : List What). has (gone ws) n ≡ true) is left))
+      by (inr is) left = subst (λ (ws : List What). has_packet (delivered ws) (kind.Request n) ≡ true) (sym is) (h n (subst (λ (ws : List What). has (gone ws) n ≡ true) is left))
+
+  module _ (once : (n : ℤ) → how_many (is_packet (kind.Request n)) (delivered (said_by end lines)) ≤ 1) where
+    -- a request that was delivered is not delivered again
+    pub not-again : (front behind : List Line) (n : ℤ) → lines ≡ front ++ behind → (rest : List What) → said_by end behind ≡ rest → has_packet (delivered (said_by end front)) (kind.Request n) ≡ true → 1 ≤ how_many (is_packet (kind.Request n)) (delivered rest) → ⊥
+    not-again front behind n at rest is before again =
+        let whole : said_by end lines ≡ said_by end front ++ rest = ap (said_by end) at ∙ (filter_map-append _ front behind ∙ ap (λ (ws : List What). said_by end front ++ ws) is) in
+        let count = ap (λ (ws : List What). how_many (is_packet (kind.Request n)) (delivered ws)) whole ∙ (ap (how_many (is_packet (kind.Request n))) (filter_map-append delivery (said_by end front) rest) ∙ many-append (is_packet (kind.Request n)) (delivered (said_by end front)) (delivered rest)) in
+        let first = any-some (is_packet (kind.Request n)) (delivered (said_by end front)) before in
+        let all = once n in
+        absurd (omega (arith, count, first, all, again))
+
+    last-step : (front : List Line) (line : Line) (behind : List Line) → lines ≡ front ++ line ∷ behind → LeftWasDelivered front → LastHasNotLeft front → LastHasNotLeft (front ++ line ∷ [])
+    last-step front line behind at left h n = by (own-or-other end front line)
+      where
+        event-case : (w : What) → line ≡ line_of end w → (b : Bool) → is_event w ≡ b → (if b then Some w else last_event (said_by end front)) ≡ Some (what.DeliverRequest n) → has (gone (said_by end front ++ w ∷ [])) n ≡ false
+        event-case w same true is e = from (has (gone (said_by end front)) n) refl
+          where
+            this : w ≡ what.DeliverRequest n
+            this = same_Some w (what.DeliverRequest n) e
+
+            stays : has (gone (said_by end front ++ w ∷ [])) n ≡ has (gone (said_by end front)) n || false
+            stays = has-append number_gone (said_by end front) (w ∷ []) n ∙ ap (λ (v : What). has (gone (said_by end front)) n || has (gone (v ∷ [])) n) this
+
+            again : 1 ≤ how_many (is_packet (kind.Request n)) (delivered (w ∷ said_by end behind))
+            again = any-some (is_packet (kind.Request n)) (delivered (w ∷ said_by end behind)) (ap (λ (v : What). has_packet (delivered (v ∷ said_by end behind)) (kind.Request n)) this ∙ or_left (int_eq n n) (has_packet (delivered (said_by end behind)) (kind.Request n)) (int-same n))
+
+            from : (c : Bool) → has (gone (said_by end front)) n ≡ c → has (gone (said_by end front ++ w ∷ [])) n ≡ false
+            from false k = stays ∙ ap (λ (x : Bool). x || false) k
+            from true k = absurd (not-again front (line ∷ behind) n at (w ∷ said_by end behind) (ap (λ (l : Line). said_by end (l ∷ behind)) same ∙ said-first end w behind) (left n k) again)
+        event-case w same false is e =
+            has-append number_gone (said_by end front) (w ∷ []) n
+            ∙ (ap (λ (o : Option ℤ). has (gone (said_by end front)) n || has (cons_option o []) n) (effect-stays w is) ∙ ap (λ (x : Bool). x || false) (h n e))
+
+        by : ((said_by end (front ++ line ∷ []) ≡ said_by end front ++ line.what ∷ []) × (line ≡ line_of end line.what)) ⊎ (said_by end (front ++ line ∷ []) ≡ said_by end front) → last_event (said_by end (front ++ line ∷ [])) ≡ Some (what.DeliverRequest n) → has (gone (said_by end (front ++ line ∷ []))) n ≡ false
+        by (inl (is, same)) e =
+            subst (λ (ws : List What). has (gone ws) n ≡ false) (sym is)
+            (event-case line.what same (is_event line.what) refl (sym (last-add is_event (said_by end front) line.what) ∙ (ap last_event (sym is) ∙ e)))
+        by (inr is) e = subst (λ (ws : List What). has (gone ws) n ≡ false) (sym is) (h n (ap last_event (sym is) ∙ e))
+
+    pub last-not-left : (before behind : List Line) → lines ≡ before ++ behind → LastHasNotLeft before
+    last-not-left before behind at =
+        (through lines (λ front. LeftWasDelivered front × LastHasNotLeft front) ((λ n k. cc), λ n k. cc) (λ front line later is p. (left-step front line later is p.0, last-step front line later is p.0 p.1)) before behind at).1
