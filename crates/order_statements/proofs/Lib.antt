@@ -14,3 +14,4 @@ pub mod Handling
 pub mod AskedRequests
 pub mod AnsweringLines
 pub mod SaidCounts
+pub mod AnswersLaw

@@ -1,0 +1,164 @@
+-- Answers are given to requests that may be answered, in every legal history.
+use Rattle.std.proofs.Common.{◌≡◌, ◌≢◌, ◌⊎◌, inl, inr, ℕ, ◌+◌, ◌≤◌, ℤ, Bool, true, false, not, ◌&&◌, ◌||◌, if◌then◌else◌, int_eq, IsTrue, List, [], ◌∷◌, ◌++◌, Contains, filter_map, map, Option, Some, None, option_and_then, refl, sym, ap, subst, append_assoc, ◌∙◌, arith}
+use Rattle.std.specs.List.{AllByRecursion, list_any}
+use Rattle.std.proofs.lemmas.Bool.{and_parts, false≢true, or_left, or_right}
+use Rattle.std.proofs.lemmas.List.{append-nil, map-append}
+use Rattle.std.proofs.lemmas.List.Elements.{filter_map-append}
+use Rattle.std.proofs.lemmas.Option.{same_Some}
+use Rattle.ipdl_base.specs.declared.kinds.Reason.TheVariants as reason
+use Rattle.ipdl_base.specs.declared.kinds.Side.{Side}
+use Rattle.ipdl_base.specs.declared.kinds.Side.TheVariants.{Parent, Child}
+use Rattle.ipdl_base.specs.declared.line.Line.{Line}
+use Rattle.ipdl_base.specs.declared.line.What.{What}
+use Rattle.ipdl_base.specs.declared.line.What.TheVariants as what
+use Rattle.ipdl_base.specs.declared.schema.Schema.{Schema}
+use Rattle.ipdl_base.specs.Lines.{is_effect}
+use Rattle.ipdl_base.specs.Sound.{IsSound}
+use Rattle.channel_model.specs.Ends.{End, Packet, World, end_of, link_to}
+use Rattle.channel_model.specs.Events.{Event, Move}
+use Rattle.channel_model.specs.Outputs as outputs
+use Rattle.channel_model.specs.Outputs.{Output}
+use Rattle.channel_model.specs.Runs.{history_of}
+use Rattle.channel_model.specs.Steps.{step}
+use Rattle.channel_laws.specs.Arrivals.{ArrivalReading, arrival_reading, requests_delivered, requests_in}
+use Rattle.channel_laws.specs.Counts.{how_many, is_number, is_packet}
+use Rattle.channel_laws.specs.Laws.{world_of}
+use Rattle.channel_laws.proofs.AllLaws.{histories_obey_all_laws}
+use Rattle.channel_laws.proofs.Counting.{int-same, some-any}
+use Rattle.history_reading.specs.declared.law.Law.TheVariants as law
+use Rattle.history_reading.specs.declared.parts.PacketKind.{PacketKind}
+use Rattle.history_reading.specs.declared.parts.PacketKind.TheVariants as kind
+use Rattle.history_reading.specs.EndReading.{EndReading}
+use Rattle.history_reading.specs.Numbers.{has, has_packet, same_packet}
+use Rattle.history_reading.specs.Reading.{end_reading_of, read}
+use Rattle.history_reading.specs.SentPacket.{Request, SentPacket, packet_kind, request_of}
+use Rattle.law_statements.specs.Arrived.{state_of}
+use Rattle.law_statements.specs.Packets.{delivered, delivery, gone, number_gone, sent}
+use Rattle.law_statements.specs.Prefix.{Prefix}
+use Rattle.law_statements.specs.Said.{last_event, line_of, other_end, said_by, said_in}
+use Rattle.law_statements.proofs.Fields.{delivered-read, gone-read, sent-read}
+use Rattle.law_statements.proofs.PrefixLaw.{prefix-to}
+use Rattle.alone_laws.proofs.AloneLines.{said-more}
+use Rattle.order_statements.specs.Answers.{MayAnswer}
+use Rattle.order_statements.specs.Shape.{answered, is_open, is_open_by, number_answered, owes_reply}
+use Rattle.order_statements.proofs.AnsweringLines.{HasArrived, IsAnswered, LaterTells, is_dropped, is_replaced, step-answers, was_taken}
+use Rattle.order_statements.proofs.AskedRequests.{IsAsked, KnowsAsked, history-asks}
+use Rattle.order_statements.proofs.Dropping.{open-same}
+use Rattle.order_statements.proofs.Handling.{HandledWereTaken, handled-taken}
+use Rattle.order_statements.proofs.KeptAlong.{kept-in-history, none-said}
+use Rattle.order_statements.proofs.LateReplies.{has-append}
+use Rattle.order_statements.proofs.Places.{EffectIn, EventIn, MoveAt, effect-at, event-at}
+use Rattle.order_statements.proofs.SaidCounts.{any-some, delivered-more, first-answer, last-not-left, not-again, open-before, replies-answered}
+use Rattle.order_statements.proofs.StepLines.{MadeOf, made-of}
+use Rattle.order_statements.proofs.Tells.{EndTells, history-tells, move-tells}
+
+-- A step of a legal history: what the lines of its end tell of it before and after, that what it handles was taken, and the
+-- requests of the other.
+pub record LegalStep (schema : Schema) (end : Side) (start : List Line) (output : Output) : Type 0 where
+  pub e : End
+  pub link : List Packet
+  pub happened : Event
+  pub made : step schema e link happened ≡ Some output
+  pub tells : EndTells schema e end start
+  pub tells_after : EndTells schema output.end end (start ++ output.lines)
+  pub taken : HandledWereTaken e (said_by end start)
+  pub asks : KnowsAsked schema (said_by (other_end end) start) e
+
+pub legal-step : (schema : Schema) → IsSound schema → (top : ℕ) (moves : List Move) (end : Side) (start : List Line) (output : Output) → MoveAt schema top moves end start output → LegalStep schema end start output
+legal-step schema sound top moves end start output m =
+    let world : World = world_of schema top m.front in
+    let e : End = end_of m.move.side world in
+    let lines : List Line = history_of schema top m.front in
+    record {
+      e = e;
+      link = link_to m.move.side world;
+      happened = m.move.event;
+      made = m.made;
+      tells = subst (EndTells schema e end) (sym m.start_is) (subst (λ (s : Side). EndTells schema e s lines) m.side_is (history-tells schema sound top m.front m.move.side));
+      tells_after = (move-tells schema sound top moves end start output m).tells_after;
+      taken = subst (λ (ls : List Line). HandledWereTaken e (said_by end ls)) (sym m.start_is) (subst (λ (s : Side). HandledWereTaken e (said_by s lines)) m.side_is (kept-in-history schema HandledWereTaken (handled-taken schema) top m.front m.move.side));
+      asks = subst (λ (ls : List Line). KnowsAsked schema (said_by (other_end end) ls) e) (sym m.start_is) (subst (λ (s : Side). KnowsAsked schema (said_by (other_end s) lines) e) m.side_is (history-asks schema sound top m.front m.move.side));
+    }
+
+-- A line of a legal history, its step, and the lines of this before it and after it.
+pub record LegalLine (schema : Schema) (end : Side) (w : What) (before : List Line) : Type 0 where
+  pub start : List Line
+  pub output : Output
+  pub by : LegalStep schema end start output
+  pub front : List What
+  pub more : List What
+  pub before_is : before ≡ start ++ map (line_of end) front
+  pub lines : output.lines ≡ map (line_of end) (front ++ w ∷ more)
+
+legal-line : (schema : Schema) → IsSound schema → (top : ℕ) (moves : List Move) (end : Side) (w : What) (before behind : List Line) → history_of schema top moves ≡ before ++ line_of end w ∷ behind → LegalLine schema end w before
+legal-line schema sound top moves end w before behind at = by (is_effect w) refl
+  where
+    by : (b : Bool) → is_effect w ≡ b → LegalLine schema end w before
+    by false is =
+        let i : EventIn (MoveAt schema top moves end) end w before behind = event-at schema sound top moves end w before behind is at in
+        record { start = before; output = i.output; by = legal-step schema sound top moves end before i.output i.by; front = []; more = i.effects; before_is = sym (append-nil before); lines = i.lines }
+    by true is =
+        let i : EffectIn (MoveAt schema top moves end) end w before behind = effect-at schema sound top moves end w before behind is at in
+        record { start = i.start; output = i.output; by = legal-step schema sound top moves end i.start i.output i.by; front = i.event ∷ i.earlier; more = i.more; before_is = i.before_is; lines = i.lines }
+
+-- One line that answers
+
+module _ (schema : Schema) (end : Side) (w : What) (before : List Line) (l : LegalLine schema end w before) (n : ℤ) (is : number_answered w ≡ Some n) where
+  abbrev own : List What
+  own = said_by end l.start
+
+  abbrev tells : LaterTells schema l.by.asks.theirs own l.by.e l.output.end l.front n
+  tells = step-answers schema l.by.asks.theirs own l.by.e l.output (l.front ++ w ∷ l.more) (made-of schema l.by.e l.by.link l.by.happened l.output l.by.made end (l.front ++ w ∷ l.more) l.lines) l.by.asks.origins l.by.taken l.front w l.more n refl is
+
+  said-before : said_by end before ≡ own ++ l.front
+  said-before = ap (said_by end) l.before_is ∙ said-more end l.start l.front
+
+  said-after : said_by end (l.start ++ l.output.lines) ≡ (own ++ l.front) ++ w ∷ l.more
+  said-after = ap (λ (ls : List Line). said_by end (l.start ++ ls)) l.lines ∙ (said-more end l.start (l.front ++ w ∷ l.more) ∙ sym (append_assoc own l.front (w ∷ l.more)))
+
+  other-before : said_by (other_end end) before ≡ said_by (other_end end) l.start
+  other-before =
+      ap (said_by (other_end end)) l.before_is
+      ∙ (filter_map-append (said_in (other_end end)) l.start (map (line_of end) l.front)
+      ∙ (ap (λ (ws : List What). said_by (other_end end) l.start ++ ws) (none-said end l.front) ∙ append-nil (said_by (other_end end) l.start)))
+
+  opened-then : is_open_by (own ++ l.front) ≡ true
+  opened-then =
+      open-before (own ++ l.front) (w ∷ l.more)
+      (ap (λ (ws : List What). is_open (state_of ws)) (sym said-after) ∙ (ap is_open l.by.tells_after.state ∙ (open-same l.output.end.state ∙ tells.opened)))
+
+  asked-then : IsAsked schema (said_by (other_end end) l.start) n tells.tells.number
+  asked-then = l.by.asks.asks n tells.tells.owes.route tells.tells.number tells.tells.owes.requested
+
+  -- it was delivered before the step
+  delivered-then : has_packet (delivered own) (kind.Request n) ≡ true
+  delivered-then = ap (λ (ps : List PacketKind). has_packet ps (kind.Request n)) (sym (delivered-read schema end l.start)) ∙ some-any (is_packet (kind.Request n)) reading.delivered (by tells.tells.how)
+    where
+      reading : EndReading
+      reading = end_reading_of end (read schema l.start)
+
+      bound : requests_in (arrival_reading reading) n ≤ requests_delivered (arrival_reading reading) n
+      bound = l.by.tells.exchanges.arrivals.requests n
+
+      from-arrived : HasArrived l.by.e n → 1 ≤ how_many (is_packet (kind.Request n)) reading.delivered
+      from-arrived a =
+          let low = bound in
+          let same = ap (how_many (is_packet (kind.Request n))) l.by.tells.exchanges.arrivals.arrived in
+          omega (arith, a, low, same)
+
+      by : IsAnswered l.by.e own l.front n → 1 ≤ how_many (is_packet (kind.Request n)) reading.delivered
+      by (was_taken g) =
+          let low = bound in
+          let some = any-some (is_number n) reading.gone (ap (λ (ns : List ℤ). has ns n) (gone-read schema end l.start) ∙ g) in
+          omega (arith, some, low)
+      by (is_dropped a route number id at) = from-arrived a
+      by (is_replaced a m at) = from-arrived a
+
+  -- the end answers it for the first time
+  first-then : has (answered (own ++ l.front)) n ≡ false
+  first-then =
+      let after : EndReading = end_reading_of end (read schema (l.start ++ l.output.lines)) in
+      let once = l.by.tells_after.exchanges.answers.numbered.once n in
+      let sent_is : map packet_kind after.sent ≡ map packet_kind (sent schema ((own ++ l.front) ++ w ∷ l.more)) = ap (map packet_kind) (sent-read schema end (l.start ++ l.output.lines) ∙ ap (sent schema) said-after) in
+      let count = ap (how_many (is_packet (kind.Reply n))) sent_is ∙ replies-answered schema n ((own ++ l.front) ++ w ∷ l.more) in
+      first-answer (own ++ l.front) l.more w n is (omega (arith, once, count))
