@@ -24,7 +24,7 @@ use Rattle.channel_laws.specs.Arrivals.{ArrivalReading, arrival_reading, request
 use Rattle.channel_laws.specs.Counts.{how_many, is_number, is_packet}
 use Rattle.channel_laws.specs.Laws.{world_of}
 use Rattle.channel_laws.proofs.AllLaws.{histories_obey_all_laws}
-use Rattle.channel_laws.proofs.Counting.{int-same, some-any}
+use Rattle.channel_laws.proofs.Counting.{int-same, many-append, some-any}
 use Rattle.history_reading.specs.declared.law.Law.TheVariants as law
 use Rattle.history_reading.specs.declared.parts.PacketKind.{PacketKind}
 use Rattle.history_reading.specs.declared.parts.PacketKind.TheVariants as kind
@@ -35,8 +35,9 @@ use Rattle.history_reading.specs.SentPacket.{Request, SentPacket, packet_kind, r
 use Rattle.law_statements.specs.Arrived.{state_of}
 use Rattle.law_statements.specs.Packets.{delivered, delivery, gone, number_gone, sent}
 use Rattle.law_statements.specs.Prefix.{Prefix}
-use Rattle.law_statements.specs.Said.{last_event, line_of, other_end, said_by, said_in}
+use Rattle.law_statements.specs.Said.{is_event, last_event, line_of, other_end, said_by, said_in}
 use Rattle.law_statements.proofs.Fields.{delivered-read, gone-read, sent-read}
+use Rattle.law_statements.proofs.Lists.{last-add}
 use Rattle.law_statements.proofs.PrefixLaw.{prefix-to}
 use Rattle.alone_laws.proofs.AloneLines.{said-more}
 use Rattle.order_statements.specs.Answers.{MayAnswer}
@@ -162,3 +163,69 @@ module _ (schema : Schema) (end : Side) (w : What) (before : List Line) (l : Leg
       let sent_is : map packet_kind after.sent ≡ map packet_kind (sent schema ((own ++ l.front) ++ w ∷ l.more)) = ap (map packet_kind) (sent-read schema end (l.start ++ l.output.lines) ∙ ap (sent schema) said-after) in
       let count = ap (how_many (is_packet (kind.Reply n))) sent_is ∙ replies-answered schema n ((own ++ l.front) ++ w ∷ l.more) in
       first-answer (own ++ l.front) l.more w n is (omega (arith, once, count))
+
+  -- and not in the event that delivered it
+  earlier-then : ((m : ℤ) → last_event (said_by end before) ≡ Some (what.DeliverRequest m) → has (gone (said_by end before)) m ≡ false) → last_event (own ++ l.front) ≢ Some (what.DeliverRequest n)
+  earlier-then fresh last = by tells.tells.how
+    where
+      stays : has (gone (own ++ l.front)) n ≡ false
+      stays = ap (λ (ws : List What). has (gone ws) n) (sym said-before) ∙ fresh n (ap last_event said-before ∙ last)
+
+      by : IsAnswered l.by.e own l.front n → ⊥
+      by (was_taken g) = false≢true (sym stays ∙ (has-append number_gone own l.front n ∙ or_left (has (gone own) n) (has (gone l.front) n) g))
+      by (is_dropped a route number id at) =
+          let drop_gone : has (gone l.front) n ≡ true = ap (λ (ws : List What). has (gone ws) n) at ∙ ap (λ (b : Bool). b || false) (int-same n) in
+          false≢true (sym stays ∙ (has-append number_gone own l.front n ∙ or_right (has (gone own) n) (has (gone l.front) n) drop_gone))
+      by (is_replaced a m at) =
+          let deliver : last_event (own ++ l.front) ≡ Some (what.DeliverRequest m) =
+          ap (λ (ws : List What). last_event (own ++ ws)) at
+          ∙ (ap last_event (sym (append_assoc own (what.DeliverRequest m ∷ []) (what.Replaced n ∷ [])))
+          ∙ (last-add is_event (own ++ what.DeliverRequest m ∷ []) (what.Replaced n) ∙ last-add is_event own (what.DeliverRequest m))) in
+          let one : what.DeliverRequest m ≡ what.DeliverRequest n = same_Some (what.DeliverRequest m) (what.DeliverRequest n) (sym deliver ∙ last) in
+          let same : m ≡ n = cc in
+          let after : EndReading = end_reading_of end (read schema (l.start ++ l.output.lines)) in
+          let once = l.by.tells_after.exchanges.arrivals.numbered.once n in
+          let whole : after.delivered ≡ delivered own ++ (delivered l.front ++ delivered (w ∷ l.more)) =
+          delivered-read schema end (l.start ++ l.output.lines)
+          ∙ (ap delivered said-after
+          ∙ (filter_map-append delivery (own ++ l.front) (w ∷ l.more)
+          ∙ (ap (λ (ps : List PacketKind). ps ++ delivered (w ∷ l.more)) (filter_map-append delivery own l.front) ∙ append_assoc (delivered own) (delivered l.front) (delivered (w ∷ l.more))))) in
+          let count =
+          ap (how_many (is_packet (kind.Request n))) whole
+          ∙ (many-append (is_packet (kind.Request n)) (delivered own) (delivered l.front ++ delivered (w ∷ l.more))
+          ∙ ap (λ (k : ℕ). how_many (is_packet (kind.Request n)) (delivered own) + k) (many-append (is_packet (kind.Request n)) (delivered l.front) (delivered (w ∷ l.more)))) in
+          let first = any-some (is_packet (kind.Request n)) (delivered own) delivered-then in
+          let again = any-some (is_packet (kind.Request n)) (delivered l.front) (ap (λ (ws : List What). has_packet (delivered ws) (kind.Request n)) at ∙ ap (λ (b : Bool). b || false) (ap (λ (k : ℤ). int_eq k n) same ∙ int-same n)) in
+          absurd (omega (arith, once, count, first, again))
+
+  may-answer : ((m : ℤ) → last_event (said_by end before) ≡ Some (what.DeliverRequest m) → has (gone (said_by end before)) m ≡ false) → MayAnswer schema (said_by end before) (said_by (other_end end) before) n
+  may-answer fresh =
+      subst (λ (ws : List What). MayAnswer schema ws (said_by (other_end end) before) n) (sym said-before)
+      (subst (λ (ws : List What). MayAnswer schema (own ++ l.front) ws n) (sym other-before) (record {
+        opened = opened-then;
+        asked = asked-then.asked;
+        sent = asked-then.found;
+        owes = ap (owes_reply schema) asked-then.number_is ∙ tells.tells.owes.owes;
+        delivered = delivered-more own l.front (kind.Request n) delivered-then;
+        earlier = earlier-then fresh;
+        first = first-then;
+      }))
+
+module _ (schema : Schema) (sound : IsSound schema) (top : ℕ) (moves : List Move) where
+  abbrev history : List Line
+  history = history_of schema top moves
+
+  history-prefix : Prefix schema history
+  history-prefix = prefix-to schema history (histories_obey_all_laws schema sound top moves law.Prefix)
+
+  -- each request is delivered once
+  delivered-once : (end : Side) (n : ℤ) → how_many (is_packet (kind.Request n)) (delivered (said_by end history)) ≤ 1
+  delivered-once end n =
+      let once = (history-tells schema sound top moves end).exchanges.arrivals.numbered.once n in
+      let same = ap (how_many (is_packet (kind.Request n))) (delivered-read schema end history) in
+      omega (arith, once, same)
+
+  pub answers-history : (end : Side) (w : What) (n : ℤ) (before behind : List Line) → history ≡ before ++ line_of end w ∷ behind → number_answered w ≡ Some n → MayAnswer schema (said_by end before) (said_by (other_end end) before) n
+  answers-history end w n before behind at is =
+      may-answer schema end w before (legal-line schema sound top moves end w before behind at) n is
+      (last-not-left schema history history-prefix end (delivered-once end) before (line_of end w ∷ behind) at)
