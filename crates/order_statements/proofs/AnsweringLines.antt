@@ -188,6 +188,32 @@ request-body (Reply vs) h = cc
 request-body (Fault why) h = cc
 request-body Goodbye h = cc
 
+-- A request that is replaced has arrived, was sent by the other end, and is of the message of the new one.
+pub record OldRequest (schema : Schema) (theirs : List Note) (e : End) (m : Message) (row : MessageRow) (old : Message) (sync : Bool) (level : Level) : Type 0 where
+  pub taken : TakenFrom e.arrived (staying row.compress (delivery.item_of row m) e.arrived) (item.Message old sync level)
+  pub values : Values
+  pub body : old.body ≡ Request values
+  pub asked : Origin schema theirs old.seq old.route old.number
+  pub number_is : old.number ≡ m.number
+
+alike-number : (m old : Message) (sync olds : Bool) (level older : Level) → are_alike (item.Message m sync level) (item.Message old olds older) ≡ true → old.number ≡ m.number
+alike-number m old sync olds level older h =
+    eqb-true old.number m.number (and-right (is_request old.body) (old.number == m.number) (and-left (is_request old.body && old.number == m.number) (int_eq old.route m.route) (and-right (is_request m.body) (is_request_of m.number m.route (item.Message old olds older)) h)))
+
+pub old-request : (schema : Schema) (theirs : List Note) (e : End) (m : Message) (row : MessageRow) (old : Message) (sync : Bool) (level : Level) → replaced row.compress (delivery.item_of row m) e.arrived ≡ Some (item.Message old sync level) → HasOrigins schema theirs e
+    → OldRequest schema theirs e m row old sync level
+old-request schema theirs e m row old sync level rep origins =
+    let new : Item = delivery.item_of row m in
+    let r = replaced-taken row.compress new e.arrived (item.Message old sync level) rep in
+    let b : (values : Values) × (old.body ≡ Request values) = request-body old.body (alike-request new (item.Message old sync level) r.alike) in
+    record {
+      taken = r.taken;
+      values = b.0;
+      body = b.1;
+      asked = body-asked schema theirs old b.0 b.1 (all-behind (ItemOrigin schema theirs) r.taken.front (item.Message old sync level ∷ r.taken.back) (subst (AllByRecursion (ItemOrigin schema theirs)) r.taken.whole origins.arrived)).0;
+      number_is = alike-number m old (is_sync_row row) sync row.level level r.alike;
+    }
+
 -- Names
 
 content-is : (G : ℤ → ℕ → Type 0) (H : ℕ → Type 0) (name : List ℕ) (names : List Naming) (c : NameContent) → AllByRecursion (NamingIs G H) names → held_by_name name names ≡ Some c → ContentIs G H c
@@ -405,31 +431,12 @@ module _ (schema : Schema) (theirs : List Note) (said : List What) where
 
   -- Deliveries
 
-  alike-number : (m old : Message) (sync olds : Bool) (level older : Level) → are_alike (item.Message m sync level) (item.Message old olds older) ≡ true → old.number ≡ m.number
-  alike-number m old sync olds level older h =
-      eqb-true old.number m.number (and-right (is_request old.body) (old.number == m.number) (and-left (is_request old.body && old.number == m.number) (int_eq old.route m.route) (and-right (is_request m.body) (is_request_of m.number m.route (item.Message old olds older)) h)))
-
   delivery-answers : {packet : Packet} {e f : End} {ws : List What} {ps : List Packet} {q : Phase} → DeliveryPart schema packet e ws ps f q → is_open e.state ≡ true → HasOrigins schema theirs e → (front : List What) (w : What) (rest : List What) (n : ℤ) → ws ≡ front ++ w ∷ rest → number_answered w ≡ Some n → LaterTells e f front n
   delivery-answers (parts.gets_request m row vs body found none) opened origins front w rest n at is = none-there (_ ∷ []) front w rest n (refl, tt) at is
   delivery-answers (parts.replaces {e = x} m row vs old sync level told body found rep is_told) opened origins front w rest n at is = by front at
     where
-      new : Item
-      new = delivery.item_of row m
-
-      taken : TakenFrom x.arrived (staying row.compress (delivery.item_of row m) x.arrived) (item.Message old sync level)
-      taken = (replaced-taken row.compress new x.arrived (item.Message old sync level) rep).taken
-
-      alike : are_alike new (item.Message old sync level) ≡ true
-      alike = (replaced-taken row.compress new x.arrived (item.Message old sync level) rep).alike
-
-      old_body : (values : Values) × (old.body ≡ Request values)
-      old_body = request-body old.body (alike-request new (item.Message old sync level) alike)
-
-      asked : Origin schema theirs old.seq old.route old.number
-      asked = body-asked schema theirs old old_body.0 old_body.1 (all-behind (ItemOrigin schema theirs) taken.front (item.Message old sync level ∷ taken.back) (subst (AllByRecursion (ItemOrigin schema theirs)) taken.whole origins.arrived)).0
-
-      number_is : old.number ≡ m.number
-      number_is = alike-number m old (is_sync_row row) sync row.level level alike
+      o : OldRequest schema theirs x m row old sync level
+      o = old-request schema theirs x m row old sync level rep origins
 
       loses : List What
       loses = reply_lines told (request_answered old) (answer.Fault reason.ResolverDestroyed)
@@ -443,15 +450,15 @@ module _ (schema : Schema) (theirs : List Note) (said : List What) where
           let more : loses ≡ later ++ w ∷ rest = cc in
           let p = reply-place told (request_answered old) (answer.Fault reason.ResolverDestroyed) later w rest n more is in
           let makes : makes_promise row ≡ true = sym is_told ∙ p.0 in
-          let owes : OwesReply old.number = owes-same schema old.number row (ap (message_of schema) number_is ∙ found) ∙ or_right (is_sync_row row) (makes_promise row) makes in
+          let owes : OwesReply old.number = owes-same schema old.number row (ap (message_of schema) o.number_is ∙ found) ∙ or_right (is_sync_row row) (makes_promise row) makes in
           let front_is : v ∷ u ∷ later ≡ what.DeliverRequest m.seq ∷ what.Replaced n ∷ [] =
           ap (λ (xs : List What). v ∷ u ∷ xs) p.1 ∙ (ap (λ (y : What). y ∷ u ∷ []) (sym first) ∙ (ap (λ (y : What). what.DeliverRequest m.seq ∷ y ∷ []) (sym second) ∙ ap (λ (k : ℤ). what.DeliverRequest m.seq ∷ what.Replaced k ∷ []) (sym p.2))) in
           record {
             opened = ap is_open (behind-state told (delivery.counted row (delivery.item_of row m) x)) ∙ opened;
             tells = record {
               number = old.number;
-              owes = subst (λ (k : ℤ). Owes schema theirs k old.number) (sym p.2) (record { route = old.route; requested = asked.requested; owes = owes });
-              how = is_replaced (subst (HasArrived x) (sym p.2) (one-arrived x _ old sync level old_body.0 taken old_body.1)) m.seq front_is;
+              owes = subst (λ (k : ℤ). Owes schema theirs k old.number) (sym p.2) (record { route = old.route; requested = o.asked.requested; owes = owes });
+              how = is_replaced (subst (HasArrived x) (sym p.2) (one-arrived x (staying row.compress (delivery.item_of row m) x.arrived) old sync level o.values o.taken o.body)) m.seq front_is;
             };
           }
   delivery-answers (parts.gets_answer m row a body found sync) opened origins front w rest n at is = none-there (_ ∷ []) front w rest n (refl, tt) at is

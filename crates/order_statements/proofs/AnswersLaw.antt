@@ -16,10 +16,14 @@ use Rattle.ipdl_base.specs.Lines.{is_effect}
 use Rattle.ipdl_base.specs.Sound.{IsSound}
 use Rattle.channel_model.specs.Ends.{End, Packet, World, end_of, link_to}
 use Rattle.channel_model.specs.Events.{Event, Move}
+use Rattle.channel_model.specs.Events as event
 use Rattle.channel_model.specs.Outputs as outputs
 use Rattle.channel_model.specs.Outputs.{Output}
 use Rattle.channel_model.specs.Runs.{history_of}
+use Rattle.channel_model.specs.Sends.{frames_of}
 use Rattle.channel_model.specs.Steps.{step}
+use Rattle.channel_model.specs.Takes.{first_free, taken_next, takes_in_state, takes_under}
+use Rattle.nesting_core.specs.Top.{top_of}
 use Rattle.channel_laws.specs.Arrivals.{ArrivalReading, arrival_reading, requests_delivered, requests_in}
 use Rattle.channel_laws.specs.Counts.{how_many, is_number, is_packet}
 use Rattle.channel_laws.specs.Laws.{world_of}
@@ -33,22 +37,27 @@ use Rattle.history_reading.specs.Numbers.{has, has_packet, same_packet}
 use Rattle.history_reading.specs.Reading.{end_reading_of, read}
 use Rattle.history_reading.specs.SentPacket.{Request, SentPacket, packet_kind, request_of}
 use Rattle.law_statements.specs.Arrived.{state_of}
-use Rattle.law_statements.specs.Packets.{delivered, delivery, gone, number_gone, sent}
+use Rattle.law_statements.specs.Packets.{delivered, delivery, gone, number_gone, sent, settled}
 use Rattle.law_statements.specs.Prefix.{Prefix}
 use Rattle.law_statements.specs.Said.{is_event, last_event, line_of, other_end, said_by, said_in}
 use Rattle.law_statements.proofs.Fields.{delivered-read, gone-read, sent-read}
 use Rattle.law_statements.proofs.Lists.{last-add}
 use Rattle.law_statements.proofs.PrefixLaw.{prefix-to}
 use Rattle.alone_laws.proofs.AloneLines.{said-more}
+use Rattle.order_laws.proofs.Takes.{step-taken}
 use Rattle.order_statements.specs.Answers.{MayAnswer}
-use Rattle.order_statements.specs.Shape.{answered, is_open, is_open_by, number_answered, owes_reply}
+use Rattle.order_statements.specs.Effects.{fault_due}
+use Rattle.order_statements.specs.Shape.{HasEffects, answered, is_open, is_open_by, number_answered, owes_reply}
 use Rattle.order_statements.proofs.AnsweringLines.{HasArrived, IsAnswered, LaterTells, is_dropped, is_replaced, step-answers, was_taken}
 use Rattle.order_statements.proofs.AskedRequests.{IsAsked, KnowsAsked, history-asks}
 use Rattle.order_statements.proofs.Dropping.{open-same}
+use Rattle.order_statements.proofs.FirstLines.{IsLineOf, line-of-event}
 use Rattle.order_statements.proofs.Handling.{HandledWereTaken, handled-taken}
 use Rattle.order_statements.proofs.KeptAlong.{kept-in-history, none-said}
-use Rattle.order_statements.proofs.LateReplies.{has-append}
+use Rattle.order_statements.proofs.KeptSteps.{KeptStep, history-kept}
+use Rattle.order_statements.proofs.LateReplies.{IsDone, SettledAreDone, has-append, settled-done}
 use Rattle.order_statements.proofs.Places.{EffectIn, EventIn, MoveAt, effect-at, event-at}
+use Rattle.order_statements.proofs.ReplacedRequests.{TellsReplaced, step-replaces}
 use Rattle.order_statements.proofs.SaidCounts.{any-some, delivered-more, first-answer, last-not-left, not-again, open-before, replies-answered}
 use Rattle.order_statements.proofs.StepLines.{MadeOf, made-of}
 use Rattle.order_statements.proofs.Tells.{EndTells, history-tells, move-tells}
@@ -102,6 +111,23 @@ legal-line schema sound top moves end w before behind at = by (is_effect w) refl
         let i : EffectIn (MoveAt schema top moves end) end w before behind = effect-at schema sound top moves end w before behind is at in
         record { start = i.start; output = i.output; by = legal-step schema sound top moves end i.start i.output i.by; front = i.event ∷ i.earlier; more = i.more; before_is = i.before_is; lines = i.lines }
 
+-- the lines of an end are nothing that the other says
+other-said : (end : Side) (start : List Line) (ws : List What) (before : List Line) → before ≡ start ++ map (line_of end) ws → said_by (other_end end) before ≡ said_by (other_end end) start
+other-said end start ws before is =
+    ap (said_by (other_end end)) is
+    ∙ (filter_map-append (said_in (other_end end)) start (map (line_of end) ws) ∙ (ap (λ (xs : List What). said_by (other_end end) start ++ xs) (none-said end ws) ∙ append-nil (said_by (other_end end) start)))
+
+-- an end that takes a reply takes what has arrived
+reply-takes : (schema : Schema) (e : End) (link : List Packet) (ev : Event) (output : Output) → step schema e link ev ≡ Some output → (n : ℤ) → IsLineOf ev (what.TakeReply n) → takes_in_state e.state ≡ true
+reply-takes schema e link event.take output is n line = by (takes_in_state e.state) refl (step-taken schema e link output is).1
+  where
+    by : (b : Bool) → takes_in_state e.state ≡ b → taken_next e ≡ Some (step-taken schema e link output is).0 → takes_in_state e.state ≡ true
+    by true at next = at
+    by false at next =
+        let k : None ≡ Some (step-taken schema e link output is).0 = sym (ap (λ (b : Bool). if b && takes_under (top_of (frames_of e)) then first_free e else None) at) ∙ next in
+        cc
+reply-takes schema e link _ output is n line = absurd line
+
 -- One line that answers
 
 module _ (schema : Schema) (end : Side) (w : What) (before : List Line) (l : LegalLine schema end w before) (n : ℤ) (is : number_answered w ≡ Some n) where
@@ -118,10 +144,7 @@ module _ (schema : Schema) (end : Side) (w : What) (before : List Line) (l : Leg
   said-after = ap (λ (ls : List Line). said_by end (l.start ++ ls)) l.lines ∙ (said-more end l.start (l.front ++ w ∷ l.more) ∙ sym (append_assoc own l.front (w ∷ l.more)))
 
   other-before : said_by (other_end end) before ≡ said_by (other_end end) l.start
-  other-before =
-      ap (said_by (other_end end)) l.before_is
-      ∙ (filter_map-append (said_in (other_end end)) l.start (map (line_of end) l.front)
-      ∙ (ap (λ (ws : List What). said_by (other_end end) l.start ++ ws) (none-said end l.front) ∙ append-nil (said_by (other_end end) l.start)))
+  other-before = other-said end l.start l.front before l.before_is
 
   opened-then : is_open_by (own ++ l.front) ≡ true
   opened-then =
@@ -229,3 +252,28 @@ module _ (schema : Schema) (sound : IsSound schema) (top : ℕ) (moves : List Mo
   answers-history end w n before behind at is =
       may-answer schema end w before (legal-line schema sound top moves end w before behind at) n is
       (last-not-left schema history history-prefix end (delivered-once end) before (line_of end w ∷ behind) at)
+
+  -- a request that is replaced
+  pub replaced-history : (end : Side) (n : ℤ) (before behind : List Line) → history ≡ before ++ line_of end (what.Replaced n) ∷ behind
+      → (asked : Request) × (request_of (sent schema (said_by (other_end end) before)) n ≡ Some asked) × HasEffects end (fault_due asked.wants n reason.ResolverDestroyed) behind
+  replaced-history end n before behind at =
+      let i : EffectIn (MoveAt schema top moves end) end (what.Replaced n) before behind = effect-at schema sound top moves end (what.Replaced n) before behind refl at in
+      let s : LegalStep schema end i.start i.output = legal-step schema sound top moves end i.start i.output i.by in
+      let ws : List What = i.event ∷ (i.earlier ++ what.Replaced n ∷ i.more) in
+      let t : TellsReplaced schema s.asks.theirs n i.more = step-replaces schema s.asks.theirs s.e i.output ws (made-of schema s.e s.link s.happened i.output s.made end ws i.lines) s.asks.origins i.event i.earlier n i.more refl in
+      let a : IsAsked schema (said_by (other_end end) i.start) n t.number = s.asks.asks n t.route t.number t.requested in
+      let before_is : said_by (other_end end) before ≡ said_by (other_end end) i.start = other-said end i.start (i.event ∷ i.earlier) before i.before_is in
+      (a.asked,
+      ap (λ (ws : List What). request_of (sent schema ws) n) before_is ∙ a.found,
+      subst (λ (ws : List What). HasEffects end ws behind) (t.are ∙ ap (λ (b : Bool). fault_due b n reason.ResolverDestroyed) (sym a.wants_is)) i.has)
+
+  -- a reply that is taken too late
+  pub late-history : (end : Side) (n : ℤ) (before behind : List Line) → history ≡ before ++ line_of end (what.TakeReply n) ∷ behind → IsTrue (has (settled (said_by end before)) n) → Contains (said_by end before) (what.Rejected n reason.ActorDestroyed)
+  late-history end n before behind at done =
+      let i : EventIn (KeptStep schema SettledAreDone end) end (what.TakeReply n) before behind = history-kept schema sound SettledAreDone (settled-done schema) top moves end (what.TakeReply n) before behind refl at in
+      let takes : takes_in_state i.by.e.state ≡ true = reply-takes schema i.by.e i.by.link i.by.happened i.output i.by.made n (line-of-event schema i.by.e i.by.link i.by.happened i.output end (what.TakeReply n) i.effects i.by.made i.lines) in
+      by (i.by.kept takes n done)
+    where
+      by : IsDone (said_by end before) n → Contains (said_by end before) (what.Rejected n reason.ActorDestroyed)
+      by (inl c) = c
+      by (inr taken) = absurd (false≢true (sym (history-prefix.replies end n before behind at).1 ∙ taken))

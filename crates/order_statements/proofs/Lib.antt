@@ -14,4 +14,5 @@ pub mod Handling
 pub mod AskedRequests
 pub mod AnsweringLines
 pub mod SaidCounts
+pub mod ReplacedRequests
 pub mod AnswersLaw
