@@ -16,3 +16,4 @@ pub mod AnsweringLines
 pub mod SaidCounts
 pub mod ReplacedRequests
 pub mod AnswersLaw
+mod WorkedAnswers
