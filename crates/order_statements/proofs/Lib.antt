@@ -1,3 +1,4 @@
 pub mod Arrived
 pub mod Overtaking
 pub mod Takings
+pub mod OrderLaw
