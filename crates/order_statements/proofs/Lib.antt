@@ -1,3 +1,4 @@
+pub mod Places
 pub mod Arrived
 pub mod Overtaking
 pub mod Takings
