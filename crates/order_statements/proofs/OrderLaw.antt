@@ -1,5 +1,5 @@
 -- Every legal history keeps the order.
-use Rattle.std.proofs.Common.{◌≡◌, ℕ, ℤ, pos, Bool, true, false, not, cond, IsTrue, List, [], ◌∷◌, ◌++◌, map, Option, Some, None, option_map, option_and_then, unwrap_or, refl, sym, ap, subst, ◌∙◌}
+use Rattle.std.proofs.Common.{◌≡◌, ℕ, ℤ, pos, Bool, true, false, not, cond, IsTrue, List, [], ◌∷◌, ◌++◌, find, map, ◌≤◌, Option, Some, None, option_map, option_and_then, unwrap_or, refl, sym, ap, subst, ◌∙◌}
 use Rattle.std.specs.List.{AllByRecursion}
 use Rattle.std.proofs.lemmas.List.{append-nil, map-append}
 use Rattle.ipdl_base.specs.declared.kinds.Level.{Level}
@@ -14,13 +14,15 @@ use Rattle.ipdl_base.specs.declared.message.Body.TheVariants.{Request, Reply, Fa
 use Rattle.ipdl_base.specs.declared.message.Message.{Message}
 use Rattle.ipdl_base.specs.declared.schema.MessageRow.{MessageRow}
 use Rattle.ipdl_base.specs.declared.schema.Schema.{Schema}
+use Rattle.ipdl_base.specs.declared.value.Values.{Values}
 use Rattle.ipdl_base.specs.Deferral.{Arrival, request, reply, goodbye, mark, defers_arrival}
 use Rattle.ipdl_base.specs.Sound.{IsSound}
 use Rattle.nesting_core.specs.declared.frame.Head.{Head}
 use Rattle.nesting_core.specs.declared.frame.StackFrame.{StackFrame}
 use Rattle.nesting_core.specs.declared.frame.StackFrame.TheVariants.{Dispatch, Wait}
 use Rattle.nesting_core.specs.Deferral as deferral
-use Rattle.nesting_core.specs.Frames.{head_of}
+use Rattle.nesting_core.specs.Answers.{awaited}
+use Rattle.nesting_core.specs.Frames.{head_of, is_unanswered}
 use Rattle.pending_queue.specs.declared.item.Item.{Item}
 use Rattle.pending_queue.specs.declared.item.Item.TheVariants as item
 use Rattle.pending_queue.specs.Holding.{arrival_of, arrival_of_body, defers_item, is_free}
@@ -75,8 +77,7 @@ use Rattle.channel_laws.proofs.WaitMoments.{child-heads, parent-heads, waits-non
 use Rattle.order_laws.specs.Order.{FirstLine, IsShut, IsTakeOf, IsTakeOfBody, TakesLast}
 use Rattle.order_laws.proofs.Farewells.{farewells_are_taken_last}
 use Rattle.order_laws.proofs.Takes.{first-map, item-told}
-use Rattle.wait_laws.specs.SendableWorlds.{EntryIsSendable, FrameGoes, IsSendableEnd, IsSendableWorld, ItemIsSendable, BodyArrives, BodyIsSendable}
-use Rattle.wait_laws.proofs.Moments.{IsMoment, moment-of}
+use Rattle.wait_laws.specs.SendableWorlds.{BodyArrives, BodyIsSendable, EntryIsSendable, FrameGoes, IsOfRow, IsSendableEnd, IsSendableWorld, IsSentBy, ItemIsSendable}
 use Rattle.wait_laws.proofs.SendableRuns.{sendable_in_every_run}
 use Rattle.law_statements.specs.Arrived.{Passing, arrives, passings}
 use Rattle.law_statements.specs.Packets.{delivered, sent}
@@ -90,6 +91,7 @@ use Rattle.order_statements.specs.Laws.{HistoriesKeepOrder}
 use Rattle.order_statements.specs.Order as order
 use Rattle.order_statements.specs.Order.{IsPassedOver, MayOvertake, Order, PacketOvertakes, TakesFirstFree, WaitsAlone, is_shut, packet_taken, request_arrival, still_waits}
 use Rattle.order_statements.proofs.Arrived.{ArriveOnce, WaitsAt, once-arrived, waiting, waiting-read, waits-at, waits-in}
+use Rattle.order_statements.proofs.Places.{EventIn, MoveAt, event-at}
 use Rattle.order_statements.proofs.Overtaking.{IsNoFarewell, MayArrive, MayAwait, overtakes}
 use Rattle.order_statements.proofs.Takings.{FirstSaid, TakesPacket, first-said, parts-take, shut-farewell, taking-event}
 
@@ -178,6 +180,10 @@ clear-same Child (Some w) inner mark c = refl
 no-item : {A : Type 0} (x : A) → In x [] → ⊥
 no-item x i = elim i [ ]
 
+in-one : {A : Type 0} (x y : A) → In x (y ∷ []) → x ≡ y
+in-one x y here = refl
+in-one x y (there i) = absurd (no-item x i)
+
 -- what is shown among some items that have a property is shown by one that has it
 record ShownBy (P : Item → Type 0) (packet : PacketKind) : Type 0 where
   one : Item
@@ -226,3 +232,295 @@ no-farewell (item.Message m sync level) f = by m.body f
     by (Reply vs) f = tt
     by (Fault reason) f = tt
     by Goodbye f = cc
+
+-- Waits
+
+none-awaited : (frames : List StackFrame) → AllByRecursion IsAnswered frames → awaited frames ≡ None
+none-awaited [] h = refl
+none-awaited (f ∷ fs) h = ap (λ (b : Bool). option_map (λ (head : Head). head.seq) (option_map head_of (cond b (Some f) (find is_unanswered fs)))) h.0 ∙ none-awaited fs h.1
+
+-- What waits at an end
+
+module _ (schema : Schema) (sound : IsSound schema) (top : ℕ) (side : Side) (mine theirs : End) (own others : EndReading) (to_me to_them : List Packet) (k : EndKnown schema top side mine theirs own others to_me to_them) where
+  abbrev notes : List Note
+  notes = told_notes theirs.side others.sent
+
+  -- what is known of an item that waits
+  abbrev Waits : Item → Type 0
+  Waits x = ItemHead schema x × ItemIsNoted schema notes x × ItemIsSendable schema top (other side) x
+
+  all-wait : AllByRecursion Waits mine.arrived
+  all-wait =
+      all-both (λ (x : Item). ItemHead schema x × ItemIsNoted schema notes x) (ItemIsSendable schema top (other side)) Waits mine.arrived (λ x h s. (h.0, h.1, s))
+      (all-both (ItemHead schema) (ItemIsNoted schema notes) (λ x. ItemHead schema x × ItemIsNoted schema notes x) mine.arrived (λ x h i. (h, i)) k.heads.arrived k.noted) k.sendable.arrived
+
+  abbrev level : Option Level
+  level = deferral.awaited_level (frames_of mine)
+
+  abbrev inner : Option ℤ
+  inner = deferral.inner_transaction (frames_of mine)
+
+  -- the head of a request that waits, as lines tell it
+  request-told : (m : Message) (sync : Bool) (l : Level) (vs : Values) → BodyHead schema m sync l (Request vs) → In (body_note schema m (Request vs)) notes → lines.request_head schema others m.seq ≡ Some (record { sync = sync; level = l; seq = m.seq; transaction = m.transaction })
+  request-told m sync l vs h i =
+      request-head schema theirs.side (is_open theirs.state) theirs.outbox theirs.sent _ others k.ends.comes.sent m.number m.seq (record { sync = sync; level = l; seq = m.seq; transaction = m.transaction }) refl h
+      (record { request = message_note schema m vs; sent_it = i; seq_is = refl; transaction_is = refl; number_is = refl })
+
+  -- what deferral looks at of what waits, as lines tell it
+  arrival-told : (said : List What) → others.sent ≡ sent schema said → (x : Item) → Waits x → order.arrival_of schema said (item_kind x) ≡ Some (arrival_of x)
+  arrival-told said e item.Broken h = refl
+  arrival-told said e (item.Message m sync l) h = by m.body h.0 h.1
+    where
+      by : (body : Body) → BodyHead schema m sync l body → In (body_note schema m body) notes → order.arrival_of schema said (body_kind m.seq body) ≡ Some (arrival_of_body sync l m.transaction body)
+      by (Request vs) h i =
+          ap (λ (ps : List SentPacket). option_map request_arrival (option_and_then (λ (r : told.Request). lines.head_of schema r.number m.seq r.transaction) (request_of ps m.seq))) (sym e)
+          ∙ ap (option_map request_arrival) (request-told m sync l vs h i)
+      by (Reply vs) h i = ap (λ (b : Bool). Some (reply b)) (sym h)
+      by (Fault reason) h i = ap (λ (b : Bool). Some (reply b)) (sym h)
+      by Goodbye h i = refl
+
+  packet-deferred : (d : lines.DeferralState) (x : Item) → Waits x → lines.defers_packet schema others d (item_kind x) ≡ lines.defers d (arrival_of x)
+  packet-deferred d item.Broken h = refl
+  packet-deferred d (item.Message m sync l) h = by m.body h.0 h.1
+    where
+      by : (body : Body) → BodyHead schema m sync l body → In (body_note schema m body) notes → lines.defers_packet schema others d (body_kind m.seq body) ≡ lines.defers d (arrival_of_body sync l m.transaction body)
+      by (Request vs) h i = ap (lines.defers_request_head d) (request-told m sync l vs h i)
+      by (Reply vs) h i = ap (λ (b : Bool). lines.defers d (reply b)) (sym h)
+      by (Fault reason) h i = ap (λ (b : Bool). lines.defers d (reply b)) (sym h)
+      by Goodbye h i = refl
+
+  deferral-told : lines.deferral_of schema side own others ≡ record { side = mine.side; level = level; inner = inner }
+  deferral-told =
+      ap (λ (s : Side). record { side = s; level = lines.awaited_level schema own.stack; inner = lines.inner_transaction schema others own.stack }) (sym k.sendable.side_is)
+      ∙ (ap (λ (l : Option Level). record { side = mine.side; level = l; inner = lines.inner_transaction schema others own.stack }) (awaited-level schema theirs.side (is_open theirs.state) theirs.outbox theirs.sent _ others k.ends.comes.sent own.stack mine.stack k.ends.outlined.stack k.heads.entries)
+      ∙ ap (λ (i : Option ℤ). record { side = mine.side; level = level; inner = i }) (inner-alike schema theirs.side (is_open theirs.state) theirs.outbox theirs.sent _ others k.ends.comes.sent own.stack mine.stack k.ends.outlined.stack k.heads.entries))
+
+  -- what waits is deferred as its lines tell
+  deferred-alike : (x : Item) → Waits x → lines.defers_packet schema others (lines.deferral_of schema side own others) (item_kind x) ≡ defers_item (take.holding_of mine) x
+  deferred-alike x h =
+      packet-deferred (lines.deferral_of schema side own others) x h
+      ∙ ap (λ (d : lines.DeferralState). lines.defers d (arrival_of x)) deferral-told
+      ∙ clear-same mine.side level inner (arrival_of x) k.clear
+
+  -- the parent awaits nothing but calls of level inside_sync
+  await-is : MayAwait side level
+  await-is = by side k.sendable.entries mine.stack refl
+    where
+      call : (head : Head) (entry : StackEntry) → entry.frame ≡ Wait head None → EntryIsSendable schema top Parent entry → head.level ≡ InsideSync
+      call head entry is s =
+          let goes : FrameGoes Parent s.row (Wait head None) = subst (FrameGoes Parent s.row) is s.goes in
+          let row : IsSoundRow schema entry.number s.row = sound_schemas_have_sound_rows schema sound entry.number s.row s.found in
+          ap (λ (f : StackFrame). (head_of f).level) (sym is) ∙ s.level ∙ row.of_parent goes.1 goes.0
+
+      on-top : (entry : StackEntry) (below : List StackEntry) → EntryIsSendable schema top Parent entry → (f : StackFrame) → entry.frame ≡ f → MayAwait Parent (deferral.awaited_level (f ∷ map (λ (x : StackEntry). x.frame) below))
+      on-top entry below s (Dispatch head) is = tt
+      on-top entry below s (Wait head None) is = call head entry is s
+      on-top entry below s (Wait head (Some a)) is = tt
+
+      by : (side : Side) → AllByRecursion (EntryIsSendable schema top side) mine.stack → (stack : List StackEntry) → mine.stack ≡ stack → MayAwait side level
+      by Child s stack is = tt
+      by Parent s [] is = subst (λ (es : List StackEntry). MayAwait Parent (deferral.awaited_level (map (λ (x : StackEntry). x.frame) es))) (sym is) tt
+      by Parent s (entry ∷ below) is =
+          subst (λ (es : List StackEntry). MayAwait Parent (deferral.awaited_level (map (λ (x : StackEntry). x.frame) es))) (sym is)
+          (on-top entry below (subst (AllByRecursion (EntryIsSendable schema top Parent)) is s).0 entry.frame refl)
+
+  -- no reply to a call waits, and at the child no call but those of level inside_sync
+  arrive-is : (x : Item) → Waits x → MayArrive side (arrival_of x)
+  arrive-is item.Broken h = broken side
+    where
+      broken : (side : Side) → MayArrive side mark
+      broken Parent = tt
+      broken Child = tt
+  arrive-is (item.Message m sync l) h = by side m.body h.0 h.2.0 h.2.1
+    where
+      asked : (sync : Bool) → IsSentBy schema top Parent m.number → IsOfRow schema m.number sync l → MayArrive Child (request sync l m.transaction)
+      asked false s a = tt
+      asked true s a =
+          let found = request-number schema m.number s.row s.found in
+          let row : IsSoundRow schema m.number s.row = sound_schemas_have_sound_rows schema sound m.number s.row s.found in
+          let same = a s.row found.1 in
+          same.1 ∙ row.of_parent (sym same.0) s.way
+
+      by : (side : Side) (body : Body) → BodyHead schema m sync l body → BodyIsSendable schema top (other side) m.number body → BodyArrives schema m sync l body → MayArrive side (arrival_of_body sync l m.transaction body)
+      by Parent (Request vs) h s a = tt
+      by Child (Request vs) h s a = asked sync s a
+      by Parent (Reply vs) h s a = h
+      by Child (Reply vs) h s a = h
+      by Parent (Fault reason) h s a = h
+      by Child (Fault reason) h s a = h
+      by Parent Goodbye h s a = tt
+      by Child Goodbye h s a = tt
+
+  -- who is taken may overtake who is deferred
+  may-overtake : (x y : Item) → Waits x → Waits y → is_farewell x ≡ false → defers_item (take.holding_of mine) x ≡ false → defers_item (take.holding_of mine) y ≡ true → MayOvertake side (arrival_of x) (arrival_of y)
+  may-overtake x y hx hy last free deferred =
+      overtakes side level (unwrap_or inner (pos 0)) (arrival_of x) (arrival_of y) await-is (arrive-is x hx) (arrive-is y hy) (no-farewell x last)
+      (subst (λ (s : Side). defers_arrival s level (Some (unwrap_or inner (pos 0))) (arrival_of x) ≡ false) k.sendable.side_is free)
+      (subst (λ (s : Side). defers_arrival s level (Some (unwrap_or inner (pos 0))) (arrival_of y) ≡ true) k.sendable.side_is deferred)
+
+-- Takes
+
+-- What an end takes in a run.
+module _ (schema : Schema) (sound : IsSound schema) (top : ℕ) (moves : List Move) (side : Side) (packet : PacketKind) (t : TakesPacket (end_of side (world_of schema top moves)) packet) where
+  abbrev before : List Line
+  before = history_of schema top moves
+
+  abbrev mine : End
+  mine = end_of side (world_of schema top moves)
+
+  abbrev theirs : End
+  theirs = end_of (other side) (world_of schema top moves)
+
+  abbrev own : EndReading
+  own = end_reading_of side (read schema before)
+
+  abbrev others : EndReading
+  others = end_reading_of (other_end side) (read schema before)
+
+  abbrev to_me : List Packet
+  to_me = link_to side (world_of schema top moves)
+
+  abbrev to_them : List Packet
+  to_them = link_to (other side) (world_of schema top moves)
+
+  abbrev come : List Passing
+  come = passings schema (said_by side before)
+
+  k : EndKnown schema top side mine theirs own others to_me to_them
+  k = known schema sound top moves side
+
+  first : FirstTaken (is_free (take.holding_of mine)) mine.arrived t.taken
+  first = first-taken (is_free (take.holding_of mine)) mine.arrived t.taken (taken-first mine t.taken t.next)
+
+  abbrev front : List Item
+  front = first.taken.front
+
+  abbrev back : List Item
+  back = first.taken.back
+
+  abbrev Here : Item → Type 0
+  Here x = Waits schema sound top side mine theirs own others to_me to_them k x
+
+  -- what waits by the passings is what has arrived
+  once : ArriveOnce come
+  once =
+      once-arrived schema (said_by side before)
+      (λ n. subst (λ (ds : List PacketKind). how_many (is_packet (seen.Request n)) ds ≤ 1) (delivered-read schema side before) (k.exchanges.arrivals.numbered.once n))
+      (λ n. subst (λ (ds : List PacketKind). how_many (is_packet (seen.Reply n)) ds ≤ 1) (delivered-read schema side before) (replies-once schema theirs others own to_me k.ends.comes k.answers n))
+
+  all-waiting : waiting come ≡ map item_kind mine.arrived
+  all-waiting = sym (waiting-read schema side before once) ∙ k.exchanges.arrivals.arrived
+
+  split : waiting come ≡ map item_kind front ++ packet ∷ map item_kind back
+  split =
+      all-waiting ∙ ap (map item_kind) first.taken.whole ∙ map-append item_kind front (t.taken ∷ back)
+      ∙ ap (λ (p : PacketKind). map item_kind front ++ p ∷ map item_kind back) t.shows
+
+  deferred-is : (x : Item) → Here x → defers_kind schema side before (item_kind x) ≡ defers_item (take.holding_of mine) x
+  deferred-is x h =
+      sym (kind-read schema side before (stack-read schema before (histories_are_readable schema sound top moves) side before [] (sym (append-nil before))) (item_kind x))
+      ∙ deferred-alike schema sound top side mine theirs own others to_me to_them k x h
+
+  all-here : AllByRecursion Here (front ++ t.taken ∷ back)
+  all-here = subst (AllByRecursion Here) first.taken.whole (all-wait schema sound top side mine theirs own others to_me to_them k)
+
+  taken-here : Here t.taken
+  taken-here = one-at Here front t.taken back all-here
+
+  -- a farewell is taken last
+  takes-last : is_farewell t.taken ≡ true → TakesLast mine
+  takes-last f =
+      farewells_are_taken_last schema sound top moves side (take.take schema t.taken (beginning mine))
+      (ap (λ (o : Option Item). option_and_then (λ x. provided true (take.take schema x) mine) o) t.next)
+      (first-map (IsTakeOf t.taken) IsShut (take.take schema t.taken (beginning mine)).lines (λ w h. farewell-shut t.taken w f h) (item-told schema t.taken mine).first)
+
+  -- an older item that the end defers
+  abbrev Older : Item → Type 0
+  Older x = Here x × (is_free (take.holding_of mine) x ≡ false)
+
+  overtaken : (x : Item) → Older x → is_farewell t.taken ≡ false → IsPassedOver schema side before packet (item_kind x)
+  overtaken x h f =
+      let deferred : defers_item (take.holding_of mine) x ≡ true = not-true (defers_item (take.holding_of mine) x) h.1 in
+      let told : others.sent ≡ sent schema (said_by (other_end side) before) = sent-read schema (other_end side) before in
+      record {
+        deferred = deferred-is x h.0 ∙ deferred;
+        overtaken = record {
+          taken = arrival_of t.taken;
+          waiting = arrival_of x;
+          taken_is = ap (order.arrival_of schema (said_by (other_end side) before)) (sym t.shows) ∙ arrival-told schema sound top side mine theirs own others to_me to_them k (said_by (other_end side) before) told t.taken taken-here;
+          waiting_is = arrival-told schema sound top side mine theirs own others to_me to_them k (said_by (other_end side) before) told x h.0;
+          may = may-overtake schema sound top side mine theirs own others to_me to_them k t.taken x taken-here h.0 f (not-false (defers_item (take.holding_of mine) t.taken) first.passes) deferred;
+        };
+      }
+
+  passed-over : (older : PacketKind) → In older (map item_kind front) → IsPassedOver schema side before packet older
+  passed-over older i = by (is_farewell t.taken) refl
+    where
+      by : (b : Bool) → is_farewell t.taken ≡ b → IsPassedOver schema side before packet older
+      by true f =
+          let last : TakesLast mine = takes-last f in
+          let none : front ≡ [] = (alone-front front t.taken back last.last (sym first.taken.whole ∙ last.alone)).0 in
+          absurd (no-item older (subst (λ (xs : List Item). In older (map item_kind xs)) none i))
+      by false f =
+          let s : ShownBy Older older = shown-by Older front older (all-both Here (λ x. is_free (take.holding_of mine) x ≡ false) Older front (λ x h d. (h, d)) (all-before Here front (t.taken ∷ back) all-here) first.others) i in
+          subst (IsPassedOver schema side before packet) s.shows (overtaken s.one s.has f)
+
+  takes-free : TakesFirstFree schema side before packet
+  takes-free =
+      let a : WaitsAt come (map item_kind front) packet = waits-at come (map item_kind front) (map item_kind back) packet split in
+      record {
+        earlier = a.earlier;
+        later = a.later;
+        arrival = a.whole;
+        waits = a.waits;
+        free = ap (defers_kind schema side before) (sym t.shows) ∙ deferred-is t.taken taken-here ∙ not-false (defers_item (take.holding_of mine) t.taken) first.passes;
+        older = λ q f b is w. passed-over q (a.older q f b is w);
+      }
+
+  only : (x : Item) → mine.arrived ≡ x ∷ [] → (q : PacketKind) → In q (waiting come) → q ≡ item_kind x
+  only x alone q i = in-one q (item_kind x) (subst (In q) (all-waiting ∙ ap (map item_kind) alone) i)
+
+  waits-alone : is_farewell t.taken ≡ true → WaitsAlone schema side before packet
+  waits-alone f =
+      let last : TakesLast mine = takes-last f in
+      let same : t.taken ≡ last.last = (alone-front front t.taken back last.last (sym first.taken.whole ∙ last.alone)).1 in
+      record {
+        alone = λ q earlier later is w. only last.last last.alone q (waits-in come earlier later q is w) ∙ ap item_kind (sym same) ∙ t.shows;
+        nobody = ap has_unanswered (sym (stack-read schema before (histories_are_readable schema sound top moves) side before [] (sym (append-nil before)))) ∙ waits-none own mine k.ends.outlined.stack (none-awaited (frames_of mine) last.nobody);
+      }
+
+-- Histories
+
+-- A place where an end takes a packet, after the lines of some moves.
+record TakenAfter (schema : Schema) (top : ℕ) (end : Side) (packet : PacketKind) (before : List Line) : Type 0 where
+  moves : List Move
+  before_is : before ≡ history_of schema top moves
+  takes : TakesPacket (end_of end (world_of schema top moves)) packet
+
+taken-after : (schema : Schema) → IsSound schema → (top : ℕ) (moves : List Move) (end : Side) (w : What) (packet : PacketKind) (before behind : List Line) → history_of schema top moves ≡ before ++ line_of end w ∷ behind → packet_taken w ≡ Some packet → TakenAfter schema top end packet before
+taken-after schema sound top moves end w packet before behind e is = by (event-at schema sound top moves end w before behind (taking-event w packet is) e)
+  where
+    by : EventIn (MoveAt schema top moves end) end w before behind → TakenAfter schema top end packet before
+    by at =
+        let m : MoveAt schema top moves end before at.output = at.by in
+        let world : World = world_of schema top m.front in
+        let mine : End = end_of m.move.side world in
+        let moved : SideMove schema m.move.side world (read schema (history_of schema top m.front)) m.move.event at.output =
+        side-move schema (sound_schemas_have_sound_rows schema sound) m.move.side m.move.event world (read schema (history_of schema top m.front)) at.output (nesting_in_every_run schema sound top m.front) (reading-is schema sound top m.front) m.made in
+        let first : FirstSaid mine.side end moved.whats w = first-said mine.side end moved.whats w (map (line_of end) at.effects) (sym at.lines ∙ moved.lines) in
+        record {
+          moves = m.front;
+          before_is = m.start_is;
+          takes = subst (λ (s : Side). TakesPacket (end_of s world) packet) m.side_is (parts-take packet moved.parts (first.taken ∙ is));
+        }
+
+pub histories_keep_order : HistoriesKeepOrder
+histories_keep_order schema sound top moves = record {
+  takes = λ end w packet before behind e is.
+      let t : TakenAfter schema top end packet before = taken-after schema sound top moves end w packet before behind e is in
+      subst (λ (ls : List Line). TakesFirstFree schema end ls packet) (sym t.before_is) (takes-free schema sound top t.moves end packet t.takes);
+  farewells = λ end w packet before behind e shut is.
+      let t : TakenAfter schema top end packet before = taken-after schema sound top moves end w packet before behind e is in
+      subst (λ (ls : List Line). WaitsAlone schema end ls packet) (sym t.before_is)
+      (waits-alone schema sound top t.moves end packet t.takes (shut-farewell w packet t.takes.taken shut is t.takes.shows));
+}
