@@ -233,7 +233,7 @@ behind x ps xs ys p first rest h = record {
         first q is (subst (λ (zs : List Passing). IsTrue (still_waits q zs)) (ap (λ (zs : List Passing). zs ++ arrives p ∷ h.later) (sym same) ∙ sym h.whole) w)
     by q (y ∷ front) back e w = let same : h.earlier ≡ front ++ arrives q ∷ back = cc in rest q (h.older q front back same w)
 
-no-place : (front back : List Passing) (x : Passing) → [] ≡ front ++ x ∷ back → ⊥
+pub no-place : (front back : List Passing) (x : Passing) → [] ≡ front ++ x ∷ back → ⊥
 no-place [] back x e = cc
 no-place (y ∷ front) back x e = cc
 

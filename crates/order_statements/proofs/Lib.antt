@@ -3,3 +3,4 @@ pub mod Arrived
 pub mod Overtaking
 pub mod Takings
 pub mod OrderLaw
+pub mod WorkedOrder
