@@ -1,5 +1,5 @@
 -- Every legal history keeps the order.
-use Rattle.std.proofs.Common.{◌≡◌, ℕ, ℤ, pos, Bool, true, false, not, cond, IsTrue, List, [], ◌∷◌, ◌++◌, find, map, ◌≤◌, Option, Some, None, option_map, option_and_then, unwrap_or, refl, sym, ap, subst, ◌∙◌}
+use Rattle.std.proofs.Common.{◌≡◌, ℕ, ℤ, pos, Bool, true, false, not, cond, List, [], ◌∷◌, ◌++◌, find, map, ◌≤◌, Option, Some, None, option_map, option_and_then, unwrap_or, refl, sym, ap, subst, ◌∙◌}
 use Rattle.std.specs.List.{AllByRecursion}
 use Rattle.std.proofs.lemmas.List.{append-nil, map-append}
 use Rattle.ipdl_base.specs.declared.kinds.Level.{Level}
@@ -12,7 +12,6 @@ use Rattle.ipdl_base.specs.declared.line.What.TheVariants as what
 use Rattle.ipdl_base.specs.declared.message.Body.{Body}
 use Rattle.ipdl_base.specs.declared.message.Body.TheVariants.{Request, Reply, Fault, Goodbye}
 use Rattle.ipdl_base.specs.declared.message.Message.{Message}
-use Rattle.ipdl_base.specs.declared.schema.MessageRow.{MessageRow}
 use Rattle.ipdl_base.specs.declared.schema.Schema.{Schema}
 use Rattle.ipdl_base.specs.declared.value.Values.{Values}
 use Rattle.ipdl_base.specs.Deferral.{Arrival, request, reply, goodbye, mark, defers_arrival}
@@ -29,26 +28,24 @@ use Rattle.pending_queue.specs.Holding.{arrival_of, arrival_of_body, defers_item
 use Rattle.history_reading.specs.declared.parts.PacketKind.{PacketKind}
 use Rattle.history_reading.specs.declared.parts.PacketKind.TheVariants as seen
 use Rattle.history_reading.specs.EndReading.{EndReading, has_unanswered}
-use Rattle.history_reading.specs.Holds.{IsReadable}
-use Rattle.history_reading.specs.Reading.{Reading, end_reading_of, other_of, read}
+use Rattle.history_reading.specs.Reading.{Reading, end_reading_of, read}
 use Rattle.history_reading.specs.SentPacket as told
 use Rattle.history_reading.specs.SentPacket.{SentPacket, request_of}
 use Rattle.history_reading.specs.Still as lines
-use Rattle.channel_model.specs.Ends.{End, World, Packet, StackEntry, end_of, link_to, opening}
+use Rattle.channel_model.specs.Ends.{End, World, Packet, StackEntry, end_of, link_to}
 use Rattle.channel_model.specs.Events.{Move}
-use Rattle.channel_model.specs.Events as event
-use Rattle.channel_model.specs.Numbers.{other, sends, is_sync_row}
-use Rattle.channel_model.specs.Outputs.{Output, beginning, line_at, is_open}
-use Rattle.channel_model.specs.Runs.{run, history_of}
+use Rattle.channel_model.specs.Numbers.{other}
+use Rattle.channel_model.specs.Outputs.{beginning, is_open}
+use Rattle.channel_model.specs.Runs.{history_of}
 use Rattle.channel_model.specs.Sends.{frames_of}
 use Rattle.channel_model.specs.States.{IsAnswered, is_farewell, is_goodbye}
-use Rattle.channel_model.specs.Steps.{step, provided}
+use Rattle.channel_model.specs.Steps.{provided}
 use Rattle.channel_model.specs.Takes as take
 use Rattle.channel_model.proofs.FittingEnds.{taken-first}
 use Rattle.channel_model.proofs.Known.{all-before, all-both}
 use Rattle.channel_model.proofs.SendParts.{request-number}
 use Rattle.channel_laws.specs.AnswersOnce.{AnswersOnce}
-use Rattle.channel_laws.specs.Arrivals.{item_kind, arrival_reading, replies_delivered, requests_delivered}
+use Rattle.channel_laws.specs.Arrivals.{item_kind}
 use Rattle.channel_laws.specs.Counts.{how_many, is_packet}
 use Rattle.channel_laws.specs.Delivered.{body_kind}
 use Rattle.channel_laws.specs.Exchanges.{ReadsExchanges}
@@ -59,7 +56,7 @@ use Rattle.channel_laws.specs.NotedArrivals.{ArrivalsAreNoted, IsNoted, ItemIsNo
 use Rattle.channel_laws.specs.Notes.{Note, In, body_note, here, message_note, there, told_notes}
 use Rattle.channel_laws.specs.Rows.{IsSoundRow}
 use Rattle.channel_laws.specs.TwoEnds.{ReadingIs, TwoEnds}
-use Rattle.channel_laws.proofs.EveryRun.{end-side, from-side, nesting_in_every_run}
+use Rattle.channel_laws.proofs.EveryRun.{from-side, nesting_in_every_run}
 use Rattle.channel_laws.proofs.Exchanges.{replies-once}
 use Rattle.channel_laws.proofs.HeadsAlike.{awaited-level, inner-alike, request-head}
 use Rattle.channel_laws.proofs.Leaving.{FirstTaken, first-taken}
@@ -74,16 +71,16 @@ use Rattle.channel_laws.proofs.StillReads.{InnerIsClear}
 use Rattle.channel_laws.proofs.Tests.{not-false}
 use Rattle.channel_laws.proofs.WaitLaw.{exchanges-reached}
 use Rattle.channel_laws.proofs.WaitMoments.{child-heads, parent-heads, waits-none}
-use Rattle.order_laws.specs.Order.{FirstLine, IsShut, IsTakeOf, IsTakeOfBody, TakesLast}
+use Rattle.order_laws.specs.Order.{IsShut, IsTakeOf, IsTakeOfBody, TakesLast}
 use Rattle.order_laws.proofs.Farewells.{farewells_are_taken_last}
 use Rattle.order_laws.proofs.Takes.{first-map, item-told}
 use Rattle.wait_laws.specs.SendableWorlds.{BodyArrives, BodyIsSendable, EntryIsSendable, FrameGoes, IsOfRow, IsSendableEnd, IsSendableWorld, IsSentBy, ItemIsSendable}
 use Rattle.wait_laws.proofs.SendableRuns.{sendable_in_every_run}
-use Rattle.law_statements.specs.Arrived.{Passing, arrives, passings}
-use Rattle.law_statements.specs.Packets.{delivered, sent}
+use Rattle.law_statements.specs.Arrived.{Passing, passings}
+use Rattle.law_statements.specs.Packets.{sent}
 use Rattle.law_statements.specs.Said.{line_of, other_end, said_by}
 use Rattle.law_statements.specs.Stack.{stack}
-use Rattle.law_statements.specs.Waits.{NoneWaits, defers_kind}
+use Rattle.law_statements.specs.Waits.{defers_kind}
 use Rattle.law_statements.proofs.Fields.{delivered-read, sent-read}
 use Rattle.law_statements.proofs.StackRead.{stack-read}
 use Rattle.law_statements.proofs.WaitsLaw.{kind-read}

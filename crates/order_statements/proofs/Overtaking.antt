@@ -1,6 +1,5 @@
 -- Who overtakes whom, by what an end defers.
-use Rattle.std.proofs.Common.{◌≡◌, ℤ, Bool, true, false, not, int_eq, Option, Some, None, refl, sym, ap, ◌∙◌}
-use Rattle.std.proofs.lemmas.Bool.Decides.{Decides-int_eq}
+use Rattle.std.proofs.Common.{◌≡◌, ℤ, true, false, not, int_eq, Option, Some, None, sym, ap, ◌∙◌}
 use Rattle.ipdl_base.specs.declared.kinds.Level.{Level}
 use Rattle.ipdl_base.specs.declared.kinds.Level.TheVariants.{Not, InsideSync, InsideCpow}
 use Rattle.ipdl_base.specs.declared.kinds.Side.{Side}

@@ -1,5 +1,5 @@
 -- The order, worked: a history in which a call of level inside_cpow overtakes one that waits, and lines that are none.
-use Rattle.std.proofs.Common.{◌≡◌, pos, negsuc, Bool, true, false, IsTrue, List, [], ◌∷◌, ◌++◌, None, refl, ap, subst}
+use Rattle.std.proofs.Common.{◌≡◌, pos, negsuc, true, false, IsTrue, List, [], ◌∷◌, ◌++◌, None, refl, ap, subst}
 use Rattle.ipdl_base.specs.declared.kinds.Level.TheVariants.{InsideSync, InsideCpow}
 use Rattle.ipdl_base.specs.declared.kinds.Side.TheVariants as side
 use Rattle.ipdl_base.specs.declared.line.Line.{Line}
@@ -16,8 +16,8 @@ use Rattle.channel_laws.proofs.Worked as worked
 use Rattle.channel_laws.proofs.Worked.{top}
 use Rattle.channel_laws.proofs.WorkedSchema.{ask, calling, calling_is_sound, peek, tell}
 use Rattle.progress_laws.proofs.WorkedSchema.{making}
-use Rattle.law_statements.specs.Arrived.{Passing, arrives, passings}
-use Rattle.law_statements.specs.Said.{line_of, said_by}
+use Rattle.law_statements.specs.Arrived.{Passing, arrives}
+use Rattle.law_statements.specs.Said.{line_of}
 use Rattle.order_statements.specs.Order.{IsPassedOver, Order, TakesFirstFree, cpow_over_sync, still_waits}
 use Rattle.order_statements.proofs.Arrived.{no-place}
 use Rattle.order_statements.proofs.OrderLaw.{histories_keep_order}
