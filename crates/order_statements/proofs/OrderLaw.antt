@@ -56,7 +56,7 @@ use Rattle.law_statements.proofs.StackRead.{stack-read}
 use Rattle.law_statements.proofs.WaitsLaw.{kind-read}
 use Rattle.order_statements.specs.Laws.{HistoriesKeepOrder}
 use Rattle.order_statements.specs.Order as order
-use Rattle.order_statements.specs.Order.{IsPassedOver, MayOvertake, Order, PacketOvertakes, TakesFirstFree, WaitsAlone, is_shut, packet_taken, request_arrival, still_waits}
+use Rattle.order_statements.specs.Order.{IsPassedOver, TakesFirstFree, WaitsAlone, packet_taken}
 use Rattle.order_statements.proofs.Arrived.{ArriveOnce, WaitsAt, once-arrived, waiting, waiting-read, waits-at, waits-in}
 use Rattle.order_statements.proofs.Places.{EventIn, MoveAt, event-at}
 use Rattle.order_statements.proofs.WaitingItems.{EndKnown, Waits, all-wait, arrival-told, deferred-alike, known, may-overtake}

@@ -65,7 +65,7 @@ use Rattle.law_statements.specs.Packets.{sent}
 use Rattle.law_statements.specs.Said.{other_end}
 use Rattle.law_statements.specs.Stack.{stack}
 use Rattle.order_statements.specs.Order as order
-use Rattle.order_statements.specs.Order.{IsPassedOver, MayOvertake, Order, PacketOvertakes, TakesFirstFree, WaitsAlone, is_shut, packet_taken, request_arrival, still_waits}
+use Rattle.order_statements.specs.Order.{MayOvertake, request_arrival}
 use Rattle.order_statements.proofs.Overtaking.{IsNoFarewell, MayArrive, MayAwait, overtakes}
 
 -- Ends in a run
