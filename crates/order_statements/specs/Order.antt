@@ -1,10 +1,10 @@
 -- In which order an end takes what has arrived, as its lines tell.
-use Rattle.std.specs.Prelude.{◌≡◌, ◌≢◌, ℕ, ℤ, Bool, true, false, not, ◌&&◌, IsTrue, List, [], ◌∷◌, ◌++◌, Option, Some, None, option_map}
+use Rattle.std.specs.Prelude.{◌≡◌, ◌≢◌, ℤ, Bool, true, false, not, ◌&&◌, IsTrue, List, ◌∷◌, ◌++◌, Option, Some, None, option_map}
 use Rattle.std.specs.List.{list_any}
 use Rattle.ipdl_base.specs.declared.kinds.Level.{Level}
 use Rattle.ipdl_base.specs.declared.kinds.Level.TheVariants.{Not, InsideSync, InsideCpow}
 use Rattle.ipdl_base.specs.declared.kinds.Side.{Side}
-use Rattle.ipdl_base.specs.declared.kinds.Side.TheVariants.{Parent, Child}
+use Rattle.ipdl_base.specs.declared.kinds.Side.TheVariants.{Parent}
 use Rattle.ipdl_base.specs.declared.line.Line.{Line}
 use Rattle.ipdl_base.specs.declared.line.What.{What}
 use Rattle.ipdl_base.specs.declared.line.What.TheVariants as what
@@ -13,7 +13,7 @@ use Rattle.ipdl_base.specs.Deferral.{Arrival, request, reply, goodbye, mark}
 use Rattle.nesting_core.specs.declared.frame.Head.{Head}
 use Rattle.history_reading.specs.declared.parts.PacketKind.{PacketKind}
 use Rattle.history_reading.specs.declared.parts.PacketKind.TheVariants as seen
-use Rattle.law_statements.specs.Arrived.{Passing, arrives, leaves, gives_up, is_giving_up, is_leaving, passings}
+use Rattle.law_statements.specs.Arrived.{Passing, arrives, is_giving_up, is_leaving, passings}
 use Rattle.law_statements.specs.Said.{line_of, other_end, said_by}
 use Rattle.law_statements.specs.Waits.{NoneWaits, defers_kind, sent_head}
 
