@@ -1,3 +1,5 @@
 pub mod Places
 pub mod ArrivedReplies
 pub mod Tells
+pub mod StepLines
+pub mod FirstLines
