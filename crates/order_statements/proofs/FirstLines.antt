@@ -131,7 +131,7 @@ module _ (P : What → Type 0) where
       let waits : Change = on_end (λ e. record e { stack = sends.wait_for row m ∷ e.stack }) in
       begins-when (makes_promise row) _ (when (is_sync_row row) waits o) (λ k. k) (begins-when (is_sync_row row) waits o (λ k. k) h)
 
-  sent-begins : (row : MessageRow) (m : Message) (vs : Values) (name : Option (List ℕ)) (e : End) → P (sends.send_line row m vs) → Begins (sends.sent row m vs name (beginning e))
+  pub sent-begins : (row : MessageRow) (m : Message) (vs : Values) (name : Option (List ℕ)) (e : End) → P (sends.send_line row m vs) → Begins (sends.sent row m vs name (beginning e))
   sent-begins row m vs name e h =
       let o1 : Output = (line (sends.send_line row m vs) ▷ on_end (λ e. record e { sent = e.sent + 1; constructors_sent = counting row.kind e.constructors_sent })) (beginning e) in
       let o2 : Output = sends.posted row m o1 in
