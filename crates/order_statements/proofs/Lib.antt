@@ -5,3 +5,8 @@ pub mod StepLines
 pub mod FirstLines
 pub mod SentRequests
 pub mod Deletes
+pub mod KeptAlong
+pub mod Dropping
+pub mod Returning
+pub mod LateReplies
+pub mod Resolvers
