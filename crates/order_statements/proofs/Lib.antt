@@ -1,4 +1,15 @@
 pub mod Places
+pub mod ArrivedReplies
+pub mod Tells
+pub mod StepLines
+pub mod FirstLines
+pub mod SentRequests
+pub mod Deletes
+pub mod KeptAlong
+pub mod Dropping
+pub mod Returning
+pub mod LateReplies
+pub mod Resolvers
 pub mod Arrived
 pub mod Overtaking
 pub mod Takings
