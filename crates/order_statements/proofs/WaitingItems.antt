@@ -32,7 +32,6 @@ use Rattle.channel_model.specs.Numbers.{other}
 use Rattle.channel_model.specs.Outputs.{is_open}
 use Rattle.channel_model.specs.Runs.{history_of}
 use Rattle.channel_model.specs.Sends.{frames_of}
-use Rattle.channel_model.specs.States.{is_farewell, is_goodbye}
 use Rattle.channel_model.specs.Takes as take
 use Rattle.channel_model.proofs.Known.{all-both}
 use Rattle.channel_model.proofs.SendParts.{request-number}
@@ -150,16 +149,6 @@ clear-same Child (Some w) inner mark c = refl
 
 -- What waits at an end
 
-no-farewell : (x : Item) → is_farewell x ≡ false → IsNoFarewell (arrival_of x)
-no-farewell item.Broken f = cc
-no-farewell (item.Message m sync level) f = by m.body f
-  where
-    by : (body : Body) → is_goodbye body ≡ false → IsNoFarewell (arrival_of_body sync level m.transaction body)
-    by (Request vs) f = tt
-    by (Reply vs) f = tt
-    by (Fault reason) f = tt
-    by Goodbye f = cc
-
 module _ (schema : Schema) (sound : IsSound schema) (top : ℕ) (side : Side) (mine theirs : End) (own others : EndReading) (to_me to_them : List Packet) (k : EndKnown schema top side mine theirs own others to_me to_them) where
   abbrev notes : List Note
   notes = told_notes theirs.side others.sent
@@ -271,8 +260,8 @@ module _ (schema : Schema) (sound : IsSound schema) (top : ℕ) (side : Side) (m
       by Child Goodbye h s a = tt
 
   -- who is taken may overtake who is deferred
-  pub may-overtake : (x y : Item) → Waits x → Waits y → is_farewell x ≡ false → defers_item (take.holding_of mine) x ≡ false → defers_item (take.holding_of mine) y ≡ true → MayOvertake side (arrival_of x) (arrival_of y)
+  pub may-overtake : (x y : Item) → Waits x → Waits y → IsNoFarewell (arrival_of x) → defers_item (take.holding_of mine) x ≡ false → defers_item (take.holding_of mine) y ≡ true → MayOvertake side (arrival_of x) (arrival_of y)
   may-overtake x y hx hy last free deferred =
-      overtakes side level (unwrap_or inner (pos 0)) (arrival_of x) (arrival_of y) await-is (arrive-is x hx) (arrive-is y hy) (no-farewell x last)
+      overtakes side level (unwrap_or inner (pos 0)) (arrival_of x) (arrival_of y) await-is (arrive-is x hx) (arrive-is y hy) last
       (subst (λ (s : Side). defers_arrival s level (Some (unwrap_or inner (pos 0))) (arrival_of x) ≡ false) k.sendable.side_is free)
       (subst (λ (s : Side). defers_arrival s level (Some (unwrap_or inner (pos 0))) (arrival_of y) ≡ true) k.sendable.side_is deferred)
