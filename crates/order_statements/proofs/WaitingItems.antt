@@ -12,7 +12,7 @@ use Rattle.ipdl_base.specs.declared.message.Message.{Message}
 use Rattle.ipdl_base.specs.declared.schema.Schema.{Schema}
 use Rattle.ipdl_base.specs.declared.value.Values.{Values}
 use Rattle.ipdl_base.specs.Deferral.{Arrival, request, reply, goodbye, mark, defers_arrival}
-use Rattle.ipdl_base.specs.Sound.{IsSound}
+use Rattle.ipdl_base.specs.Sound.{IsSound, message_of}
 use Rattle.nesting_core.specs.declared.frame.Head.{Head}
 use Rattle.nesting_core.specs.declared.frame.StackFrame.{StackFrame}
 use Rattle.nesting_core.specs.declared.frame.StackFrame.TheVariants.{Dispatch, Wait}
@@ -28,13 +28,14 @@ use Rattle.history_reading.specs.SentPacket.{SentPacket, request_of}
 use Rattle.history_reading.specs.Still as lines
 use Rattle.channel_model.specs.Ends.{End, World, Packet, StackEntry, end_of, link_to}
 use Rattle.channel_model.specs.Events.{Move}
-use Rattle.channel_model.specs.Numbers.{other}
+use Rattle.channel_model.specs.Numbers.{is_sync_row, other, sends}
 use Rattle.channel_model.specs.Outputs.{is_open}
 use Rattle.channel_model.specs.Runs.{history_of}
 use Rattle.channel_model.specs.Sends.{frames_of}
 use Rattle.channel_model.specs.Takes as take
 use Rattle.channel_model.proofs.Known.{all-both}
 use Rattle.channel_model.proofs.SendParts.{request-number}
+use Rattle.channel_model.proofs.SoundRows.{IsAt, row-at}
 use Rattle.channel_laws.specs.AnswersOnce.{AnswersOnce}
 use Rattle.channel_laws.specs.Arrivals.{item_kind}
 use Rattle.channel_laws.specs.Delivered.{body_kind}
@@ -65,7 +66,7 @@ use Rattle.law_statements.specs.Said.{other_end}
 use Rattle.law_statements.specs.Stack.{stack}
 use Rattle.order_statements.specs.Order as order
 use Rattle.order_statements.specs.Order.{MayOvertake, request_arrival}
-use Rattle.order_statements.proofs.Overtaking.{IsNoFarewell, MayArrive, MayAwait, overtakes}
+use Rattle.order_statements.proofs.Overtaking.{IsFromParent, IsNoFarewell, MayArrive, MayAwait, overtakes}
 
 -- Ends in a run
 
@@ -232,7 +233,29 @@ module _ (schema : Schema) (sound : IsSound schema) (top : ℕ) (side : Side) (m
           subst (λ (es : List StackEntry). MayAwait Parent (deferral.awaited_level (map (λ (x : StackEntry). x.frame) es))) (sym is)
           (on-top entry below (subst (AllByRecursion (EntryIsSendable schema top Parent)) is s).0 entry.frame refl)
 
-  -- no reply to a call waits, and at the child no call but those of level inside_sync
+  -- what the parent sends
+  from-parent : (number : ℕ) (sync : Bool) (l : Level) → IsSentBy schema top Parent number → IsOfRow schema number sync l → IsFromParent sync l
+  from-parent number sync l s a = by sync l same.0 same.1
+    where
+      found : (s.row.number ≡ number) × (message_of schema number ≡ Some s.row)
+      found = request-number schema number s.row s.found
+
+      same : (sync ≡ is_sync_row s.row) × (l ≡ s.row.level)
+      same = a s.row found.1
+
+      at : IsAt schema number s.row
+      at = row-at schema sound number s.row found.1 found.0
+
+      row : IsSoundRow schema number s.row
+      row = sound_schemas_have_sound_rows schema sound number s.row s.found
+
+      by : (sync : Bool) (l : Level) → sync ≡ is_sync_row s.row → l ≡ s.row.level → IsFromParent sync l
+      by sync InsideSync x y = tt
+      by false Not x y = tt
+      by true Not x y = let k : Not ≡ InsideSync = y ∙ row.of_parent (sym x) s.way in cc
+      by sync InsideCpow x y = let k : true ≡ false = sym s.way ∙ ap (sends Parent) (at.sound.inside_cpow (sym y)) in cc
+
+  -- what waits is as it may
   arrive-is : (x : Item) → Waits x → MayArrive side (arrival_of x)
   arrive-is item.Broken h = broken side
     where
@@ -241,17 +264,9 @@ module _ (schema : Schema) (sound : IsSound schema) (top : ℕ) (side : Side) (m
       broken Child = tt
   arrive-is (item.Message m sync l) h = by side m.body h.0 h.2.0 h.2.1
     where
-      asked : (sync : Bool) → IsSentBy schema top Parent m.number → IsOfRow schema m.number sync l → MayArrive Child (request sync l m.transaction)
-      asked false s a = tt
-      asked true s a =
-          let found = request-number schema m.number s.row s.found in
-          let row : IsSoundRow schema m.number s.row = sound_schemas_have_sound_rows schema sound m.number s.row s.found in
-          let same = a s.row found.1 in
-          same.1 ∙ row.of_parent (sym same.0) s.way
-
       by : (side : Side) (body : Body) → BodyHead schema m sync l body → BodyIsSendable schema top (other side) m.number body → BodyArrives schema m sync l body → MayArrive side (arrival_of_body sync l m.transaction body)
       by Parent (Request vs) h s a = tt
-      by Child (Request vs) h s a = asked sync s a
+      by Child (Request vs) h s a = from-parent m.number sync l s a
       by Parent (Reply vs) h s a = h
       by Child (Reply vs) h s a = h
       by Parent (Fault reason) h s a = h
