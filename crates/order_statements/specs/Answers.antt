@@ -1,5 +1,5 @@
 -- The answers that an end owes to the requests of the other, as the lines of both tell.
-use Rattle.std.specs.Prelude.{◌≡◌, ◌≢◌, ℕ, ℤ, Bool, true, false, IsTrue, List, [], ◌∷◌, ◌++◌, Contains, Option, Some, None}
+use Rattle.std.specs.Prelude.{◌≡◌, ◌≢◌, ℤ, false, IsTrue, List, ◌∷◌, ◌++◌, Contains, Some}
 use Rattle.ipdl_base.specs.declared.kinds.Reason.TheVariants as reason
 use Rattle.ipdl_base.specs.declared.kinds.Side.{Side}
 use Rattle.ipdl_base.specs.declared.line.Line.{Line}
@@ -17,7 +17,7 @@ use Rattle.order_statements.specs.Shape.{HasEffects, answered, is_open_by, numbe
 -- A request of the other end may be answered: the end is open, the request owes a reply, was delivered in an earlier event,
 -- and was not answered before.
 pub record MayAnswer (schema : Schema) (own other : List What) (n : ℤ) : Type 0 where
-  pub open : IsTrue (is_open_by own)
+  pub opened : IsTrue (is_open_by own)
   pub asked : Request
   pub sent : request_of (sent schema other) n ≡ Some asked
   pub owes : IsTrue (owes_reply schema asked.number)
