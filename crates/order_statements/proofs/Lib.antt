@@ -4,6 +4,7 @@ pub mod Tells
 pub mod StepLines
 pub mod FirstLines
 pub mod SentRequests
+pub mod TakenRequests
 pub mod Deletes
 pub mod KeptAlong
 pub mod Dropping
