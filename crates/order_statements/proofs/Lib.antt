@@ -5,9 +5,10 @@ pub mod StepLines
 pub mod FirstLines
 pub mod SentRequests
 pub mod TakenRequests
-pub mod Deletes
+pub mod DispatchPlaces
 pub mod KeptAlong
 pub mod Dropping
 pub mod Returning
+pub mod Deletes
 pub mod LateReplies
 pub mod Resolvers
