@@ -167,7 +167,7 @@ deletes-kind Delete h = refl
 pub destructor-row : (schema : Schema) (number : ℕ) (row : MessageRow) → message_of schema number ≡ Some row → IsTrue (is_destructor schema number) → row.kind ≡ Delete
 destructor-row schema number row found is = deletes-kind row.kind (sym (ap (λ (r : Option MessageRow). option_map_or (λ (x : MessageRow). deletes x.kind) r false) found) ∙ is)
 
-request-event : (w : What) (q : HandledRequest) → request_sent w ≡ Some q → is_effect w ≡ false
+pub request-event : (w : What) (q : HandledRequest) → request_sent w ≡ Some q → is_effect w ≡ false
 request-event (what.Send n route number values) q h = refl
 request-event (what.Call n transaction route number values) q h = refl
 request-event _ q h = cc

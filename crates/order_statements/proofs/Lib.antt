@@ -10,5 +10,8 @@ pub mod KeptAlong
 pub mod Dropping
 pub mod Returning
 pub mod Deletes
+pub mod Builds
+pub mod Settles
+pub mod Refuses
 pub mod LateReplies
 pub mod Resolvers

@@ -53,7 +53,7 @@ use Rattle.law_statements.proofs.StackRead.{stack-read}
 use Rattle.alone_laws.specs.AloneRuns.{RunsAlone}
 use Rattle.alone_laws.proofs.AloneLines.{said-more}
 use Rattle.alone_laws.proofs.AloneRuns.{one_end_obeys_fallen, runs-keep}
-use Rattle.order_statements.proofs.ArrivedReplies.{RepliesArePromised, replies-alone, replies-promised}
+use Rattle.order_statements.proofs.ArrivedReplies.{ItemIsPromised, RepliesArePromised, replies-alone, replies-promised}
 use Rattle.order_statements.proofs.Places.{EffectIn, EventIn, MoveAt, StepAt, effect-alone, effect-at, event-alone, event-at, run-after}
 
 -- What the lines of an end tell of it: its state, who was built and lives, its stack, and its promises; and what is read of these lines, for more.
@@ -77,7 +77,8 @@ pub record EndTells (schema : Schema) (e : End) (end : Side) (lines : List Line)
   -- what the other end has sent, as far as it is known, and what comes of it
   pub theirs : List Note
   pub origins : HasOrigins schema theirs e
-  pub replies : RepliesArePromised e (end_reading_of end (read schema lines))
+  -- what has arrived and is a reply is to one of these promises
+  pub replies : AllByRecursion (ItemIsPromised (promised_in (requests_of (sent schema (said_by end lines))))) e.arrived
 
 -- The state
 
@@ -140,7 +141,7 @@ tells schema e end lines side readable actors exchanges outlined theirs origins 
       outlined = outlined;
       theirs = theirs;
       origins = origins;
-      replies = replies;
+      replies = subst (λ (ps : List Promised). AllByRecursion (ItemIsPromised ps) e.arrived) is_sent replies;
     }
 
 -- the end of a side in a legal history
