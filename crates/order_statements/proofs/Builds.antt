@@ -1,9 +1,7 @@
 -- A constructor builds its actor, when it is sent and when it is taken.
-use Rattle.std.proofs.Common.{◌≡◌, ◌≤◌, ℕ, ℤ, Bool, true, false, IsTrue, List, [], ◌∷◌, ◌++◌, length, map, Option, Some, None, refl, sym, ap, subst, ◌∙◌, append_assoc, arith}
+use Rattle.std.proofs.Common.{◌≡◌, ◌≤◌, ℕ, ℤ, Bool, true, false, IsTrue, List, [], ◌∷◌, ◌++◌, length, Option, Some, None, refl, sym, ap, subst, ◌∙◌, append_assoc, arith}
 use Rattle.std.specs.List.{list_all}
 use Rattle.std.specs.Option.{option_map_or}
-use Rattle.actor_tree.specs.Tree as tree
-use Rattle.ipdl_base.specs.declared.kinds.Reason.TheVariants.{ResolverDestroyed}
 use Rattle.ipdl_base.specs.declared.kinds.Side.{Side}
 use Rattle.ipdl_base.specs.declared.line.Line.{Line}
 use Rattle.ipdl_base.specs.declared.line.What.{What}
@@ -14,17 +12,15 @@ use Rattle.ipdl_base.specs.declared.schema.MessageRow.{MessageRow}
 use Rattle.ipdl_base.specs.declared.schema.Schema.{Schema}
 use Rattle.ipdl_base.specs.declared.value.Values.{Values}
 use Rattle.ipdl_base.specs.Sound.{message_of}
-use Rattle.nesting_core.specs.declared.frame.Answer.TheVariants as answer
 use Rattle.history_reading.specs.declared.parts.HandledRequest.{HandledRequest}
 use Rattle.channel_model.specs.Ends.{End, NameContent, actor, resolver}
 use Rattle.channel_model.specs.Events as event
-use Rattle.channel_model.specs.Outputs.{is_open, line_at}
+use Rattle.channel_model.specs.Outputs.{is_open}
 use Rattle.channel_model.specs.Sends as sends
 use Rattle.channel_model.specs.Steps.{step}
 use Rattle.channel_model.specs.ValueActors.{nulled}
 use Rattle.law_statements.specs.Actors.{lives}
 use Rattle.law_statements.specs.Said.{line_of, said_by}
-use Rattle.alone_laws.proofs.AloneSteps.{whats-same}
 use Rattle.order_laws.specs.DueEffects.{Builds, held_by, let_go_lines}
 use Rattle.order_laws.proofs.DueEffects.{constructors_build}
 use Rattle.order_statements.specs.Effects.{IsBuilt, IsBuiltBySend, lets_go}
@@ -33,7 +29,7 @@ use Rattle.order_statements.proofs.Places.{EventIn}
 use Rattle.order_statements.proofs.Deletes.{request-event}
 use Rattle.order_statements.proofs.SentRequests.{IsSend, sent-by}
 use Rattle.order_statements.proofs.TakenRequests.{TakenRequest, taken-by}
-use Rattle.order_statements.proofs.Tells.{EndTells, EventsAreTold, TellingStep, told-after}
+use Rattle.order_statements.proofs.Tells.{EndTells, EventsAreTold, TellingStep, effects-are, told-after}
 
 -- a constructor's row constructs
 made-kind : (kind : Kind) (protocol : ℕ) → protocol_made kind ≡ Some protocol → kind ≡ Constructor protocol
@@ -46,19 +42,9 @@ constructor-row schema number protocol row found is = made-kind row.kind protoco
 
 -- The effects of an event that builds, as its lines tell.
 module _ (schema : Schema) {end : Side} {w : What} {before behind : List Line} (i : EventIn (TellingStep schema end) end w before behind) where
-  effects-are : (first : What) (lost : List What) (id : ℤ) (protocol : ℕ) (route : ℤ) → Builds i.by.e i.output first lost id protocol route → i.effects ≡ lost ++ what.Built id protocol ∷ []
-  effects-are first lost id protocol route b =
-      let same : map (line_of end) (w ∷ i.effects) ≡ map (line_of end) (first ∷ (lost ++ what.Built id protocol ∷ [])) =
-      sym i.lines ∙ (b.lines ∙ ap (λ (s : Side). map (line_at s) (first ∷ (lost ++ what.Built id protocol ∷ []))) i.by.tells.side_is)
-      in
-      rest (whats-same end (w ∷ i.effects) (first ∷ (lost ++ what.Built id protocol ∷ [])) same)
-    where
-      rest : {x y : What} {xs ys : List What} → x ∷ xs ≡ y ∷ ys → xs ≡ ys
-      rest e = cc
-
   built-by : (first : What) (lost : List What) (id : ℤ) (protocol : ℕ) (route : ℤ) → Builds i.by.e i.output first lost id protocol route → IsBuilt end (said_by end before ++ w ∷ []) lost protocol behind
   built-by first lost id protocol route b =
-      let is : i.effects ≡ lost ++ what.Built id protocol ∷ [] = effects-are first lost id protocol route b in
+      let is : i.effects ≡ lost ++ what.Built id protocol ∷ [] = effects-are schema i first (lost ++ what.Built id protocol ∷ []) b.lines in
       let t : EndTells schema i.output.end end (before ++ i.output.lines) = i.by.tells_after in
       let said : said_by end (before ++ i.output.lines) ≡ (said_by end before ++ w ∷ []) ++ (lost ++ what.Built id protocol ∷ []) =
       told-after schema i ∙ (sym (append_assoc (said_by end before) (w ∷ []) i.effects) ∙ ap (λ (ws : List What). (said_by end before ++ w ∷ []) ++ ws) is)

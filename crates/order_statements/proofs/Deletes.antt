@@ -1,13 +1,10 @@
 -- A destructor deletes its actor and all below it, when it is sent and when its handler returns.
-use Rattle.std.proofs.Common.{◌≡◌, ◌⊎◌, inl, inr, ℕ, ℤ, pos, Bool, true, false, not, ◌&&◌, ◌||◌, if◌then◌else◌, int_eq, IsTrue, List, [], ◌∷◌, ◌++◌, map, Option, Some, None, refl, sym, ap, subst, ◌∙◌, append_assoc, option_and_then}
-use Rattle.std.specs.List.{AllByRecursion, list_any}
+use Rattle.std.proofs.Common.{◌≡◌, inl, inr, ℕ, ℤ, pos, Bool, true, false, not, ◌||◌, int_eq, IsTrue, List, [], ◌∷◌, ◌++◌, map, Option, Some, refl, sym, ap, subst, ◌∙◌, append_assoc, option_and_then}
 use Rattle.std.specs.Option.{option_map_or}
-use Rattle.std.proofs.lemmas.Bool.{false≢true}
 use Rattle.std.proofs.lemmas.Bool.Decides.{Decides-int_eq}
 use Rattle.std.proofs.lemmas.List.{append-nil}
 use Rattle.std.proofs.lemmas.List.Elements.{filter_map-append}
 use Rattle.std.proofs.lemmas.List.Folds.{list_any-append}
-use Rattle.std.proofs.lemmas.Option.{same_Some}
 use Rattle.actor_tree.specs.declared.actor.Actor.{Actor}
 use Rattle.actor_tree.specs.Tree as tree
 use Rattle.actor_tree.specs.Tree.{IsTree}
@@ -15,7 +12,6 @@ use Rattle.ipdl_base.specs.declared.kinds.Side.{Side}
 use Rattle.ipdl_base.specs.declared.line.Line.{Line}
 use Rattle.ipdl_base.specs.declared.line.What.{What}
 use Rattle.ipdl_base.specs.declared.line.What.TheVariants as what
-use Rattle.ipdl_base.specs.declared.message.Message.{Message}
 use Rattle.ipdl_base.specs.declared.schema.Kind.{Kind}
 use Rattle.ipdl_base.specs.declared.schema.Kind.TheVariants.{Normal, Constructor, Delete}
 use Rattle.ipdl_base.specs.declared.schema.MessageRow.{MessageRow}
@@ -28,7 +24,6 @@ use Rattle.history_reading.specs.declared.parts.CallFrame.{CallFrame}
 use Rattle.history_reading.specs.declared.parts.CallFrame.TheVariants as frame
 use Rattle.history_reading.specs.declared.parts.HandledRequest.{HandledRequest}
 use Rattle.history_reading.specs.EndReading.{was_built}
-use Rattle.history_reading.specs.Numbers.{has}
 use Rattle.nesting_core.specs.Frames.{head_of}
 use Rattle.channel_model.specs.Ends.{End, StackEntry}
 use Rattle.channel_model.specs.Events.{Event}
@@ -38,7 +33,7 @@ use Rattle.channel_model.specs.Returns.{dispatch_on_top, may_return, return}
 use Rattle.channel_model.specs.Steps.{provided, step}
 use Rattle.channel_model.proofs.Provided.{found-gives}
 use Rattle.channel_model.proofs.SendParts.{request-number}
-use Rattle.channel_laws.specs.EndActors.{HasIds, built_actor, built_ids, shown_actor, standing, is_standing}
+use Rattle.channel_laws.specs.EndActors.{HasIds, built_ids, shown_actor, standing, is_standing}
 use Rattle.channel_laws.specs.Notes.{In, here, there}
 use Rattle.channel_laws.proofs.ActorsKept.{zero-free}
 use Rattle.channel_laws.proofs.Growing.{in-all, in-before, in-behind}
@@ -50,7 +45,7 @@ use Rattle.law_statements.specs.Said.{line_of, said_by, said_in}
 use Rattle.law_statements.specs.Stack.{stack}
 use Rattle.law_statements.proofs.Ends.{said-own}
 use Rattle.alone_laws.proofs.LivingActors.{made-append}
-use Rattle.order_laws.specs.DueEffects.{IsManaged, SendsRequest}
+use Rattle.order_laws.specs.DueEffects.{IsManaged}
 use Rattle.order_laws.specs.Order.{FirstLine}
 use Rattle.order_laws.proofs.DueEffects.{destructors_delete, due_answers_are_given}
 use Rattle.order_laws.proofs.Managers.{tree-managed}

@@ -15,3 +15,4 @@ pub mod Settles
 pub mod Refuses
 pub mod LateReplies
 pub mod Resolvers
+mod WorkedEffects

@@ -1,8 +1,7 @@
--- A reply that is taken settles its promise where that is pending, and does nothing else; and an act that is refused does nothing.
-use Rattle.std.proofs.Common.{◌≡◌, ◌||◌, ◌&&◌, not, ℕ, ◌+◌, ◌==◌, ℤ, Bool, true, false, int_eq, IsTrue, List, [], ◌∷◌, ◌++◌, map, Option, Some, None, is_some, refl, sym, ap, subst, ◌∙◌}
+-- A reply that is taken settles its promise where that is pending, and does nothing else.
+use Rattle.std.proofs.Common.{◌≡◌, ◌||◌, ◌&&◌, not, ◌+◌, ◌==◌, ℤ, Bool, true, false, int_eq, IsTrue, List, [], ◌∷◌, ◌++◌, Some, refl, sym, ap, subst, ◌∙◌}
 use Rattle.std.specs.List.{list_any}
 use Rattle.ipdl_base.specs.declared.kinds.Level.{Level}
-use Rattle.ipdl_base.specs.declared.kinds.SendRefusal.{SendRefusal}
 use Rattle.ipdl_base.specs.declared.kinds.Side.{Side}
 use Rattle.ipdl_base.specs.declared.line.Line.{Line}
 use Rattle.ipdl_base.specs.declared.line.What.{What}
@@ -21,23 +20,20 @@ use Rattle.history_reading.specs.Numbers.{has}
 use Rattle.history_reading.specs.SentPacket.{requests_of}
 use Rattle.promise_table.specs.declared.promise.Outcome.{Outcome}
 use Rattle.promise_table.specs.declared.promise.Outcome.TheVariants.{Resolved, Rejected}
-use Rattle.channel_model.specs.Ends.{End, Packet}
+use Rattle.channel_model.specs.Ends.{End}
 use Rattle.channel_model.specs.Events.{Event}
 use Rattle.channel_model.specs.Events as event
-use Rattle.channel_model.specs.Outputs.{Output, body_of, line_at}
+use Rattle.channel_model.specs.Outputs.{Output, body_of}
 use Rattle.channel_model.specs.Parts.{reply_outcome}
 use Rattle.channel_model.specs.Refusals.{is_replied_to}
 use Rattle.channel_model.specs.Steps.{step}
 use Rattle.channel_model.specs.Takes.{is_awaited, settle_line, taken_next}
-use Rattle.channel_laws.specs.Notes.{Note}
-use Rattle.channel_laws.specs.Origins.{BodyOrigin, HasOrigins, HasRow, ItemOrigin}
+use Rattle.channel_laws.specs.Origins.{BodyOrigin, ItemOrigin}
 use Rattle.channel_laws.specs.Promised.{Promised, promised_in}
 use Rattle.channel_laws.proofs.PrefixRuns.{all-taken}
 use Rattle.channel_laws.proofs.Promising.{int-flip}
 use Rattle.law_statements.specs.Packets.{number_settled, sent, settled}
 use Rattle.law_statements.specs.Said.{line_of, said_by}
-use Rattle.alone_laws.proofs.AloneSteps.{whats-same}
-use Rattle.order_laws.specs.DueEffects.{HasLines}
 use Rattle.order_laws.specs.Order.{FirstLine, IsTakeOf, IsTakeOfBody}
 use Rattle.order_laws.proofs.DueEffects.{replies_settle}
 use Rattle.order_laws.proofs.Takes.{item-told, step-taken}
@@ -45,13 +41,10 @@ use Rattle.order_statements.specs.Shape.{HasEffects}
 use Rattle.order_statements.proofs.ArrivedReplies.{BodyIsPromised, ItemIsPromised}
 use Rattle.order_statements.proofs.FirstLines.{IsLineOf, line-of-event}
 use Rattle.order_statements.proofs.Places.{EventIn}
-use Rattle.order_statements.proofs.Tells.{EndTells, EventsAreTold, TellingStep}
+use Rattle.order_statements.proofs.TakenRequests.{is_take}
+use Rattle.order_statements.proofs.Tells.{EventsAreTold, TellingStep, effects-are}
 
 -- Only a take says so
-
-abbrev is_take : Event → Bool
-is_take event.take = true
-is_take _ = false
 
 take-says : (ev : Event) (n : ℤ) → IsLineOf ev (what.TakeReply n) → is_take ev ≡ true
 take-says event.take n h = refl
@@ -113,12 +106,6 @@ module _ (schema : Schema) {end : Side} {n : ℤ} {before behind : List Line} (i
       let told : FirstLine (IsTakeOf s.0) i.output.lines = subst (λ (o : Output). FirstLine (IsTakeOf s.0) o.lines) s.2 (item-told schema s.0 i.by.e).first in
       item-reply s.0 s.1 (subst (FirstLine (IsTakeOf s.0)) i.lines told)
 
-  effects-are : (ws : List What) (w : What) (packets : List Packet) → HasLines i.by.e i.output (w ∷ ws) packets → i.effects ≡ ws
-  effects-are ws w packets h = rest (whats-same end (what.TakeReply n ∷ i.effects) (w ∷ ws) (sym i.lines ∙ (h.said ∙ ap (λ (s : Side). map (line_at s) (w ∷ ws)) i.by.tells.side_is)))
-    where
-      rest : {x y : What} {xs ys : List What} → x ∷ xs ≡ y ∷ ys → xs ≡ ys
-      rest e = cc
-
   awaited-is : (r : TakenReply schema i.by.e n promises) (b : Bool) → has (settled (said_by end before)) n ≡ b → is_awaited r.m.seq i.by.e.promises ≡ not b
   awaited-is r b is =
       i.by.tells.awaited r.m.seq
@@ -136,11 +123,11 @@ module _ (schema : Schema) (lines : List Line) (told : EventsAreTold schema line
       let r = taken-reply schema i in
       let outcome : Outcome = reply_outcome schema i.by.e r.row r.given in
       let h = replies_settle.settles schema i.by.e i.by.link r.m r.sync r.level r.row r.given i.output r.next r.body r.found (awaited-is schema i r false pending) (take-event schema i) in
-      (settle_line r.m.seq outcome, settles-number r.m.seq outcome ∙ ap (λ (m : ℤ). Some m) (sym r.seq_is), subst (λ (ws : List What). HasEffects end ws behind) (effects-are schema i (settle_line r.m.seq outcome ∷ []) (what.TakeReply r.m.seq) [] h.0) i.has)
+      (settle_line r.m.seq outcome, settles-number r.m.seq outcome ∙ ap (λ (m : ℤ). Some m) (sym r.seq_is), subst (λ (ws : List What). HasEffects end ws behind) (effects-are schema i (what.TakeReply r.m.seq) (settle_line r.m.seq outcome ∷ []) h.0.said) i.has)
 
   pub replies-late : (end : Side) (n : ℤ) (before behind : List Line) → lines ≡ before ++ line_of end (what.TakeReply n) ∷ behind → IsTrue (has (settled (said_by end before)) n) → HasEffects end [] behind
   replies-late end n before behind at done =
       let i = told end (what.TakeReply n) before behind refl at in
       let r = taken-reply schema i in
       let h = replies_settle.late schema i.by.e i.by.link r.m r.sync r.level r.given i.output r.next r.body (awaited-is schema i r true done) (take-event schema i) in
-      subst (λ (ws : List What). HasEffects end ws behind) (effects-are schema i [] (what.TakeReply r.m.seq) [] h.0) i.has
+      subst (λ (ws : List What). HasEffects end ws behind) (effects-are schema i (what.TakeReply r.m.seq) [] h.0.said) i.has

@@ -1,8 +1,6 @@
 -- A line of a take is that of a take of a request, which is handled.
-use Rattle.std.proofs.Common.{◌≡◌, ℕ, ℤ, Bool, true, false, cond, List, [], ◌∷◌, map, Option, Some, None, refl, sym, ap, subst, ◌∙◌}
-use Rattle.std.specs.Option.{option_map_or}
+use Rattle.std.proofs.Common.{◌≡◌, ℕ, ℤ, Bool, true, false, cond, List, ◌∷◌, map, Option, Some, None, refl, sym, subst}
 use Rattle.actor_tree.specs.Tree as tree
-use Rattle.ipdl_base.specs.declared.kinds.Level.{Level}
 use Rattle.ipdl_base.specs.declared.kinds.Side.{Side}
 use Rattle.ipdl_base.specs.declared.line.What.{What}
 use Rattle.ipdl_base.specs.declared.line.What.TheVariants as what
@@ -19,10 +17,9 @@ use Rattle.channel_model.specs.Ends.{End, Packet}
 use Rattle.channel_model.specs.Events.{Event}
 use Rattle.channel_model.specs.Events as event
 use Rattle.channel_model.specs.Numbers.{protocol_of}
-use Rattle.channel_model.specs.Outputs.{Output, beginning}
+use Rattle.channel_model.specs.Outputs.{Output}
 use Rattle.channel_model.specs.Steps.{step}
 use Rattle.channel_model.specs.Takes.{dropped_for, taken_next}
-use Rattle.channel_model.specs.Takes as takes
 use Rattle.channel_model.specs.ValueActors.{lives_as, missing}
 use Rattle.channel_model.proofs.SendParts.{lives-as, request-number}
 use Rattle.channel_laws.specs.Notes.{Note}
@@ -49,7 +46,7 @@ pub record TakenRequest (schema : Schema) (e : End) (ev : Event) (n route : ℤ)
 
 -- Only a take says so
 
-abbrev is_take : Event → Bool
+abbrev pub is_take : Event → Bool
 is_take event.take = true
 is_take _ = false
 
