@@ -15,4 +15,10 @@ pub mod Settles
 pub mod Refuses
 pub mod LateReplies
 pub mod Resolvers
+pub mod Arrived
+pub mod Overtaking
+pub mod Takings
+pub mod WaitingItems
+pub mod OrderLaw
+pub mod WorkedOrder
 mod WorkedEffects
