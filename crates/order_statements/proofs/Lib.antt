@@ -7,6 +7,7 @@ pub mod SentRequests
 pub mod TakenRequests
 pub mod DispatchPlaces
 pub mod KeptAlong
+pub mod KeptSteps
 pub mod Dropping
 pub mod Returning
 pub mod Deletes
@@ -22,3 +23,6 @@ pub mod WaitingItems
 pub mod OrderLaw
 pub mod WorkedOrder
 mod WorkedEffects
+pub mod OwedAnswers
+pub mod Handling
+pub mod AskedRequests
