@@ -26,3 +26,5 @@ mod WorkedEffects
 pub mod OwedAnswers
 pub mod Handling
 pub mod AskedRequests
+pub mod EffectsLaw
+pub mod NeverAgain
