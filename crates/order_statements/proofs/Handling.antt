@@ -113,7 +113,7 @@ module _ (G : ℤ → ℕ → Type 0) (H : ℕ → Type 0) where
           subst (λ (q : Resolver). G q.seq q.number × H q.number) same (h.0.handled_is (and-left (is_dispatch x.frame) (x.resolves && int_eq (head_of x.frame).seq seq) is), h.0.resolver_is (and-left x.resolves (int_eq (head_of x.frame).seq seq) rest))
       by false is k rec = rec k
 
-  later-is : {p q : Phase} {e f : End} {ws : List What} {ps : List Packet} → LaterPart p e ws ps f q → EndIs e → EndIs f
+  pub later-is : {p q : Phase} {e f : End} {ws : List What} {ps : List Packet} → LaterPart p e ws ps f q → EndIs e → EndIs f
   later-is {e} (parts.unnames name may silent) h = record { stack = h.stack; names = all-filter NamingIs _ e.names h.names }
   later-is {e} (parts.lets_go name r may held opened) h = record { stack = h.stack; names = all-filter NamingIs _ e.names h.names }
   later-is {e} (parts.names more actors) h = record { stack = h.stack; names = all-append NamingIs e.names more h.names (actors-are more actors) }
@@ -178,7 +178,7 @@ module _ (G : ℤ → ℕ → Type 0) (H : ℕ → Type 0) where
 abbrev pub WasTaken : List What → ℤ → ℕ → Type 0
 WasTaken said n number = has (gone said) n ≡ true
 
-abbrev Anything : ℕ → Type 0
+abbrev pub Anything : ℕ → Type 0
 Anything number = Unit {0}
 
 abbrev pub HandledWereTaken : End → List What → Type 0

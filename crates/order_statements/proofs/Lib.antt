@@ -28,3 +28,8 @@ pub mod Handling
 pub mod AskedRequests
 pub mod EffectsLaw
 pub mod NeverAgain
+pub mod AnsweringLines
+pub mod SaidCounts
+pub mod ReplacedRequests
+pub mod AnswersLaw
+pub mod OwedLaw

@@ -58,7 +58,7 @@ use Rattle.order_statements.proofs.Tells.{EndTells, EventsAreTold, TellingStep}
 -- Returns
 
 -- the dispatch on top of a stack, of which all frames have a property
-top-entry : (P : StackEntry → Type 0) (stack : List StackEntry) (entry : StackEntry) → return.dispatch_on_top stack ≡ Some entry → AllByRecursion P stack → P entry × (is_dispatch entry.frame ≡ true)
+pub top-entry : (P : StackEntry → Type 0) (stack : List StackEntry) (entry : StackEntry) → return.dispatch_on_top stack ≡ Some entry → AllByRecursion P stack → P entry × (is_dispatch entry.frame ≡ true)
 top-entry P [] entry e h = cc
 top-entry P (x ∷ xs) entry e h = by x.frame refl e
   where

@@ -91,7 +91,7 @@ first-state : (o : Option EndState) (rest : List EndState) → unwrap_or (slice_
 first-state None rest = refl
 first-state (Some s) rest = refl
 
-state-more : (told : List What) (w : What) → state_of (told ++ w ∷ []) ≡ unwrap_or (state_after w) (state_of told)
+pub state-more : (told : List What) (w : What) → state_of (told ++ w ∷ []) ≡ unwrap_or (state_after w) (state_of told)
 state-more told w =
     ap (λ (ws : List What). unwrap_or (slice_get (filter_map state_after ws) 0) state.Open) (reverse-append told (w ∷ []))
     ∙ first-state (state_after w) (filter_map state_after (reverse told))
