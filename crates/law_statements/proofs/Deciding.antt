@@ -12,8 +12,12 @@ use Rattle.std.proofs.Common.{append_assoc}
 pub itself : (b : Bool) → Decides b (IsTrue b)
 itself b = (λ e. e, λ e. e)
 
+-- two tests, of which the second decides where the first is passed
+pub both-then : {P Q : Type 0} (a b : Bool) → Decides a P → (IsTrue a → Decides b Q) → Decides (a && b) (P × Q)
+both-then a b p q = (λ e. (p.0 (and_parts a b e).0, (q (and_parts a b e).0).0 (and_parts a b e).1), λ e. and_from a b (p.1 e.0) ((q (p.1 e.0)).1 e.1))
+
 pub both : {P Q : Type 0} (a b : Bool) → Decides a P → Decides b Q → Decides (a && b) (P × Q)
-both a b p q = (λ e. (p.0 ((and_parts a b e).0), q.0 ((and_parts a b e).1)), λ e. and_from a b (p.1 e.0) (q.1 e.1))
+both a b p q = both-then a b p (λ e. q)
 
 pub untrue : (b : Bool) → Decides (not b) (b ≡ false)
 untrue b = (not-true b, λ e. ap not e)

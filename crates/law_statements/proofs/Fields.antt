@@ -201,7 +201,7 @@ add-under : {A : Type 0} (x : A) (xs : List A) (o : Option A) → x ∷ add xs o
 add-under x xs None = refl
 add-under x xs (Some y) = refl
 
-built-add : (said : List What) (w : What) → built (said ++ w ∷ []) ≡ add (built said) (built_at said w)
+pub built-add : (said : List What) (w : What) → built (said ++ w ∷ []) ≡ add (built said) (built_at said w)
 built-add said w =
     ap (λ (xs : List BuiltActor). record { id = pos 2147483647; manager = pos 0 } ∷ xs) (made-add built_at [] said w)
     ∙ add-under (record { id = pos 2147483647; manager = pos 0 }) (made_of built_at [] said) (built_at said w)

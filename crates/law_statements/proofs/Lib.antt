@@ -19,3 +19,4 @@ pub mod Unended
 pub mod WaitingCalls
 pub mod WaitsLaw
 pub mod WorkedStatements
+pub mod Younger

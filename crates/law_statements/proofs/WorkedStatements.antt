@@ -1,5 +1,5 @@
 -- Worked histories: the statements hold of them, and not of false neighbours.
-use Rattle.std.proofs.Common.{◌≡◌, ℕ, ℤ, pos, negsuc, true, false, List, [], ◌∷◌, ◌++◌, map, Option, Some, None, refl, sym, ap, ◌∙◌, arith}
+use Rattle.std.proofs.Common.{◌≡◌, ℕ, ℤ, pos, negsuc, true, false, List, [], ◌∷◌, ◌++◌, map, Option, Some, None, refl, sym, ap, subst, ◌∙◌, arith}
 use Rattle.std.specs.Prelude.{codes}
 use Rattle.std.specs.Option.{option_map_or}
 use Rattle.std.proofs.lemmas.Bool.{false≢true}
@@ -27,6 +27,7 @@ use Rattle.ipdl_base.specs.declared.value.Values.{Values, First'}
 use Rattle.ipdl_base.specs.declared.value.Values.TheVariants.{Nothing}
 use Rattle.ipdl_base.specs.Plain.{one_box}
 use Rattle.history_reading.specs.declared.held.Held.{Held}
+use Rattle.history_reading.specs.declared.parts.Cause.{Cause}
 use Rattle.history_reading.specs.Fallen.{is_next, lets_fall}
 use Rattle.history_reading.specs.Nulled.{is_nulled}
 use Rattle.history_reading.specs.Holds.{is_readable, moment_test, passes}
@@ -34,16 +35,16 @@ use Rattle.history_reading.specs.Reading.{actor_place, without_first}
 use Rattle.history_reading.specs.SentPacket.{Request}
 use Rattle.history_reading.specs.Settled.{is_destroyed, promise_falls_next, resolves_missing, says_fallen}
 use Rattle.law_statements.specs.Said.{line_of, said_by}
-use Rattle.law_statements.specs.Actors.{lives}
+use Rattle.law_statements.specs.Actors.{built, lives}
 use Rattle.law_statements.specs.Calls.{waiting_calls}
-use Rattle.law_statements.specs.Fallen.{Fallen}
+use Rattle.law_statements.specs.Fallen.{Fallen, LetsFall}
 use Rattle.law_statements.specs.Living.{Living}
 use Rattle.law_statements.specs.Prefix.{Prefix, WasSentWith}
 use Rattle.law_statements.specs.Readable.{Readable}
 use Rattle.law_statements.specs.Settled.{Settled}
 use Rattle.law_statements.specs.Waits.{IsStillAt, Waits}
 use Rattle.law_statements.proofs.Arrivals.{there}
-use Rattle.law_statements.proofs.FallenLaw.{fallen-to}
+use Rattle.law_statements.proofs.FallenLaw.{cause-read, fallen-to}
 use Rattle.law_statements.proofs.LivingLaw.{living-to}
 use Rattle.law_statements.proofs.PrefixLaw.{prefix-to}
 use Rattle.law_statements.proofs.ReadableLines.{readable-to}
@@ -103,6 +104,15 @@ closed_with effects = asked ++ parent what.Close ∷ map parent effects
 abbrev closed : List Line
 closed = closed_with (settles ∷ falls (pos 6) ∷ falls top ∷ [])
 
+-- Two actors are made, and their maker closes: the older falls first
+
+abbrev both_closed_with : List What → List Line
+both_closed_with effects =
+    parent (what.Send (pos 1) top 2 Nothing) ∷ parent (what.Built (pos 6) 1) ∷ parent (what.Send (pos 2) top 2 Nothing) ∷ parent (what.Built (pos 10) 1) ∷ parent what.Close ∷ map parent effects
+
+abbrev both_closed : List Line
+both_closed = both_closed_with (falls (pos 6) ∷ falls (pos 10) ∷ falls top ∷ [])
+
 record AllHold (lines : List Line) : Type 0 where
   readable : Readable schema lines
   prefix : Prefix schema lines
@@ -131,6 +141,17 @@ closed_holds = record {
   waits = waits-to schema closed refl refl;
   settled = settled-to schema closed refl;
   fallen = fallen-to schema closed refl refl;
+}
+
+both_closed_hold : AllHold both_closed
+unfolding without_first actor_place is_next lets_fall promise_falls_next says_fallen resolves_missing is_destroyed passes moment_test is_readable
+both_closed_hold = record {
+  readable = readable-to schema both_closed refl;
+  prefix = prefix-to schema both_closed refl;
+  living = living-to schema both_closed refl;
+  waits = waits-to schema both_closed refl refl;
+  settled = settled-to schema both_closed refl;
+  fallen = fallen-to schema both_closed refl refl;
 }
 
 -- the calls that wait, the older first, whichever end calls
@@ -211,7 +232,27 @@ manager_first : Fallen schema (closed_with (settles ∷ falls top ∷ [])) → �
 manager_first f = false≢true ((f.falls side.Parent top destroy.NormalShutdown (closed_with (settles ∷ [])) [] refl).managed (record { id = pos 6; manager = top }) (1, omega arith, refl) refl)
 
 no_cause : Fallen schema (asked ++ parent (falls (pos 6)) ∷ []) → ⊥
-no_cause f = false≢true ((f.falls side.Parent (pos 6) destroy.NormalShutdown asked [] refl).cause)
+unfolding is_readable
+no_cause f =
+    let cause : _ = (f.falls side.Parent (pos 6) destroy.NormalShutdown asked [] refl).cause in
+    false≢true (subst (λ (c : Cause). LetsFall (built (said_by side.Parent asked)) c (pos 6) destroy.NormalShutdown) (sym (cause-read schema asked refl side.Parent asked [] refl cause.0)) cause.1)
+
+-- of two actors that one event lets fall the younger falls first
+younger_first : Fallen schema (both_closed_with (falls (pos 10) ∷ falls (pos 6) ∷ [])) → ⊥
+younger_first f =
+    (f.falls side.Parent (pos 6) destroy.NormalShutdown (both_closed_with (falls (pos 10) ∷ [])) [] refl).oldest (pos 10) destroy.NormalShutdown (both_closed_with []) [] refl refl (record {
+      earlier = record { id = top; manager = pos 0 } ∷ [];
+      older = record { id = pos 6; manager = top };
+      between = [];
+      younger = record { id = pos 10; manager = top };
+      later = [];
+      split = refl;
+      is_old = refl;
+      is_first_old = refl;
+      is_young = refl;
+      is_first_young = refl;
+      one_manager = refl;
+    })
 
 -- what was not taken returns, and an effect stands first
 not_taken : Readable schema (parent (what.Return (pos 1)) ∷ []) → ⊥

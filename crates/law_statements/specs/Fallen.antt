@@ -1,6 +1,6 @@
--- What the law Fallen says: an actor falls once, behind those that it manages, and only where a destructor or a closing lets it fall.
-use Rattle.std.specs.Prelude.{◌≡◌, ◌⊎◌, ℕ, ℤ, false, if◌then◌else◌, IsTrue, List, [], ◌∷◌, ◌++◌, Contains, Option, Some, None, option_map, option_to_list, unwrap_or}
-use Rattle.std.specs.List.{cons_option, list_all, list_any, slice_get}
+-- What the law Fallen says: an actor falls once, after those that it manages, and only where a destructor or a closing lets it fall.
+use Rattle.std.specs.Prelude.{◌≡◌, ◌⊎◌, ℕ, ℤ, false, IsTrue, List, ◌∷◌, ◌++◌, Contains}
+use Rattle.std.specs.List.{list_all}
 use Rattle.ipdl_base.specs.declared.kinds.Destroy.{Destroy}
 use Rattle.ipdl_base.specs.declared.kinds.Destroy.TheVariants as destroy
 use Rattle.ipdl_base.specs.declared.kinds.Side.{Side}
@@ -8,33 +8,20 @@ use Rattle.ipdl_base.specs.declared.line.Line.{Line}
 use Rattle.ipdl_base.specs.declared.line.What.{What}
 use Rattle.ipdl_base.specs.declared.line.What.TheVariants as what
 use Rattle.ipdl_base.specs.declared.schema.Schema.{Schema}
-use Rattle.ipdl_base.specs.Lines.{is_effect, same_side}
-use Rattle.history_reading.specs.declared.parts.ActorPlace.{ActorPlace}
+use Rattle.ipdl_base.specs.Lines.{is_effect}
 use Rattle.history_reading.specs.declared.parts.BuiltActor.{BuiltActor}
 use Rattle.history_reading.specs.declared.parts.CallFrame.{CallFrame}
 use Rattle.history_reading.specs.declared.parts.CallFrame.TheVariants as frame
 use Rattle.history_reading.specs.declared.parts.Cause.{Cause}
 use Rattle.history_reading.specs.declared.parts.Cause.TheVariants as cause
 use Rattle.history_reading.specs.EndReading.{was_built}
-use Rattle.history_reading.specs.Fallen.{is_younger}
 use Rattle.history_reading.specs.Numbers.{has}
-use Rattle.history_reading.specs.Reading.{actor_place}
 use Rattle.history_reading.specs.Rows.{delete_cause}
-use Rattle.law_statements.specs.Said.{is_event, is_moment, line_of, said_by}
+use Rattle.law_statements.specs.Said.{is_moment, line_of, said_by}
 use Rattle.law_statements.specs.Packets.{has_closed}
-use Rattle.law_statements.specs.Actors.{built, fallen, id_fallen, last_actor, lives}
+use Rattle.law_statements.specs.Actors.{built, fallen, last_actor, lives}
+use Rattle.law_statements.specs.Readable.{IsOfLastEvent}
 use Rattle.law_statements.specs.Stack.{stack}
-
--- where those stand, among the actors that were built before, that fell behind the last event
-abbrev pub fall_at : List What → What → List What → Option ActorPlace
-fall_at before what behind = if list_all is_effect behind then option_map (actor_place (built before)) (id_fallen what) else None
-
-abbrev pub falls_from : List What → List What → List ActorPlace
-falls_from before [] = []
-falls_from before (what ∷ behind) = cons_option (fall_at before what behind) (falls_from (before ++ what ∷ []) behind)
-
-abbrev pub event_falls : List What → List ActorPlace
-event_falls own = falls_from [] own
 
 -- why actors fall in an event: by the send of a destructor, by the return of one, which is handled on top, or by a closing
 abbrev pub handled_cause : Schema → List CallFrame → Cause
@@ -49,21 +36,24 @@ cause_of schema stack what.ShutNormal = cause.Closing destroy.NormalShutdown
 cause_of schema stack what.ShutAbnormal = cause.Closing destroy.AbnormalShutdown
 cause_of schema stack _ = cause.Nobody
 
--- the causes of the events of an end, the latest first, and that of its last event
-abbrev pub cause_at : Schema → Side → List Line → Line → Option Cause
-cause_at schema end before line = if same_side line.side end then (if is_event line.what then Some (cause_of schema (stack schema end before) line.what) else None) else None
-
-abbrev pub causes_from : Schema → Side → List Line → List Line → List Cause
-causes_from schema end before [] = []
-causes_from schema end before (line ∷ behind) = causes_from schema end (before ++ line ∷ []) behind ++ option_to_list (cause_at schema end before line)
-
-abbrev pub last_cause : Schema → Side → List Line → Cause
-last_cause schema end lines = unwrap_or (slice_get (causes_from schema end [] lines) 0) cause.Nobody
-
 -- an actor is below another: the latest that was built with its id has that manager, or a manager that was below it among those that were built earlier
 pub data IsBelow : List BuiltActor → ℤ → ℤ → Type 0 where
   under : (actors earlier later : List BuiltActor) (a : BuiltActor) (id top : ℤ) → actors ≡ earlier ++ a ∷ later → a.id ≡ id → was_built later id ≡ false → a.manager ≡ top → IsBelow actors id top
   further : (actors earlier later : List BuiltActor) (a : BuiltActor) (id top : ℤ) → actors ≡ earlier ++ a ∷ later → a.id ≡ id → was_built later id ≡ false → IsBelow earlier a.manager top → IsBelow actors id top
+
+-- of two actors of one manager the younger was built after the older; where an id was built twice, its first actor counts
+pub record IsYounger (actors : List BuiltActor) (young old : ℤ) : Type 0 where
+  pub earlier : List BuiltActor
+  pub older : BuiltActor
+  pub between : List BuiltActor
+  pub younger : BuiltActor
+  pub later : List BuiltActor
+  pub split : actors ≡ earlier ++ older ∷ between ++ younger ∷ later
+  pub is_old : older.id ≡ old
+  pub is_first_old : was_built earlier old ≡ false
+  pub is_young : younger.id ≡ young
+  pub is_first_young : was_built (earlier ++ older ∷ between) young ≡ false
+  pub one_manager : younger.manager ≡ older.manager
 
 -- a cause lets an actor fall for a reason: the destructor's actor by Deletion, those below it by AncestorDeletion, and all by that of a closing
 abbrev pub LetsFall : List BuiltActor → Cause → ℤ → Destroy → Type 0
@@ -76,10 +66,11 @@ pub record MayFall (schema : Schema) (end : Side) (before : List Line) (id : ℤ
   pub alive : IsTrue (lives (said_by end before) id)
   -- all that it manages have fallen
   pub managed : (a : BuiltActor) → Contains (built (said_by end before)) a → a.manager ≡ id → IsTrue (has (fallen (said_by end before)) a.id)
-  -- no younger one of its manager has fallen behind the last event
-  pub oldest : list_any (is_younger (actor_place (built (said_by end before)) id)) (event_falls (said_by end before)) ≡ false
-  -- and that event lets it fall for this reason
-  pub cause : LetsFall (built (said_by end before)) (last_cause schema end before) id why
+  -- none that has fallen after the last event is younger than it
+  pub oldest : (other : ℤ) (reason : Destroy) (earlier effects : List Line) → before ≡ earlier ++ line_of end (what.Fall other reason) ∷ effects → IsTrue (list_all (λ line. is_effect line.what) effects)
+      → IsYounger (built (said_by end before)) other id → ⊥
+  -- and the last event lets it fall for this reason
+  pub cause : (place : IsOfLastEvent end before) × LetsFall (built (said_by end before)) (cause_of schema (stack schema end place.before) place.event) id why
 
 pub record Fallen (schema : Schema) (lines : List Line) : Type 0 where
   -- nobody is built under an actor that has fallen

@@ -1,5 +1,5 @@
 -- The first line of a step tells which event it is of.
-use Rattle.std.proofs.Common.{◌≡◌, ℕ, ◌+◌, ℤ, pos, Bool, true, false, if◌then◌else◌, List, [], ◌∷◌, ◌++◌, map, Option, Some, None, refl, sym, subst, option_and_then}
+use Rattle.std.proofs.Common.{◌≡◌, ℕ, ◌+◌, ℤ, pos, Bool, true, false, if◌then◌else◌, List, [], ◌∷◌, ◌++◌, map, Option, Some, None, sym, subst, option_and_then}
 use Rattle.ipdl_base.specs.declared.kinds.Reason.TheVariants.{ResolverDestroyed}
 use Rattle.ipdl_base.specs.declared.kinds.SendRefusal.{SendRefusal}
 use Rattle.ipdl_base.specs.declared.kinds.Side.{Side}
@@ -131,7 +131,7 @@ module _ (P : What → Type 0) where
       let waits : Change = on_end (λ e. record e { stack = sends.wait_for row m ∷ e.stack }) in
       begins-when (makes_promise row) _ (when (is_sync_row row) waits o) (λ k. k) (begins-when (is_sync_row row) waits o (λ k. k) h)
 
-  sent-begins : (row : MessageRow) (m : Message) (vs : Values) (name : Option (List ℕ)) (e : End) → P (sends.send_line row m vs) → Begins (sends.sent row m vs name (beginning e))
+  pub sent-begins : (row : MessageRow) (m : Message) (vs : Values) (name : Option (List ℕ)) (e : End) → P (sends.send_line row m vs) → Begins (sends.sent row m vs name (beginning e))
   sent-begins row m vs name e h =
       let o1 : Output = (line (sends.send_line row m vs) ▷ on_end (λ e. record e { sent = e.sent + 1; constructors_sent = counting row.kind e.constructors_sent })) (beginning e) in
       let o2 : Output = sends.posted row m o1 in
@@ -262,3 +262,7 @@ first-has schema e link event.flush output is = provided-gives (Has event.flush)
 -- the event of a step whose lines begin with this one
 pub line-of-event : (schema : Schema) (e : End) (link : List Packet) (ev : Event) (output : Output) (end : Side) (w : What) (effects : List What) → step schema e link ev ≡ Some output → output.lines ≡ map (line_of end) (w ∷ effects) → IsLineOf ev w
 line-of-event schema e link ev output end w effects is at = subst (FirstLine (IsLineOf ev)) at (first-has schema e link ev output is)
+
+-- a line that is known to be the first
+pub first-is : (end : Side) (w v : What) (effects : List What) (ls : List Line) → FirstLine (λ x. x ≡ v) ls → ls ≡ map (line_of end) (w ∷ effects) → w ≡ v
+first-is end w v effects ls h at = subst (FirstLine (λ x. x ≡ v)) at h

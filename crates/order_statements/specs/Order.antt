@@ -48,14 +48,14 @@ pub data IsAsync : Arrival → Type 0 where
 
 -- Who may be taken before an older one that waits, at the end of a side.
 pub data MayOvertake : Side → Arrival → Arrival → Type 0 where
-  -- a request of level inside_cpow overtakes async ones and sync ones of lower levels
-  cpow_over_async : {side : Side} {older : Arrival} (sync : Bool) (transaction : ℤ) → IsAsync older → MayOvertake side (request sync InsideCpow transaction) older
-  cpow_over_sync : {side : Side} (sync : Bool) (transaction : ℤ) (level : Level) (other : ℤ) → level ≢ InsideCpow → MayOvertake side (request sync InsideCpow transaction) (request true level other)
-  -- a sync request of level inside_sync overtakes async ones
+  -- a sync request of level inside_sync overtakes async ones, and at the child nothing else overtakes
   sync_over_async : {side : Side} {older : Arrival} (transaction : ℤ) → IsAsync older → MayOvertake side (request true InsideSync transaction) older
   -- at the parent it also overtakes sync ones that are not nested, and of its own level those of another transaction
   sync_over_plain : (transaction other : ℤ) → MayOvertake Parent (request true InsideSync transaction) (request true Not other)
   sync_over_another : (transaction other : ℤ) → transaction ≢ other → MayOvertake Parent (request true InsideSync transaction) (request true InsideSync other)
+  -- and there a request of level inside_cpow overtakes async ones and sync ones of lower levels
+  cpow_over_async : {older : Arrival} (sync : Bool) (transaction : ℤ) → IsAsync older → MayOvertake Parent (request sync InsideCpow transaction) older
+  cpow_over_sync : (sync : Bool) (transaction : ℤ) (level : Level) (other : ℤ) → level ≢ InsideCpow → MayOvertake Parent (request sync InsideCpow transaction) (request true level other)
 
 -- by what both packets are
 pub record PacketOvertakes (schema : Schema) (end : Side) (other : List What) (packet older : PacketKind) : Type 0 where

@@ -1,0 +1,22 @@
+//! The laws of actions.
+ghost use Rattle.script_bounds.specs.Laws.{ActsAreActions, BlocksServeOnce, RunsAreBounded, ScriptsComeToRest};
+
+/// The law of acts: a side has no more than the actions of its main and of the blocks that served its requests.
+pub fn acts_are_actions()
+    ensures { ActsAreActions }
+{}
+
+/// The law of blocks: each serves one request, but for the last of a message.
+pub fn blocks_serve_once()
+    ensures { BlocksServeOnce }
+{}
+
+/// The law of bounds: a run has at most seven events for each action.
+pub fn runs_are_bounded()
+    ensures { RunsAreBounded }
+{}
+
+/// The law of rest: where blocks that serve again have no actions, every run comes to rest below a limit that is large enough.
+pub fn scripts_come_to_rest()
+    ensures { ScriptsComeToRest }
+{}
