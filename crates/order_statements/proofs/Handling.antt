@@ -36,6 +36,11 @@ use Rattle.order_statements.proofs.KeptAlong.{EveryStepKeeps}
 use Rattle.order_statements.proofs.LateReplies.{has-append}
 use Rattle.order_statements.proofs.StepLines.{MadeOf, made-of, of_delivery, of_own}
 
+-- a stack with its own frames
+pub same-entries : (stack : List StackEntry) → delivery.with_frames (map (λ (x : StackEntry). x.frame) stack) stack ≡ stack
+same-entries [] = refl
+same-entries (x ∷ xs) = ap (λ (ys : List StackEntry). x ∷ ys) (same-entries xs)
+
 -- This holds of the number and the message of each request that is handled, and this of the message of each that has a resolver.
 module _ (G : ℤ → ℕ → Type 0) (H : ℕ → Type 0) where
   pub record EntryIs (entry : StackEntry) : Type 0 where
@@ -67,10 +72,6 @@ module _ (G : ℤ → ℕ → Type 0) (H : ℕ → Type 0) where
 
   frame-is : (x : StackEntry) (f : StackFrame) → is_dispatch f ≡ false → EntryIs x → EntryIs (record x { frame = f })
   frame-is x f wait h = record { handled_is = λ dispatch. let k : true ≡ false = sym dispatch ∙ wait in cc; resolver_is = h.resolver_is }
-
-  same-entries : (stack : List StackEntry) → delivery.with_frames (map (λ (x : StackEntry). x.frame) stack) stack ≡ stack
-  same-entries [] = refl
-  same-entries (x ∷ xs) = ap (λ (ys : List StackEntry). x ∷ ys) (same-entries xs)
 
   answered-is : (a : Answer) (stack : List StackEntry) → AllByRecursion EntryIs stack → AllByRecursion EntryIs (delivery.with_frames (with_answer a (map (λ (x : StackEntry). x.frame) stack)) stack)
   answered-is a [] h = tt

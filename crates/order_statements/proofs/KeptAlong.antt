@@ -20,6 +20,7 @@ use Rattle.channel_laws.specs.Laws.{world_of}
 use Rattle.law_statements.specs.Said.{line_of, other_end, said_by, said_in}
 use Rattle.alone_laws.specs.AloneRuns.{RunsAlone, acts as does, begins, gets}
 use Rattle.alone_laws.proofs.AloneLines.{said-more}
+use Rattle.order_statements.proofs.Places.{of-side, whats}
 
 -- Each step of an end keeps this of it and of what it has said by then.
 pub record EveryStepKeeps (schema : Schema) (K : End → List What → Type 0) : Type 0 where
@@ -28,16 +29,9 @@ pub record EveryStepKeeps (schema : Schema) (K : End → List What → Type 0) :
 
 -- Lines of one side
 
-abbrev whats : List Line → List What
-whats ls = map (λ (l : Line). l.what) ls
-
-effects-of : (side : Side) (ls : List Line) → AllByRecursion (IsEffectOf side) ls → ls ≡ map (line_of side) (whats ls)
-effects-of side [] h = refl
-effects-of side (l ∷ ls) h = ap (λ (s : Side). record { side = s; what = l.what } ∷ ls) h.0.0 ∙ ap (λ (rest : List Line). line_of side l.what ∷ rest) (effects-of side ls h.1)
-
 lines-of : (side : Side) (ls : List Line) → IsEventWithEffects side ls → ls ≡ map (line_of side) (whats ls)
 lines-of side [] h = absurd h
-lines-of side (l ∷ ls) h = ap (λ (s : Side). record { side = s; what = l.what } ∷ ls) h.0.0 ∙ ap (λ (rest : List Line). line_of side l.what ∷ rest) (effects-of side ls h.1)
+lines-of side (l ∷ ls) h = ap (λ (s : Side). record { side = s; what = l.what } ∷ ls) h.0.0 ∙ ap (λ (rest : List Line). line_of side l.what ∷ rest) (of-side side ls h.1)
 
 -- the lines of a step are of its end
 pub step-lines : (schema : Schema) (e : End) (link : List Packet) (ev : Event) (output : Output) → step schema e link ev ≡ Some output → output.lines ≡ map (line_of e.side) (whats output.lines)

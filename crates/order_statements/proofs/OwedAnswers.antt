@@ -2,7 +2,7 @@
 use Rattle.std.proofs.Common.{◌≡◌, inl, inr, ℕ, ℤ, pos, Bool, true, false, not, ◌&&◌, ◌||◌, if◌then◌else◌, IsTrue, List, [], ◌∷◌, ◌++◌, Contains, map, Option, Some, None, refl, sym, ap, subst, ◌∙◌}
 use Rattle.std.specs.List.{AllByRecursion}
 use Rattle.std.specs.Option.{option_map_or}
-use Rattle.std.proofs.lemmas.Bool.{and_parts}
+use Rattle.std.proofs.lemmas.Bool.{and_right, true_from_ne_false}
 use Rattle.std.proofs.lemmas.List.Elements.{All-contains, All-from_recursion}
 use Rattle.std.proofs.lemmas.Option.{same_Some}
 use Rattle.ipdl_base.specs.declared.kinds.Reason.TheVariants as reason
@@ -112,9 +112,9 @@ module _ (schema : Schema) (e : End) (end : Side) (before : List Line) (tells : 
       let top = top-entry (HasOrSpent schema (said_by end before)) e.stack is.entry is.on_top stands in
       let wants : wants_number schema is.entry.number ≡ true = ap (λ (r : HandledRequest). wants_number schema r.number) request ∙ p.1 in
       let opened : outputs.is_open e.state ≡ true = sym opened-same ∙ p.0 in
-      let resolves : is.entry.resolves ≡ true = there_is is.entry.resolves (λ used. spent-not (said_by end before) (head_of is.entry.frame).seq (top.0 top.1 wants used) (ap (has (answered (said_by end before))) seq ∙ p.2) (ap (has (kept (said_by end before))) seq ∙ p.3)) in
+      let resolves : is.entry.resolves ≡ true = true_from_ne_false is.entry.resolves (λ used. spent-not (said_by end before) (head_of is.entry.frame).seq (top.0 top.1 wants used) (ap (has (answered (said_by end before))) seq ∙ p.2) (ap (has (kept (said_by end before))) seq ∙ p.3)) in
       let async : is_sync_row is.row ≡ false = async-row (is_sync_row is.row) _ (ap (λ (o : Option MessageRow). option_map_or rows.wants_row o false) (sym row_is) ∙ p.1) in
-      let told : outputs.is_open e.state && is_sync_row is.row ≡ false = ap (λ (b : Bool). outputs.is_open e.state && b) async ∙ and-false (outputs.is_open e.state) in
+      let told : outputs.is_open e.state && is_sync_row is.row ≡ false = and_right (outputs.is_open e.state) (is_sync_row is.row) async in
       let lost : outputs.is_open e.state && is.entry.resolves ≡ true = ap (λ (b : Bool). b && is.entry.resolves) opened ∙ resolves in
       let are : effects ≡ what.AnswerFault d.seq reason.ResolverDestroyed ∷ is.later =
       is.are
@@ -123,17 +123,9 @@ module _ (schema : Schema) (e : End) (end : Side) (before : List Line) (tells : 
       ∙ ap (λ (k : ℤ). what.AnswerFault k reason.ResolverDestroyed ∷ is.later) seq)) in
       (is.later, subst (λ (ws : List What). HasEffects end ws behind) are has_them)
     where
-      there_is : (b : Bool) → (b ≡ false → ⊥) → b ≡ true
-      there_is true h = refl
-      there_is false h = absurd (h refl)
-
       async-row : (s r : Bool) → not s && r ≡ true → s ≡ false
       async-row true r h = cc
       async-row false r h = refl
-
-      and-false : (b : Bool) → (b && false) ≡ false
-      and-false true = refl
-      and-false false = refl
 
 -- Names
 

@@ -6,7 +6,7 @@ use Rattle.std.specs.Option.{option_map_or}
 use Rattle.std.specs.Str.{bytes_eq}
 use Rattle.std.proofs.lemmas.Bool.{cases_Bool, false≢true, or_from, or_left, or_parts, or_right}
 use Rattle.std.proofs.lemmas.Bool.Decides.{Decides-int_eq}
-use Rattle.std.proofs.lemmas.List.{append-nil, map-append}
+use Rattle.std.proofs.lemmas.List.{append-nil, append_cancel_left, map-append}
 use Rattle.std.proofs.lemmas.Option.{same_Some}
 use Rattle.std.proofs.lemmas.Slice.Eq.{bytes_eq-Decides}
 use Rattle.ipdl_base.specs.declared.kinds.Destroy.{Destroy}
@@ -69,10 +69,9 @@ use Rattle.law_statements.specs.Said.{line_of}
 use Rattle.order_statements.specs.Shape.{kept as kept_numbers, number_answered, number_kept}
 use Rattle.order_statements.specs.Shape as shape
 use Rattle.order_statements.proofs.KeptAlong.{EveryStepKeeps}
+use Rattle.order_statements.proofs.Handling.{same-entries}
 use Rattle.order_statements.proofs.LateReplies.{has-append}
-
-abbrev whats : List Line → List What
-whats ls = map (λ (l : Line). l.what) ls
+use Rattle.order_statements.proofs.Places.{whats}
 
 whats-of : (s : Side) (ws : List What) → whats (map (line_at s) ws) ≡ ws
 whats-of s [] = refl
@@ -83,10 +82,6 @@ in-parts : {A : Type 0} {x : A} (xs ys : List A) → In x (xs ++ ys) → In x xs
 in-parts [] ys i = inr i
 in-parts (y ∷ xs) ys here = inl here
 in-parts (y ∷ xs) ys (there i) = elim (in-parts xs ys i) [ inl j ↦ inl (there j) | inr j ↦ inr j ]
-
-cancel : {A : Type 0} (front xs ys : List A) → front ++ xs ≡ front ++ ys → xs ≡ ys
-cancel [] xs ys e = e
-cancel (z ∷ front) xs ys e = cancel front xs ys cc
 
 -- a line that keeps no resolver
 abbrev IsUnkept : What → Type 0
@@ -135,10 +130,6 @@ module _ (schema : Schema) where
           let same : (head_of x.frame).seq ≡ seq = (Decides-int_eq (head_of x.frame).seq seq).0 (and-right x.resolves (int_eq (head_of x.frame).seq seq) (and-right (is_dispatch x.frame) (x.resolves && int_eq (head_of x.frame).seq seq) is)) in
           subst (IsSpent said) (sym same) spent
       by false is dispatch wants used = h.0 dispatch wants used
-
-  same-entries : (stack : List StackEntry) → delivery.with_frames (map (λ (x : StackEntry). x.frame) stack) stack ≡ stack
-  same-entries [] = refl
-  same-entries (x ∷ xs) = ap (λ (ys : List StackEntry). x ∷ ys) (same-entries xs)
 
   answered-keeps : (said : List What) (a : Answer) (stack : List StackEntry) → AllHaveOrSpent schema said stack → AllHaveOrSpent schema said (delivery.with_frames (with_answer a (map (λ (x : StackEntry). x.frame) stack)) stack)
   answered-keeps said a [] h = tt
@@ -325,7 +316,7 @@ module _ (schema : Schema) where
             | inl same ↦
                 let this : held_by_name name o.end.names ≡ Some (resolver r) = ap (λ (x : List ℕ). held_by_name x o.end.names) (sym ((bytes_eq-Decides other name).0 same)) ∙ held in
                 let told : whats gone.lines ≡ whats o.lines ++ what.AnswerFault r.seq ResolverDestroyed ∷ [] = let_go-answers (held_by_name name o.end.names) r this opened in
-                let more : lets-go.more ≡ what.AnswerFault r.seq ResolverDestroyed ∷ [] = cancel (whats o.lines) lets-go.more (what.AnswerFault r.seq ResolverDestroyed ∷ []) (sym lets-go.said ∙ told) in
+                let more : lets-go.more ≡ what.AnswerFault r.seq ResolverDestroyed ∷ [] = append_cancel_left (whats o.lines) lets-go.more (what.AnswerFault r.seq ResolverDestroyed ∷ []) (sym lets-go.said ∙ told) in
                 absurd (answered-last xs lets-go.more n (ap (λ (ws : List What). has (shape.answered ws) n) more ∙ (ap (λ (k : ℤ). has (k ∷ []) n) seq ∙ seq-had n)) unused)
             | inr apart ↦
                 (r,
