@@ -1,16 +1,11 @@
 -- Which requests the lines of a step answer: one that has arrived and is dropped or replaced, or one that is handled or kept.
-use Rattle.std.proofs.Common.{◌≡◌, ◌⊎◌, inl, inr, ℕ, ◌+◌, ◌≤◌, ℤ, Bool, true, false, not, ◌&&◌, ◌||◌, ◌==◌, if◌then◌else◌, cond, int_eq, List, [], ◌∷◌, ◌++◌, drop, find, map, Option, Some, None, option_map, refl, sym, ap, subst, ◌∙◌, arith}
+use Rattle.std.proofs.Common.{◌≡◌, ℕ, ◌≤◌, ℤ, Bool, true, false, not, ◌&&◌, ◌==◌, if◌then◌else◌, cond, int_eq, List, [], ◌∷◌, ◌++◌, drop, find, map, Option, Some, None, option_map, refl, sym, ap, subst, ◌∙◌, arith}
 use Rattle.std.specs.List.{AllByRecursion}
 use Rattle.std.proofs.lemmas.Bool.{eqb-true, or_left, or_right}
-use Rattle.std.proofs.lemmas.List.{append-nil}
 use Rattle.std.proofs.lemmas.Option.{same_Some}
-use Rattle.ipdl_base.specs.declared.kinds.EndState.{EndState}
 use Rattle.ipdl_base.specs.declared.kinds.Level.{Level}
-use Rattle.ipdl_base.specs.declared.kinds.Level.TheVariants.{Not}
-use Rattle.ipdl_base.specs.declared.kinds.Reason.{Reason}
 use Rattle.ipdl_base.specs.declared.kinds.Reason.TheVariants as reason
 use Rattle.ipdl_base.specs.declared.kinds.Destroy.{Destroy}
-use Rattle.ipdl_base.specs.declared.kinds.SendRefusal.{SendRefusal}
 use Rattle.ipdl_base.specs.declared.kinds.SendRefusal.TheVariants as refusal
 use Rattle.ipdl_base.specs.declared.line.What.{What}
 use Rattle.ipdl_base.specs.declared.line.What.TheVariants as what
@@ -23,7 +18,7 @@ use Rattle.ipdl_base.specs.declared.value.Values.{Values}
 use Rattle.ipdl_base.specs.Sound.{message_of}
 use Rattle.nesting_core.specs.declared.frame.Answer.{Answer}
 use Rattle.nesting_core.specs.declared.frame.Answer.TheVariants as answer
-use Rattle.nesting_core.specs.Frames.{head_of, is_dispatch}
+use Rattle.nesting_core.specs.Frames.{head_of}
 use Rattle.pending_queue.specs.declared.item.Item.{Item}
 use Rattle.pending_queue.specs.declared.item.Item.TheVariants as item
 use Rattle.pending_queue.specs.Compression.{are_alike, is_request, is_request_of, replaced, staying}
@@ -43,7 +38,7 @@ use Rattle.channel_model.specs.Phases.{Phase}
 use Rattle.channel_model.specs.Returns as return
 use Rattle.channel_model.specs.Sends as send
 use Rattle.channel_model.specs.Takes as take
-use Rattle.channel_model.proofs.Known.{all-append, all-behind, all-both}
+use Rattle.channel_model.proofs.Known.{all-behind, all-both}
 use Rattle.channel_model.proofs.Tests.{and-left, and-right}
 use Rattle.channel_laws.specs.Arrivals.{item_kind}
 use Rattle.channel_laws.specs.Counts.{how_many, is_packet, one_if}
@@ -56,7 +51,7 @@ use Rattle.channel_laws.proofs.Counting.{int-same}
 use Rattle.channel_laws.proofs.Leaving.{TakenFrom}
 use Rattle.channel_laws.proofs.PartLines.{falls-have, closing-has, mapped-lines}
 use Rattle.channel_laws.proofs.PrefixRuns.{all-taken}
-use Rattle.channel_laws.proofs.Replacing.{alike-request, is_request_item, replaced-taken}
+use Rattle.channel_laws.proofs.Replacing.{alike-request, replaced-taken}
 use Rattle.channel_laws.proofs.Rows.{request-message}
 use Rattle.history_reading.specs.declared.parts.PacketKind.{PacketKind}
 use Rattle.history_reading.specs.declared.parts.PacketKind.TheVariants as kind

@@ -1,13 +1,11 @@
 -- Answers are given to requests that may be answered, in every legal history.
-use Rattle.std.proofs.Common.{◌≡◌, ◌≢◌, ◌⊎◌, inl, inr, ℕ, ◌+◌, ◌≤◌, ℤ, Bool, true, false, not, ◌&&◌, ◌||◌, if◌then◌else◌, int_eq, IsTrue, List, [], ◌∷◌, ◌++◌, Contains, filter_map, map, Option, Some, None, option_and_then, refl, sym, ap, subst, append_assoc, ◌∙◌, arith}
-use Rattle.std.specs.List.{AllByRecursion, list_any}
-use Rattle.std.proofs.lemmas.Bool.{and_parts, false≢true, or_left, or_right}
-use Rattle.std.proofs.lemmas.List.{append-nil, map-append}
+use Rattle.std.proofs.Common.{◌≡◌, ◌≢◌, inl, inr, ℕ, ◌+◌, ◌≤◌, ℤ, Bool, true, false, ◌&&◌, ◌||◌, if◌then◌else◌, int_eq, IsTrue, List, [], ◌∷◌, ◌++◌, Contains, map, Some, None, refl, sym, ap, subst, append_assoc, ◌∙◌, arith}
+use Rattle.std.proofs.lemmas.Bool.{false≢true, or_left, or_right}
+use Rattle.std.proofs.lemmas.List.{append-nil}
 use Rattle.std.proofs.lemmas.List.Elements.{filter_map-append}
 use Rattle.std.proofs.lemmas.Option.{same_Some}
 use Rattle.ipdl_base.specs.declared.kinds.Reason.TheVariants as reason
 use Rattle.ipdl_base.specs.declared.kinds.Side.{Side}
-use Rattle.ipdl_base.specs.declared.kinds.Side.TheVariants.{Parent, Child}
 use Rattle.ipdl_base.specs.declared.line.Line.{Line}
 use Rattle.ipdl_base.specs.declared.line.What.{What}
 use Rattle.ipdl_base.specs.declared.line.What.TheVariants as what
@@ -17,14 +15,13 @@ use Rattle.ipdl_base.specs.Sound.{IsSound}
 use Rattle.channel_model.specs.Ends.{End, Packet, World, end_of, link_to}
 use Rattle.channel_model.specs.Events.{Event, Move}
 use Rattle.channel_model.specs.Events as event
-use Rattle.channel_model.specs.Outputs as outputs
 use Rattle.channel_model.specs.Outputs.{Output}
 use Rattle.channel_model.specs.Runs.{history_of}
 use Rattle.channel_model.specs.Sends.{frames_of}
 use Rattle.channel_model.specs.Steps.{step}
 use Rattle.channel_model.specs.Takes.{first_free, taken_next, takes_in_state, takes_under}
 use Rattle.nesting_core.specs.Top.{top_of}
-use Rattle.channel_laws.specs.Arrivals.{ArrivalReading, arrival_reading, requests_delivered, requests_in}
+use Rattle.channel_laws.specs.Arrivals.{arrival_reading, requests_delivered, requests_in}
 use Rattle.channel_laws.specs.Counts.{how_many, is_number, is_packet}
 use Rattle.channel_laws.specs.Laws.{world_of}
 use Rattle.channel_laws.proofs.AllLaws.{histories_obey_all_laws}
@@ -33,10 +30,10 @@ use Rattle.history_reading.specs.declared.law.Law.TheVariants as law
 use Rattle.history_reading.specs.declared.parts.PacketKind.{PacketKind}
 use Rattle.history_reading.specs.declared.parts.PacketKind.TheVariants as kind
 use Rattle.history_reading.specs.EndReading.{EndReading}
-use Rattle.history_reading.specs.Numbers.{has, has_packet, same_packet}
+use Rattle.history_reading.specs.Numbers.{has, has_packet}
 use Rattle.history_reading.specs.Reading.{end_reading_of, read}
 use Rattle.history_reading.specs.Rows.{wants_number}
-use Rattle.history_reading.specs.SentPacket.{Request, SentPacket, packet_kind, request_of}
+use Rattle.history_reading.specs.SentPacket.{Request, packet_kind, request_of}
 use Rattle.law_statements.specs.Arrived.{state_of}
 use Rattle.law_statements.specs.Packets.{delivered, delivery, gone, number_gone, sent, settled}
 use Rattle.law_statements.specs.Prefix.{Prefix}
@@ -59,8 +56,8 @@ use Rattle.order_statements.proofs.KeptSteps.{KeptStep, history-kept}
 use Rattle.order_statements.proofs.LateReplies.{IsDone, SettledAreDone, has-append, settled-done}
 use Rattle.order_statements.proofs.Places.{EffectIn, EventIn, MoveAt, effect-at, event-at}
 use Rattle.order_statements.proofs.ReplacedRequests.{TellsReplaced, step-replaces}
-use Rattle.order_statements.proofs.SaidCounts.{any-some, delivered-more, first-answer, last-not-left, not-again, open-before, replies-answered}
-use Rattle.order_statements.proofs.StepLines.{MadeOf, made-of}
+use Rattle.order_statements.proofs.SaidCounts.{any-some, delivered-more, first-answer, last-not-left, open-before, replies-answered}
+use Rattle.order_statements.proofs.StepLines.{made-of}
 use Rattle.order_statements.proofs.Tells.{EndTells, history-tells, move-tells}
 
 -- A step of a legal history: what the lines of its end tell of it before and after, that what it handles was taken, and the

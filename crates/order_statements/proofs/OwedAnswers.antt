@@ -1,5 +1,5 @@
 -- The answers that are effects of events: those of drops and returns, and of names that hold something else.
-use Rattle.std.proofs.Common.{◌≡◌, inl, inr, ℕ, ℤ, pos, Bool, true, false, not, ◌&&◌, ◌||◌, if◌then◌else◌, IsTrue, List, [], ◌∷◌, ◌++◌, Contains, map, Option, Some, None, refl, sym, ap, subst, ◌∙◌}
+use Rattle.std.proofs.Common.{◌≡◌, inl, inr, ℕ, ℤ, pos, Bool, true, false, not, ◌&&◌, if◌then◌else◌, IsTrue, List, [], ◌∷◌, ◌++◌, Contains, map, Option, Some, None, refl, sym, ap, subst, ◌∙◌}
 use Rattle.std.specs.List.{AllByRecursion}
 use Rattle.std.specs.Option.{option_map_or}
 use Rattle.std.proofs.lemmas.Bool.{and_right, true_from_ne_false}
@@ -21,11 +21,11 @@ use Rattle.nesting_core.specs.declared.frame.StackFrame.TheVariants.{Dispatch, W
 use Rattle.nesting_core.specs.Frames.{head_of, is_dispatch}
 use Rattle.channel_model.specs.Acts.{is_positive}
 use Rattle.channel_model.specs.Answers as answering
-use Rattle.channel_model.specs.Ends.{End, NameContent, Packet, Resolver, StackEntry, resolver}
+use Rattle.channel_model.specs.Ends.{End, Packet, StackEntry}
 use Rattle.channel_model.specs.Events.{Event}
 use Rattle.channel_model.specs.Events as event
 use Rattle.channel_model.specs.Names.{held_by_name}
-use Rattle.channel_model.specs.Numbers.{is_sync_row, request_row}
+use Rattle.channel_model.specs.Numbers.{is_sync_row}
 use Rattle.channel_model.specs.Outputs as outputs
 use Rattle.channel_model.specs.Outputs.{Output, line_at, resolver_answered}
 use Rattle.channel_model.specs.Parts.{reply_lines}
@@ -39,7 +39,6 @@ use Rattle.history_reading.specs.declared.parts.HandledRequest.{HandledRequest}
 use Rattle.history_reading.specs.Numbers.{has}
 use Rattle.history_reading.specs.Rows as rows
 use Rattle.history_reading.specs.Rows.{is_sync_number, wants_number}
-use Rattle.law_statements.specs.Arrived.{state_of}
 use Rattle.law_statements.specs.Said.{line_of, said_by}
 use Rattle.law_statements.specs.Stack.{stack}
 use Rattle.order_laws.specs.DueEffects.{let_go_lines}
@@ -81,7 +80,7 @@ parts-of true false used stays h = cc
 parts-of false wants used stays h = cc
 
 module _ (schema : Schema) (e : End) (end : Side) (before : List Line) (tells : EndTells schema e end before) (d : HandledRequest) (below : List CallFrame) (on_top : stack schema end before ≡ frame.Dispatch d ∷ below)
-  (n : ℤ) (effects : List What) (is : Returned schema e n effects) (behind : List Line) (has_them : HasEffects end effects behind) where
+    (n : ℤ) (effects : List What) (is : Returned schema e n effects) (behind : List Line) (has_them : HasEffects end effects behind) where
   request : request_handled is.entry ≡ d
   request = dispatch-read (stack schema end before) e.stack d below is.entry on_top tells.frames is.on_top
 

@@ -1,6 +1,4 @@
 -- Every legal history gives what its events owe.
-use Rattle.std.proofs.Common.{ℕ, List}
-use Rattle.channel_model.specs.Runs.{history_of}
 use Rattle.order_statements.specs.Laws.{HistoriesGiveWhatIsOwed}
 use Rattle.order_statements.proofs.AnswersLaw.{answers-hold}
 use Rattle.order_statements.proofs.EffectsLaw.{history-effects-owed}
