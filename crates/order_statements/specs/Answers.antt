@@ -17,7 +17,7 @@ use Rattle.order_statements.specs.Shape.{HasEffects, answered, is_open_by, numbe
 -- A request of the other end may be answered: the end is open, the request owes a reply, was delivered in an earlier event,
 -- and was not answered before.
 pub record MayAnswer (schema : Schema) (own other : List What) (n : ℤ) : Type 0 where
-  pub open : IsTrue (is_open_by own)
+  pub opened : IsTrue (is_open_by own)
   pub asked : Request
   pub sent : request_of (sent schema other) n ≡ Some asked
   pub owes : IsTrue (owes_reply schema asked.number)

@@ -1,10 +1,13 @@
 -- Every legal history keeps the order, and every event in it gives what it owes.
 use Rattle.std.specs.Prelude.{ℕ, List}
+use Rattle.ipdl_base.specs.declared.kinds.Side.{Side}
 use Rattle.ipdl_base.specs.declared.line.Line.{Line}
 use Rattle.ipdl_base.specs.declared.schema.Schema.{Schema}
 use Rattle.ipdl_base.specs.Sound.{IsSound}
+use Rattle.channel_model.specs.Ends.{End, Packet}
 use Rattle.channel_model.specs.Events.{Move}
 use Rattle.channel_model.specs.Runs.{history_of}
+use Rattle.alone_laws.specs.AloneRuns.{RunsAlone}
 use Rattle.order_statements.specs.Answers.{Answers}
 use Rattle.order_statements.specs.Effects.{Effects}
 use Rattle.order_statements.specs.Order.{Order}
@@ -19,3 +22,7 @@ HistoriesKeepOrder = (schema : Schema) → IsSound schema → (top : ℕ) (moves
 
 abbrev pub HistoriesGiveWhatIsOwed : Type 0
 HistoriesGiveWhatIsOwed = (schema : Schema) → IsSound schema → (top : ℕ) (moves : List Move) → Owed schema (history_of schema top moves)
+
+-- So does every event of one end by itself, whatever is delivered to it, as far as its own effects go.
+abbrev pub OneEndHasEffects : Type 0
+OneEndHasEffects = (schema : Schema) → IsSound schema → (top : ℕ) (side : Side) (e : End) (lines : List Line) (packets : List Packet) → RunsAlone schema top side e lines packets → Effects schema lines
