@@ -4,18 +4,11 @@ use Rattle.ipdl_base.specs.declared.kinds.Side.{Side}
 use Rattle.ipdl_base.specs.declared.line.Line.{Line}
 use Rattle.ipdl_base.specs.declared.line.What.{What}
 use Rattle.ipdl_base.specs.Lines.{same_side}
-use Rattle.law_statements.specs.Said.{said_by, said_in}
+use Rattle.law_statements.specs.Said.{said_by}
 use Rattle.law_statements.proofs.Lists.{add, filter-add}
 use Rattle.law_statements.proofs.Stacks.{if-same}
 use Rattle.order_statements.specs.Shape.{answered, number_answered}
-
--- what an end said with one line more
-pub said-more : (end : Side) (lines : List Line) (line : Line) → said_by end (lines ++ line ∷ []) ≡ (if same_side line.side end then said_by end lines ++ line.what ∷ [] else said_by end lines)
-said-more end lines line = filter-add (said_in end) lines line ∙ by (same_side line.side end)
-  where
-    by : (b : Bool) → add (said_by end lines) (if b then Some line.what else None) ≡ (if b then said_by end lines ++ line.what ∷ [] else said_by end lines)
-    by true = refl
-    by false = refl
+use Rattle.order_checks.proofs.Said.{said-more}
 
 -- what it has answered
 answered-more : (end : Side) (lines : List Line) (line : Line)
