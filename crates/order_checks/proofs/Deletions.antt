@@ -181,7 +181,7 @@ taken-at sync end k (line ∷ behind) d c =
     by (inl h) rest = let t : TakenAt end behind d = rest h in record { front = line ∷ t.front; values = t.values; rest = t.rest; split = ap (λ (ls : List Line). line ∷ ls) t.split }
     by (inr h) rest = taken-here sync end k line behind d (one-is (frame_at sync end k line behind) (frame.Dispatch d) h)
 
-was-there : (own : List What) (id : ℤ) → IsTrue (lives own id) → was_built (built own) id ≡ true
+pub was-there : (own : List What) (id : ℤ) → IsTrue (lives own id) → was_built (built own) id ≡ true
 was-there own id e = (and_parts (was_built (built own) id) (not (has (fallen own) id)) e).0
 
 pub handled-built : (schema : Schema) (lines : List Line) → Living schema lines → (end : Side) (d : HandledRequest) (below : List CallFrame) (before behind : List Line) → lines ≡ before ++ behind → stack schema end before ≡ frame.Dispatch d ∷ below

@@ -3,6 +3,7 @@ pub mod AsSaid
 pub mod Births
 pub mod Deletions
 pub mod EffectLists
+pub mod EffectsLaw
 pub mod Lookups
 pub mod Next
 pub mod Said

@@ -1,9 +1,17 @@
-use Rattle.order_checks.proofs.Next.{has-next}
-use Rattle.order_checks.proofs.EffectLists.{birth-last}
-use Rattle.order_checks.proofs.Births.{alive-after}
-use Rattle.order_checks.proofs.Lookups.{was-kept}
-use Rattle.order_checks.proofs.AsSaid.{read-as-said}
+use Rattle.std.proofs.Common.{◌≡◌, ◌↔◌, IsTrue, Bool, ap, sym, ◌∙◌}
+use Rattle.std.proofs.lemmas.Result.{IfOk-weaker}
+use Rattle.world_laws.specs.Statements.{IsLawfulHistory}
+use Rattle.order_statements.specs.Effects.{Effects}
+use Rattle.order_checks.specs.declared.walk.Statement.TheVariants as statement
+use Rattle.order_checks.specs.Walk.{all_pass}
+use Rattle.order_checks.proofs.EffectsLaw.{effects-from, effects-to}
 use Rattle.order_checks.proofs.walk.gives_effects.Goals as goal
 
 pub returns : goal.returns
-returns c = ?
+returns c =
+    let schema = c.args.schema.now in
+    let lines = c.args.history.now.lines in
+    IfOk-weaker c.decide.result (λ (yes : Bool). yes ≡ all_pass statement.Effects schema c.lines.result.now) (λ (yes : Bool). IsLawfulHistory schema lines → (IsTrue yes ↔ Effects schema lines)) (λ yes e lawful.
+    let is : yes ≡ all_pass statement.Effects schema lines = e ∙ ap (all_pass statement.Effects schema) c.lines.ensures in
+    (λ h. effects-to schema lines lawful (sym is ∙ h), λ s. is ∙ effects-from schema lines lawful s))
+    c.decide.ensures
