@@ -17,13 +17,13 @@ use Rattle.history_reading.specs.Numbers.{has, has_packet}
 use Rattle.history_reading.specs.Reading.{end_reading_of, other_of, read}
 use Rattle.history_reading.specs.SentPacket.{Request, SentPacket, request_of}
 use Rattle.law_statements.specs.Packets.{delivered, sent, settled}
+use Rattle.law_statements.specs.Readable.{Readable}
 use Rattle.law_statements.specs.Said.{last_event, line_of, other_end, said_by}
 use Rattle.law_statements.proofs.Along.{each-from, each-to}
 use Rattle.law_statements.proofs.Deciding.{both, found, itself, recast, untrue}
 use Rattle.law_statements.proofs.Ends.{other-read}
 use Rattle.law_statements.proofs.Fields.{sent-read}
 use Rattle.law_statements.proofs.ReadableLines.{readable-from}
-use Rattle.world_laws.specs.Statements.{IsLawfulHistory}
 use Rattle.order_statements.specs.Answers.{Answers, MayAnswer}
 use Rattle.order_statements.specs.Effects.{fault_due}
 use Rattle.order_statements.specs.Shape.{HasEffects, answered, is_open_by, number_answered, owes_reply}
@@ -119,15 +119,15 @@ answer-test schema end w n before behind e =
     by (what.TakeReply m) f = cc
     by _ f = refl
 
-pub answers-to : (schema : Schema) (lines : List Line) → IsLawfulHistory schema lines → all_pass statement.Answers schema lines ≡ true → Answers schema lines
-answers-to schema lines lawful h = record {
+pub answers-to : (schema : Schema) (lines : List Line) → Readable schema lines → all_pass statement.Answers schema lines ≡ true → Answers schema lines
+answers-to schema lines told h = record {
   answers = λ end w n before behind e is. (may schema end before n).0 (sym (answer-test schema end w n before behind is) ∙ test end w before behind e);
   replaced = λ end n before behind e. (replaced schema end before behind n (has-next schema lines readable end (what.Replaced n) before behind e)).0 (test end (what.Replaced n) before behind e);
   late = λ end n before behind e is. (late schema end before n).0 (test end (what.TakeReply n) before behind e) is;
 }
   where
     readable : IsReadable schema lines
-    readable = readable-from schema lines lawful.readable
+    readable = readable-from schema lines told
 
     test : (end : Side) (w : What) (before behind : List Line) → lines ≡ before ++ line_of end w ∷ behind → PassesAt schema end w before behind
     test end w before behind e = sym (test-is schema lines readable end w before behind e) ∙ each-from (passes statement.Answers schema) [] lines h before (line_of end w) behind e
@@ -141,7 +141,7 @@ line-from schema lines readable s end (what.AnswerOk n values) before behind e =
 line-from schema lines readable s end (what.AnswerFault n why) before behind e = (may schema end before n).1 (s.answers end (what.AnswerFault n why) n before behind e refl)
 line-from schema lines readable s end _ before behind e = refl
 
-pub answers-from : (schema : Schema) (lines : List Line) → IsLawfulHistory schema lines → Answers schema lines → all_pass statement.Answers schema lines ≡ true
-answers-from schema lines lawful s =
+pub answers-from : (schema : Schema) (lines : List Line) → Readable schema lines → Answers schema lines → all_pass statement.Answers schema lines ≡ true
+answers-from schema lines told s =
     each-to (passes statement.Answers schema) [] lines (λ before line behind e.
-    test-is schema lines (readable-from schema lines lawful.readable) line.side line.what before behind e ∙ line-from schema lines (readable-from schema lines lawful.readable) s line.side line.what before behind e)
+    test-is schema lines (readable-from schema lines told) line.side line.what before behind e ∙ line-from schema lines (readable-from schema lines told) s line.side line.what before behind e)

@@ -24,13 +24,15 @@ use Rattle.history_reading.specs.Numbers.{has}
 use Rattle.history_reading.specs.Reading.{end_reading_of, other_of, read}
 use Rattle.history_reading.specs.Rows.{is_sync_number, wants_number}
 use Rattle.law_statements.specs.Actors.{built, fallen, id_fallen, lives}
+use Rattle.law_statements.specs.Fallen.{Fallen}
+use Rattle.law_statements.specs.Living.{Living}
 use Rattle.law_statements.specs.Packets.{number_settled, settled}
+use Rattle.law_statements.specs.Readable.{Readable}
 use Rattle.law_statements.specs.Said.{line_of, said_by}
 use Rattle.law_statements.specs.Stack.{stack}
 use Rattle.law_statements.proofs.Along.{each-from, each-to}
 use Rattle.law_statements.proofs.FallenLaw.{each-contained}
 use Rattle.law_statements.proofs.ReadableLines.{readable-from}
-use Rattle.world_laws.specs.Statements.{IsLawfulHistory}
 use Rattle.order_statements.specs.Effects.{Effects, IsBuilt, IsBuiltBySend, IsDeleted, IsReturned, ReturnsAll, fault_due, has_resolver, is_refusal, lets_go, name_given}
 use Rattle.order_statements.specs.Shape.{HasEffects, answered, constructor_of, is_destructor, is_open_by, kept, owes_reply, request_sent}
 use Rattle.order_checks.specs.declared.walk.Statement.TheVariants as statement
@@ -64,7 +66,8 @@ made-from (Some protocol) test h = h protocol refl
 
 record Place (schema : Schema) (lines : List Line) (end : Side) (w : What) (before behind : List Line) : Type 0 where
   at : lines ≡ before ++ line_of end w ∷ behind
-  lawful : IsLawfulHistory schema lines
+  told : Readable schema lines
+  falls : Fallen schema lines
   prints : HasEffects end (effects_next behind) behind
 
 printed : (end : Side) (effects : List What) (behind : List Line) → HasEffects end (effects_next behind) behind → effects_next behind ≡ effects → HasEffects end effects behind
@@ -76,7 +79,7 @@ deletion-to : {schema : Schema} {lines : List Line} {end : Side} {w : What} {bef
     → is_deletion_given schema (fallen (said_by end before)) route number (effects_next behind) ≡ true → is_destructor schema number ≡ true → IsDeleted end (said_by end before ++ w ∷ []) route behind
 unfolding is_deletion_given
 deletion-to {schema} {lines} {end} {w} {before} {behind} p quiet route number e is =
-    deleted-to schema lines p.lawful.fallen end w before behind p.at quiet p.prints route (due-to (is_destructor schema number) (has_fallen (fallen (said_by end before)) route (effects_next behind)) e is)
+    deleted-to schema lines p.falls end w before behind p.at quiet p.prints route (due-to (is_destructor schema number) (has_fallen (fallen (said_by end before)) route (effects_next behind)) e is)
 
 deletion-from : (schema : Schema) (end : Side) (w : What) (before behind : List Line) → id_fallen w ≡ None → (route : ℤ) (number : ℕ) → was_built (built (said_by end before)) route ≡ true
     → (is_destructor schema number ≡ true → IsDeleted end (said_by end before ++ w ∷ []) route behind) → is_deletion_given schema (fallen (said_by end before)) route number (effects_next behind) ≡ true
@@ -272,7 +275,7 @@ returns-to : {schema : Schema} {lines : List Line} {end : Side} {before behind :
     → is_top_returned schema end (as_said schema end before) (answered (said_by end before)) before (stack schema end before) (effects_next behind) ≡ true → stack schema end before ≡ frame.Dispatch d ∷ below
     → ReturnsAll schema end (said_by end before) d behind
 returns-to {schema} {lines} {end} {before} {behind} n d below p e top =
-    let r = p.lawful.readable.returns end n before behind p.at in
+    let r = p.told.returns end n before behind p.at in
     let same : r.0 ≡ d = cc (sym r.2 ∙ top) in
     let number : n ≡ d.seq = sym r.3 ∙ ap (λ (x : HandledRequest). x.seq) same in
     return-to d (subst (λ (m : ℤ). Place schema lines end (what.Return m) before behind) number p)
@@ -289,8 +292,8 @@ late-to : {schema : Schema} {lines : List Line} {end : Side} {before behind : Li
     → HasEffects end [] behind
 late-to {schema} {lines} {end} {before} {behind} n p e f = none-printed p (sym (ap (λ (b : Bool). if b then is_none (effects_next behind) else is_settling_alone n (effects_next behind)) f) ∙ e)
 
-pub effects-to : (schema : Schema) (lines : List Line) → IsLawfulHistory schema lines → all_pass statement.Effects schema lines ≡ true → Effects schema lines
-effects-to schema lines lawful h = record {
+pub effects-to : (schema : Schema) (lines : List Line) → Readable schema lines → Fallen schema lines → all_pass statement.Effects schema lines ≡ true → Effects schema lines
+effects-to schema lines told falls h = record {
   deletes = λ end w q before behind e is d. deletes-to w q (place end w before behind e) (test end w before behind e) is d;
   builds = λ end w q protocol before behind e is c. builds-to w q protocol (place end w before behind e) (test end w before behind e) is c;
   takes = λ end n route number protocol values before behind e c.
@@ -308,10 +311,10 @@ effects-to schema lines lawful h = record {
 }
   where
     readable : IsReadable schema lines
-    readable = readable-from schema lines lawful.readable
+    readable = readable-from schema lines told
 
     place : (end : Side) (w : What) (before behind : List Line) → lines ≡ before ++ line_of end w ∷ behind → Place schema lines end w before behind
-    place end w before behind e = record { at = e; lawful = lawful; prints = has-next schema lines readable end w before behind e }
+    place end w before behind e = record { at = e; told = told; falls = falls; prints = has-next schema lines readable end w before behind e }
 
     test : (end : Side) (w : What) (before behind : List Line) → lines ≡ before ++ line_of end w ∷ behind → PassesAt schema end w before behind
     test end w before behind e = sym (test-is schema lines readable end w before behind e) ∙ each-from (passes statement.Effects schema) [] lines h before (line_of end w) behind e
@@ -343,36 +346,36 @@ reply-from schema lines s end n before behind e false is = by (s.settles end n b
 none-from : (schema : Schema) (lines : List Line) → Effects schema lines → (end : Side) (w : What) (before behind : List Line) → lines ≡ before ++ line_of end w ∷ behind → IsTrue (is_refusal w) → is_none (effects_next behind) ≡ true
 none-from schema lines s end w before behind e is = (none (effects_next behind)).1 (next-are end [] behind (s.refusals end w before behind e is))
 
-line-from : (schema : Schema) (lines : List Line) → IsLawfulHistory schema lines → Effects schema lines → (end : Side) (w : What) (before behind : List Line) → lines ≡ before ++ line_of end w ∷ behind → PassesAt schema end w before behind
-line-from schema lines lawful s end (what.Send n route number values) before behind e =
-    sent-from schema end (what.Send n route number values) route number before behind refl (was-there (said_by end before) route (lawful.living.sends end n route number values before behind e))
+line-from : (schema : Schema) (lines : List Line) → Readable schema lines → Living schema lines → Effects schema lines → (end : Side) (w : What) (before behind : List Line) → lines ≡ before ++ line_of end w ∷ behind → PassesAt schema end w before behind
+line-from schema lines told living s end (what.Send n route number values) before behind e =
+    sent-from schema end (what.Send n route number values) route number before behind refl (was-there (said_by end before) route (living.sends end n route number values before behind e))
     (λ d. s.deletes end (what.Send n route number values) (record { seq = n; route = route; number = number }) before behind e refl d)
     (λ protocol c. s.builds end (what.Send n route number values) (record { seq = n; route = route; number = number }) protocol before behind e refl c)
-line-from schema lines lawful s end (what.Call n transaction route number values) before behind e =
-    sent-from schema end (what.Call n transaction route number values) route number before behind refl (was-there (said_by end before) route (lawful.living.calls end n transaction route number values before behind e))
+line-from schema lines told living s end (what.Call n transaction route number values) before behind e =
+    sent-from schema end (what.Call n transaction route number values) route number before behind refl (was-there (said_by end before) route (living.calls end n transaction route number values before behind e))
     (λ d. s.deletes end (what.Call n transaction route number values) (record { seq = n; route = route; number = number }) before behind e refl d)
     (λ protocol c. s.builds end (what.Call n transaction route number values) (record { seq = n; route = route; number = number }) protocol before behind e refl c)
-line-from schema lines lawful s end (what.Take n route number values) before behind e =
+line-from schema lines told living s end (what.Take n route number values) before behind e =
     made-from (constructor_of schema number) (λ (q : ℕ). is_birth_alone (fallen (said_by end before)) q (effects_next behind)) (λ protocol c.
     (birth-alone (fallen (said_by end before)) protocol (effects_next behind)).1
     (built-from end (what.Take n route number values) before behind refl [] refl protocol (s.takes end n route number protocol values before behind e c)))
-line-from schema lines lawful s end (what.Drop n route number id) before behind e =
+line-from schema lines told living s end (what.Drop n route number id) before behind e =
     (fault-is-due (is_open_by (said_by end before) && owes_reply schema number) n reason.ActorDestroyed (effects_next behind)).1
     (next-are end (fault_due (is_open_by (said_by end before) && owes_reply schema number) n reason.ActorDestroyed) behind (s.drops end n route number id before behind e))
-line-from schema lines lawful s end (what.Return n) before behind e =
-    let r = lawful.readable.returns end n before behind e in
+line-from schema lines told living s end (what.Return n) before behind e =
+    let r = told.returns end n before behind e in
     ap (λ (fs : List CallFrame). is_top_returned schema end (as_said schema end before) (answered (said_by end before)) before fs (effects_next behind)) r.2
-    ∙ return-from schema end before behind r.0 (handled-built schema lines lawful.living end r.0 r.1 before (line_of end (what.Return n) ∷ behind) e r.2) (s.returns end n r.0 r.1 before behind e r.2)
-line-from schema lines lawful s end (what.Keep n name) before behind e = renaming-from schema lines s end (what.Keep n name) name before behind e refl
-line-from schema lines lawful s end (what.Let name id) before behind e = renaming-from schema lines s end (what.Let name id) name before behind e refl
-line-from schema lines lawful s end (what.TakeReply n) before behind e = reply-from schema lines s end n before behind e (has (settled (said_by end before)) n) refl
-line-from schema lines lawful s end (what.RefusedSend refusal number) before behind e = none-from schema lines s end (what.RefusedSend refusal number) before behind e refl
-line-from schema lines lawful s end (what.RefusedClose refusal) before behind e = none-from schema lines s end (what.RefusedClose refusal) before behind e refl
-line-from schema lines lawful s end (what.RefusedResolve refusal) before behind e = none-from schema lines s end (what.RefusedResolve refusal) before behind e refl
-line-from schema lines lawful s end (what.RefusedReject refusal) before behind e = none-from schema lines s end (what.RefusedReject refusal) before behind e refl
-line-from schema lines lawful s end _ before behind e = refl
+    ∙ return-from schema end before behind r.0 (handled-built schema lines living end r.0 r.1 before (line_of end (what.Return n) ∷ behind) e r.2) (s.returns end n r.0 r.1 before behind e r.2)
+line-from schema lines told living s end (what.Keep n name) before behind e = renaming-from schema lines s end (what.Keep n name) name before behind e refl
+line-from schema lines told living s end (what.Let name id) before behind e = renaming-from schema lines s end (what.Let name id) name before behind e refl
+line-from schema lines told living s end (what.TakeReply n) before behind e = reply-from schema lines s end n before behind e (has (settled (said_by end before)) n) refl
+line-from schema lines told living s end (what.RefusedSend refusal number) before behind e = none-from schema lines s end (what.RefusedSend refusal number) before behind e refl
+line-from schema lines told living s end (what.RefusedClose refusal) before behind e = none-from schema lines s end (what.RefusedClose refusal) before behind e refl
+line-from schema lines told living s end (what.RefusedResolve refusal) before behind e = none-from schema lines s end (what.RefusedResolve refusal) before behind e refl
+line-from schema lines told living s end (what.RefusedReject refusal) before behind e = none-from schema lines s end (what.RefusedReject refusal) before behind e refl
+line-from schema lines told living s end _ before behind e = refl
 
-pub effects-from : (schema : Schema) (lines : List Line) → IsLawfulHistory schema lines → Effects schema lines → all_pass statement.Effects schema lines ≡ true
-effects-from schema lines lawful s =
+pub effects-from : (schema : Schema) (lines : List Line) → Readable schema lines → Living schema lines → Effects schema lines → all_pass statement.Effects schema lines ≡ true
+effects-from schema lines told living s =
     each-to (passes statement.Effects schema) [] lines (λ before line behind e.
-    test-is schema lines (readable-from schema lines lawful.readable) line.side line.what before behind e ∙ line-from schema lines lawful s line.side line.what before behind e)
+    test-is schema lines (readable-from schema lines told) line.side line.what before behind e ∙ line-from schema lines told living s line.side line.what before behind e)

@@ -9,3 +9,4 @@ pub mod LastEvents
 pub mod Lookups
 pub mod Next
 pub mod Said
+pub mod Worked

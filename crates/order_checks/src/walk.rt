@@ -3,7 +3,9 @@ ghost use Rattle.ipdl_base.specs.Sound.{IsSound};
 ghost use Rattle.history_reading.specs.EndReadings.{end_view};
 ghost use Rattle.history_reading.specs.Reading.{end_reading_of, opening_reading, other_of};
 ghost use Rattle.history_reading.specs.Readings.{reading_view};
-ghost use Rattle.world_laws.specs.Statements.{IsLawfulHistory};
+ghost use Rattle.law_statements.specs.Fallen.{Fallen};
+ghost use Rattle.law_statements.specs.Living.{Living};
+ghost use Rattle.law_statements.specs.Readable.{Readable};
 ghost use Rattle.order_statements.specs.Answers.{Answers};
 ghost use Rattle.order_statements.specs.Effects.{Effects};
 ghost use Rattle.order_checks.specs.Answered.{AreAnswered, numbers_of};
@@ -96,21 +98,22 @@ fn decide(
 }
 
 /// Whether each event of a history gives the effects that it owes (docs/laws.md). The history may be any list of lines that
-/// obeys the five laws; of others nothing is said. The only error is want of memory. Its time is at most quadratic in the
-/// lines.
+/// can be read and obeys the laws Living and Fallen; of others the answer says nothing. The only error is want of memory. Its
+/// time is at most quadratic in the lines.
 pub fn gives_effects(
     alloc: Global,
     schema: &Schema,
     history: &History,
 ) -> Result<bool, AllocError>
     requires { IsSound schema.now }
-    ensures { IfOk result (λ yes. IsLawfulHistory schema.now history.now.lines → (IsTrue yes ↔ Effects schema.now history.now.lines)) }
+    ensures { IfOk result (λ yes. Readable schema.now history.now.lines → Living schema.now history.now.lines → Fallen schema.now history.now.lines
+        → (IsTrue yes ↔ Effects schema.now history.now.lines)) }
 {
     decide(alloc, Statement::Effects, schema, history.lines())
 }
 
 /// Whether each end of a history gives the answers that it owes to the other (docs/laws.md). The history may be any list of
-/// lines that obeys the five laws; of others nothing is said. The only error is want of memory. Its time is at most quadratic
+/// lines that can be read; of others the answer says nothing. The only error is want of memory. Its time is at most quadratic
 /// in the lines.
 pub fn gives_answers(
     alloc: Global,
@@ -118,7 +121,7 @@ pub fn gives_answers(
     history: &History,
 ) -> Result<bool, AllocError>
     requires { IsSound schema.now }
-    ensures { IfOk result (λ yes. IsLawfulHistory schema.now history.now.lines → (IsTrue yes ↔ Answers schema.now history.now.lines)) }
+    ensures { IfOk result (λ yes. Readable schema.now history.now.lines → (IsTrue yes ↔ Answers schema.now history.now.lines)) }
 {
     decide(alloc, Statement::Answers, schema, history.lines())
 }

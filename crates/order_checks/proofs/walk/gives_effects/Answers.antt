@@ -1,6 +1,8 @@
 use Rattle.std.proofs.Common.{◌≡◌, ◌↔◌, IsTrue, Bool, ap, sym, ◌∙◌}
 use Rattle.std.proofs.lemmas.Result.{IfOk-weaker}
-use Rattle.world_laws.specs.Statements.{IsLawfulHistory}
+use Rattle.law_statements.specs.Fallen.{Fallen}
+use Rattle.law_statements.specs.Living.{Living}
+use Rattle.law_statements.specs.Readable.{Readable}
 use Rattle.order_statements.specs.Effects.{Effects}
 use Rattle.order_checks.specs.declared.walk.Statement.TheVariants as statement
 use Rattle.order_checks.specs.Walk.{all_pass}
@@ -11,7 +13,7 @@ pub returns : goal.returns
 returns c =
     let schema = c.args.schema.now in
     let lines = c.args.history.now.lines in
-    IfOk-weaker c.decide.result (λ (yes : Bool). yes ≡ all_pass statement.Effects schema c.lines.result.now) (λ (yes : Bool). IsLawfulHistory schema lines → (IsTrue yes ↔ Effects schema lines)) (λ yes e lawful.
+    IfOk-weaker c.decide.result (λ (yes : Bool). yes ≡ all_pass statement.Effects schema c.lines.result.now) (λ (yes : Bool). Readable schema lines → Living schema lines → Fallen schema lines → (IsTrue yes ↔ Effects schema lines)) (λ yes e told living falls.
     let is : yes ≡ all_pass statement.Effects schema lines = e ∙ ap (all_pass statement.Effects schema) c.lines.ensures in
-    (λ h. effects-to schema lines lawful (sym is ∙ h), λ s. is ∙ effects-from schema lines lawful s))
+    (λ h. effects-to schema lines told falls (sym is ∙ h), λ s. is ∙ effects-from schema lines told living s))
     c.decide.ensures
