@@ -1,5 +1,5 @@
 -- The test of answers decides their statement.
-use Rattle.std.proofs.Common.{◌≡◌, ◌≢◌, ℤ, Bool, true, false, not, ◌&&◌, if◌then◌else◌, IsTrue, List, [], ◌∷◌, ◌++◌, Contains, Option, Some, None, refl, sym, ap, subst, ◌∙◌}
+use Rattle.std.proofs.Common.{◌≡◌, ◌≢◌, ℤ, Bool, true, false, not, ◌&&◌, if◌then◌else◌, IsTrue, List, [], ◌∷◌, ◌++◌, Contains, Option, Some, refl, sym, ap, subst, ◌∙◌}
 use Rattle.std.specs.Bool.{Decides}
 use Rattle.std.specs.List.{list_any}
 use Rattle.std.specs.Option.{option_map_or}
@@ -14,7 +14,7 @@ use Rattle.history_reading.specs.declared.parts.PacketKind.TheVariants as seen
 use Rattle.history_reading.specs.EndReading.{EndReading}
 use Rattle.history_reading.specs.Holds.{IsReadable}
 use Rattle.history_reading.specs.Numbers.{has, has_packet}
-use Rattle.history_reading.specs.Reading.{end_reading_of, other_of, read}
+use Rattle.history_reading.specs.Reading.{other_of, read}
 use Rattle.history_reading.specs.SentPacket.{Request, SentPacket, request_of}
 use Rattle.law_statements.specs.Packets.{delivered, sent, settled}
 use Rattle.law_statements.specs.Readable.{Readable}

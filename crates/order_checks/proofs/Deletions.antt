@@ -2,7 +2,7 @@
 use Rattle.std.proofs.Common.{◌≡◌, ◌⊎◌, inl, inr, ℕ, ℤ, ◌+◌, Bool, true, false, not, ◌&&◌, ◌||◌, if◌then◌else◌, IsTrue, List, [], ◌∷◌, ◌++◌, Contains, map, Option, Some, None, option_to_list, refl, sym, ap, subst, ◌∙◌, append_assoc, arith}
 use Rattle.std.specs.List.{cons_option, list_any}
 use Rattle.std.specs.Ordering.{int_eq}
-use Rattle.std.proofs.lemmas.Bool.{and_parts, and_from, false≢true, not-true}
+use Rattle.std.proofs.lemmas.Bool.{and_parts, false≢true}
 use Rattle.std.proofs.lemmas.Bool.Decides.{Decides-int_eq}
 use Rattle.std.proofs.lemmas.List.Elements.{Contains-append_cases, Contains-append_left, Contains-push, Contains-push_cases, filter_map-append}
 use Rattle.std.proofs.lemmas.List.Folds.{list_any-append}
@@ -21,7 +21,7 @@ use Rattle.history_reading.specs.declared.parts.HandledRequest.{HandledRequest}
 use Rattle.history_reading.specs.EndReading.{was_built}
 use Rattle.history_reading.specs.Numbers.{has}
 use Rattle.history_reading.specs.Settled.{is_fall_of}
-use Rattle.law_statements.specs.Actors.{built, built_at, fallen, id_fallen, last_actor, lives}
+use Rattle.law_statements.specs.Actors.{built, fallen, id_fallen, last_actor, lives}
 use Rattle.law_statements.specs.Fallen.{Fallen, IsBelow, further, under}
 use Rattle.law_statements.specs.Living.{Living}
 use Rattle.law_statements.specs.Said.{line_of, said_by}

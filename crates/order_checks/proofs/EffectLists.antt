@@ -1,8 +1,7 @@
 -- What tests of effects decide.
-use Rattle.std.proofs.Common.{◌≡◌, ◌≤◌, ◌==◌, ℕ, ℤ, subst, Bool, true, false, not, ◌&&◌, if◌then◌else◌, IsTrue, List, [], ◌∷◌, ◌++◌, length, Option, Some, None, refl, sym, ap, ◌∙◌, arith}
+use Rattle.std.proofs.Common.{◌≡◌, ◌≤◌, ◌==◌, ℕ, ℤ, subst, Bool, true, false, not, IsTrue, List, [], ◌∷◌, ◌++◌, length, Some, refl, sym, ap, ◌∙◌, arith}
 use Rattle.std.specs.Bool.{Decides}
 use Rattle.std.specs.List.{list_all}
-use Rattle.std.specs.Option.{option_map_or}
 use Rattle.std.specs.Ordering.{int_eq}
 use Rattle.std.proofs.lemmas.Bool.{and_parts, and_from, not-true}
 use Rattle.std.proofs.lemmas.Bool.Decides.{Decides-eqb, Decides-int_eq}
@@ -16,7 +15,7 @@ use Rattle.law_statements.specs.Packets.{number_settled}
 use Rattle.law_statements.proofs.Deciding.{is-this}
 use Rattle.law_statements.proofs.Replies.{reason-same}
 use Rattle.order_statements.specs.Effects.{IsReturned, fault_due, lets_go, with_rejection, with_values}
-use Rattle.order_checks.specs.EffectTests.{is_birth, is_birth_alone, is_birth_last, is_fault_alone, is_fault_due, is_fault_first, is_fault_to, is_handler_fault, is_none, is_return_first, is_returned, is_settling_alone, is_settling_of}
+use Rattle.order_checks.specs.EffectTests.{is_birth, is_birth_alone, is_birth_last, is_fault_alone, is_fault_due, is_fault_first, is_fault_to, is_handler_fault, is_none, is_return_first, is_returned, is_settling_alone}
 
 pub none : (effects : List What) → Decides (is_none effects) (effects ≡ [])
 none [] = (λ e. refl, λ e. refl)

@@ -5,7 +5,7 @@ use Rattle.std.specs.List.{list_all}
 use Rattle.std.specs.Option.{option_map_or}
 use Rattle.std.specs.Cmp.Lexicographic.{pointwise}
 use Rattle.std.specs.Prelude.{nat_eq}
-use Rattle.std.proofs.lemmas.Bool.{and_parts, and_from, false≢true, not-true}
+use Rattle.std.proofs.lemmas.Bool.{and_parts, and_from, not-true}
 use Rattle.std.proofs.lemmas.Bool.Decides.{Decides-eqb}
 use Rattle.std.proofs.lemmas.Slice.Eq.{slice_eq-Decides}
 use Rattle.ipdl_base.specs.declared.kinds.Reason.TheVariants as reason
@@ -14,16 +14,14 @@ use Rattle.ipdl_base.specs.declared.line.Line.{Line}
 use Rattle.ipdl_base.specs.declared.line.What.{What}
 use Rattle.ipdl_base.specs.declared.line.What.TheVariants as what
 use Rattle.ipdl_base.specs.declared.schema.Schema.{Schema}
-use Rattle.ipdl_base.specs.declared.value.Values.{Values}
 use Rattle.history_reading.specs.declared.parts.CallFrame.{CallFrame}
 use Rattle.history_reading.specs.declared.parts.CallFrame.TheVariants as frame
 use Rattle.history_reading.specs.declared.parts.HandledRequest.{HandledRequest}
 use Rattle.history_reading.specs.EndReading.{EndReading, was_built}
 use Rattle.history_reading.specs.Holds.{IsReadable}
 use Rattle.history_reading.specs.Numbers.{has}
-use Rattle.history_reading.specs.Reading.{end_reading_of, other_of, read}
 use Rattle.history_reading.specs.Rows.{is_sync_number, wants_number}
-use Rattle.law_statements.specs.Actors.{built, fallen, id_fallen, lives}
+use Rattle.law_statements.specs.Actors.{built, fallen, id_fallen}
 use Rattle.law_statements.specs.Fallen.{Fallen}
 use Rattle.law_statements.specs.Living.{Living}
 use Rattle.law_statements.specs.Packets.{number_settled, settled}
@@ -36,7 +34,7 @@ use Rattle.law_statements.proofs.ReadableLines.{readable-from}
 use Rattle.order_statements.specs.Effects.{Effects, IsBuilt, IsBuiltBySend, IsDeleted, IsReturned, ReturnsAll, fault_due, has_resolver, is_refusal, lets_go, name_given}
 use Rattle.order_statements.specs.Shape.{HasEffects, answered, constructor_of, is_destructor, is_open_by, kept, owes_reply, request_sent}
 use Rattle.order_checks.specs.declared.walk.Statement.TheVariants as statement
-use Rattle.order_checks.specs.EffectTests.{effects_line, effects_next, has_fallen, is_birth_alone, is_birth_given, is_birth_last, is_deletion_given, is_fault_alone, is_fault_first, is_held, is_let_go, is_let_go_at, is_none, is_renamed_right, is_reply_right, is_resolver_answered, is_return_answered, is_return_first, is_returned_right, is_settling_alone, is_sync_answered, is_taken_right, is_top_returned, was_kept}
+use Rattle.order_checks.specs.EffectTests.{effects_line, effects_next, has_fallen, is_birth_alone, is_birth_given, is_birth_last, is_deletion_given, is_fault_alone, is_fault_first, is_held, is_let_go, is_let_go_at, is_none, is_renamed_right, is_resolver_answered, is_return_answered, is_return_first, is_returned_right, is_settling_alone, is_sync_answered, is_top_returned}
 use Rattle.order_checks.specs.Walk.{all_pass, line_test, passes}
 use Rattle.order_checks.proofs.AsSaid.{as_said, read-as-said}
 use Rattle.order_checks.proofs.Births.{alive-after}

@@ -1,7 +1,6 @@
 -- In readable lines the effects that come before the next event are those of the end of the line before them.
 use Rattle.std.proofs.Common.{◌≡◌, Bool, true, false, not, cond, if◌then◌else◌, IsTrue, List, [], ◌∷◌, ◌++◌, map, Option, Some, None, refl, sym, ap, subst, ◌∙◌, append_assoc}
 use Rattle.std.specs.List.{list_all, take_while}
-use Rattle.std.specs.Option.{option_map_or}
 use Rattle.std.proofs.lemmas.Bool.{and_from, and_parts, not-true}
 use Rattle.std.proofs.lemmas.List.Sums.{take_while-cons}
 use Rattle.ipdl_base.specs.declared.kinds.Side.{Side}
@@ -11,7 +10,7 @@ use Rattle.ipdl_base.specs.declared.line.What.{What}
 use Rattle.ipdl_base.specs.declared.schema.Schema.{Schema}
 use Rattle.ipdl_base.specs.Lines.{is_effect, same_side}
 use Rattle.history_reading.specs.Holds.{IsReadable, is_of_event, is_readable, is_readable_what}
-use Rattle.history_reading.specs.Reading.{Reading, after, after_at, end_reading_of, read}
+use Rattle.history_reading.specs.Reading.{Reading, after_at, end_reading_of, read}
 use Rattle.law_statements.specs.Said.{is_moment, line_of}
 use Rattle.law_statements.proofs.Along.{read-more, readable-places}
 use Rattle.order_statements.specs.Shape.{HasEffects}

@@ -1,5 +1,5 @@
 -- Worked lines: a refused act that answers a request that nobody sent. They obey the five laws, and neither statement.
-use Rattle.std.proofs.Common.{◌≡◌, Bool, true, false, List, [], ◌∷◌, pos, refl, sym, ◌∙◌}
+use Rattle.std.proofs.Common.{List, [], ◌∷◌, pos, refl}
 use Rattle.std.proofs.lemmas.Bool.{false≢true}
 use Rattle.ipdl_base.specs.declared.kinds.Reason.TheVariants as reason
 use Rattle.ipdl_base.specs.declared.kinds.SendRefusal.TheVariants as refusal
@@ -10,9 +10,7 @@ use Rattle.ipdl_base.specs.declared.schema.Schema.{Schema}
 use Rattle.history_reading.specs.declared.law.Law.{Law}
 use Rattle.history_reading.specs.declared.law.Law.TheVariants as law
 use Rattle.history_reading.specs.Holds.{Holds, IsReadable, is_readable, moment_test, passes}
-use Rattle.law_statements.specs.Readable.{Readable}
 use Rattle.law_statements.specs.Said.{line_of}
-use Rattle.law_statements.proofs.FallenLaw.{fallen-to}
 use Rattle.law_statements.proofs.LivingLaw.{living-to}
 use Rattle.law_statements.proofs.ReadableLines.{readable-to}
 use Rattle.order_statements.specs.Answers.{Answers}

@@ -12,10 +12,8 @@ pub fn number_answered(what: &What) -> Option<i32>
     ensures { result ≡ number_answered what.now }
 {
     match what {
-        What::Resolve(n, _)
-        | What::Reject(n)
-        | What::AnswerOk(n, _)
-        | What::AnswerFault(n, _) => Some(*n),
+        What::Resolve(n, _) | What::Reject(n) | What::AnswerOk(n, _) | What::AnswerFault(n, _) =>
+            Some(*n),
         _ => None,
     }
 }

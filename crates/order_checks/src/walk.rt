@@ -100,11 +100,7 @@ fn decide(
 /// Whether each event of a history gives the effects that it owes (docs/laws.md). The history may be any list of lines that
 /// can be read and obeys the laws Living and Fallen; of others the answer says nothing. The only error is want of memory. Its
 /// time is at most quadratic in the lines.
-pub fn gives_effects(
-    alloc: Global,
-    schema: &Schema,
-    history: &History,
-) -> Result<bool, AllocError>
+pub fn gives_effects(alloc: Global, schema: &Schema, history: &History) -> Result<bool, AllocError>
     requires { IsSound schema.now }
     ensures { IfOk result (λ yes. Readable schema.now history.now.lines → Living schema.now history.now.lines → Fallen schema.now history.now.lines
         → (IsTrue yes ↔ Effects schema.now history.now.lines)) }
@@ -115,11 +111,7 @@ pub fn gives_effects(
 /// Whether each end of a history gives the answers that it owes to the other (docs/laws.md). The history may be any list of
 /// lines that can be read; of others the answer says nothing. The only error is want of memory. Its time is at most quadratic
 /// in the lines.
-pub fn gives_answers(
-    alloc: Global,
-    schema: &Schema,
-    history: &History,
-) -> Result<bool, AllocError>
+pub fn gives_answers(alloc: Global, schema: &Schema, history: &History) -> Result<bool, AllocError>
     requires { IsSound schema.now }
     ensures { IfOk result (λ yes. Readable schema.now history.now.lines → (IsTrue yes ↔ Answers schema.now history.now.lines)) }
 {

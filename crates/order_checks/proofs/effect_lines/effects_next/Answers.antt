@@ -1,4 +1,4 @@
-use Rattle.std.proofs.Common.{List, ℕ, take, ap}
+use Rattle.std.proofs.Common.{ℕ, take, ap}
 use Rattle.order_checks.specs.EffectTests.{whats}
 use Rattle.order_checks.proofs.effect_lines.effects_next.Goals as goal
 

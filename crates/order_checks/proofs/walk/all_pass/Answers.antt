@@ -1,7 +1,7 @@
 use Rattle.std.proofs.Common.{◌≡◌, List, ℤ, true, take, drop, ◌+◌, ◌++◌, ◌∷◌, [], ◌∙◌, sym, ap, arith, subst}
 use Rattle.std.proofs.lemmas.List.{take_more, take_rest}
 use Rattle.ipdl_base.specs.declared.line.Line.{Line}
-use Rattle.history_reading.specs.Reading.{Reading, end_reading_of, other_of, read}
+use Rattle.history_reading.specs.Reading.{Reading, end_reading_of, other_of}
 use Rattle.history_reading.specs.Readings.{reading_view}
 use Rattle.law_statements.specs.Said.{said_by}
 use Rattle.law_checks.proofs.Loops.{each_goes_on, read_more}

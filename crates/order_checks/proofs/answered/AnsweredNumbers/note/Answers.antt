@@ -1,9 +1,5 @@
-use Rattle.std.proofs.Common.{SFits, w32, rules, to_z-of_z, ◌≡◌, ℤ, Bool, true, false, if◌then◌else◌, List, [], ◌∷◌, ◌++◌, Option, Some, None, refl, sym, ap, ◌∙◌}
+use Rattle.std.proofs.Common.{SFits, w32, rules, to_z-of_z, sym, ◌∙◌}
 use Rattle.std.proofs.lemmas.Result.{on_ok_weaker}
-use Rattle.ipdl_base.specs.Lines.{same_side}
-use Rattle.law_statements.specs.Said.{said_by}
-use Rattle.law_statements.proofs.Lists.{add}
-use Rattle.order_statements.specs.Shape.{answered, number_answered}
 use Rattle.order_checks.specs.Answered.{numbers_of}
 use Rattle.order_checks.proofs.Answering.{answered-same, answered-with}
 use Rattle.order_checks.proofs.answered.AnsweredNumbers.note.Goals as goal
