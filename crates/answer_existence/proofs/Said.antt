@@ -4,7 +4,7 @@ use Rattle.std.proofs.lemmas.Bool.{cases_lt}
 use Rattle.command_words.specs.Feed.{FeedCourse}
 use Rattle.command_words.specs.Relay.{RelayCourse}
 use Rattle.command_words.specs.Run.{Course}
-use Rattle.feed_laws.specs.Laws.{FeedsObeyAlone}
+use Rattle.feed_laws.specs.Laws.{FeedsObeyAlone, FeedsRunAlone}
 use Rattle.feed_runs.specs.FeedTurns.{Feed}
 use Rattle.handler_script.proofs.Validity.{script_valid}
 use Rattle.handler_script.specs.Valid.{IsValid}
@@ -30,6 +30,7 @@ use Rattle.ipdl_top.specs.RunSteps.{IsMadeUnless}
 use Rattle.ipdl_top.specs.Scripts.{SaysByScript, SaysOfHeld, unreadable_answer}
 use Rattle.ipdl_top.specs.Waits.{SaysWaits, waits_text}
 use Rattle.ipdl_top.proofs.Relays.{RelayedLaws, says_relayed}
+use Rattle.ipdl_top.proofs.Feeds.{owed_so}
 use Rattle.ipdl_top.proofs.Runs.{says_history}
 use Rattle.law_statements.specs.Laws.{DecidesFallen, DecidesReadable, LawsWantReadable}
 use Rattle.progress_laws.specs.Progress.{HistoriesAreWeighed}
@@ -51,6 +52,7 @@ use Rattle.world_core.specs.declared.relay.Halves.{Halves}
 use Rattle.world_core.specs.Relaying.{RelayGives}
 use Rattle.world_core.specs.Turns.{WordGives}
 use Rattle.world_core.specs.WorldView.{WorldView, opening_of}
+use Rattle.order_statements.specs.Laws.{HistoriesGiveWhatIsOwed, HistoriesKeepOrder, OneEndHasEffects}
 use Rattle.world_laws.specs.Statements.{HistoriesAreLawful}
 use Rattle.answer_existence.specs.Laws.{DrivesAll, HasDriven, HasRelayed, RelaysAll}
 use Rattle.answer_existence.proofs.Compiled.{HasTop, SaysSomething}
@@ -65,11 +67,15 @@ pub record SayingLaws : Type 0 where
   pub texts : TextsAreDecided
   pub feeds : FeedsComeToAnEnd
   pub fed_alone : FeedsObeyAlone
+  pub fed_runs : FeedsRunAlone
+  pub effects : OneEndHasEffects
   pub decides_readable : DecidesReadable
   pub decides_fallen : DecidesFallen
   pub want : LawsWantReadable
   pub runs : ChoicesAreRuns
   pub lawful : HistoriesAreLawful
+  pub order : HistoriesKeepOrder
+  pub owed : HistoriesGiveWhatIsOwed
   pub still : RestOfCasesIsStill
   pub rests : StillWorldsRest
   pub weighed : HistoriesAreWeighed
@@ -142,7 +148,7 @@ module _ (laws : SayingLaws) where
         let setting = setting_by schema script course in
         let answer : CommandAnswer = run_answer shown d.after.setting.schema d.after.state.lines d.ending in (
           answer,
-          says_history laws.runs laws.lawful laws.rests laws.weighed laws.sides Gives shown course schema script (opening_of setting) d.after (answer_of d.ending) answer sound few refl
+          says_history laws.runs laws.lawful laws.order laws.owed laws.rests laws.weighed laws.sides Gives shown course schema script (opening_of setting) d.after (answer_of d.ending) answer sound few refl
               (made (opening_of setting) d.after d.ending d.gives) d.about d.stands d.case (record { ending = d.ending; ends = refl; says = refl }),
         )
 
@@ -178,6 +184,7 @@ module _ (laws : SayingLaws) where
             readable = readable;
             alone = obeyed.0;
             fallen = (laws.decides_fallen schema last.lines ((laws.decides_readable schema last.lines).1 readable)).0 obeyed.1;
+            owed = owed_so laws.fed_runs laws.effects setting bytes last.lines last.packets last.fault f.1 sound are feed;
             says = refl;
           },
         )

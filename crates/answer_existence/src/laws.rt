@@ -4,12 +4,13 @@
 ghost use Rattle.answer_existence.specs.Laws.{ExactlyOneAnswer, RelaysEnd, WordsDriveAll};
 
 use command_existence::words_are_decided;
-use feed_laws::feeds_obey_alone;
+use feed_laws::{feeds_obey_alone, feeds_run_alone};
 use file_existence::{clean_files_have_programs, findings_are_listed, reaches_exist};
 use ipdl_top::answer_is_determined;
 use law_statements::{decides_fallen, decides_readable, laws_want_readable_lines};
 use list_existence::lists_have_answers;
 use program_schema::clean_is_sound;
+use order_statements::{histories_give_what_they_owe, histories_keep_order, one_end_has_effects};
 use progress_laws::{histories_are_weighed, still_worlds_rest};
 use relay_history::{
     finished_relays_wait_for_nothing, relays_are_histories, relays_come_in_order, sides_obey_alone,
@@ -68,11 +69,15 @@ pub fn one_answer<D: Driver, Q: Relay>(driver: &D, relay: &Q)
     texts_are_decided();
     feeds_come_to_an_end();
     feeds_obey_alone();
+    feeds_run_alone();
+    one_end_has_effects();
     decides_readable();
     decides_fallen();
     laws_want_readable_lines();
     choices_are_runs();
     histories_are_lawful();
+    histories_keep_order();
+    histories_give_what_they_owe();
     rest_of_cases_is_still();
     still_worlds_rest();
     histories_are_weighed();

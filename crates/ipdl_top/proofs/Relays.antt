@@ -30,11 +30,17 @@ use Rattle.world_core.specs.declared.relay.Halves.{Halves}
 use Rattle.world_core.specs.Relaying.{IsRelayed, RelayGives}
 use Rattle.world_core.specs.WorldView.{WorldView, opening_of}
 use Rattle.world_core.specs.Worlds.{most_events}
+use Rattle.order_statements.specs.Laws.{HistoriesGiveWhatIsOwed, HistoriesKeepOrder, Owed}
+use Rattle.order_statements.specs.Order.{Order}
+use Rattle.progress_laws.specs.Progress.{HistoriesAreWeighed}
+use Rattle.progress_laws.specs.Rest.{StillWorldsRest}
+use Rattle.script_runs.specs.Laws.{RestOfCasesIsStill}
 use Rattle.world_laws.specs.Statements.{HistoriesAreLawful, IsLawfulHistory}
 use Rattle.ipdl_top.specs.declared.answer.CommandAnswer.{CommandAnswer}
 use Rattle.ipdl_top.specs.Relay.{Relaying, SaysRelayed, half_lines, halves_text, relay_setting}
 use Rattle.ipdl_top.specs.RelaySteps.{IsTextAnswer}
 use Rattle.ipdl_top.specs.Run.{answer_of, run_status}
+use Rattle.ipdl_top.proofs.Runs.{rests_so, weighed_so}
 
 -- a world that is as one begins begins itself
 pub opens-itself : (w : WorldView) (setting : Setting) → w ≡ opening_of setting → w ≡ opening_of w.setting
@@ -68,6 +74,11 @@ pub record RelayedLaws : Type 0 where
   pub answered : FinishedRelaysWaitForNothing
   pub runs : ChoicesAreRuns
   pub lawful : HistoriesAreLawful
+  pub order : HistoriesKeepOrder
+  pub owed : HistoriesGiveWhatIsOwed
+  pub still : RestOfCasesIsStill
+  pub rests : StillWorldsRest
+  pub weighed : HistoriesAreWeighed
   pub decides_readable : DecidesReadable
   pub decides_fallen : DecidesFallen
   pub want : LawsWantReadable
@@ -111,7 +122,12 @@ says_relayed laws Relays course schema script opened halves ended answer sound f
       history = one;
       legal = legal;
       lawful = subst (IsLawfulHistory schema) legal.1 (laws.lawful schema sound script.top legal.0);
+      order = subst (Order schema) legal.1 (laws.order schema sound script.top legal.0);
+      owed = subst (Owed schema) legal.1 (laws.owed schema sound script.top legal.0);
       legal_text = prints_so setting is.state printed.ending one is.ends;
+      rests = λ finished. rests_so laws.rests setting one.history.state sound (laws.runs setting one.history.choices one.history.state one.history.plays)
+          (laws.still setting one.history.choices one.history.state sound one.history.plays ((one.ending at_rest).0 (subst (EndsAs setting is.state) finished is.ends)));
+      weighed = weighed_so laws.weighed schema sound script.top one.lines legal;
       answered = λ rests. laws.answered setting is.state sound is.relay (subst (EndsAs setting is.state) rests is.ends);
       alone = alone;
       parent_readable = reads laws.decides_readable laws.decides_fallen laws.want schema (half_lines halves.parent) parent;

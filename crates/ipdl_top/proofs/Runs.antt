@@ -11,6 +11,8 @@ use Rattle.command_words.specs.Run.{Course}
 use Rattle.handler_script.specs.declared.script.Script.{Script}
 use Rattle.schedules.specs.declared.turn.Turn.{Turn}
 use Rattle.history.specs.Text.{transcript_text}
+use Rattle.order_statements.specs.Laws.{HistoriesGiveWhatIsOwed, HistoriesKeepOrder, Owed}
+use Rattle.order_statements.specs.Order.{Order}
 use Rattle.progress_laws.specs.Acts.{acts, by_themselves}
 use Rattle.progress_laws.specs.Progress.{HistoriesAreWeighed}
 use Rattle.progress_laws.specs.Rest.{IsRestingWorld, StillWorldsRest}
@@ -48,7 +50,7 @@ prints_legal : (w : WorldView) (ending : RunEnding) → IsCase w → StandsAs w 
 prints_legal w ending case' stands = record { choices = case'.leading; state = w.state; plays = case'.plays; ending = ending; ends = ends_so w ending stands; is = refl }
 
 -- A quiet run is at rest.
-rests_so : StillWorldsRest → (setting : Setting) (state : RunState) → IsSound setting.schema → IsRunOf setting state → IsAtRest setting state → IsRestingWorld state.world
+pub rests_so : StillWorldsRest → (setting : Setting) (state : RunState) → IsSound setting.schema → IsRunOf setting state → IsAtRest setting state → IsRestingWorld state.world
 rests_so rests setting state sound run rest =
     let same : (runs.run setting.schema run.moves (opening setting.script.top)).world ≡ state.world = ap (λ (s : RunState). s.world) run.runs in
     subst IsRestingWorld same (rests.rests setting.schema sound setting.script.top run.moves (subst (λ w. is_still setting.schema w ≡ true) (sym same) rest.still))
@@ -57,12 +59,16 @@ rests_so rests setting state sound run rest =
 without : (a b c : ℕ) → a + b ≤ c → a ≤ c
 without a b c h = omega (arith, h)
 
+-- Of a legal history the events that happen by themselves are at most six for each act.
+pub weighed_so : HistoriesAreWeighed → (schema : Schema) → IsSound schema → (top : ℕ) (lines : List Line) → IsLegalHistory schema top lines → by_themselves lines ≤ 6 * acts lines
+weighed_so weighed schema sound top lines legal = subst (λ (ls : List Line). by_themselves ls ≤ 6 * acts ls) legal.1 (without _ _ _ (weighed schema sound top legal.0))
+
 -- The history that a world has made by a word of turns or a driver is the script's own, legal and lawful, and ended as its
 -- answer says.
-pub says_history : ChoicesAreRuns → HistoriesAreLawful → StillWorldsRest → HistoriesAreWeighed → SidesObeyAlone → (Gives : Driving) (shown : Rendering) (course : Course) (schema : Schema) (script : Script) (opened after : WorldView) (ended : RunAnswer) (answer : CommandAnswer)
+pub says_history : ChoicesAreRuns → HistoriesAreLawful → HistoriesKeepOrder → HistoriesGiveWhatIsOwed → StillWorldsRest → HistoriesAreWeighed → SidesObeyAlone → (Gives : Driving) (shown : Rendering) (course : Course) (schema : Schema) (script : Script) (opened after : WorldView) (ended : RunAnswer) (answer : CommandAnswer)
     → IsSound schema → course.limit ≤ most_events → opened ≡ opening_of (setting_by schema script course) → IsMadeUnless Gives course.schedule opened after ended → after.setting ≡ opened.setting → StandsAs after ended → IsCase after
     → IsPrinted shown after.setting.schema after.state.lines ended answer → SaysHistory Gives shown course schema script answer
-says_history runs lawful rests weighed alone Gives shown course schema script opened after ended answer sound few opens made same stands case' printed =
+says_history runs lawful order owed rests weighed alone Gives shown course schema script opened after ended answer sound few opens made same stands case' printed =
     let setting : Setting = setting_by schema script course in
     let about : after.setting ≡ setting = same ∙ ap (λ (w : WorldView). w.setting) opens in
     let stands_so : StandsAs after (answer_of printed.ending) = subst (λ (answer : RunAnswer). StandsAs after answer) printed.ends stands in
@@ -83,9 +89,11 @@ says_history runs lawful rests weighed alone Gives shown course schema script op
       waits = laws.waits;
       settled = laws.settled;
       fallen = laws.fallen;
+      order = subst (Order schema) legal.1 (order schema sound script.top legal.0);
+      owed = subst (Owed schema) legal.1 (owed schema sound script.top legal.0);
       stands = stands_so;
       rests = λ finished. rests_so rests after.setting after.state (subst (λ (s : Setting). IsSound s.schema) (sym about) sound) run (subst (λ (ending : RunEnding). StandsAs after (answer_of ending)) finished stands_so).1;
-      weighed = subst (λ (lines : List Line). by_themselves lines ≤ 6 * acts lines) legal.1 (without _ _ _ (weighed schema sound script.top legal.0));
+      weighed = weighed_so weighed schema sound script.top after.state.lines legal;
       alone = alone setting after.state.lines sound (omega (arith, few)) (subst (λ (s : Setting). IsCaseHistory s after.state.lines) about case'.history);
       legal_text = subst (λ (s : Setting). IsLegalText s (transcript_text s.schema after.state.lines ++ ending_line printed.ending)) about (prints_legal after printed.ending case' stands_so);
       says = printed.says ∙ ap (λ (s : Setting). run_answer shown s.schema after.state.lines printed.ending) about;

@@ -11,6 +11,7 @@ use Rattle.command_words.specs.Feed.{FeedCourse}
 use Rattle.feed_runs.specs.declared.fault.FeedFault.{FeedFault}
 use Rattle.feed_runs.specs.declared.fault.FeedFault.TheVariants as fault
 use Rattle.feed_runs.specs.FeedTurns.{Feed, FeedSetting}
+use Rattle.order_statements.specs.Effects.{Effects}
 use Rattle.frame_list.specs.declared.list.FrameListFault.TheVariants as unread
 use Rattle.frame_list.specs.Frames.{frame_rule}
 use Rattle.frame_list.specs.Lines.{fault_line}
@@ -57,7 +58,8 @@ feed_answer schema name side lines kept spent =
     record { status = feed_status spent kept; out = transcript_text schema lines ++ ending_line (feed_ending side spent); err = kept_text name kept }
 
 -- The answer is the feed of the bytes: its lines, the fault that is kept, and whether the end is spent. The lines can be
--- read, and what they settle and go on with comes of the packets that were delivered; managed actors fall before managers.
+-- read, and what they settle and go on with comes of the packets that were delivered; managed actors fall before managers, and
+-- each event has the effects that it owes.
 pub record SaysFed (course : FeedCourse) (name bytes : List ℕ) (schema : Schema) (script : Script) (answer : CommandAnswer) : Type 0 where
   pub lines : List Line
   pub packets : List Packet
@@ -67,6 +69,7 @@ pub record SaysFed (course : FeedCourse) (name bytes : List ℕ) (schema : Schem
   pub readable : Readable schema lines
   pub alone : Alone schema script.top course.side lines packets
   pub fallen : Fallen schema lines
+  pub owed : Effects schema lines
   pub says : answer ≡ feed_answer schema name course.side lines kept spent
 
 -- the answer for a file of frames of this name, of which this is held

@@ -26,6 +26,10 @@ use Rattle.script_transcripts.specs.Legal.{IsLegalText}
 use Rattle.world_core.specs.declared.answers.RunAnswer.{RunAnswer}
 use Rattle.world_core.specs.declared.relay.Halves.{Halves}
 use Rattle.world_core.specs.WorldView.{WorldView, opening_of}
+use Rattle.order_statements.specs.Laws.{Owed}
+use Rattle.order_statements.specs.Order.{Order}
+use Rattle.progress_laws.specs.Acts.{acts, by_themselves}
+use Rattle.progress_laws.specs.Rest.{IsRestingWorld}
 use Rattle.world_laws.specs.Statements.{IsLawfulHistory}
 use Rattle.ipdl_top.specs.declared.answer.CommandAnswer.{CommandAnswer}
 use Rattle.ipdl_top.specs.Run.{answer_of, run_status}
@@ -54,8 +58,9 @@ relay_answer text ending = record { status = run_status ending; out = text ++ en
 -- The answer has what each end has seen, as the relay gives it: both ends have come there by steps, and a packet reaches one
 -- only after the other has sent it. There is one history of the script whose lines by side are those of the two ends, with
 -- each packet delivered as it was sent. That history is legal and all five laws hold of it; with the line of the ending its
--- transcript is a legal text. The relay is finished exactly where nothing is left to do there, and then no end waits; it is
--- spent only where a side has something to do but as many events as the limit. And each end obeys what one end by itself
+-- transcript is a legal text. What an end takes there is the first that it does not defer, each event gives what it owes, and
+-- what happens by itself is at most six events for each act. The relay is finished exactly where nothing is left to do there,
+-- and then both ends are at rest and no end waits; it is spent only where a side has something to do but as many events as the limit. And each end obeys what one end by itself
 -- obeys, with what was delivered to it; the lines of each can be read, and managed actors fall before managers.
 pub record SaysRelayed (Relays : Relaying) (course : RelayCourse) (schema : Schema) (script : Script) (answer : CommandAnswer) : Type 0 where
   pub halves : Halves
@@ -65,7 +70,11 @@ pub record SaysRelayed (Relays : Relaying) (course : RelayCourse) (schema : Sche
   pub history : IsOneHistory (relay_setting schema script course) relayed.state
   pub legal : IsLegalHistory schema script.top history.lines
   pub lawful : IsLawfulHistory schema history.lines
+  pub order : Order schema history.lines
+  pub owed : Owed schema history.lines
   pub legal_text : IsLegalText (relay_setting schema script course) (transcript_text schema history.lines ++ ending_line ending)
+  pub rests : ending ≡ at_rest → IsRestingWorld history.history.state.world
+  pub weighed : by_themselves history.lines ≤ 6 * acts history.lines
   pub answered : ending ≡ at_rest → (side : Side) → AllByRecursion IsAnswered (frames_of (half_of side relayed.state).end)
   pub alone : (side : Side) → ObeysAlone (relay_setting schema script course) side (half_of side relayed.state) (half_of (other side) relayed.state).sent
   pub parent_readable : Readable schema (half_lines halves.parent)

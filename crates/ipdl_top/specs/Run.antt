@@ -9,6 +9,8 @@ use Rattle.handler_script.specs.declared.script.Script.{Script}
 use Rattle.generated_case.specs.Counts.{counts_of}
 use Rattle.generated_case.specs.Summary.{summary_text}
 use Rattle.history.specs.Text.{transcript_text}
+use Rattle.order_statements.specs.Order.{Order}
+use Rattle.order_statements.specs.Laws.{Owed}
 use Rattle.progress_laws.specs.Acts.{acts, by_themselves}
 use Rattle.progress_laws.specs.Rest.{IsRestingWorld}
 use Rattle.relay_history.specs.SidesAlone.{SideObeysAlone}
@@ -72,7 +74,9 @@ run_answer shown schema lines ending = record { status = run_status ending; out 
 -- actors fall before managers. Where it is finished nothing is left to do and no end waits; and where it is spent, that
 -- side has something to do but as many events as the limit. Where it is finished both ends are at rest besides: nothing is
 -- left at either, and both are open with nothing on a link, or both have ended. What happens by itself is at most six events
--- for each act of a handler or a main. Each side by itself obeys what one end obeys, by what was delivered to it. With the line of its ending, its transcript is a legal text.
+-- for each act of a handler or a main. Each side by itself obeys what one end obeys, by what was delivered to it. What an end
+-- takes is the first that it does not defer; and each event gives what it owes: actors that it builds or that fall, answers, and
+-- promises settled. With the line of its ending, its transcript is a legal text.
 pub record SaysHistory (Gives : Driving) (shown : Rendering) (course : Course) (schema : Schema) (script : Script) (answer : CommandAnswer) : Type 0 where
   pub after : WorldView
   pub ending : RunEnding
@@ -86,6 +90,8 @@ pub record SaysHistory (Gives : Driving) (shown : Rendering) (course : Course) (
   pub waits : Waits schema after.state.lines
   pub settled : Settled schema after.state.lines
   pub fallen : Fallen schema after.state.lines
+  pub order : Order schema after.state.lines
+  pub owed : Owed schema after.state.lines
   pub stands : StandsAs after (answer_of ending)
   pub rests : ending ≡ at_rest → IsRestingWorld after.state.world
   pub weighed : by_themselves after.state.lines ≤ 6 * acts after.state.lines

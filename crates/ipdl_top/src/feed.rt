@@ -21,12 +21,13 @@ use crate::frames::unread_answer;
 use crate::run::spent_line;
 use crate::scripts::{ScriptCheck, script_checked};
 use crate::status::Status;
-use feed_laws::feeds_obey_alone;
+use feed_laws::{feeds_obey_alone, feeds_run_alone};
 use frame_list::{FrameListFault, fault_text, frame_rule};
 use handler_script::Script;
 use history::push_numbered;
 use ipdl_base::{FileBytes, Items, Schema, Side};
 use law_statements::{decides_fallen, decides_readable, laws_want_readable_lines};
+use order_statements::one_end_has_effects;
 use std::alloc::{AllocError, Global};
 use world_core::{Fed, FeedFault, feed as feed_end};
 
@@ -161,6 +162,8 @@ fn bytes_answer(
     ensures { IfOk result (SaysFed (feed_course wanted.now) wanted.now.frames.now bytes.now schema.now script.now) }
 {
     feeds_obey_alone();
+    feeds_run_alone();
+    one_end_has_effects();
     decides_readable();
     decides_fallen();
     laws_want_readable_lines();

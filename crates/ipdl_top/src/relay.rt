@@ -26,6 +26,9 @@ use schedules::Stop;
 use script_steps::choices_are_runs;
 use std::alloc::{AllocError, Global};
 use world_core::{Halves, Relay, RunAnswer, World};
+use order_statements::{histories_give_what_they_owe, histories_keep_order};
+use progress_laws::{histories_are_weighed, still_worlds_rest};
+use script_runs::rest_of_cases_is_still;
 use world_laws::histories_are_lawful;
 
 /// A script to run over two queues, and how.
@@ -109,6 +112,11 @@ fn relayed_answer<Q: Relay>(
     finished_relays_wait_for_nothing();
     choices_are_runs();
     histories_are_lawful();
+    histories_keep_order();
+    histories_give_what_they_owe();
+    rest_of_cases_is_still();
+    still_worlds_rest();
+    histories_are_weighed();
     decides_readable();
     decides_fallen();
     laws_want_readable_lines();

@@ -24,6 +24,7 @@ use crate::status::Status;
 use generated_case::{Counts, summary_text};
 use handler_script::Script;
 use ipdl_base::{FileBytes, Items, Schema, Side};
+use order_statements::{histories_give_what_they_owe, histories_keep_order};
 use progress_laws::{histories_are_weighed, still_worlds_rest};
 use relay_history::sides_obey_alone;
 use schedules::{Stop, Turn};
@@ -156,6 +157,8 @@ fn history_answer<D: Driver>(
 {
     choices_are_runs();
     histories_are_lawful();
+    histories_keep_order();
+    histories_give_what_they_owe();
     still_worlds_rest();
     histories_are_weighed();
     sides_obey_alone();

@@ -37,7 +37,7 @@ lt-more m n = by (nat_lt m n) refl
     by true is = lt-ltb (1 + m) (suc n) (omega (arith, ltb-true m n is)) ∙ sym is
     by false is = le-ltb (1 + m) (suc n) (omega (arith, ltb-false m n is)) ∙ sym is
 
-out-cons : (p x : PacketKind) (xs : List PacketKind) → without_first p (x ∷ xs) ≡ (if same_packet x p then xs else x ∷ without_first p xs)
+pub out-cons : (p x : PacketKind) (xs : List PacketKind) → without_first p (x ∷ xs) ≡ (if same_packet x p then xs else x ∷ without_first p xs)
 unfolding without_first
 out-cons p x xs = by (same_packet x p)
   where
@@ -238,7 +238,7 @@ reply-arrives : (n : ℤ) (own : EndReading) (b : Bool) → (if b then answering
 reply-arrives n own true = refl
 reply-arrives n own false = refl
 
-arrived-step : (schema : Schema) (place : ℕ) (w : What) (own : EndReading) (said : List What) → own.sent ≡ sent schema said → (after_what schema place w own).arrived ≡ passed (passing schema said w) own.arrived
+pub arrived-step : (schema : Schema) (place : ℕ) (w : What) (own : EndReading) (said : List What) → own.sent ≡ sent schema said → (after_what schema place w own).arrived ≡ passed (passing schema said w) own.arrived
 arrived-step schema place (what.DeliverReply n) own said e =
     reply-arrives n own (is_sync_request own n)
     ∙ ap (λ (ps : List SentPacket). passed (if option_map_or (λ (r : Request). r.sync) (request_of ps n) false then None else Some (arrives (seen.Reply n))) own.arrived) e

@@ -93,7 +93,7 @@ deferral-read schema end before st =
     ap (λ (fs : List CallFrame). record { side = end; level = awaited_level schema fs; inner = inner_transaction schema (end_reading_of (other_end end) (read schema before)) fs }) st
     ∙ ap (λ (t : Option ℤ). record { side = end; level = awaited_level schema (stack schema end before); inner = t }) (inner-read schema (end_reading_of (other_end end) (read schema before)) (said_by (other_end end) before) (sent-read schema (other_end end) before) (stack schema end before))
 
-kind-read : (schema : Schema) (end : Side) (before : List Line) → (end_reading_of end (read schema before)).stack ≡ stack schema end before → (p : PacketKind)
+pub kind-read : (schema : Schema) (end : Side) (before : List Line) → (end_reading_of end (read schema before)).stack ≡ stack schema end before → (p : PacketKind)
     → defers_packet schema (end_reading_of (other_end end) (read schema before)) (deferral_of schema end (end_reading_of end (read schema before)) (end_reading_of (other_end end) (read schema before))) p ≡ defers_kind schema end before p
 kind-read schema end before st p =
     ap (λ (d : DeferralState). defers_packet schema (end_reading_of (other_end end) (read schema before)) d p) (deferral-read schema end before st) ∙ by p

@@ -15,7 +15,7 @@ made-managed older (a ∷ later) h =
     let alive : lives a.manager older ≡ true = h.1 in
     (inr (lives-true a.manager (older ++ a ∷ later) (Has-left a.manager older (a ∷ later) (has a.manager older alive))), subst (λ (all : List Actor). AllByRecursion (IsManaged all) later) (append_assoc older (a ∷ []) later) (made-managed (older ++ a ∷ []) later h.2))
 
-tree-managed : (actors : List Actor) → IsTree actors → AllByRecursion (IsManaged actors) actors
+pub tree-managed : (actors : List Actor) → IsTree actors → AllByRecursion (IsManaged actors) actors
 tree-managed [] h = tt
 tree-managed (a ∷ later) h = (inl h.0, made-managed (a ∷ []) later h.1)
 

@@ -1,10 +1,10 @@
 -- In which order an end takes what has arrived, as its lines tell.
-use Rattle.std.specs.Prelude.{◌≡◌, ◌≢◌, ℕ, ℤ, Bool, true, false, not, ◌&&◌, IsTrue, List, [], ◌∷◌, ◌++◌, Option, Some, None, option_map}
+use Rattle.std.specs.Prelude.{◌≡◌, ◌≢◌, ℤ, Bool, true, false, not, ◌&&◌, IsTrue, List, ◌∷◌, ◌++◌, Option, Some, None, option_map}
 use Rattle.std.specs.List.{list_any}
 use Rattle.ipdl_base.specs.declared.kinds.Level.{Level}
 use Rattle.ipdl_base.specs.declared.kinds.Level.TheVariants.{Not, InsideSync, InsideCpow}
 use Rattle.ipdl_base.specs.declared.kinds.Side.{Side}
-use Rattle.ipdl_base.specs.declared.kinds.Side.TheVariants.{Parent, Child}
+use Rattle.ipdl_base.specs.declared.kinds.Side.TheVariants.{Parent}
 use Rattle.ipdl_base.specs.declared.line.Line.{Line}
 use Rattle.ipdl_base.specs.declared.line.What.{What}
 use Rattle.ipdl_base.specs.declared.line.What.TheVariants as what
@@ -13,7 +13,7 @@ use Rattle.ipdl_base.specs.Deferral.{Arrival, request, reply, goodbye, mark}
 use Rattle.nesting_core.specs.declared.frame.Head.{Head}
 use Rattle.history_reading.specs.declared.parts.PacketKind.{PacketKind}
 use Rattle.history_reading.specs.declared.parts.PacketKind.TheVariants as seen
-use Rattle.law_statements.specs.Arrived.{Passing, arrives, leaves, gives_up, is_giving_up, is_leaving, passings}
+use Rattle.law_statements.specs.Arrived.{Passing, arrives, is_giving_up, is_leaving, passings}
 use Rattle.law_statements.specs.Said.{line_of, other_end, said_by}
 use Rattle.law_statements.specs.Waits.{NoneWaits, defers_kind, sent_head}
 
@@ -48,14 +48,14 @@ pub data IsAsync : Arrival → Type 0 where
 
 -- Who may be taken before an older one that waits, at the end of a side.
 pub data MayOvertake : Side → Arrival → Arrival → Type 0 where
-  -- a request of level inside_cpow overtakes async ones and sync ones of lower levels
-  cpow_over_async : {side : Side} {older : Arrival} (sync : Bool) (transaction : ℤ) → IsAsync older → MayOvertake side (request sync InsideCpow transaction) older
-  cpow_over_sync : {side : Side} (sync : Bool) (transaction : ℤ) (level : Level) (other : ℤ) → level ≢ InsideCpow → MayOvertake side (request sync InsideCpow transaction) (request true level other)
-  -- a sync request of level inside_sync overtakes async ones
+  -- a sync request of level inside_sync overtakes async ones, and at the child nothing else overtakes
   sync_over_async : {side : Side} {older : Arrival} (transaction : ℤ) → IsAsync older → MayOvertake side (request true InsideSync transaction) older
   -- at the parent it also overtakes sync ones that are not nested, and of its own level those of another transaction
   sync_over_plain : (transaction other : ℤ) → MayOvertake Parent (request true InsideSync transaction) (request true Not other)
   sync_over_another : (transaction other : ℤ) → transaction ≢ other → MayOvertake Parent (request true InsideSync transaction) (request true InsideSync other)
+  -- and there a request of level inside_cpow overtakes async ones and sync ones of lower levels
+  cpow_over_async : {older : Arrival} (sync : Bool) (transaction : ℤ) → IsAsync older → MayOvertake Parent (request sync InsideCpow transaction) older
+  cpow_over_sync : (sync : Bool) (transaction : ℤ) (level : Level) (other : ℤ) → level ≢ InsideCpow → MayOvertake Parent (request sync InsideCpow transaction) (request true level other)
 
 -- by what both packets are
 pub record PacketOvertakes (schema : Schema) (end : Side) (other : List What) (packet older : PacketKind) : Type 0 where

@@ -1,8 +1,7 @@
 -- The effects of an event, and what messages are, as the lines of a history tell.
-use Rattle.std.specs.Prelude.{◌≡◌, ℕ, ℤ, Bool, true, false, ◌||◌, IsTrue, List, [], ◌∷◌, ◌++◌, map, filter_map, Option, Some, None}
-use Rattle.std.specs.List.{list_all, list_any}
+use Rattle.std.specs.Prelude.{◌≡◌, ℕ, ℤ, Bool, true, false, ◌||◌, IsTrue, List, ◌++◌, map, filter_map, Option, Some, None}
+use Rattle.std.specs.List.{list_all}
 use Rattle.std.specs.Option.{option_map_or}
-use Rattle.std.specs.Ordering.{int_eq}
 use Rattle.ipdl_base.specs.declared.kinds.EndState.{EndState}
 use Rattle.ipdl_base.specs.declared.kinds.EndState.TheVariants as state
 use Rattle.ipdl_base.specs.declared.kinds.Side.{Side}
@@ -15,7 +14,6 @@ use Rattle.ipdl_base.specs.declared.schema.Schema.{Schema}
 use Rattle.ipdl_base.specs.Lines.{is_effect}
 use Rattle.ipdl_base.specs.Sound.{message_of}
 use Rattle.history_reading.specs.declared.parts.HandledRequest.{HandledRequest}
-use Rattle.history_reading.specs.Numbers.{has}
 use Rattle.history_reading.specs.Rows.{is_sync_number, wants_number}
 use Rattle.law_statements.specs.Arrived.{state_of}
 use Rattle.law_statements.specs.Said.{is_moment, line_of}
