@@ -1,0 +1,12 @@
+pub mod Answering
+pub mod AnswersLaw
+pub mod AsSaid
+pub mod Births
+pub mod Deletions
+pub mod EffectLists
+pub mod EffectsLaw
+pub mod LastEvents
+pub mod Lookups
+pub mod Next
+pub mod Said
+pub mod Worked

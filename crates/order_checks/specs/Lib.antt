@@ -1,0 +1,4 @@
+pub mod Answered
+pub mod EffectTests
+pub mod AnswerTests
+pub mod Walk
