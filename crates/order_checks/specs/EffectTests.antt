@@ -24,10 +24,11 @@ use Rattle.law_statements.specs.Packets.{number_settled}
 use Rattle.order_statements.specs.Effects.{lets_go}
 use Rattle.order_statements.specs.Shape.{constructor_of, is_destructor, is_open, number_kept, owes_reply}
 
--- the effects that come before the next event
+-- what lines say
 abbrev pub whats : List Line → List What
 whats lines = map (λ line. line.what) lines
 
+-- the effects that come before the next event
 unfoldable pub is_effect_line : Line → Bool
 is_effect_line line = is_effect line.what
 
