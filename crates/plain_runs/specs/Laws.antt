@@ -12,7 +12,7 @@ use Rattle.relay_runs.specs.RelaySteps.{IsRelay, RelayState, half_of}
 use Rattle.script_steps.specs.Choices.{Choice, Setting, beginning_of, played}
 use Rattle.plain_runs.specs.PlainEnds.{ArePlainLines, IsPlainEnd, IsPlainEvent, IsPlainOutput, IsPlainPacket}
 
--- A plain event at a plain end, with a plain packet to be delivered, makes a plain end, plain lines and plain packets.
+-- A plain event at a plain end, with plain packets on the link toward it, makes a plain end, plain lines and plain packets.
 abbrev pub StepsStayPlain : Type 0
 StepsStayPlain =
     (schema : Schema) (e : End) (link : List Packet) (event : Event) (output : Output) → step schema e link event ≡ Some output
