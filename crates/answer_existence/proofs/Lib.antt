@@ -3,4 +3,5 @@ mod Compiled
 mod Lists
 mod Relays
 mod Said
+mod TurnRelays
 mod Words

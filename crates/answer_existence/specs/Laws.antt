@@ -19,7 +19,7 @@ use Rattle.script_steps.specs.Choices.{Setting}
 use Rattle.script_steps.specs.Turns.{RunEnding}
 use Rattle.value_codec.specs.Laws.{AreBytes}
 use Rattle.world_core.specs.declared.relay.Halves.{Halves}
-use Rattle.world_core.specs.Relaying.{IsRelayed}
+use Rattle.world_core.specs.Relaying.{IsRelayed, IsRelayedByTurns}
 use Rattle.world_core.specs.Turns.{StandsAs, WordGives}
 use Rattle.world_core.specs.WorldView.{WorldView, opening_of}
 use Rattle.world_core.specs.Worlds.{IsCase}
@@ -55,6 +55,10 @@ pub record HasRelayed (Relays : Relaying) (setting : Setting) : Type 0 where
 -- it gives so of every setting
 abbrev pub RelaysAll : Relaying → Type 0
 RelaysAll Relays = (setting : Setting) → IsRunnable setting → HasRelayed Relays setting
+
+-- The turns of both sides are a relay that gives so of every setting.
+abbrev pub TurnsRelayAll : Type 0
+TurnsRelayAll = RelaysAll (λ before halves ended. IsRelayedByTurns before.setting halves ended)
 
 -- The turns of any word are a driver that gives a run of every setting.
 abbrev pub WordsDriveAll : Type 0

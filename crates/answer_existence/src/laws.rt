@@ -1,7 +1,7 @@
-//! The laws that words have exactly one answer, that turns bring every relay to an end, and that words of turns
-//! drive every run.
+//! The laws that words have exactly one answer, that turns of both sides bring every relay to an end and are a
+//! relay themselves, and that words of turns drive every run.
 
-ghost use Rattle.answer_existence.specs.Laws.{ExactlyOneAnswer, RelaysEnd, WordsDriveAll};
+ghost use Rattle.answer_existence.specs.Laws.{ExactlyOneAnswer, RelaysEnd, TurnsRelayAll, WordsDriveAll};
 
 use command_existence::words_are_decided;
 use feed_laws::{feeds_obey_alone, feeds_run_alone};
@@ -9,13 +9,15 @@ use file_existence::{clean_files_have_programs, findings_are_listed, reaches_exi
 use ipdl_top::answer_is_determined;
 use law_statements::{decides_fallen, decides_readable, laws_want_readable_lines};
 use list_existence::lists_have_answers;
-use program_schema::clean_is_sound;
 use order_statements::{histories_give_what_they_owe, histories_keep_order, one_end_has_effects};
+use plain_runs::relay_lines_are_plain;
+use program_schema::clean_is_sound;
 use progress_laws::{histories_are_weighed, still_worlds_rest};
 use relay_history::{
     finished_relays_wait_for_nothing, relays_are_histories, relays_come_in_order, sides_obey_alone,
 };
 use relay_laws::relays_obey_alone;
+use relay_runs::turns_are_relays;
 use rule_existence::{
     list_findings_are_listed, manager_findings_are_listed, message_findings_are_listed,
     type_findings_are_listed,
@@ -33,6 +35,16 @@ pub fn relays_end()
     ensures { RelaysEnd }
 {
     relays_come_in_order();
+}
+
+/// The law of turns as a relay: the turns of both sides give something of every setting, with every box of the
+/// lines at one place.
+pub fn turns_relay_all()
+    ensures { TurnsRelayAll }
+{
+    relays_end();
+    turns_are_relays();
+    relay_lines_are_plain();
 }
 
 /// The law of words as drivers: the turns of any word give a run of every setting.

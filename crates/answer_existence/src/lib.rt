@@ -4,4 +4,4 @@
 
 mod laws;
 
-pub use laws::{one_answer, relays_end, words_drive_all};
+pub use laws::{one_answer, relays_end, turns_relay_all, words_drive_all};

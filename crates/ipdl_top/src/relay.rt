@@ -20,15 +20,15 @@ use history::{History, history_text};
 use ipdl_base::{FileBytes, Schema};
 use law_statements::{decides_fallen, decides_readable, laws_want_readable_lines};
 use line_laws::texts_see_no_box;
+use order_statements::{histories_give_what_they_owe, histories_keep_order};
+use progress_laws::{histories_are_weighed, still_worlds_rest};
 use relay_history::{finished_relays_wait_for_nothing, relays_are_histories, relays_come_in_order};
 use relay_laws::relays_obey_alone;
 use schedules::Stop;
+use script_runs::rest_of_cases_is_still;
 use script_steps::choices_are_runs;
 use std::alloc::{AllocError, Global};
 use world_core::{Halves, Relay, RunAnswer, World};
-use order_statements::{histories_give_what_they_owe, histories_keep_order};
-use progress_laws::{histories_are_weighed, still_worlds_rest};
-use script_runs::rest_of_cases_is_still;
 use world_laws::histories_are_lawful;
 
 /// A script to run over two queues, and how.

@@ -24,10 +24,10 @@ effects schema lines told kept = record {
   takes = takes-build schema lines told;
   drops = drops-told schema lines told;
   returns = λ end n d below before behind at top. record {
-      sync = returns-sync schema lines told end n d below before behind at top;
-      destroyed = returns-destroyed schema lines kept end n d below before behind at top;
-      deleted = returns-delete schema lines told end n d below before behind at top;
-    };
+    sync = returns-sync schema lines told end n d below before behind at top;
+    destroyed = returns-destroyed schema lines kept end n d below before behind at top;
+    deleted = returns-delete schema lines told end n d below before behind at top;
+  };
   renames = renames-told schema lines kept;
   settles = replies-settle schema lines told;
   late = replies-late schema lines told;

@@ -9,11 +9,12 @@ use history_of_text::schema_of;
 use ipdl_base::{Schema, Side, short_name};
 use std::alloc::Global;
 use std::test::Fail;
-use world_core::{Turn, World};
 use worked_runs::{RUNS, row_of};
+use world_core::{Turn, World};
 
 /// Words of turns, each of which is tried with every script.
-const WORDS: &str = "P C PC CP PPPPPP CCCCCC PPCCPPCC pcpcPC PpCcPpCc CcPpCcPp PPPcCCCp pPPcCCpPcC CPCPCPpcpcpc PPPPPPcccccc CCCCCCpppppp";
+const WORDS: &str =
+    "P C PC CP PPPPPP CCCCCC PPCCPPCC pcpcPC PpCcPpCc CcPpCcPp PPPcCCCp pPPcCCpPcC CPCPCPpcpcpc PPPPPPcccccc CCCCCCpppppp";
 
 /// The number of the protocol with this short name.
 fn number_of(schema: &Schema, name: &str) -> Result<u32, Fail> {

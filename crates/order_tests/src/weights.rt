@@ -27,12 +27,20 @@ fn weights_of(
     let mut shown = String::new(alloc);
     for line in history.lines() {
         if !is_effect(&line.what) {
-            let weight = if full { load.full_weight() } else { load.weight() };
+            let weight = if full {
+                load.full_weight()
+            } else {
+                load.weight()
+            };
             write!(shown, " {weight}")?;
         }
         load.note(schema, line)?;
     }
-    let weight = if full { load.full_weight() } else { load.weight() };
+    let weight = if full {
+        load.full_weight()
+    } else {
+        load.weight()
+    };
     write!(shown, " {weight}")?;
     Ok(shown)
 }

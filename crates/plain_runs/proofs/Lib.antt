@@ -1,0 +1,5 @@
+mod Parts
+mod Steps
+mod Events
+mod Runs
+mod Relays

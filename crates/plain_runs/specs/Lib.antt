@@ -1,0 +1,2 @@
+pub mod PlainEnds
+pub mod Laws
