@@ -1,6 +1,5 @@
 -- Every legal history, and every run of one end by itself, has the effects that are owed.
 use Rattle.std.proofs.Common.{ℕ, List}
-use Rattle.ipdl_base.specs.declared.kinds.Side.{Side}
 use Rattle.ipdl_base.specs.declared.line.Line.{Line}
 use Rattle.ipdl_base.specs.declared.schema.Schema.{Schema}
 use Rattle.ipdl_base.specs.Sound.{IsSound}

@@ -1,6 +1,5 @@
 -- An actor that lived and does not live any more never lives again.
 use Rattle.std.proofs.Common.{◌≡◌, ℕ, ℤ, Bool, true, false, not, ◌&&◌, ◌||◌, List, [], ◌∷◌, ◌++◌, refl, sym, ap, subst, ◌∙◌, append_assoc}
-use Rattle.std.specs.List.{list_any}
 use Rattle.std.proofs.lemmas.Bool.{and_parts, false≢true}
 use Rattle.std.proofs.lemmas.List.Folds.{list_any-append}
 use Rattle.std.proofs.lemmas.List.Elements.{filter_map-append}
@@ -8,12 +7,9 @@ use Rattle.ipdl_base.specs.declared.kinds.Side.{Side}
 use Rattle.ipdl_base.specs.declared.line.Line.{Line}
 use Rattle.ipdl_base.specs.declared.line.What.{What}
 use Rattle.ipdl_base.specs.declared.schema.Schema.{Schema}
-use Rattle.ipdl_base.specs.Sound.{IsSound}
-use Rattle.actor_tree.specs.Tree as tree
-use Rattle.channel_model.specs.Ends.{World, end_of, opening}
+use Rattle.channel_model.specs.Ends.{World, opening}
 use Rattle.channel_model.specs.Events.{Move}
 use Rattle.channel_model.specs.Runs.{RunState, happens, history_of, run}
-use Rattle.channel_laws.specs.Laws.{world_of}
 use Rattle.history_reading.specs.EndReading.{was_built}
 use Rattle.history_reading.specs.Numbers.{has}
 use Rattle.law_statements.specs.Actors.{built, fallen, id_fallen, lives}
