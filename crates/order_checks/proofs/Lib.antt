@@ -1,0 +1,3 @@
+pub mod WaitingLines
+pub mod OvertakingTests
+pub mod OrderDeciding

@@ -3,6 +3,7 @@ ghost use Rattle.std.specs.Prelude.{◌≡◌, ◌∷◌, ◌++◌, [], OnOk, Li
 ghost use Rattle.std.specs.List.{filter};
 ghost use Rattle.ipdl_base.specs.declared.line.Line as declared;
 ghost use Rattle.ipdl_base.specs.declared.line.What as said;
+ghost use Rattle.ipdl_base.specs.declared.line.What.TheVariants as what;
 ghost use Rattle.ipdl_base.specs.declared.schema.Schema.{Schema};
 ghost use Rattle.ipdl_base.specs.Lines.{same_side};
 ghost use Rattle.history_reading.specs.EndReading.{is_sync_request};
@@ -37,7 +38,7 @@ fn is_sync_request(own: &EndReading<'_>, n: i32) -> bool
 
 /// What passes where a reply is delivered: that to a sync request does not wait.
 fn reply_passing(own: &EndReading<'_>, n: i32) -> Option<Passing>
-    ensures { (schema : Schema) (told : List said.What) → (end_view own.now).sent ≡ sent schema told → option_map passing_view result ≡ passing schema told (said.TheVariants.DeliverReply n) }
+    ensures { (schema : Schema) (told : List said.What) → (end_view own.now).sent ≡ sent schema told → option_map passing_view result ≡ passing schema told (what.DeliverReply n) }
 {
     if is_sync_request(own, n) {
         None
