@@ -1,3 +1,15 @@
-pub mod WaitingLines
+pub mod Answering
+pub mod AnswersLaw
+pub mod AsSaid
+pub mod Births
+pub mod Deletions
+pub mod EffectLists
+pub mod EffectsLaw
+pub mod LastEvents
+pub mod Lookups
+pub mod Next
+pub mod OrderLaw
 pub mod OvertakingTests
-pub mod OrderDeciding
+pub mod Said
+pub mod WaitingLines
+pub mod Worked

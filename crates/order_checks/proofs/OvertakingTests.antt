@@ -1,10 +1,10 @@
 -- The test of who overtakes whom decides the table.
-use Rattle.std.proofs.Common.{◌≡◌, ◌≢◌, ℤ, Bool, true, false, not, ◌&&◌, ◌||◌, IsTrue, List, Option, Some, option_and_then, option_map, refl, sym, ap, subst, ◌∙◌}
+use Rattle.std.proofs.Common.{◌≡◌, ◌≢◌, ℤ, Bool, true, false, not, ◌||◌, List, Some, option_and_then, option_map, refl, sym, ap, ◌∙◌}
 use Rattle.std.specs.Bool.{Decides}
 use Rattle.std.specs.Option.{option_map_or}
 use Rattle.std.specs.Ordering.{int_eq}
 use Rattle.std.proofs.lemmas.Bool.Decides.{Decides-int_eq}
-use Rattle.std.proofs.lemmas.Bool.{and_parts, and_from, false≢true, not-true}
+use Rattle.std.proofs.lemmas.Bool.{false≢true, not-true}
 use Rattle.ipdl_base.specs.declared.kinds.Level.{Level}
 use Rattle.ipdl_base.specs.declared.kinds.Level.TheVariants.{Not, InsideSync, InsideCpow}
 use Rattle.ipdl_base.specs.declared.kinds.Side.{Side}
@@ -12,7 +12,6 @@ use Rattle.ipdl_base.specs.declared.kinds.Side.TheVariants.{Parent, Child}
 use Rattle.ipdl_base.specs.declared.line.What.{What}
 use Rattle.ipdl_base.specs.declared.schema.Schema.{Schema}
 use Rattle.ipdl_base.specs.Deferral.{Arrival, request, reply, goodbye, mark}
-use Rattle.nesting_core.specs.declared.frame.Head.{Head}
 use Rattle.history_reading.specs.declared.parts.PacketKind.{PacketKind}
 use Rattle.history_reading.specs.declared.parts.PacketKind.TheVariants as seen
 use Rattle.history_reading.specs.EndReading.{EndReading}
@@ -21,7 +20,7 @@ use Rattle.history_reading.specs.Still.{head_of}
 use Rattle.law_statements.specs.Packets.{sent}
 use Rattle.law_statements.proofs.Deciding.{found, recast}
 use Rattle.order_statements.specs.Order.{IsAsync, MayOvertake, PacketOvertakes, arrival_of, cpow_over_async, cpow_over_sync, of_reply, of_request, request_arrival, sync_over_another, sync_over_async, sync_over_plain}
-use Rattle.order_checks.specs.OrderTest.{is_async, is_below_cpow, is_call_below_cpow, is_call_of_another, may_overtake, packet_arrival, packet_overtakes}
+use Rattle.order_checks.specs.OrderTests.{is_async, is_below_cpow, is_call_below_cpow, is_call_of_another, may_overtake, packet_arrival, packet_overtakes}
 
 below-to : (l : Level) → is_below_cpow l ≡ true → l ≢ InsideCpow
 below-to InsideCpow e = cc
@@ -53,10 +52,6 @@ one-of false b f g e = g e
 or-first : (a b : Bool) → a ≡ true → (a || b) ≡ true
 or-first true b e = refl
 or-first false b e = absurd (false≢true e)
-
-or-second : (a b : Bool) → b ≡ true → (a || b) ≡ true
-or-second true b e = refl
-or-second false b e = e
 
 over-another : (t : ℤ) (y : Arrival) → is_call_of_another t y ≡ true → MayOvertake Parent (request true InsideSync t) y
 over-another t (request false l u) e = cc

@@ -2,8 +2,13 @@
 //! (docs/laws.md). The lines may be any list.
 #![tactic(auto)]
 
+mod answered;
+mod answers;
+mod effect_lines;
+mod effects;
 mod order;
-mod order_walk;
+mod rows;
 mod waiting;
+mod walk;
 
-pub use order_walk::keeps_order;
+pub use walk::{gives_answers, gives_effects, keeps_order};

@@ -7,7 +7,7 @@ ghost use Rattle.history_reading.specs.Numbers.{same_packet};
 ghost use Rattle.history_reading.specs.Still as still;
 ghost use Rattle.law_checks.specs.Deferrals.{deferral_view};
 ghost use Rattle.order_statements.specs.Order as order;
-ghost use Rattle.order_checks.specs.OrderTest as the;
+ghost use Rattle.order_checks.specs.OrderTests as the;
 
 use history_reading::{EndReading, PacketKind};
 use ipdl_base::{Level, Schema, Side, What};

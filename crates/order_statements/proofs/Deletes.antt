@@ -1,12 +1,10 @@
 -- A destructor deletes its actor and all below it, when it is sent and when its handler returns.
-use Rattle.std.proofs.Common.{◌≡◌, ◌⊎◌, inl, inr, ℕ, ℤ, pos, Bool, true, false, not, ◌&&◌, ◌||◌, if◌then◌else◌, int_eq, IsTrue, List, [], ◌∷◌, ◌++◌, map, Option, Some, None, refl, sym, ap, subst, ◌∙◌, append_assoc, option_and_then}
-use Rattle.std.specs.List.{AllByRecursion, list_any}
+use Rattle.std.proofs.Common.{◌≡◌, inl, inr, ℕ, ℤ, pos, Bool, true, false, not, ◌||◌, int_eq, IsTrue, List, [], ◌∷◌, ◌++◌, map, Option, Some, refl, sym, ap, subst, ◌∙◌, append_assoc, option_and_then}
 use Rattle.std.specs.Option.{option_map_or}
-use Rattle.std.proofs.lemmas.Bool.{false≢true}
 use Rattle.std.proofs.lemmas.Bool.Decides.{Decides-int_eq}
 use Rattle.std.proofs.lemmas.List.{append-nil}
+use Rattle.std.proofs.lemmas.List.Elements.{filter_map-append}
 use Rattle.std.proofs.lemmas.List.Folds.{list_any-append}
-use Rattle.std.proofs.lemmas.Option.{same_Some}
 use Rattle.actor_tree.specs.declared.actor.Actor.{Actor}
 use Rattle.actor_tree.specs.Tree as tree
 use Rattle.actor_tree.specs.Tree.{IsTree}
@@ -14,7 +12,6 @@ use Rattle.ipdl_base.specs.declared.kinds.Side.{Side}
 use Rattle.ipdl_base.specs.declared.line.Line.{Line}
 use Rattle.ipdl_base.specs.declared.line.What.{What}
 use Rattle.ipdl_base.specs.declared.line.What.TheVariants as what
-use Rattle.ipdl_base.specs.declared.message.Message.{Message}
 use Rattle.ipdl_base.specs.declared.schema.Kind.{Kind}
 use Rattle.ipdl_base.specs.declared.schema.Kind.TheVariants.{Normal, Constructor, Delete}
 use Rattle.ipdl_base.specs.declared.schema.MessageRow.{MessageRow}
@@ -23,17 +20,20 @@ use Rattle.ipdl_base.specs.declared.value.Values.{Values}
 use Rattle.ipdl_base.specs.Lines.{is_effect}
 use Rattle.ipdl_base.specs.Sound.{message_of}
 use Rattle.history_reading.specs.declared.parts.BuiltActor.{BuiltActor}
+use Rattle.history_reading.specs.declared.parts.CallFrame.{CallFrame}
+use Rattle.history_reading.specs.declared.parts.CallFrame.TheVariants as frame
 use Rattle.history_reading.specs.declared.parts.HandledRequest.{HandledRequest}
 use Rattle.history_reading.specs.EndReading.{was_built}
-use Rattle.history_reading.specs.Numbers.{has}
-use Rattle.channel_model.specs.Ends.{End, Packet}
+use Rattle.nesting_core.specs.Frames.{head_of}
+use Rattle.channel_model.specs.Ends.{End, StackEntry}
 use Rattle.channel_model.specs.Events.{Event}
 use Rattle.channel_model.specs.Events as event
-use Rattle.channel_model.specs.Numbers.{is_sync_row, protocol_of, request_row}
-use Rattle.channel_model.specs.Outputs.{Output, beginning, is_open}
+use Rattle.channel_model.specs.Numbers.{request_row}
+use Rattle.channel_model.specs.Returns.{dispatch_on_top, may_return, return}
 use Rattle.channel_model.specs.Steps.{provided, step}
-use Rattle.channel_model.proofs.Provided.{found-gives, provided-gives}
-use Rattle.channel_laws.specs.EndActors.{HasIds, built_actor, built_ids, shown_actor, standing, is_standing}
+use Rattle.channel_model.proofs.Provided.{found-gives}
+use Rattle.channel_model.proofs.SendParts.{request-number}
+use Rattle.channel_laws.specs.EndActors.{HasIds, built_ids, shown_actor, standing, is_standing}
 use Rattle.channel_laws.specs.Notes.{In, here, there}
 use Rattle.channel_laws.proofs.ActorsKept.{zero-free}
 use Rattle.channel_laws.proofs.Growing.{in-all, in-before, in-behind}
@@ -41,16 +41,22 @@ use Rattle.channel_laws.proofs.Standing.{alive-built, alive-unfallen, built-live
 use Rattle.progress_laws.proofs.Members.{in-filter}
 use Rattle.law_statements.specs.Actors.{built, built_at, fallen, lives}
 use Rattle.law_statements.specs.Fallen.{IsBelow, further, under}
-use Rattle.law_statements.specs.Said.{line_of, said_by}
+use Rattle.law_statements.specs.Said.{line_of, said_by, said_in}
+use Rattle.law_statements.specs.Stack.{stack}
+use Rattle.law_statements.proofs.Ends.{said-own}
 use Rattle.alone_laws.proofs.LivingActors.{made-append}
-use Rattle.order_laws.specs.DueEffects.{IsManaged, SendsRequest}
-use Rattle.order_laws.proofs.DueEffects.{destructors_delete}
+use Rattle.order_laws.specs.DueEffects.{IsManaged}
+use Rattle.order_laws.specs.Order.{FirstLine}
+use Rattle.order_laws.proofs.DueEffects.{destructors_delete, due_answers_are_given}
 use Rattle.order_laws.proofs.Managers.{tree-managed}
 use Rattle.order_statements.specs.Effects.{IsDeleted}
 use Rattle.order_statements.specs.Shape.{deletes, is_destructor, request_sent}
-use Rattle.order_statements.proofs.FirstLines.{IsLineOf, line-of-event}
+use Rattle.order_statements.proofs.DispatchPlaces.{TakePlace, take-place}
+use Rattle.order_statements.proofs.FirstLines.{IsLineOf, first-is, line-of-event}
 use Rattle.order_statements.proofs.Places.{EventIn}
+use Rattle.order_statements.proofs.Returning.{dispatch-read, request_handled}
 use Rattle.order_statements.proofs.SentRequests.{IsSend, sends-alive, sent-by}
+use Rattle.order_statements.proofs.TakenRequests.{taken-alive, taken-by}
 use Rattle.order_statements.proofs.Tells.{EndTells, EventsAreTold, TellingStep, told-after}
 
 -- Who was built
@@ -156,7 +162,7 @@ deletes-kind Delete h = refl
 pub destructor-row : (schema : Schema) (number : ℕ) (row : MessageRow) → message_of schema number ≡ Some row → IsTrue (is_destructor schema number) → row.kind ≡ Delete
 destructor-row schema number row found is = deletes-kind row.kind (sym (ap (λ (r : Option MessageRow). option_map_or (λ (x : MessageRow). deletes x.kind) r false) found) ∙ is)
 
-request-event : (w : What) (q : HandledRequest) → request_sent w ≡ Some q → is_effect w ≡ false
+pub request-event : (w : What) (q : HandledRequest) → request_sent w ≡ Some q → is_effect w ≡ false
 request-event (what.Send n route number values) q h = refl
 request-event (what.Call n transaction route number values) q h = refl
 request-event _ q h = cc
@@ -172,3 +178,62 @@ sends-delete schema lines told end w q before behind at asked destructor =
     let d = destructors_delete.sends schema e i.by.link s.row q.route s.number s.values s.name i.output s.sent (destructor-row schema q.number s.row s.found destructor) made in
     let alive : tree.lives q.route e.actors ≡ true = sends-alive schema e s.row q.route s.number s.values s.sent in
     deleted-after schema i q.route (alive-built (built (said_by end before)) (fallen (said_by end before)) e.actors q.route i.by.tells.living alive) d.gone
+
+-- Returns
+
+abbrev is_return : Event → Bool
+is_return (event.return values) = true
+is_return _ = false
+
+return-says : (ev : Event) (n : ℤ) → IsLineOf ev (what.Return n) → is_return ev ≡ true
+return-says (event.return values) n h = refl
+return-says _ n h = absurd h
+
+said-take : (end : Side) (front : List Line) (w : What) (back : List Line) → said_by end (front ++ line_of end w ∷ back) ≡ said_by end front ++ (w ∷ said_by end back)
+said-take end front w back =
+    ap (said_by end) (sym (append_assoc front (line_of end w ∷ []) back))
+    ∙ (filter_map-append (said_in end) (front ++ line_of end w ∷ []) back ∙ (ap (λ (ws : List What). ws ++ said_by end back) (said-own end front w) ∙ append_assoc (said_by end front) (w ∷ []) (said_by end back)))
+
+module _ (schema : Schema) (lines : List Line) (told : EventsAreTold schema lines) where
+  -- the actor of a request that is handled was built
+  pub dispatch-built : (end : Side) (before behind : List Line) (d : HandledRequest) (below : List CallFrame) → lines ≡ before ++ behind → stack schema end before ≡ frame.Dispatch d ∷ below → was_built (built (said_by end before)) d.route ≡ true
+  dispatch-built end before behind d below at top =
+      let p : TakePlace end d before = take-place schema end before d below top in
+      let w : What = what.Take d.seq d.route d.number p.values in
+      let place : lines ≡ p.front ++ line_of end w ∷ (p.back ++ behind) = at ∙ (ap (λ (ls : List Line). ls ++ behind) p.is ∙ append_assoc p.front (line_of end w ∷ p.back) behind) in
+      let i = told end w p.front (p.back ++ behind) refl place in
+      let t : EndTells schema i.by.e end p.front = i.by.tells in
+      let alive : tree.lives d.route i.by.e.actors ≡ true = taken-alive (taken-by schema i.by.e i.by.link i.output end d.seq d.route d.number p.values i.effects i.lines t.theirs t.origins i.by.happened i.by.made) in
+      let then_built : was_built (built (said_by end p.front)) d.route ≡ true = alive-built (built (said_by end p.front)) (fallen (said_by end p.front)) i.by.e.actors d.route t.living alive in
+      subst (λ (ws : List What). was_built (built ws) d.route ≡ true) (sym (ap (said_by end) p.is ∙ said-take end p.front w p.back)) (built-later (said_by end p.front) (w ∷ said_by end p.back) d.route then_built)
+
+  module _ (end : Side) (n : ℤ) (d : HandledRequest) (below : List CallFrame) (before behind : List Line) (at : lines ≡ before ++ line_of end (what.Return n) ∷ behind) (top : stack schema end before ≡ frame.Dispatch d ∷ below) (destructor : IsTrue (is_destructor schema d.number)) where
+    place : EventIn (TellingStep schema end) end (what.Return n) before behind
+    place = told end (what.Return n) before behind refl at
+
+    abbrev Result : Type 0
+    Result = IsDeleted end (said_by end before ++ what.Return d.seq ∷ []) d.route behind
+
+    returned : (values : Option Values) (entry : StackEntry) (row : MessageRow) → dispatch_on_top place.by.e.stack ≡ Some entry → request_row schema entry.number ≡ Some row → step schema place.by.e place.by.link (event.return values) ≡ Some place.output → Result
+    returned values entry row on_top found made =
+        let e : End = place.by.e in
+        let request : request_handled entry ≡ d = dispatch-read (stack schema end before) e.stack d below entry top place.by.tells.frames on_top in
+        let kind : row.kind ≡ Delete = destructor-row schema entry.number row (request-number schema entry.number row found).1 (subst (λ (q : HandledRequest). IsTrue (is_destructor schema q.number)) (sym request) destructor) in
+        let dead : tree.lives entry.route place.output.end.actors ≡ false = (destructors_delete.returns schema e place.by.link entry row values place.output on_top found kind made).gone in
+        let said = (due_answers_are_given.returns schema e place.by.link entry row values place.output on_top found made).said in
+        let number : what.Return n ≡ what.Return (head_of entry.frame).seq =
+        first-is end (what.Return n) (what.Return (head_of entry.frame).seq) place.effects place.output.lines (subst (FirstLine (λ x. x ≡ what.Return (head_of entry.frame).seq)) (sym said) refl) place.lines
+        in
+        subst (λ (w : What). IsDeleted end (said_by end before ++ w ∷ []) d.route behind) (number ∙ ap (λ (q : HandledRequest). what.Return q.seq) request)
+        (deleted-after schema place d.route (dispatch-built end before (line_of end (what.Return n) ∷ behind) d below at top) (subst (λ (q : HandledRequest). tree.lives q.route place.output.end.actors ≡ false) request dead))
+
+    by-return : (ev : Event) → step schema place.by.e place.by.link ev ≡ Some place.output → is_return ev ≡ true → Result
+    by-return (event.return values) made kind =
+        found-gives (λ o. Result) (dispatch_on_top place.by.e.stack) (λ entry. option_and_then (λ row. provided (may_return schema row values) (return schema place.by.e row entry values) place.by.e) (request_row schema entry.number)) place.output
+        (λ entry on_top k. found-gives (λ o. Result) (request_row schema entry.number) (λ row. provided (may_return schema row values) (return schema place.by.e row entry values) place.by.e) place.output
+        (λ row found l. returned values entry row on_top found made) k) made
+    by-return _ made kind = cc
+
+    -- the return of a destructor's handler
+    pub returns-delete : Result
+    returns-delete = by-return place.by.happened place.by.made (return-says place.by.happened n (line-of-event schema place.by.e place.by.link place.by.happened place.output end (what.Return n) place.effects place.by.made place.lines))

@@ -1,5 +1,5 @@
 -- The first line of a step tells which event it is of.
-use Rattle.std.proofs.Common.{◌≡◌, ℕ, ◌+◌, ℤ, pos, Bool, true, false, if◌then◌else◌, List, [], ◌∷◌, ◌++◌, map, Option, Some, None, refl, sym, subst, option_and_then}
+use Rattle.std.proofs.Common.{◌≡◌, ℕ, ◌+◌, ℤ, pos, Bool, true, false, if◌then◌else◌, List, [], ◌∷◌, ◌++◌, map, Option, Some, None, sym, subst, option_and_then}
 use Rattle.ipdl_base.specs.declared.kinds.Reason.TheVariants.{ResolverDestroyed}
 use Rattle.ipdl_base.specs.declared.kinds.SendRefusal.{SendRefusal}
 use Rattle.ipdl_base.specs.declared.kinds.Side.{Side}
@@ -262,3 +262,7 @@ first-has schema e link event.flush output is = provided-gives (Has event.flush)
 -- the event of a step whose lines begin with this one
 pub line-of-event : (schema : Schema) (e : End) (link : List Packet) (ev : Event) (output : Output) (end : Side) (w : What) (effects : List What) → step schema e link ev ≡ Some output → output.lines ≡ map (line_of end) (w ∷ effects) → IsLineOf ev w
 line-of-event schema e link ev output end w effects is at = subst (FirstLine (IsLineOf ev)) at (first-has schema e link ev output is)
+
+-- a line that is known to be the first
+pub first-is : (end : Side) (w v : What) (effects : List What) (ls : List Line) → FirstLine (λ x. x ≡ v) ls → ls ≡ map (line_of end) (w ∷ effects) → w ≡ v
+first-is end w v effects ls h at = subst (FirstLine (λ x. x ≡ v)) at h

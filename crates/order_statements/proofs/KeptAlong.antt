@@ -43,7 +43,7 @@ lines-of side (l ∷ ls) h = ap (λ (s : Side). record { side = s; what = l.what
 pub step-lines : (schema : Schema) (e : End) (link : List Packet) (ev : Event) (output : Output) → step schema e link ev ≡ Some output → output.lines ≡ map (line_of e.side) (whats output.lines)
 step-lines schema e link ev output is = lines-of e.side output.lines (events_have_their_lines schema e link ev output is).lines
 
-none-said : (s : Side) (ws : List What) → said_by (other_end s) (map (line_of s) ws) ≡ []
+pub none-said : (s : Side) (ws : List What) → said_by (other_end s) (map (line_of s) ws) ≡ []
 none-said s [] = refl
 none-said Parent (w ∷ ws) = none-said Parent ws
 none-said Child (w ∷ ws) = none-said Child ws

@@ -4,10 +4,16 @@ pub mod Tells
 pub mod StepLines
 pub mod FirstLines
 pub mod SentRequests
-pub mod Deletes
+pub mod TakenRequests
+pub mod DispatchPlaces
 pub mod KeptAlong
+pub mod KeptSteps
 pub mod Dropping
 pub mod Returning
+pub mod Deletes
+pub mod Builds
+pub mod Settles
+pub mod Refuses
 pub mod LateReplies
 pub mod Resolvers
 pub mod Arrived
@@ -16,3 +22,14 @@ pub mod Takings
 pub mod WaitingItems
 pub mod OrderLaw
 pub mod WorkedOrder
+mod WorkedEffects
+pub mod OwedAnswers
+pub mod Handling
+pub mod AskedRequests
+pub mod EffectsLaw
+pub mod NeverAgain
+pub mod AnsweringLines
+pub mod SaidCounts
+pub mod ReplacedRequests
+pub mod AnswersLaw
+pub mod OwedLaw

@@ -14,13 +14,12 @@ use Rattle.channel_model.specs.Ends.{World, end_of, opening}
 use Rattle.channel_model.specs.Events.{Move}
 use Rattle.channel_model.specs.Runs.{RunState, happens, history_of, run}
 use Rattle.channel_laws.specs.Laws.{world_of}
-use Rattle.history_reading.specs.declared.parts.BuiltActor.{BuiltActor}
 use Rattle.history_reading.specs.EndReading.{was_built}
 use Rattle.history_reading.specs.Numbers.{has}
-use Rattle.law_statements.specs.Actors.{built, built_at, fallen, id_fallen, lives}
-use Rattle.law_statements.specs.Said.{made_of, said_by, said_in}
-use Rattle.alone_laws.proofs.LivingActors.{made-append}
+use Rattle.law_statements.specs.Actors.{built, fallen, id_fallen, lives}
+use Rattle.law_statements.specs.Said.{said_by, said_in}
 use Rattle.order_statements.specs.Laws.{FallenActorsStayFallen}
+use Rattle.order_statements.proofs.Deletes.{built-later}
 use Rattle.order_statements.proofs.Tells.{history-tells}
 
 -- Longer histories
@@ -46,11 +45,6 @@ or-true : (a b : Bool) → a ≡ true → (a || b) ≡ true
 or-true true b h = refl
 or-true false b h = absurd (false≢true h)
 
-built-stays : (own later : List What) (id : ℤ) → was_built (built own) id ≡ true → was_built (built (own ++ later)) id ≡ true
-built-stays own later id h =
-    ap (λ (bs : List BuiltActor). was_built (record { id = pos 2147483647; manager = pos 0 } ∷ bs) id) (made-append built_at [] own later)
-    ∙ list_any-append _ (built own) (made_of built_at ([] ++ own) later) ∙ or-true (was_built (built own) id) _ h
-
 fallen-stays : (own later : List What) (id : ℤ) → has (fallen own) id ≡ true → has (fallen (own ++ later)) id ≡ true
 fallen-stays own later id h = ap (λ (ns : List ℤ). has ns id) (filter_map-append id_fallen own later) ∙ list_any-append _ (fallen own) (fallen later) ∙ or-true (has (fallen own) id) _ h
 
@@ -73,6 +67,6 @@ fallen_actors_stay_fallen schema sound top front middle back side id lived gone 
     let own = said_by side (history_of schema top front) in
     let now = said_by side (history_of schema top (front ++ middle)) in
     let built_first : was_built (built own) id ≡ true = (and_parts (was_built (built own) id) (not (has (fallen own) id)) ((history-tells schema sound top front side).alive id ∙ lived)).0 in
-    let built_now : was_built (built now) id ≡ true = subst (λ (ws : List What). was_built (built ws) id ≡ true) (sym before.1) (built-stays own before.0 id built_first) in
+    let built_now : was_built (built now) id ≡ true = subst (λ (ws : List What). was_built (built ws) id ≡ true) (sym before.1) (built-later own before.0 id built_first) in
     let dead : lives now id ≡ false = (history-tells schema sound top (front ++ middle) side).alive id ∙ gone in
     sym ((history-tells schema sound top ((front ++ middle) ++ back) side).alive id) ∙ ap (λ (ws : List What). lives ws id) after.1 ∙ falls-for-good now after.0 id built_now dead

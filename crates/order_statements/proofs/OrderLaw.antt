@@ -56,7 +56,7 @@ use Rattle.order_statements.proofs.WaitingItems.{EndKnown, Waits, all-wait, arri
 
 -- Lists
 
-no-item : {A : Type 0} (x : A) → In x [] → ⊥
+pub no-item : {A : Type 0} (x : A) → In x [] → ⊥
 no-item x i = elim i [ ]
 
 in-one : {A : Type 0} (x y : A) → In x (y ∷ []) → x ≡ y

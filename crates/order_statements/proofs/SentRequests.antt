@@ -4,7 +4,6 @@ use Rattle.actor_tree.specs.Tree as tree
 use Rattle.ipdl_base.specs.declared.kinds.SendRefusal.{SendRefusal}
 use Rattle.ipdl_base.specs.declared.kinds.SendRefusal.TheVariants as refusal
 use Rattle.ipdl_base.specs.declared.kinds.Side.{Side}
-use Rattle.ipdl_base.specs.declared.line.Line.{Line}
 use Rattle.ipdl_base.specs.declared.line.What.{What}
 use Rattle.ipdl_base.specs.declared.line.What.TheVariants as what
 use Rattle.ipdl_base.specs.declared.message.Message.{Message}
@@ -25,9 +24,8 @@ use Rattle.channel_model.proofs.Provided.{found-gives, provided-gives}
 use Rattle.channel_model.proofs.SendParts.{lives-as, passed-first, request-number}
 use Rattle.law_statements.specs.Said.{line_of}
 use Rattle.order_laws.specs.DueEffects.{SendsRequest}
-use Rattle.order_laws.specs.Order.{FirstLine}
 use Rattle.order_statements.specs.Shape.{request_sent}
-use Rattle.order_statements.proofs.FirstLines.{IsLineOf, line-of-event, sent-begins}
+use Rattle.order_statements.proofs.FirstLines.{IsLineOf, first-is, line-of-event, sent-begins}
 
 -- The request of a line that is sent: the event, the row of the request, and that it was not refused.
 pub record IsSend (schema : Schema) (e : End) (ev : Event) (w : What) (q : HandledRequest) : Type 0 where
@@ -64,9 +62,6 @@ sends-only ev _ q asked h = cc
 request-of-line : (b : Bool) (m : Message) (values : Values) (q : HandledRequest) → request_sent (if b then what.Call m.seq m.transaction m.route m.number values else what.Send m.seq m.route m.number values) ≡ Some q → q ≡ record { seq = m.seq; route = m.route; number = m.number }
 request-of-line true m values q asked = cc
 request-of-line false m values q asked = cc
-
-first-is : (end : Side) (w v : What) (effects : List What) (ls : List Line) → FirstLine (λ x. x ≡ v) ls → ls ≡ map (line_of end) (w ∷ effects) → w ≡ v
-first-is end w v effects ls h at = subst (FirstLine (λ x. x ≡ v)) at h
 
 module _ (schema : Schema) (e : End) (link : List Packet) (output : Output) (end : Side) (w : What) (effects : List What) (q : HandledRequest) (asked : request_sent w ≡ Some q) where
   accepted : (route : ℤ) (number : ℕ) (values : Values) (name : Option (List ℕ)) (row : MessageRow) → request_row schema number ≡ Some row → (refused : Option SendRefusal) → sends.send_refusal schema e row route values ≡ refused

@@ -32,7 +32,7 @@ pub data MadeOf (schema : Schema) (e : End) (output : Output) (ws : List What) :
   of_own : {q : Phase} → OwnParts schema e ws output.packets output.end q → MadeOf schema e output ws
   of_delivery : {q : Phase} (packet : Packet) → is_open e.state ≡ true → DeliveryPart schema packet e ws output.packets output.end q → MadeOf schema e output ws
 
-said-same : (s t : Side) (xs ys : List What) → map (line_at s) xs ≡ map (line_of t) ys → xs ≡ ys
+pub said-same : (s t : Side) (xs ys : List What) → map (line_at s) xs ≡ map (line_of t) ys → xs ≡ ys
 said-same s t [] [] e = refl
 said-same s t [] (y ∷ ys) e = cc
 said-same s t (x ∷ xs) [] e = cc

@@ -24,7 +24,7 @@ use Rattle.history_reading.specs.SentPacket.{SentPacket, requests_of}
 use Rattle.promise_table.specs.Promises.{is_pending}
 use Rattle.channel_model.specs.Ends.{End, Packet, PromiseEntry, World, end_of, link_to, opening}
 use Rattle.channel_model.specs.Events.{Event, Move}
-use Rattle.channel_model.specs.Outputs.{Output}
+use Rattle.channel_model.specs.Outputs.{Output, line_at}
 use Rattle.channel_model.specs.Laws.{MovesFollow}
 use Rattle.channel_model.specs.Runs.{happens, history_of, passed_by, run, world_after}
 use Rattle.channel_model.specs.Steps.{step}
@@ -53,7 +53,8 @@ use Rattle.law_statements.proofs.StackRead.{stack-read}
 use Rattle.alone_laws.specs.AloneRuns.{RunsAlone}
 use Rattle.alone_laws.proofs.AloneLines.{said-more}
 use Rattle.alone_laws.proofs.AloneRuns.{one_end_obeys_fallen, runs-keep}
-use Rattle.order_statements.proofs.ArrivedReplies.{RepliesArePromised, replies-alone, replies-promised}
+use Rattle.alone_laws.proofs.AloneSteps.{whats-same}
+use Rattle.order_statements.proofs.ArrivedReplies.{ItemIsPromised, RepliesArePromised, replies-alone, replies-promised}
 use Rattle.order_statements.proofs.Places.{EffectIn, EventIn, MoveAt, StepAt, effect-alone, effect-at, event-alone, event-at, run-after}
 
 -- What the lines of an end tell of it: its state, who was built and lives, its stack, and its promises; and what is read of these lines, for more.
@@ -77,7 +78,8 @@ pub record EndTells (schema : Schema) (e : End) (end : Side) (lines : List Line)
   -- what the other end has sent, as far as it is known, and what comes of it
   pub theirs : List Note
   pub origins : HasOrigins schema theirs e
-  pub replies : RepliesArePromised e (end_reading_of end (read schema lines))
+  -- what has arrived and is a reply is to one of these promises
+  pub replies : AllByRecursion (ItemIsPromised (promised_in (requests_of (sent schema (said_by end lines))))) e.arrived
 
 -- The state
 
@@ -89,7 +91,7 @@ first-state : (o : Option EndState) (rest : List EndState) → unwrap_or (slice_
 first-state None rest = refl
 first-state (Some s) rest = refl
 
-state-more : (told : List What) (w : What) → state_of (told ++ w ∷ []) ≡ unwrap_or (state_after w) (state_of told)
+pub state-more : (told : List What) (w : What) → state_of (told ++ w ∷ []) ≡ unwrap_or (state_after w) (state_of told)
 state-more told w =
     ap (λ (ws : List What). unwrap_or (slice_get (filter_map state_after ws) 0) state.Open) (reverse-append told (w ∷ []))
     ∙ first-state (state_after w) (filter_map state_after (reverse told))
@@ -140,7 +142,7 @@ tells schema e end lines side readable actors exchanges outlined theirs origins 
       outlined = outlined;
       theirs = theirs;
       origins = origins;
-      replies = replies;
+      replies = subst (λ (ps : List Promised). AllByRecursion (ItemIsPromised ps) e.arrived) is_sent replies;
     }
 
 -- the end of a side in a legal history
@@ -253,3 +255,10 @@ alone-effects schema sound top side e lines packets run end w before behind is a
 -- what an end has said after an event and its effects
 pub told-after : (schema : Schema) {end : Side} {w : What} {before behind : List Line} (i : EventIn (TellingStep schema end) end w before behind) → said_by end (before ++ i.output.lines) ≡ said_by end before ++ w ∷ i.effects
 told-after schema {end} {w} {before} i = ap (λ (ls : List Line). said_by end (before ++ ls)) i.lines ∙ said-more end before (w ∷ i.effects)
+
+rest-same : {x y : What} {xs ys : List What} → x ∷ xs ≡ y ∷ ys → xs ≡ ys
+rest-same e = cc
+
+-- the effects of an event, where all lines of its step are known
+pub effects-are : (schema : Schema) {end : Side} {w : What} {before behind : List Line} (i : EventIn (TellingStep schema end) end w before behind) (first : What) (effects : List What) → i.output.lines ≡ map (line_at i.by.e.side) (first ∷ effects) → i.effects ≡ effects
+effects-are schema {end} {w} i first effects said = rest-same (whats-same end (w ∷ i.effects) (first ∷ effects) (sym i.lines ∙ (said ∙ ap (λ (s : Side). map (line_at s) (first ∷ effects)) i.by.tells.side_is)))

@@ -1,12 +1,14 @@
 -- Every legal history keeps the order, and every event in it gives what it owes.
-use Rattle.std.specs.Prelude.{ℕ, List}
+use Rattle.std.specs.Prelude.{◌≡◌, ℕ, ℤ, true, false, List, ◌++◌}
 use Rattle.ipdl_base.specs.declared.kinds.Side.{Side}
 use Rattle.ipdl_base.specs.declared.line.Line.{Line}
 use Rattle.ipdl_base.specs.declared.schema.Schema.{Schema}
 use Rattle.ipdl_base.specs.Sound.{IsSound}
-use Rattle.channel_model.specs.Ends.{End, Packet}
+use Rattle.actor_tree.specs.Tree.{lives}
+use Rattle.channel_model.specs.Ends.{End, Packet, end_of}
 use Rattle.channel_model.specs.Events.{Move}
 use Rattle.channel_model.specs.Runs.{history_of}
+use Rattle.channel_laws.specs.Laws.{world_of}
 use Rattle.alone_laws.specs.AloneRuns.{RunsAlone}
 use Rattle.order_statements.specs.Answers.{Answers}
 use Rattle.order_statements.specs.Effects.{Effects}
@@ -26,3 +28,9 @@ HistoriesGiveWhatIsOwed = (schema : Schema) → IsSound schema → (top : ℕ) (
 -- So does every event of one end by itself, whatever is delivered to it, as far as its own effects go.
 abbrev pub OneEndHasEffects : Type 0
 OneEndHasEffects = (schema : Schema) → IsSound schema → (top : ℕ) (side : Side) (e : End) (lines : List Line) (packets : List Packet) → RunsAlone schema top side e lines packets → Effects schema lines
+
+-- In every run an actor that lived and does not live any more never lives again.
+abbrev pub FallenActorsStayFallen : Type 0
+FallenActorsStayFallen =
+    (schema : Schema) → IsSound schema → (top : ℕ) (front middle back : List Move) (side : Side) (id : ℤ) → lives id (end_of side (world_of schema top front)).actors ≡ true
+    → lives id (end_of side (world_of schema top (front ++ middle))).actors ≡ false → lives id (end_of side (world_of schema top ((front ++ middle) ++ back))).actors ≡ false

@@ -3,5 +3,7 @@
 #![tactic(auto)]
 
 mod order;
+mod owed;
 
 pub use order::histories_keep_order;
+pub use owed::{fallen_actors_stay_fallen, histories_give_what_they_owe, one_end_has_effects};

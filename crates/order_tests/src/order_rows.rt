@@ -17,16 +17,21 @@ parent send 1 to 2147483647 PW.Tell(1)
 child deliver request 1
 child take 1 at 2147483647 PW.Tell(1)
 ====
-deferred-reply PTwo.ipdl yyyyy nyy
+deferred-reply PDesk.ipdl yyyyy nyy
 the reply of a promise is taken while a call waits
-child send -1 to 2147483647 PTwo.Start()
-parent deliver request -1
-parent take -1 at 2147483647 PTwo.Start()
-parent resolve -1 (5)
-parent call 1/1 to 2147483647 PTwo.Call()
-child deliver reply -1
+parent send 1 to 2147483647 PDesk.PPage()
+  built 6 PPage
 child deliver request 1
-child take 1 at 2147483647 PTwo.Call()
+child take 1 at 2147483647 PDesk.PPage()
+  built 6 PPage
+child return 1
+child send -1 to 6 PPage.Get()
+parent deliver request -1
+parent take -1 at 6 PPage.Get()
+parent resolve -1 (5)
+parent return -1
+child call -2/-2 to 2147483647 PDesk.Peek()
+child deliver reply -1
 child take reply -1
   settle -1 resolved (5)
 ====

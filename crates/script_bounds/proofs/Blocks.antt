@@ -1,20 +1,18 @@
 -- Each block serves one request, but for the last of a message.
 use Rattle.std.proofs.Common.{◌≡◌, ℕ, zero, suc, ◌+◌, ◌-◌, ◌<◌, ◌≤◌, min, nat_lt, Bool, true, false, not, ◌&&◌, ◌==◌, cond, if◌then◌else◌, List, [], ◌∷◌, ◌++◌, length, filter, Option, Some, None, refl, sym, ap, subst, ◌∙◌, arith}
 use Rattle.std.specs.List.{slice_get}
-use Rattle.std.specs.Option.{option_map_or}
 use Rattle.std.proofs.lemmas.Bool.{false≢true}
 use Rattle.std.proofs.lemmas.Bool.Decides.{Decides-ltb, Decides-eqb}
-use Rattle.std.proofs.lemmas.List.{append-nil}
 use Rattle.std.proofs.lemmas.List.Elements.{filter-append}
 use Rattle.ipdl_base.specs.declared.kinds.Side.{Side}
 use Rattle.ipdl_base.specs.declared.kinds.Side.TheVariants as side
 use Rattle.ipdl_base.specs.Lines.{same_side}
-use Rattle.channel_laws.specs.Counts.{how_many, one_if}
+use Rattle.channel_laws.specs.Counts.{one_if}
 use Rattle.handler_script.specs.declared.action.Block.{Block}
 use Rattle.handler_script.specs.declared.script.Script.{Script}
 use Rattle.handler_script.specs.ScriptOf.{blocks_for}
 use Rattle.handler_script.specs.Served.{is_number, is_side, serves}
-use Rattle.script_bounds.specs.Actions.{actions_again, actions_for, actions_in, actions_of, actions_served, block_actions, block_count, main_actions, side_actions, taken_before}
+use Rattle.script_bounds.specs.Actions.{actions_again, actions_for, actions_in, actions_of, actions_served, block_actions, block_count, taken_before}
 use Rattle.script_bounds.specs.Laws.{BlocksServeOnce}
 
 -- Blocks that have not served

@@ -1,7 +1,7 @@
 -- The acts of a side are no more than its actions; so a run is bounded, and comes to rest.
 use Rattle.std.proofs.Common.{◌≡◌, ◌⊎◌, inl, inr, ℕ, ◌+◌, ◌*◌, ◌<◌, ◌≤◌, Bool, true, false, not, ◌&&◌, cond, nat_lt, if◌then◌else◌, List, [], ◌∷◌, ◌++◌, map, Option, Some, None, is_some, refl, sym, ap, subst, ◌∙◌, arith}
 use Rattle.std.specs.Prelude.{option_map}
-use Rattle.std.specs.List.{AllByRecursion, AllZip}
+use Rattle.std.specs.List.{AllZip}
 use Rattle.std.specs.Option.{option_map_or}
 use Rattle.std.proofs.lemmas.Bool.{false≢true}
 use Rattle.std.proofs.lemmas.Bool.Decides.{Decides-ltb}
@@ -40,24 +40,23 @@ use Rattle.channel_model.proofs.Provided.{provided-gives}
 use Rattle.progress_laws.specs.Acts.{acts as act_count, by_themselves, is_act as is_act_event, tells_act, tells_by_itself}
 use Rattle.progress_laws.proofs.WeighedRuns.{histories_are_weighed, lines_tell_acts}
 use Rattle.schedules.specs.declared.stop.Stop.{Stop}
-use Rattle.script_steps.specs.Choices.{Choice, Setting, beginning_of, event_by, may_deliver, own_event, played}
+use Rattle.script_steps.specs.Choices.{Choice, Setting, beginning_of, may_deliver, own_event, played}
 use Rattle.script_steps.specs.NextEvent.{by_flushing, by_handler, by_main, by_taking, by_top, context_of, event_of, handler_action, is_stopped, next_event, or_else, return_of}
 use Rattle.script_steps.specs.Progress.{HandledRequest, Progress, after_line, after_lines, is_act, lines_of, no_progress, progress_of}
-use Rattle.script_steps.proofs.Choosing.{Happens, HaveSides, choice-happens, side-of}
+use Rattle.script_steps.proofs.Choosing.{Happens, choice-happens}
 use Rattle.script_steps.specs.Laws.{IsRunOf}
-use Rattle.script_steps.specs.Turns.{RunEnding, at_limit, at_rest}
+use Rattle.script_steps.specs.Turns.{at_limit, at_rest}
 use Rattle.script_steps.proofs.Counting.{after-effect, after-event, lines_of-append, lines_of-own}
 use Rattle.script_steps.proofs.Playing.{Chooses, PlaysOn, choices_are_runs, chooses, plays_on}
 use Rattle.script_steps.proofs.StepLines.{Prints, step-prints}
 use Rattle.script_runs.specs.Dispatches.{dispatches}
-use Rattle.script_runs.specs.Endings.{EndsAs}
 use Rattle.script_runs.specs.Handlers.{IsDispatchOf}
 use Rattle.script_runs.proofs.CaseRuns.{IsCase, case-next}
 use Rattle.script_runs.proofs.Handlers.{empty-top, zip-empty}
 use Rattle.script_runs.proofs.KeptRuns.{case-side, handled_are_dispatched}
 use Rattle.script_runs.proofs.Progressing.{first-is}
-use Rattle.script_runs.proofs.Shows.{Behind, Shows, ShowsAct, step-shows}
-use Rattle.script_bounds.specs.Actions.{actions_again, actions_served, deaths, main_actions, side_actions}
+use Rattle.script_runs.proofs.Shows.{Shows, ShowsAct, step-shows}
+use Rattle.script_bounds.specs.Actions.{deaths, main_actions}
 use Rattle.script_bounds.specs.Laws.{ActsAreActions, RunsAreBounded, ScriptsComeToRest, event_count}
 use Rattle.script_bounds.proofs.Blocks.{blocks_serve_once}
 use Rattle.script_bounds.proofs.Acting.{HasAction, act-uses, action-left, in_handler, in_main, left, lines-more, served}

@@ -2,7 +2,7 @@ use Rattle.std.proofs.Common.{◌≡◌, ℕ, Bool, true, ◌&&◌, take, sym, a
 use Rattle.std.specs.List.{list_all, take_while}
 use Rattle.history_reading.specs.EndReadings.{end_view}
 use Rattle.history_reading.specs.Still.{DeferralState, defers_packet}
-use Rattle.order_checks.specs.OrderTest.{is_deferred, is_first_free, packet_overtakes}
+use Rattle.order_checks.specs.OrderTests.{is_deferred, is_first_free, packet_overtakes}
 use Rattle.order_checks.proofs.order.takes_first_free.Goals as goal
 
 pub returns-then-is_first_free : goal.returns-then-is_first_free

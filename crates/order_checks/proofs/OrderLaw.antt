@@ -1,27 +1,26 @@
 -- The test of each line decides the statement Order of readable lines.
-use Rattle.std.proofs.Common.{◌≡◌, ◌↔◌, ℕ, suc, ◌+◌, Bool, true, false, not, ◌&&◌, if◌then◌else◌, IsTrue, List, [], ◌∷◌, ◌++◌, take, find, Option, Some, None, refl, sym, ap, subst, ◌∙◌, arith, append_assoc}
+use Rattle.std.proofs.Common.{◌≡◌, ◌↔◌, ℕ, suc, ◌+◌, Bool, true, false, not, ◌&&◌, if◌then◌else◌, IsTrue, List, [], ◌∷◌, ◌++◌, take, find, Option, Some, None, refl, sym, ap, subst, ◌∙◌, arith}
 use Rattle.std.specs.Bool.{Decides}
 use Rattle.std.specs.List.{list_all, prefix_len, take_while}
 use Rattle.std.specs.Option.{option_map_or}
-use Rattle.std.proofs.lemmas.Bool.{and_parts, and_from, false≢true}
+use Rattle.std.proofs.lemmas.Bool.{and_parts, and_from}
 use Rattle.ipdl_base.specs.declared.kinds.Side.{Side}
 use Rattle.ipdl_base.specs.declared.line.Line.{Line}
 use Rattle.ipdl_base.specs.declared.line.What.{What}
 use Rattle.ipdl_base.specs.declared.schema.Schema.{Schema}
-use Rattle.history_reading.specs.declared.parts.CallFrame.{CallFrame}
 use Rattle.history_reading.specs.declared.parts.PacketKind.{PacketKind}
 use Rattle.history_reading.specs.EndReading.{EndReading, has_unanswered}
 use Rattle.history_reading.specs.Holds.{IsReadable}
 use Rattle.history_reading.specs.Numbers.{same_packet}
-use Rattle.history_reading.specs.Reading.{end_reading_of, other_of, read}
+use Rattle.history_reading.specs.Reading.{end_reading_of, read}
 use Rattle.channel_laws.specs.Notes.{In, here, there}
 use Rattle.law_statements.specs.Arrived.{Passing, arrives, gives_up, leaves, passings}
 use Rattle.law_statements.specs.Readable.{Readable}
 use Rattle.law_statements.specs.Said.{line_of, other_end, said_by}
 use Rattle.law_statements.specs.Stack.{stack}
-use Rattle.law_statements.specs.Waits.{NoneWaits, defers_kind}
+use Rattle.law_statements.specs.Waits.{defers_kind}
 use Rattle.law_statements.proofs.Along.{each-from, each-to}
-use Rattle.law_statements.proofs.Deciding.{both, both-then, recast, untrue}
+use Rattle.law_statements.proofs.Deciding.{both, recast, untrue}
 use Rattle.law_statements.proofs.Ends.{other-read}
 use Rattle.law_statements.proofs.Fields.{sent-read}
 use Rattle.law_statements.proofs.Fronts.{same-kind}
@@ -31,15 +30,14 @@ use Rattle.law_statements.proofs.WaitsLaw.{kind-read}
 use Rattle.order_statements.specs.Order.{IsPassedOver, Order, PacketOvertakes, TakesFirstFree, WaitsAlone, is_shut, packet_taken, still_waits}
 use Rattle.order_statements.specs.Waiting.{waiting}
 use Rattle.order_statements.proofs.Arrived.{WaitsAt, waits-at, waits-in}
-use Rattle.order_checks.specs.OrderTest.{is_deferred, is_first_free, is_taken_in_order, order_line, packet_overtakes, takes_first_free, waits_alone}
-use Rattle.order_checks.specs.OrderWalk.{all_pass, passes}
+use Rattle.order_statements.proofs.OrderLaw.{no-item}
+use Rattle.order_checks.specs.OrderTests.{is_deferred, is_first_free, is_taken_in_order, order_line, packet_overtakes, takes_first_free, waits_alone}
+use Rattle.order_checks.specs.declared.walk.Statement.TheVariants as statement
+use Rattle.order_checks.specs.Walk.{all_pass, line_test, passes}
 use Rattle.order_checks.proofs.OvertakingTests.{overtakes-is}
 use Rattle.order_checks.proofs.WaitingLines.{waits_at}
 
 -- Lists
-
-no-packet : {A : Type 0} (x : A) → In x [] → ⊥
-no-packet x i = elim i [ ]
 
 -- a packet of a list stands between others
 record Standing (q : PacketKind) (packets : List PacketKind) : Type 0 where
@@ -48,12 +46,12 @@ record Standing (q : PacketKind) (packets : List PacketKind) : Type 0 where
   split : packets ≡ front ++ q ∷ back
 
 standing : (q : PacketKind) (packets : List PacketKind) → In q packets → Standing q packets
-standing q [] i = absurd (no-packet q i)
+standing q [] i = absurd (no-item q i)
 standing q (x ∷ packets) here = record { front = []; back = packets; split = refl }
 standing q (x ∷ packets) (there i) = let s : Standing q packets = standing q packets i in record { front = x ∷ s.front; back = s.back; split = ap (λ (ps : List PacketKind). x ∷ ps) s.split }
 
 all-is : (test : PacketKind → Bool) (packets : List PacketKind) → Decides (list_all test packets) ((q : PacketKind) → In q packets → test q ≡ true)
-all-is test [] = (λ e q i. absurd (no-packet q i), λ h. refl)
+all-is test [] = (λ e q i. absurd (no-item q i), λ h. refl)
 all-is test (x ∷ packets) =
     (λ e q i. to q i (and_parts (test x) (list_all test packets) e) ((all-is test packets).0), λ h. and_from (test x) (list_all test packets) (h x here) ((all-is test packets).1 (λ q i. h q (there i))))
   where
@@ -63,7 +61,7 @@ all-is test (x ∷ packets) =
 
 -- The first that is free
 
--- Of some packets one is the first that passes no test, and all older ones pass it and another.
+-- One of some packets is not deferred, and all that are older are deferred and may be overtaken.
 record FirstFree (deferred overtaken : PacketKind → Bool) (packet : PacketKind) (packets : List PacketKind) : Type 0 where
   older : List PacketKind
   younger : List PacketKind
@@ -106,7 +104,7 @@ first-to deferred overtaken packet (x ∷ xs) e = by (deferred x) refl (first-to
     by : (b : Bool) → deferred x ≡ b → (takes_first_free deferred overtaken packet xs ≡ true → FirstFree deferred overtaken packet xs) → FirstFree deferred overtaken packet (x ∷ xs)
     by true is rec =
         let p : (overtaken x ≡ true) × (takes_first_free deferred overtaken packet xs ≡ true) =
-            parts (is_first_free deferred packet xs) (overtaken x) (list_all overtaken (take_while deferred xs)) (sym (free-more deferred overtaken packet x xs true is) ∙ e) in
+        parts (is_first_free deferred packet xs) (overtaken x) (list_all overtaken (take_while deferred xs)) (sym (free-more deferred overtaken packet x xs true is) ∙ e) in
         let f : FirstFree deferred overtaken packet xs = rec p.1 in
         record { older = x ∷ f.older; younger = f.younger; split = ap (λ (ps : List PacketKind). x ∷ ps) f.split; free = f.free; passed = passed f p.0 }
       where
@@ -115,7 +113,7 @@ first-to deferred overtaken packet (x ∷ xs) e = by (deferred x) refl (first-to
         passed f o q (there i) = f.passed q i
     by false is rec =
         let same : x ≡ packet = (same-kind x packet).0 ((and_parts (same_packet x packet) true (sym (free-more deferred overtaken packet x xs false is) ∙ e)).0) in
-        record { older = []; younger = xs; split = ap (λ (p : PacketKind). p ∷ xs) same; free = ap deferred (sym same) ∙ is; passed = λ q i. absurd (no-packet q i) }
+        record { older = []; younger = xs; split = ap (λ (p : PacketKind). p ∷ xs) same; free = ap deferred (sym same) ∙ is; passed = λ q i. absurd (no-item q i) }
 
 first-from : (deferred overtaken : PacketKind → Bool) (packet : PacketKind) (older younger : List PacketKind) → deferred packet ≡ false → ((q : PacketKind) → In q older → (deferred q ≡ true) × (overtaken q ≡ true))
     → takes_first_free deferred overtaken packet (older ++ packet ∷ younger) ≡ true
@@ -141,7 +139,7 @@ record OlderWait (P : PacketKind → Type 0) (packet : PacketKind) (earlier late
 
 older-wait : (P : PacketKind → Type 0) (packet : PacketKind) (earlier later : List Passing) → IsTrue (still_waits packet later)
     → ((q : PacketKind) (front back : List Passing) → earlier ≡ front ++ arrives q ∷ back → IsTrue (still_waits q (back ++ arrives packet ∷ later)) → P q) → OlderWait P packet earlier later
-older-wait P packet [] later w h = record { older = []; split = ap (λ (b : Bool). if b then packet ∷ waiting later else waiting later) w; have = λ q i. absurd (no-packet q i) }
+older-wait P packet [] later w h = record { older = []; split = ap (λ (b : Bool). if b then packet ∷ waiting later else waiting later) w; have = λ q i. absurd (no-item q i) }
 older-wait P packet (leaves p ∷ earlier) later w h =
     let o : OlderWait P packet earlier later = older-wait P packet earlier later w (λ q front back e. h q (leaves p ∷ front) back (ap (λ (ps : List Passing). leaves p ∷ ps) e)) in
     record { older = o.older; split = o.split; have = o.have }
@@ -250,24 +248,25 @@ module _ (schema : Schema) (end : Side) (before : List Line) (st : (end_reading_
 -- Lines
 
 passes-is : (schema : Schema) (before : List Line) (end : Side) (w : What) (behind : List Line)
-    → passes schema before (line_of end w) behind ≡ order_line schema end (end_reading_of end (read schema before)) (end_reading_of (other_end end) (read schema before)) (waits_at schema end before) w
+    → passes statement.Order schema before (line_of end w) behind ≡ order_line schema end (end_reading_of end (read schema before)) (end_reading_of (other_end end) (read schema before)) (waits_at schema end before) w
+unfolding line_test
 passes-is schema before end w behind = ap (λ (o : EndReading). order_line schema end (end_reading_of end (read schema before)) o (waits_at schema end before) w) (other-read end (read schema before))
 
 module _ (schema : Schema) (lines : List Line) (r : IsReadable schema lines) where
   at : (end : Side) (w : What) (before behind : List Line) → lines ≡ before ++ line_of end w ∷ behind
-      → Decides (passes schema before (line_of end w) behind) ((packet : PacketKind) → packet_taken w ≡ Some packet → TakesFirstFree schema end before packet × (IsTrue (is_shut w) → WaitsAlone schema end before packet))
+      → Decides (passes statement.Order schema before (line_of end w) behind) ((packet : PacketKind) → packet_taken w ≡ Some packet → TakesFirstFree schema end before packet × (IsTrue (is_shut w) → WaitsAlone schema end before packet))
   at end w before behind e =
       subst (λ (b : Bool). Decides b ((packet : PacketKind) → packet_taken w ≡ Some packet → TakesFirstFree schema end before packet × (IsTrue (is_shut w) → WaitsAlone schema end before packet))) (sym (passes-is schema before end w behind))
       (line-is schema end before (stack-read schema lines r end before (line_of end w ∷ behind) e) w)
 
-  to : IsTrue (all_pass schema lines) → Order schema lines
+  to : IsTrue (all_pass statement.Order schema lines) → Order schema lines
   to h = record {
-    takes = λ end w packet before behind e is. ((at end w before behind e).0 (each-from (passes schema) [] lines h before (line_of end w) behind e) packet is).0;
-    farewells = λ end w packet before behind e shut is. ((at end w before behind e).0 (each-from (passes schema) [] lines h before (line_of end w) behind e) packet is).1 shut;
+    takes = λ end w packet before behind e is. ((at end w before behind e).0 (each-from (passes statement.Order schema) [] lines h before (line_of end w) behind e) packet is).0;
+    farewells = λ end w packet before behind e shut is. ((at end w before behind e).0 (each-from (passes statement.Order schema) [] lines h before (line_of end w) behind e) packet is).1 shut;
   }
 
-  from : Order schema lines → IsTrue (all_pass schema lines)
-  from o = each-to (passes schema) [] lines (λ before line behind e. (at line.side line.what before behind e).1 (λ packet is. (o.takes line.side line.what packet before behind e is, λ shut. o.farewells line.side line.what packet before behind e shut is)))
+  from : Order schema lines → IsTrue (all_pass statement.Order schema lines)
+  from o = each-to (passes statement.Order schema) [] lines (λ before line behind e. (at line.side line.what before behind e).1 (λ packet is. (o.takes line.side line.what packet before behind e is, λ shut. o.farewells line.side line.what packet before behind e shut is)))
 
-pub order-is : (schema : Schema) (lines : List Line) → Readable schema lines → (IsTrue (all_pass schema lines) ↔ Order schema lines)
+pub order-is : (schema : Schema) (lines : List Line) → Readable schema lines → (IsTrue (all_pass statement.Order schema lines) ↔ Order schema lines)
 order-is schema lines r = (to schema lines (readable-from schema lines r), from schema lines (readable-from schema lines r))
