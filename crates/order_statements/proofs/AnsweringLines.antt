@@ -1,16 +1,11 @@
 -- Which requests the lines of a step answer: one that has arrived and is dropped or replaced, or one that is handled or kept.
-use Rattle.std.proofs.Common.{◌≡◌, ◌⊎◌, inl, inr, ℕ, ◌+◌, ◌≤◌, ℤ, Bool, true, false, not, ◌&&◌, ◌||◌, ◌==◌, if◌then◌else◌, cond, int_eq, List, [], ◌∷◌, ◌++◌, drop, find, map, Option, Some, None, option_map, refl, sym, ap, subst, ◌∙◌, arith}
+use Rattle.std.proofs.Common.{◌≡◌, ℕ, ◌≤◌, ℤ, Bool, true, false, not, ◌&&◌, ◌==◌, if◌then◌else◌, cond, int_eq, List, [], ◌∷◌, ◌++◌, drop, find, map, Option, Some, None, option_map, refl, sym, ap, subst, ◌∙◌, arith}
 use Rattle.std.specs.List.{AllByRecursion}
 use Rattle.std.proofs.lemmas.Bool.{eqb-true, or_left, or_right}
-use Rattle.std.proofs.lemmas.List.{append-nil}
 use Rattle.std.proofs.lemmas.Option.{same_Some}
-use Rattle.ipdl_base.specs.declared.kinds.EndState.{EndState}
 use Rattle.ipdl_base.specs.declared.kinds.Level.{Level}
-use Rattle.ipdl_base.specs.declared.kinds.Level.TheVariants.{Not}
-use Rattle.ipdl_base.specs.declared.kinds.Reason.{Reason}
 use Rattle.ipdl_base.specs.declared.kinds.Reason.TheVariants as reason
 use Rattle.ipdl_base.specs.declared.kinds.Destroy.{Destroy}
-use Rattle.ipdl_base.specs.declared.kinds.SendRefusal.{SendRefusal}
 use Rattle.ipdl_base.specs.declared.kinds.SendRefusal.TheVariants as refusal
 use Rattle.ipdl_base.specs.declared.line.What.{What}
 use Rattle.ipdl_base.specs.declared.line.What.TheVariants as what
@@ -23,7 +18,7 @@ use Rattle.ipdl_base.specs.declared.value.Values.{Values}
 use Rattle.ipdl_base.specs.Sound.{message_of}
 use Rattle.nesting_core.specs.declared.frame.Answer.{Answer}
 use Rattle.nesting_core.specs.declared.frame.Answer.TheVariants as answer
-use Rattle.nesting_core.specs.Frames.{head_of, is_dispatch}
+use Rattle.nesting_core.specs.Frames.{head_of}
 use Rattle.pending_queue.specs.declared.item.Item.{Item}
 use Rattle.pending_queue.specs.declared.item.Item.TheVariants as item
 use Rattle.pending_queue.specs.Compression.{are_alike, is_request, is_request_of, replaced, staying}
@@ -43,7 +38,7 @@ use Rattle.channel_model.specs.Phases.{Phase}
 use Rattle.channel_model.specs.Returns as return
 use Rattle.channel_model.specs.Sends as send
 use Rattle.channel_model.specs.Takes as take
-use Rattle.channel_model.proofs.Known.{all-append, all-behind, all-both}
+use Rattle.channel_model.proofs.Known.{all-behind, all-both}
 use Rattle.channel_model.proofs.Tests.{and-left, and-right}
 use Rattle.channel_laws.specs.Arrivals.{item_kind}
 use Rattle.channel_laws.specs.Counts.{how_many, is_packet, one_if}
@@ -56,7 +51,7 @@ use Rattle.channel_laws.proofs.Counting.{int-same}
 use Rattle.channel_laws.proofs.Leaving.{TakenFrom}
 use Rattle.channel_laws.proofs.PartLines.{falls-have, closing-has, mapped-lines}
 use Rattle.channel_laws.proofs.PrefixRuns.{all-taken}
-use Rattle.channel_laws.proofs.Replacing.{alike-request, is_request_item, replaced-taken}
+use Rattle.channel_laws.proofs.Replacing.{alike-request, replaced-taken}
 use Rattle.channel_laws.proofs.Rows.{request-message}
 use Rattle.history_reading.specs.declared.parts.PacketKind.{PacketKind}
 use Rattle.history_reading.specs.declared.parts.PacketKind.TheVariants as kind
@@ -67,6 +62,7 @@ use Rattle.order_statements.proofs.Dropping.{owes-same}
 use Rattle.order_statements.proofs.Handling.{Anything, ContentIs, EndIs, EntryIs, HandledWereTaken, NamingIs, WasTaken, later-is, resolver-is, sent-is}
 use Rattle.order_statements.proofs.LateReplies.{laters-state}
 use Rattle.order_statements.proofs.OwedAnswers.{top-entry}
+use Rattle.order_statements.proofs.Places.{PlaceIn, in_first, in_second, place-in}
 use Rattle.order_statements.proofs.StepLines.{MadeOf, of_delivery, of_own}
 
 -- a request of a number has arrived
@@ -99,22 +95,6 @@ none-there : {A : Type 0} (us front : List What) (w : What) (rest : List What) (
 none-there [] front w rest n h e is = no-place front w rest e
 none-there (u ∷ us) [] w rest n h e is = let same : u ≡ w = cc in let k : None ≡ Some n = sym h.0 ∙ (ap number_answered same ∙ is) in cc
 none-there (u ∷ us) (x ∷ front) w rest n h e is = let more : us ≡ front ++ w ∷ rest = cc in none-there us front w rest n h.1 more is
-
-data PlaceIn (us vs front : List What) (w : What) (rest : List What) : Type 0 where
-  in_first : (more : List What) → us ≡ front ++ w ∷ more → PlaceIn us vs front w rest
-  in_second : (later : List What) → front ≡ us ++ later → vs ≡ later ++ w ∷ rest → PlaceIn us vs front w rest
-
-place-in : (us vs front : List What) (w : What) (rest : List What) → us ++ vs ≡ front ++ w ∷ rest → PlaceIn us vs front w rest
-place-in [] vs front w rest e = in_second front refl e
-place-in (u ∷ us) vs [] w rest e = let first : u ≡ w = cc in in_first us (ap (λ (x : What). x ∷ us) first)
-place-in (u ∷ us) vs (x ∷ front) w rest e =
-    let first : u ≡ x = cc in
-    let more : us ++ vs ≡ front ++ w ∷ rest = cc in
-    by first (place-in us vs front w rest more)
-  where
-    by : u ≡ x → PlaceIn us vs front w rest → PlaceIn (u ∷ us) vs (x ∷ front) w rest
-    by first (in_first later is) = in_first later (ap (λ (xs : List What). u ∷ xs) is ∙ ap (λ (y : What). y ∷ front ++ w ∷ later) first)
-    by first (in_second later is same) = in_second later (ap (λ (xs : List What). x ∷ xs) is ∙ ap (λ (y : What). y ∷ us ++ later) (sym first)) same
 
 -- the one line of a reply
 reply-place : (b : Bool) (q : AnsweredRequest) (a : Answer) (front : List What) (w : What) (rest : List What) (n : ℤ) → reply_lines b q a ≡ front ++ w ∷ rest → number_answered w ≡ Some n → (b ≡ true) × (front ≡ []) × (n ≡ q.seq)
@@ -300,7 +280,7 @@ module _ (schema : Schema) (theirs : List Note) (said : List What) where
   laters-answer {g} (parts.then {ws} {vs} part more) h start before front w rest n at is = by (place-in ws vs front w rest at) (λ later same. laters-answer more (λ r. later-is Asked OwesReply part (h (part-renames part r))) start before later w rest n same is)
     where
       by : PlaceIn ws vs front w rest → ((later : List What) → vs ≡ later ++ w ∷ rest → LaterTells start g before n) → LaterTells start g before n
-      by (in_first between same) rec =
+      by (in_first between same behind_is) rec =
           let one = part-answers part h start before front w between n same is in
           record { opened = ap is_open (laters-state more) ∙ one.opened; tells = one.tells }
       by (in_second later front_is same) rec = rec later same
@@ -391,7 +371,7 @@ module _ (schema : Schema) (theirs : List Note) (said : List What) where
       state-same = behind-state lost (end_behind told popped) ∙ behind-state told popped
 
       by : PlaceIn answers loses front w rest → LaterTells x (end_behind lost (end_behind told (record x { stack = drop 1 x.stack }))) (v ∷ front) n
-      by (in_first between same) =
+      by (in_first between same behind_is) =
           let p = reply-place told (return.dispatch_answered entry) (return.return_answer schema x row entry vs) front w between n same is in
           let o = open-and (is_open x.state) (is_sync_row row) (sym told_is ∙ p.0) in
           let owes : OwesReply entry.number = owes-same schema entry.number row (request-message schema entry.number row ret.found) ∙ or_left (is_sync_row row) (makes_promise row) o.1 in
@@ -426,7 +406,7 @@ module _ (schema : Schema) (theirs : List Note) (said : List What) where
   own-answers {e} {g} (parts.begun {ws = us} {vs = vs} first later over) origins h front w rest n at is = by (place-in us vs front w rest at)
     where
       by : PlaceIn us vs front w rest → LaterTells e g front n
-      by (in_first between same) = let one = first-answers first origins h front w between n same is in record { opened = ap is_open (laters-state later) ∙ one.opened; tells = one.tells }
+      by (in_first between same behind_is) = let one = first-answers first origins h front w between n same is in record { opened = ap is_open (laters-state later) ∙ one.opened; tells = one.tells }
       by (in_second after front_is same) = laters-answer later (λ r. first-renames first r h) e front after w rest n same is
 
   -- Deliveries

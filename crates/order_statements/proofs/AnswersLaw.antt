@@ -1,13 +1,11 @@
 -- Answers are given to requests that may be answered, in every legal history.
-use Rattle.std.proofs.Common.{◌≡◌, ◌≢◌, ◌⊎◌, inl, inr, ℕ, ◌+◌, ◌≤◌, ℤ, Bool, true, false, not, ◌&&◌, ◌||◌, if◌then◌else◌, int_eq, IsTrue, List, [], ◌∷◌, ◌++◌, Contains, filter_map, map, Option, Some, None, option_and_then, refl, sym, ap, subst, append_assoc, ◌∙◌, arith}
-use Rattle.std.specs.List.{AllByRecursion, list_any}
-use Rattle.std.proofs.lemmas.Bool.{and_parts, false≢true, or_left, or_right}
-use Rattle.std.proofs.lemmas.List.{append-nil, map-append}
+use Rattle.std.proofs.Common.{◌≡◌, ◌≢◌, inl, inr, ℕ, ◌+◌, ◌≤◌, ℤ, Bool, true, false, ◌&&◌, ◌||◌, if◌then◌else◌, int_eq, IsTrue, List, [], ◌∷◌, ◌++◌, Contains, map, Some, None, refl, sym, ap, subst, append_assoc, ◌∙◌, arith}
+use Rattle.std.proofs.lemmas.Bool.{false≢true, or_left, or_right}
+use Rattle.std.proofs.lemmas.List.{append-nil}
 use Rattle.std.proofs.lemmas.List.Elements.{filter_map-append}
 use Rattle.std.proofs.lemmas.Option.{same_Some}
 use Rattle.ipdl_base.specs.declared.kinds.Reason.TheVariants as reason
 use Rattle.ipdl_base.specs.declared.kinds.Side.{Side}
-use Rattle.ipdl_base.specs.declared.kinds.Side.TheVariants.{Parent, Child}
 use Rattle.ipdl_base.specs.declared.line.Line.{Line}
 use Rattle.ipdl_base.specs.declared.line.What.{What}
 use Rattle.ipdl_base.specs.declared.line.What.TheVariants as what
@@ -17,14 +15,13 @@ use Rattle.ipdl_base.specs.Sound.{IsSound}
 use Rattle.channel_model.specs.Ends.{End, Packet, World, end_of, link_to}
 use Rattle.channel_model.specs.Events.{Event, Move}
 use Rattle.channel_model.specs.Events as event
-use Rattle.channel_model.specs.Outputs as outputs
 use Rattle.channel_model.specs.Outputs.{Output}
 use Rattle.channel_model.specs.Runs.{history_of}
 use Rattle.channel_model.specs.Sends.{frames_of}
 use Rattle.channel_model.specs.Steps.{step}
 use Rattle.channel_model.specs.Takes.{first_free, taken_next, takes_in_state, takes_under}
 use Rattle.nesting_core.specs.Top.{top_of}
-use Rattle.channel_laws.specs.Arrivals.{ArrivalReading, arrival_reading, requests_delivered, requests_in}
+use Rattle.channel_laws.specs.Arrivals.{arrival_reading, requests_delivered, requests_in}
 use Rattle.channel_laws.specs.Counts.{how_many, is_number, is_packet}
 use Rattle.channel_laws.specs.Laws.{world_of}
 use Rattle.channel_laws.proofs.AllLaws.{histories_obey_all_laws}
@@ -33,9 +30,10 @@ use Rattle.history_reading.specs.declared.law.Law.TheVariants as law
 use Rattle.history_reading.specs.declared.parts.PacketKind.{PacketKind}
 use Rattle.history_reading.specs.declared.parts.PacketKind.TheVariants as kind
 use Rattle.history_reading.specs.EndReading.{EndReading}
-use Rattle.history_reading.specs.Numbers.{has, has_packet, same_packet}
+use Rattle.history_reading.specs.Numbers.{has, has_packet}
 use Rattle.history_reading.specs.Reading.{end_reading_of, read}
-use Rattle.history_reading.specs.SentPacket.{Request, SentPacket, packet_kind, request_of}
+use Rattle.history_reading.specs.Rows.{wants_number}
+use Rattle.history_reading.specs.SentPacket.{Request, packet_kind, request_of}
 use Rattle.law_statements.specs.Arrived.{state_of}
 use Rattle.law_statements.specs.Packets.{delivered, delivery, gone, number_gone, sent, settled}
 use Rattle.law_statements.specs.Prefix.{Prefix}
@@ -45,7 +43,7 @@ use Rattle.law_statements.proofs.Lists.{last-add}
 use Rattle.law_statements.proofs.PrefixLaw.{prefix-to}
 use Rattle.alone_laws.proofs.AloneLines.{said-more}
 use Rattle.order_laws.proofs.Takes.{step-taken}
-use Rattle.order_statements.specs.Answers.{MayAnswer}
+use Rattle.order_statements.specs.Answers.{Answers, MayAnswer}
 use Rattle.order_statements.specs.Effects.{fault_due}
 use Rattle.order_statements.specs.Shape.{HasEffects, answered, is_open, is_open_by, number_answered, owes_reply}
 use Rattle.order_statements.proofs.AnsweringLines.{HasArrived, IsAnswered, LaterTells, is_dropped, is_replaced, step-answers, was_taken}
@@ -58,8 +56,8 @@ use Rattle.order_statements.proofs.KeptSteps.{KeptStep, history-kept}
 use Rattle.order_statements.proofs.LateReplies.{IsDone, SettledAreDone, has-append, settled-done}
 use Rattle.order_statements.proofs.Places.{EffectIn, EventIn, MoveAt, effect-at, event-at}
 use Rattle.order_statements.proofs.ReplacedRequests.{TellsReplaced, step-replaces}
-use Rattle.order_statements.proofs.SaidCounts.{any-some, delivered-more, first-answer, last-not-left, not-again, open-before, replies-answered}
-use Rattle.order_statements.proofs.StepLines.{MadeOf, made-of}
+use Rattle.order_statements.proofs.SaidCounts.{any-some, delivered-more, first-answer, last-not-left, open-before, replies-answered}
+use Rattle.order_statements.proofs.StepLines.{made-of}
 use Rattle.order_statements.proofs.Tells.{EndTells, history-tells, move-tells}
 
 -- A step of a legal history: what the lines of its end tell of it before and after, that what it handles was taken, and the
@@ -128,6 +126,23 @@ reply-takes schema e link event.take output is n line = by (takes_in_state e.sta
         cc
 reply-takes schema e link _ output is n line = absurd line
 
+-- the event of a request that replaces another
+last-delivery : (own : List What) (m n : ℤ) → last_event (own ++ what.DeliverRequest m ∷ what.Replaced n ∷ []) ≡ Some (what.DeliverRequest m)
+last-delivery own m n =
+    ap last_event (sym (append_assoc own (what.DeliverRequest m ∷ []) (what.Replaced n ∷ [])))
+    ∙ (last-add is_event (own ++ what.DeliverRequest m ∷ []) (what.Replaced n) ∙ last-add is_event own (what.DeliverRequest m))
+
+-- no request is delivered in two places
+delivered-twice : {A : Type 0} (own front more : List What) (n : ℤ) → has_packet (delivered own) (kind.Request n) ≡ true → has_packet (delivered front) (kind.Request n) ≡ true → how_many (is_packet (kind.Request n)) (delivered ((own ++ front) ++ more)) ≤ 1 → A
+delivered-twice own front more n before again once =
+    let one : how_many (is_packet (kind.Request n)) (delivered ((own ++ front) ++ more)) ≡ how_many (is_packet (kind.Request n)) (delivered (own ++ front)) + how_many (is_packet (kind.Request n)) (delivered more) =
+    ap (how_many (is_packet (kind.Request n))) (filter_map-append delivery (own ++ front) more) ∙ many-append (is_packet (kind.Request n)) (delivered (own ++ front)) (delivered more) in
+    let two : how_many (is_packet (kind.Request n)) (delivered (own ++ front)) ≡ how_many (is_packet (kind.Request n)) (delivered own) + how_many (is_packet (kind.Request n)) (delivered front) =
+    ap (how_many (is_packet (kind.Request n))) (filter_map-append delivery own front) ∙ many-append (is_packet (kind.Request n)) (delivered own) (delivered front) in
+    let first = any-some (is_packet (kind.Request n)) (delivered own) before in
+    let second = any-some (is_packet (kind.Request n)) (delivered front) again in
+    absurd (omega (arith, one, two, first, second, once))
+
 -- One line that answers
 
 module _ (schema : Schema) (end : Side) (w : What) (before : List Line) (l : LegalLine schema end w before) (n : ℤ) (is : number_answered w ≡ Some n) where
@@ -187,6 +202,12 @@ module _ (schema : Schema) (end : Side) (w : What) (before : List Line) (l : Leg
       let count = ap (how_many (is_packet (kind.Reply n))) sent_is ∙ replies-answered schema n ((own ++ l.front) ++ w ∷ l.more) in
       first-answer (own ++ l.front) l.more w n is (omega (arith, once, count))
 
+  once-then : how_many (is_packet (kind.Request n)) (delivered ((own ++ l.front) ++ w ∷ l.more)) ≤ 1
+  once-then =
+      let once = l.by.tells_after.exchanges.arrivals.numbered.once n in
+      let same = ap (how_many (is_packet (kind.Request n))) (delivered-read schema end (l.start ++ l.output.lines) ∙ ap delivered said-after) in
+      omega (arith, once, same)
+
   -- and not in the event that delivered it
   earlier-then : ((m : ℤ) → last_event (said_by end before) ≡ Some (what.DeliverRequest m) → has (gone (said_by end before)) m ≡ false) → last_event (own ++ l.front) ≢ Some (what.DeliverRequest n)
   earlier-then fresh last = by tells.tells.how
@@ -200,26 +221,10 @@ module _ (schema : Schema) (end : Side) (w : What) (before : List Line) (l : Leg
           let drop_gone : has (gone l.front) n ≡ true = ap (λ (ws : List What). has (gone ws) n) at ∙ ap (λ (b : Bool). b || false) (int-same n) in
           false≢true (sym stays ∙ (has-append number_gone own l.front n ∙ or_right (has (gone own) n) (has (gone l.front) n) drop_gone))
       by (is_replaced a m at) =
-          let deliver : last_event (own ++ l.front) ≡ Some (what.DeliverRequest m) =
-          ap (λ (ws : List What). last_event (own ++ ws)) at
-          ∙ (ap last_event (sym (append_assoc own (what.DeliverRequest m ∷ []) (what.Replaced n ∷ [])))
-          ∙ (last-add is_event (own ++ what.DeliverRequest m ∷ []) (what.Replaced n) ∙ last-add is_event own (what.DeliverRequest m))) in
-          let one : what.DeliverRequest m ≡ what.DeliverRequest n = same_Some (what.DeliverRequest m) (what.DeliverRequest n) (sym deliver ∙ last) in
+          let one : what.DeliverRequest m ≡ what.DeliverRequest n = same_Some (what.DeliverRequest m) (what.DeliverRequest n) (sym (last-delivery own m n) ∙ (ap (λ (ws : List What). last_event (own ++ ws)) (sym at) ∙ last)) in
           let same : m ≡ n = cc in
-          let after : EndReading = end_reading_of end (read schema (l.start ++ l.output.lines)) in
-          let once = l.by.tells_after.exchanges.arrivals.numbered.once n in
-          let whole : after.delivered ≡ delivered own ++ (delivered l.front ++ delivered (w ∷ l.more)) =
-          delivered-read schema end (l.start ++ l.output.lines)
-          ∙ (ap delivered said-after
-          ∙ (filter_map-append delivery (own ++ l.front) (w ∷ l.more)
-          ∙ (ap (λ (ps : List PacketKind). ps ++ delivered (w ∷ l.more)) (filter_map-append delivery own l.front) ∙ append_assoc (delivered own) (delivered l.front) (delivered (w ∷ l.more))))) in
-          let count =
-          ap (how_many (is_packet (kind.Request n))) whole
-          ∙ (many-append (is_packet (kind.Request n)) (delivered own) (delivered l.front ++ delivered (w ∷ l.more))
-          ∙ ap (λ (k : ℕ). how_many (is_packet (kind.Request n)) (delivered own) + k) (many-append (is_packet (kind.Request n)) (delivered l.front) (delivered (w ∷ l.more)))) in
-          let first = any-some (is_packet (kind.Request n)) (delivered own) delivered-then in
-          let again = any-some (is_packet (kind.Request n)) (delivered l.front) (ap (λ (ws : List What). has_packet (delivered ws) (kind.Request n)) at ∙ ap (λ (b : Bool). b || false) (ap (λ (k : ℤ). int_eq k n) same ∙ int-same n)) in
-          absurd (omega (arith, once, count, first, again))
+          let again : has_packet (delivered l.front) (kind.Request n) ≡ true = ap (λ (ws : List What). has_packet (delivered ws) (kind.Request n)) at ∙ ap (λ (b : Bool). b || false) (ap (λ (k : ℤ). int_eq k n) same ∙ int-same n) in
+          delivered-twice own l.front (w ∷ l.more) n delivered-then again once-then
 
   may-answer : ((m : ℤ) → last_event (said_by end before) ≡ Some (what.DeliverRequest m) → has (gone (said_by end before)) m ≡ false) → MayAnswer schema (said_by end before) (said_by (other_end end) before) n
   may-answer fresh =
@@ -233,6 +238,25 @@ module _ (schema : Schema) (end : Side) (w : What) (before : List Line) (l : Leg
         earlier = earlier-then fresh;
         first = first-then;
       }))
+
+-- One request that is replaced
+
+replaced-at : (schema : Schema) (end : Side) (n : ℤ) (before behind start : List Line) (output : Output) (s : LegalStep schema end start output) (event : What) (earlier more : List What) → before ≡ start ++ map (line_of end) (event ∷ earlier)
+    → output.lines ≡ map (line_of end) (event ∷ (earlier ++ what.Replaced n ∷ more)) → HasEffects end more behind
+    → (asked : Request) × (request_of (sent schema (said_by (other_end end) before)) n ≡ Some asked) × HasEffects end (fault_due asked.wants n reason.ResolverDestroyed) behind
+replaced-at schema end n before behind start output s event earlier more before_is lines has_them =
+    by (step-replaces schema s.asks.theirs s.e output (event ∷ (earlier ++ what.Replaced n ∷ more)) (made-of schema s.e s.link s.happened output s.made end (event ∷ (earlier ++ what.Replaced n ∷ more)) lines) s.asks.origins event earlier n more refl)
+  where
+    with-request : (number : ℕ) → more ≡ fault_due (wants_number schema number) n reason.ResolverDestroyed → IsAsked schema (said_by (other_end end) start) n number
+        → (asked : Request) × (request_of (sent schema (said_by (other_end end) before)) n ≡ Some asked) × HasEffects end (fault_due asked.wants n reason.ResolverDestroyed) behind
+    with-request number are a = (
+      a.asked,
+      ap (λ (ws : List What). request_of (sent schema ws) n) (other-said end start (event ∷ earlier) before before_is) ∙ a.found,
+      subst (λ (ws : List What). HasEffects end ws behind) (are ∙ ap (λ (b : Bool). fault_due b n reason.ResolverDestroyed) (sym a.wants_is)) has_them,
+    )
+
+    by : TellsReplaced schema s.asks.theirs n more → (asked : Request) × (request_of (sent schema (said_by (other_end end) before)) n ≡ Some asked) × HasEffects end (fault_due asked.wants n reason.ResolverDestroyed) behind
+    by t = with-request t.number t.are (s.asks.asks n t.route t.number t.requested)
 
 module _ (schema : Schema) (sound : IsSound schema) (top : ℕ) (moves : List Move) where
   abbrev history : List Line
@@ -258,14 +282,7 @@ module _ (schema : Schema) (sound : IsSound schema) (top : ℕ) (moves : List Mo
       → (asked : Request) × (request_of (sent schema (said_by (other_end end) before)) n ≡ Some asked) × HasEffects end (fault_due asked.wants n reason.ResolverDestroyed) behind
   replaced-history end n before behind at =
       let i : EffectIn (MoveAt schema top moves end) end (what.Replaced n) before behind = effect-at schema sound top moves end (what.Replaced n) before behind refl at in
-      let s : LegalStep schema end i.start i.output = legal-step schema sound top moves end i.start i.output i.by in
-      let ws : List What = i.event ∷ (i.earlier ++ what.Replaced n ∷ i.more) in
-      let t : TellsReplaced schema s.asks.theirs n i.more = step-replaces schema s.asks.theirs s.e i.output ws (made-of schema s.e s.link s.happened i.output s.made end ws i.lines) s.asks.origins i.event i.earlier n i.more refl in
-      let a : IsAsked schema (said_by (other_end end) i.start) n t.number = s.asks.asks n t.route t.number t.requested in
-      let before_is : said_by (other_end end) before ≡ said_by (other_end end) i.start = other-said end i.start (i.event ∷ i.earlier) before i.before_is in
-      (a.asked,
-      ap (λ (ws : List What). request_of (sent schema ws) n) before_is ∙ a.found,
-      subst (λ (ws : List What). HasEffects end ws behind) (t.are ∙ ap (λ (b : Bool). fault_due b n reason.ResolverDestroyed) (sym a.wants_is)) i.has)
+      replaced-at schema end n before behind i.start i.output (legal-step schema sound top moves end i.start i.output i.by) i.event i.earlier i.more i.before_is i.lines i.has
 
   -- a reply that is taken too late
   pub late-history : (end : Side) (n : ℤ) (before behind : List Line) → history ≡ before ++ line_of end (what.TakeReply n) ∷ behind → IsTrue (has (settled (said_by end before)) n) → Contains (said_by end before) (what.Rejected n reason.ActorDestroyed)
@@ -277,3 +294,7 @@ module _ (schema : Schema) (sound : IsSound schema) (top : ℕ) (moves : List Mo
       by : IsDone (said_by end before) n → Contains (said_by end before) (what.Rejected n reason.ActorDestroyed)
       by (inl c) = c
       by (inr taken) = absurd (false≢true (sym (history-prefix.replies end n before behind at).1 ∙ taken))
+
+  -- all clauses
+  pub answers-hold : Answers schema history
+  answers-hold = record { answers = answers-history; replaced = replaced-history; late = late-history }

@@ -1,19 +1,17 @@
 -- The requests of the other end that an end handles or may answer, as the lines of the other tell them, in legal histories.
-use Rattle.std.proofs.Common.{◌≡◌, ℕ, ℤ, Bool, true, false, if◌then◌else◌, cond, int_eq, List, [], ◌∷◌, ◌++◌, find, filter_map, Option, Some, None, refl, sym, ap, subst, ◌∙◌}
+use Rattle.std.proofs.Common.{◌≡◌, ℕ, ℤ, Bool, true, false, if◌then◌else◌, int_eq, List, [], ◌∷◌, ◌++◌, Option, Some, None, refl, sym, ap, ◌∙◌}
 use Rattle.std.specs.List.{AllByRecursion, cons_option}
-use Rattle.std.proofs.lemmas.Option.{same_Some}
 use Rattle.ipdl_base.specs.declared.kinds.Side.{Side}
 use Rattle.ipdl_base.specs.declared.kinds.Side.TheVariants.{Parent, Child}
-use Rattle.ipdl_base.specs.declared.line.Line.{Line}
 use Rattle.ipdl_base.specs.declared.line.What.{What}
 use Rattle.ipdl_base.specs.declared.line.What.TheVariants as what
 use Rattle.ipdl_base.specs.declared.schema.Schema.{Schema}
 use Rattle.ipdl_base.specs.Sound.{IsSound}
 use Rattle.history_reading.specs.EndReading.{EndReading}
-use Rattle.history_reading.specs.Reading.{Reading, read}
+use Rattle.history_reading.specs.Reading.{read}
 use Rattle.history_reading.specs.Rows.{wants_number}
-use Rattle.history_reading.specs.SentPacket.{Request, SentPacket, broken, goodbye, request, request_in, request_of, requests_of, said}
-use Rattle.channel_model.specs.Ends.{End, Packet, World, end_of}
+use Rattle.history_reading.specs.SentPacket.{Request, SentPacket, broken, goodbye, request, request_of, requests_of, said}
+use Rattle.channel_model.specs.Ends.{End, Packet, end_of}
 use Rattle.channel_model.specs.Events.{Move}
 use Rattle.channel_model.specs.Outputs.{is_open}
 use Rattle.channel_model.specs.Runs.{history_of}

@@ -1,27 +1,19 @@
 -- What a request that is dropped is answered.
-use Rattle.std.proofs.Common.{◌≡◌, ℕ, ℤ, Bool, true, false, not, ◌&&◌, ◌||◌, if◌then◌else◌, IsTrue, List, [], ◌∷◌, ◌++◌, map, Option, Some, None, is_some, refl, sym, ap, subst, ◌∙◌}
+use Rattle.std.proofs.Common.{◌≡◌, ℕ, ℤ, Bool, true, false, ◌&&◌, ◌||◌, List, [], ◌∷◌, ◌++◌, map, Option, Some, refl, sym, ap, ◌∙◌}
 use Rattle.std.specs.Option.{option_map_or}
+use Rattle.std.proofs.lemmas.Bool.{and_right}
 use Rattle.std.proofs.lemmas.List.{append-nil}
 use Rattle.ipdl_base.specs.declared.kinds.EndState.{EndState}
 use Rattle.ipdl_base.specs.declared.kinds.EndState.TheVariants as state
 use Rattle.ipdl_base.specs.declared.kinds.Reason.{Reason}
 use Rattle.ipdl_base.specs.declared.kinds.Reason.TheVariants as reason
-use Rattle.ipdl_base.specs.declared.line.Line.{Line}
 use Rattle.ipdl_base.specs.declared.line.What.{What}
 use Rattle.ipdl_base.specs.declared.line.What.TheVariants as what
-use Rattle.ipdl_base.specs.declared.message.Body.{Body}
-use Rattle.ipdl_base.specs.declared.message.Body.TheVariants.{Fault, Goodbye, Reply, Request}
-use Rattle.ipdl_base.specs.declared.message.Message.{Message}
 use Rattle.ipdl_base.specs.declared.schema.MessageRow.{MessageRow}
 use Rattle.ipdl_base.specs.declared.schema.Schema.{Schema}
-use Rattle.ipdl_base.specs.declared.value.Values.{Values}
 use Rattle.ipdl_base.specs.Sound.{message_of}
-use Rattle.nesting_core.specs.declared.frame.Answer.{Answer}
 use Rattle.nesting_core.specs.declared.frame.Answer.TheVariants as answer
-use Rattle.pending_queue.specs.declared.item.Item.{Item}
-use Rattle.pending_queue.specs.declared.item.Item.TheVariants as item
-use Rattle.channel_model.specs.Answers as answering
-use Rattle.channel_model.specs.Ends.{End, Packet, mark, message}
+use Rattle.channel_model.specs.Ends.{End, Packet}
 use Rattle.channel_model.specs.Deliveries as delivery
 use Rattle.channel_model.specs.Events.{Event}
 use Rattle.channel_model.specs.Numbers.{is_sync_row}
@@ -29,8 +21,7 @@ use Rattle.channel_model.specs.Outputs as outputs
 use Rattle.channel_model.specs.Outputs.{AnsweredRequest, Output, request_answered}
 use Rattle.channel_model.specs.Parts as parts
 use Rattle.channel_model.specs.Parts.{DeliveryPart, FirstPart, IsRefusal, IsRenaming, LaterPart, LaterParts, OwnParts, reply_lines}
-use Rattle.channel_model.specs.Phases.{IsOver, Phase, closing, deletion, nobody, quiet}
-use Rattle.channel_model.specs.Returns as return
+use Rattle.channel_model.specs.Phases.{Phase}
 use Rattle.channel_model.specs.Sends as send
 use Rattle.channel_model.specs.Steps.{step}
 use Rattle.history_reading.specs.Rows as rows
@@ -61,10 +52,6 @@ module _ (schema : Schema) (n route : ℤ) (number : ℕ) (id : ℤ) where
   fault-lines true q why = refl
   fault-lines false q why = refl
 
-  and-false : (b : Bool) → (b && false) ≡ false
-  and-false true = refl
-  and-false false = refl
-
   abbrev Due : End → List What → Type 0
   Due e more = more ≡ fault_due (outputs.is_open e.state && owes_reply schema number) n reason.ActorDestroyed
 
@@ -92,7 +79,7 @@ module _ (schema : Schema) (n route : ℤ) (number : ℕ) (id : ℤ) where
       let lines : vs ≡ more = cc in
       let kind : m.number ≡ number = cc in
       let nothing : owes_reply schema number ≡ false = ap (owes_reply schema) (sym kind) ∙ ap (λ (o : Option MessageRow). option_map_or rows.is_sync_row o false || option_map_or rows.wants_row o false) found in
-      sym lines ∙ (silent-parts later refl (refl, refl) ∙ ap (λ (b : Bool). fault_due b n reason.ActorDestroyed) (sym (ap (λ (b : Bool). outputs.is_open f.state && b) nothing ∙ and-false (outputs.is_open f.state))))
+      sym lines ∙ (silent-parts later refl (refl, refl) ∙ ap (λ (b : Bool). fault_due b n reason.ActorDestroyed) (sym (and_right (outputs.is_open f.state) (owes_reply schema number) nothing)))
   first-drop (parts.takes_reply m sync level a next body settling) later more e = cc
   first-drop (parts.settles m sync level row a next body found awaited) later more e = cc
   first-drop {vs} (parts.shuts last next farewell) later more e = other-first _ [] vs more (shut-other last) e

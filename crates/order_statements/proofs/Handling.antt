@@ -1,5 +1,5 @@
 -- What holds of the requests that an end handles, or may answer by a name, as its parts change them; so each of these was taken.
-use Rattle.std.proofs.Common.{◌≡◌, ℕ, ℤ, Bool, true, false, not, ◌&&◌, ◌||◌, if◌then◌else◌, cond, int_eq, List, [], ◌∷◌, ◌++◌, drop, filter, find, map, Option, Some, None, option_map, refl, sym, ap, subst, ◌∙◌}
+use Rattle.std.proofs.Common.{◌≡◌, ℕ, ℤ, Bool, true, false, ◌&&◌, ◌||◌, if◌then◌else◌, cond, int_eq, List, [], ◌∷◌, ◌++◌, drop, find, map, Some, None, option_map, refl, sym, ap, subst, ◌∙◌}
 use Rattle.std.specs.List.{AllByRecursion}
 use Rattle.std.proofs.lemmas.Bool.{or_left, or_right}
 use Rattle.std.proofs.lemmas.Bool.Decides.{Decides-int_eq}
@@ -19,7 +19,7 @@ use Rattle.channel_model.specs.Answers.{has_resolver, released, resolver_in}
 use Rattle.channel_model.specs.Deliveries as delivery
 use Rattle.channel_model.specs.Ends.{End, NameContent, Naming, Packet, Resolver, StackEntry, actor, resolver}
 use Rattle.channel_model.specs.Events.{Answering, handled, kept}
-use Rattle.channel_model.specs.Names.{is_actor, without_name}
+use Rattle.channel_model.specs.Names.{is_actor}
 use Rattle.channel_model.specs.Numbers.{is_sync_row}
 use Rattle.channel_model.specs.Outputs.{Output}
 use Rattle.channel_model.specs.Parts as parts
@@ -29,12 +29,16 @@ use Rattle.channel_model.specs.Sends as send
 use Rattle.channel_model.specs.Takes as take
 use Rattle.channel_model.proofs.Known.{all-append, all-filter, all-map}
 use Rattle.channel_model.proofs.Tests.{and-left, and-right}
-use Rattle.channel_laws.proofs.Origins.{found-passes}
 use Rattle.history_reading.specs.Numbers.{has}
 use Rattle.law_statements.specs.Packets.{gone, number_gone}
 use Rattle.order_statements.proofs.KeptAlong.{EveryStepKeeps}
 use Rattle.order_statements.proofs.LateReplies.{has-append}
 use Rattle.order_statements.proofs.StepLines.{MadeOf, made-of, of_delivery, of_own}
+
+-- a stack with its own frames
+pub same-entries : (stack : List StackEntry) → delivery.with_frames (map (λ (x : StackEntry). x.frame) stack) stack ≡ stack
+same-entries [] = refl
+same-entries (x ∷ xs) = ap (λ (ys : List StackEntry). x ∷ ys) (same-entries xs)
 
 -- This holds of the number and the message of each request that is handled, and this of the message of each that has a resolver.
 module _ (G : ℤ → ℕ → Type 0) (H : ℕ → Type 0) where
@@ -67,10 +71,6 @@ module _ (G : ℤ → ℕ → Type 0) (H : ℕ → Type 0) where
 
   frame-is : (x : StackEntry) (f : StackFrame) → is_dispatch f ≡ false → EntryIs x → EntryIs (record x { frame = f })
   frame-is x f wait h = record { handled_is = λ dispatch. let k : true ≡ false = sym dispatch ∙ wait in cc; resolver_is = h.resolver_is }
-
-  same-entries : (stack : List StackEntry) → delivery.with_frames (map (λ (x : StackEntry). x.frame) stack) stack ≡ stack
-  same-entries [] = refl
-  same-entries (x ∷ xs) = ap (λ (ys : List StackEntry). x ∷ ys) (same-entries xs)
 
   answered-is : (a : Answer) (stack : List StackEntry) → AllByRecursion EntryIs stack → AllByRecursion EntryIs (delivery.with_frames (with_answer a (map (λ (x : StackEntry). x.frame) stack)) stack)
   answered-is a [] h = tt

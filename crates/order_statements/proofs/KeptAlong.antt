@@ -1,6 +1,5 @@
 -- What each step of an end keeps of the end and of what it has said holds in every history, and in every run of one end.
-use Rattle.std.proofs.Common.{◌≡◌, ℕ, Bool, true, false, List, [], ◌∷◌, ◌++◌, filter_map, if◌then◌else◌, map, Option, Some, None, refl, sym, ap, subst, append_assoc, ◌∙◌}
-use Rattle.std.specs.List.{AllByRecursion, cons_option}
+use Rattle.std.proofs.Common.{◌≡◌, ℕ, List, [], ◌∷◌, ◌++◌, map, Option, Some, None, refl, sym, ap, subst, append_assoc, ◌∙◌}
 use Rattle.std.proofs.lemmas.List.{append-nil}
 use Rattle.std.proofs.lemmas.List.Elements.{filter_map-append}
 use Rattle.ipdl_base.specs.declared.kinds.Side.{Side}
@@ -9,17 +8,18 @@ use Rattle.ipdl_base.specs.declared.line.Line.{Line}
 use Rattle.ipdl_base.specs.declared.line.What.{What}
 use Rattle.ipdl_base.specs.declared.schema.Schema.{Schema}
 use Rattle.channel_model.specs.Ends.{End, Packet, World, end_of, link_to, opening, opening_end}
-use Rattle.channel_model.specs.EventLines.{IsEffectOf, IsEventWithEffects}
+use Rattle.channel_model.specs.EventLines.{IsEventWithEffects}
 use Rattle.channel_model.specs.Events.{Event, Move}
 use Rattle.channel_model.specs.Events as event
-use Rattle.channel_model.specs.Outputs.{Output, line_at}
-use Rattle.channel_model.specs.Runs.{happens, history_of, output_of, passed_by, run, world_after}
+use Rattle.channel_model.specs.Outputs.{Output}
+use Rattle.channel_model.specs.Runs.{happens, history_of, output_of, passed_by, run}
 use Rattle.channel_model.specs.Steps.{step}
 use Rattle.channel_model.proofs.Events.{events_have_their_lines}
 use Rattle.channel_laws.specs.Laws.{world_of}
 use Rattle.law_statements.specs.Said.{line_of, other_end, said_by, said_in}
 use Rattle.alone_laws.specs.AloneRuns.{RunsAlone, acts as does, begins, gets}
 use Rattle.alone_laws.proofs.AloneLines.{said-more}
+use Rattle.order_statements.proofs.Places.{of-side, whats}
 
 -- Each step of an end keeps this of it and of what it has said by then.
 pub record EveryStepKeeps (schema : Schema) (K : End → List What → Type 0) : Type 0 where
@@ -28,16 +28,9 @@ pub record EveryStepKeeps (schema : Schema) (K : End → List What → Type 0) :
 
 -- Lines of one side
 
-abbrev whats : List Line → List What
-whats ls = map (λ (l : Line). l.what) ls
-
-effects-of : (side : Side) (ls : List Line) → AllByRecursion (IsEffectOf side) ls → ls ≡ map (line_of side) (whats ls)
-effects-of side [] h = refl
-effects-of side (l ∷ ls) h = ap (λ (s : Side). record { side = s; what = l.what } ∷ ls) h.0.0 ∙ ap (λ (rest : List Line). line_of side l.what ∷ rest) (effects-of side ls h.1)
-
 lines-of : (side : Side) (ls : List Line) → IsEventWithEffects side ls → ls ≡ map (line_of side) (whats ls)
 lines-of side [] h = absurd h
-lines-of side (l ∷ ls) h = ap (λ (s : Side). record { side = s; what = l.what } ∷ ls) h.0.0 ∙ ap (λ (rest : List Line). line_of side l.what ∷ rest) (effects-of side ls h.1)
+lines-of side (l ∷ ls) h = ap (λ (s : Side). record { side = s; what = l.what } ∷ ls) h.0.0 ∙ ap (λ (rest : List Line). line_of side l.what ∷ rest) (of-side side ls h.1)
 
 -- the lines of a step are of its end
 pub step-lines : (schema : Schema) (e : End) (link : List Packet) (ev : Event) (output : Output) → step schema e link ev ≡ Some output → output.lines ≡ map (line_of e.side) (whats output.lines)
@@ -72,21 +65,25 @@ module _ (schema : Schema) (K : End → List What → Type 0) (keeps : EveryStep
       by Parent at made =
           let ws : List What = whats output.lines in
           let lines : output.lines ≡ map (line_of Parent) ws = step-lines schema w.parent w.to_parent move.event output made ∙ ap (λ (s : Side). map (line_of s) ws) b.parent_side in
-          record { both = record {
-            parent_side = (events_have_their_lines schema w.parent w.to_parent move.event output made).side ∙ b.parent_side;
-            child_side = b.child_side;
-            parent = subst (λ (xs : List What). K output.end (parents ++ xs)) (sym (ap (said_by Parent) lines ∙ all-said Parent ws)) (keeps.goes_on w.parent w.to_parent move.event output ws parents made (step-lines schema w.parent w.to_parent move.event output made) b.parent);
-            child = subst (K w.child) (sym (ap (λ (xs : List What). childs ++ xs) (ap (said_by Child) lines ∙ none-said Parent ws) ∙ append-nil childs)) b.child;
-          } }
+          record {
+            both = record {
+              parent_side = (events_have_their_lines schema w.parent w.to_parent move.event output made).side ∙ b.parent_side;
+              child_side = b.child_side;
+              parent = subst (λ (xs : List What). K output.end (parents ++ xs)) (sym (ap (said_by Parent) lines ∙ all-said Parent ws)) (keeps.goes_on w.parent w.to_parent move.event output ws parents made (step-lines schema w.parent w.to_parent move.event output made) b.parent);
+              child = subst (K w.child) (sym (ap (λ (xs : List What). childs ++ xs) (ap (said_by Child) lines ∙ none-said Parent ws) ∙ append-nil childs)) b.child;
+            };
+          }
       by Child at made =
           let ws : List What = whats output.lines in
           let lines : output.lines ≡ map (line_of Child) ws = step-lines schema w.child w.to_child move.event output made ∙ ap (λ (s : Side). map (line_of s) ws) b.child_side in
-          record { both = record {
-            parent_side = b.parent_side;
-            child_side = (events_have_their_lines schema w.child w.to_child move.event output made).side ∙ b.child_side;
-            parent = subst (K w.parent) (sym (ap (λ (xs : List What). parents ++ xs) (ap (said_by Parent) lines ∙ none-said Child ws) ∙ append-nil parents)) b.parent;
-            child = subst (λ (xs : List What). K output.end (childs ++ xs)) (sym (ap (said_by Child) lines ∙ all-said Child ws)) (keeps.goes_on w.child w.to_child move.event output ws childs made (step-lines schema w.child w.to_child move.event output made) b.child);
-          } }
+          record {
+            both = record {
+              parent_side = b.parent_side;
+              child_side = (events_have_their_lines schema w.child w.to_child move.event output made).side ∙ b.child_side;
+              parent = subst (K w.parent) (sym (ap (λ (xs : List What). parents ++ xs) (ap (said_by Parent) lines ∙ none-said Child ws) ∙ append-nil parents)) b.parent;
+              child = subst (λ (xs : List What). K output.end (childs ++ xs)) (sym (ap (said_by Child) lines ∙ all-said Child ws)) (keeps.goes_on w.child w.to_child move.event output ws childs made (step-lines schema w.child w.to_child move.event output made) b.child);
+            };
+          }
 
   moves-keep : (moves : List Move) (w : World) (parents childs : List What) → Both w parents childs → Behind (run schema moves w).world (run schema moves w).lines parents childs
   moves-keep [] w parents childs b = record { both = subst (λ (xs : List What). Both w xs (childs ++ [])) (sym (append-nil parents)) (subst (Both w parents) (sym (append-nil childs)) b) }
@@ -111,9 +108,10 @@ module _ (schema : Schema) (K : End → List What → Type 0) (keeps : EveryStep
   run-grows : (side : Side) (e : End) (lines : List Line) (link : List Packet) (ev : Event) (output : Output) → step schema e link ev ≡ Some output → (e.side ≡ side) × K e (said_by side lines) → (output.end.side ≡ side) × K output.end (said_by side (lines ++ output.lines))
   run-grows side e lines link ev output made k =
       let ws : List What = whats output.lines in
-      let is : output.lines ≡ map (line_of e.side) ws = step-lines schema e link ev output made in
-      ((events_have_their_lines schema e link ev output made).side ∙ k.0,
-      subst (K output.end) (sym (ap (λ (ls : List Line). said_by side (lines ++ ls)) (is ∙ ap (λ (s : Side). map (line_of s) ws) k.0) ∙ said-more side lines ws)) (keeps.goes_on e link ev output ws (said_by side lines) made is k.1))
+      let is : output.lines ≡ map (line_of e.side) ws = step-lines schema e link ev output made in (
+        (events_have_their_lines schema e link ev output made).side ∙ k.0,
+        subst (K output.end) (sym (ap (λ (ls : List Line). said_by side (lines ++ ls)) (is ∙ ap (λ (s : Side). map (line_of s) ws) k.0) ∙ said-more side lines ws)) (keeps.goes_on e link ev output ws (said_by side lines) made is k.1),
+      )
 
   run-keeps : (top : ℕ) (side : Side) (e : End) (lines : List Line) (packets : List Packet) → RunsAlone schema top side e lines packets → (e.side ≡ side) × K e (said_by side lines)
   run-keeps top side _ _ _ begins = (refl, keeps.begins top side)

@@ -1,5 +1,5 @@
 -- The steps of histories and of runs of one end, with what every step keeps of the end and of what it has said.
-use Rattle.std.proofs.Common.{◌≡◌, ℕ, false, List, ◌∷◌, ◌++◌, refl, sym, ap, subst}
+use Rattle.std.proofs.Common.{◌≡◌, ℕ, false, List, ◌∷◌, ◌++◌, sym, subst}
 use Rattle.ipdl_base.specs.declared.kinds.Side.{Side}
 use Rattle.ipdl_base.specs.declared.line.Line.{Line}
 use Rattle.ipdl_base.specs.declared.line.What.{What}
@@ -16,7 +16,7 @@ use Rattle.law_statements.specs.Said.{line_of, said_by}
 use Rattle.alone_laws.specs.AloneRuns.{RunsAlone}
 use Rattle.order_statements.proofs.KeptAlong.{EveryStepKeeps, kept-alone, kept-in-history}
 use Rattle.order_statements.proofs.Places.{EventIn, MoveAt, StepAt, event-alone, event-at}
-use Rattle.order_statements.proofs.Tells.{EndTells, alone-tells, history-tells}
+use Rattle.order_statements.proofs.Tells.{EndTells, alone-tells, event-by, history-tells}
 use Rattle.std.specs.Prelude.{Some}
 
 -- A step of an end, what its lines tell of it before, and what is kept of it and of what it has said by then.
@@ -31,9 +31,6 @@ pub record KeptStep (schema : Schema) (K : End → List What → Type 0) (end : 
 -- lines of which each event was printed by such a step
 abbrev pub EventsAreKept : Schema → (End → List What → Type 0) → List Line → Type 0
 EventsAreKept schema K lines = (end : Side) (w : What) (before behind : List Line) → is_effect w ≡ false → lines ≡ before ++ line_of end w ∷ behind → EventIn (KeptStep schema K end) end w before behind
-
-event-by : {S T : List Line → Output → Type 0} {end : Side} {w : What} {before behind : List Line} → ((start : List Line) (output : Output) → S start output → T start output) → EventIn S end w before behind → EventIn T end w before behind
-event-by {before = before} step i = record { output = i.output; by = step before i.output i.by; effects = i.effects; lines = i.lines; has = i.has }
 
 module _ (schema : Schema) (sound : IsSound schema) (K : End → List What → Type 0) (keeps : EveryStepKeeps schema K) where
   move-kept : (top : ℕ) (moves : List Move) (end : Side) (start : List Line) (output : Output) → MoveAt schema top moves end start output → KeptStep schema K end start output

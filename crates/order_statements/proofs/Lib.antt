@@ -33,3 +33,4 @@ pub mod SaidCounts
 pub mod ReplacedRequests
 pub mod AnswersLaw
 pub mod OwedLaw
+mod WorkedAnswers

@@ -1,8 +1,8 @@
 -- The answers that are effects of events: those of drops and returns, and of names that hold something else.
-use Rattle.std.proofs.Common.{◌≡◌, inl, inr, ℕ, ℤ, pos, Bool, true, false, not, ◌&&◌, ◌||◌, if◌then◌else◌, IsTrue, List, [], ◌∷◌, ◌++◌, Contains, map, Option, Some, None, refl, sym, ap, subst, ◌∙◌}
+use Rattle.std.proofs.Common.{◌≡◌, inl, inr, ℕ, ℤ, pos, Bool, true, false, not, ◌&&◌, if◌then◌else◌, IsTrue, List, [], ◌∷◌, ◌++◌, Contains, map, Option, Some, None, refl, sym, ap, subst, ◌∙◌}
 use Rattle.std.specs.List.{AllByRecursion}
 use Rattle.std.specs.Option.{option_map_or}
-use Rattle.std.proofs.lemmas.Bool.{and_parts}
+use Rattle.std.proofs.lemmas.Bool.{and_right, true_from_ne_false}
 use Rattle.std.proofs.lemmas.List.Elements.{All-contains, All-from_recursion}
 use Rattle.std.proofs.lemmas.Option.{same_Some}
 use Rattle.ipdl_base.specs.declared.kinds.Reason.TheVariants as reason
@@ -21,11 +21,11 @@ use Rattle.nesting_core.specs.declared.frame.StackFrame.TheVariants.{Dispatch, W
 use Rattle.nesting_core.specs.Frames.{head_of, is_dispatch}
 use Rattle.channel_model.specs.Acts.{is_positive}
 use Rattle.channel_model.specs.Answers as answering
-use Rattle.channel_model.specs.Ends.{End, NameContent, Packet, Resolver, StackEntry, resolver}
+use Rattle.channel_model.specs.Ends.{End, Packet, StackEntry}
 use Rattle.channel_model.specs.Events.{Event}
 use Rattle.channel_model.specs.Events as event
 use Rattle.channel_model.specs.Names.{held_by_name}
-use Rattle.channel_model.specs.Numbers.{is_sync_row, request_row}
+use Rattle.channel_model.specs.Numbers.{is_sync_row}
 use Rattle.channel_model.specs.Outputs as outputs
 use Rattle.channel_model.specs.Outputs.{Output, line_at, resolver_answered}
 use Rattle.channel_model.specs.Parts.{reply_lines}
@@ -39,7 +39,6 @@ use Rattle.history_reading.specs.declared.parts.HandledRequest.{HandledRequest}
 use Rattle.history_reading.specs.Numbers.{has}
 use Rattle.history_reading.specs.Rows as rows
 use Rattle.history_reading.specs.Rows.{is_sync_number, wants_number}
-use Rattle.law_statements.specs.Arrived.{state_of}
 use Rattle.law_statements.specs.Said.{line_of, said_by}
 use Rattle.law_statements.specs.Stack.{stack}
 use Rattle.order_laws.specs.DueEffects.{let_go_lines}
@@ -81,7 +80,7 @@ parts-of true false used stays h = cc
 parts-of false wants used stays h = cc
 
 module _ (schema : Schema) (e : End) (end : Side) (before : List Line) (tells : EndTells schema e end before) (d : HandledRequest) (below : List CallFrame) (on_top : stack schema end before ≡ frame.Dispatch d ∷ below)
-  (n : ℤ) (effects : List What) (is : Returned schema e n effects) (behind : List Line) (has_them : HasEffects end effects behind) where
+    (n : ℤ) (effects : List What) (is : Returned schema e n effects) (behind : List Line) (has_them : HasEffects end effects behind) where
   request : request_handled is.entry ≡ d
   request = dispatch-read (stack schema end before) e.stack d below is.entry on_top tells.frames is.on_top
 
@@ -112,9 +111,9 @@ module _ (schema : Schema) (e : End) (end : Side) (before : List Line) (tells : 
       let top = top-entry (HasOrSpent schema (said_by end before)) e.stack is.entry is.on_top stands in
       let wants : wants_number schema is.entry.number ≡ true = ap (λ (r : HandledRequest). wants_number schema r.number) request ∙ p.1 in
       let opened : outputs.is_open e.state ≡ true = sym opened-same ∙ p.0 in
-      let resolves : is.entry.resolves ≡ true = there_is is.entry.resolves (λ used. spent-not (said_by end before) (head_of is.entry.frame).seq (top.0 top.1 wants used) (ap (has (answered (said_by end before))) seq ∙ p.2) (ap (has (kept (said_by end before))) seq ∙ p.3)) in
+      let resolves : is.entry.resolves ≡ true = true_from_ne_false is.entry.resolves (λ used. spent-not (said_by end before) (head_of is.entry.frame).seq (top.0 top.1 wants used) (ap (has (answered (said_by end before))) seq ∙ p.2) (ap (has (kept (said_by end before))) seq ∙ p.3)) in
       let async : is_sync_row is.row ≡ false = async-row (is_sync_row is.row) _ (ap (λ (o : Option MessageRow). option_map_or rows.wants_row o false) (sym row_is) ∙ p.1) in
-      let told : outputs.is_open e.state && is_sync_row is.row ≡ false = ap (λ (b : Bool). outputs.is_open e.state && b) async ∙ and-false (outputs.is_open e.state) in
+      let told : outputs.is_open e.state && is_sync_row is.row ≡ false = and_right (outputs.is_open e.state) (is_sync_row is.row) async in
       let lost : outputs.is_open e.state && is.entry.resolves ≡ true = ap (λ (b : Bool). b && is.entry.resolves) opened ∙ resolves in
       let are : effects ≡ what.AnswerFault d.seq reason.ResolverDestroyed ∷ is.later =
       is.are
@@ -123,17 +122,9 @@ module _ (schema : Schema) (e : End) (end : Side) (before : List Line) (tells : 
       ∙ ap (λ (k : ℤ). what.AnswerFault k reason.ResolverDestroyed ∷ is.later) seq)) in
       (is.later, subst (λ (ws : List What). HasEffects end ws behind) are has_them)
     where
-      there_is : (b : Bool) → (b ≡ false → ⊥) → b ≡ true
-      there_is true h = refl
-      there_is false h = absurd (h refl)
-
       async-row : (s r : Bool) → not s && r ≡ true → s ≡ false
       async-row true r h = cc
       async-row false r h = refl
-
-      and-false : (b : Bool) → (b && false) ≡ false
-      and-false true = refl
-      and-false false = refl
 
 -- Names
 

@@ -83,10 +83,10 @@ run-after {schema} {top} {side} {start} {output} s = by s.packets s.link s.happe
 
 -- Lines of one end
 
-abbrev whats : List Line → List What
+abbrev pub whats : List Line → List What
 whats ls = map (λ (l : Line). l.what) ls
 
-of-side : (side : Side) (ls : List Line) → AllByRecursion (IsEffectOf side) ls → ls ≡ map (line_of side) (whats ls)
+pub of-side : (side : Side) (ls : List Line) → AllByRecursion (IsEffectOf side) ls → ls ≡ map (line_of side) (whats ls)
 of-side side [] h = refl
 of-side side (l ∷ ls) h = ap (λ (s : Side). record { side = s; what = l.what } ∷ ls) h.0.0 ∙ ap (λ (rest : List Line). line_of side l.what ∷ rest) (of-side side ls h.1)
 
@@ -185,24 +185,24 @@ step-moment schema e link happened output made = by output.lines (events_have_th
 -- Places in two lists
 
 -- A place in two lists, one after the other, is one in the first or one in the second.
-data PlaceIn (xs ys before : List Line) (l : Line) (behind : List Line) : Type 0 where
-  in_first : (rest : List Line) → xs ≡ before ++ l ∷ rest → behind ≡ rest ++ ys → PlaceIn xs ys before l behind
-  in_second : (front : List Line) → before ≡ xs ++ front → ys ≡ front ++ l ∷ behind → PlaceIn xs ys before l behind
+pub data PlaceIn {X : Type 0} (xs ys before : List X) (l : X) (behind : List X) : Type 0 where
+  in_first : (rest : List X) → xs ≡ before ++ l ∷ rest → behind ≡ rest ++ ys → PlaceIn xs ys before l behind
+  in_second : (front : List X) → before ≡ xs ++ front → ys ≡ front ++ l ∷ behind → PlaceIn xs ys before l behind
 
-place-in : (xs ys before : List Line) (l : Line) (behind : List Line) → xs ++ ys ≡ before ++ l ∷ behind → PlaceIn xs ys before l behind
+pub place-in : {X : Type 0} (xs ys before : List X) (l : X) (behind : List X) → xs ++ ys ≡ before ++ l ∷ behind → PlaceIn xs ys before l behind
 place-in [] ys before l behind e = in_second before refl e
 place-in (x ∷ xs) ys [] l behind e =
     let first : x ≡ l = cc in
     let rest : xs ++ ys ≡ behind = cc in
-    in_first xs (ap (λ (y : Line). y ∷ xs) first) (sym rest)
-place-in (x ∷ xs) ys (b ∷ before) l behind e =
+    in_first xs (ap (λ y. y ∷ xs) first) (sym rest)
+place-in {X} (x ∷ xs) ys (b ∷ before) l behind e =
     let first : x ≡ b = cc in
     let rest : xs ++ ys ≡ before ++ l ∷ behind = cc in
     by first (place-in xs ys before l behind rest)
   where
     by : x ≡ b → PlaceIn xs ys before l behind → PlaceIn (x ∷ xs) ys (b ∷ before) l behind
-    by first (in_first rest is same) = in_first rest (ap (λ (zs : List Line). x ∷ zs) is ∙ ap (λ (y : Line). y ∷ before ++ l ∷ rest) first) same
-    by first (in_second front is same) = in_second front (ap (λ (zs : List Line). b ∷ zs) is ∙ ap (λ (y : Line). y ∷ xs ++ front) (sym first)) same
+    by first (in_first rest is same) = in_first rest (ap (λ (zs : List X). x ∷ zs) is ∙ ap (λ (y : X). y ∷ before ++ l ∷ rest) first) same
+    by first (in_second front is same) = in_second front (ap (λ (zs : List X). b ∷ zs) is ∙ ap (λ (y : X). y ∷ xs ++ front) (sym first)) same
 
 no-place : {A : Type 0} (before : List Line) (l : Line) (behind : List Line) → [] ≡ before ++ l ∷ behind → A
 no-place [] l behind e = cc

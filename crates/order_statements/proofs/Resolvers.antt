@@ -1,16 +1,14 @@
 -- While an end is open, the lines tell where the resolvers are: a dispatch has its own until it was used or kept, and a
 -- name under which one was kept holds it until it was used.
-use Rattle.std.proofs.Common.{◌≡◌, ◌⊎◌, inl, inr, ℕ, ◌+◌, ℤ, pos, Bool, true, false, not, ◌&&◌, ◌||◌, if◌then◌else◌, cond, int_eq, List, [], ◌∷◌, ◌++◌, drop, filter, filter_map, find, map, Option, Some, None, is_some, option_and_then, option_map, refl, sym, ap, subst, append_assoc, ◌∙◌}
+use Rattle.std.proofs.Common.{◌≡◌, ◌⊎◌, inl, inr, ℕ, ◌+◌, ℤ, pos, Bool, true, false, not, ◌&&◌, ◌||◌, if◌then◌else◌, cond, int_eq, List, [], ◌∷◌, ◌++◌, drop, find, map, Option, Some, None, is_some, option_and_then, option_map, refl, sym, ap, subst, append_assoc, ◌∙◌}
 use Rattle.std.specs.List.{AllByRecursion}
 use Rattle.std.specs.Option.{option_map_or}
 use Rattle.std.specs.Str.{bytes_eq}
 use Rattle.std.proofs.lemmas.Bool.{cases_Bool, false≢true, or_from, or_left, or_parts, or_right}
 use Rattle.std.proofs.lemmas.Bool.Decides.{Decides-int_eq}
-use Rattle.std.proofs.lemmas.List.{append-nil, map-append}
+use Rattle.std.proofs.lemmas.List.{append-nil, append_cancel_left, map-append}
 use Rattle.std.proofs.lemmas.Option.{same_Some}
 use Rattle.std.proofs.lemmas.Slice.Eq.{bytes_eq-Decides}
-use Rattle.ipdl_base.specs.declared.kinds.Destroy.{Destroy}
-use Rattle.ipdl_base.specs.declared.kinds.Destroy.TheVariants.{NormalShutdown, AbnormalShutdown}
 use Rattle.ipdl_base.specs.declared.kinds.EndState.{EndState}
 use Rattle.ipdl_base.specs.declared.kinds.EndState.TheVariants.{Open, Draining, Closed, Dead}
 use Rattle.ipdl_base.specs.declared.kinds.Reason.TheVariants.{ActorDestroyed, ResolverDestroyed}
@@ -57,22 +55,20 @@ use Rattle.channel_model.specs.Takes as takes
 use Rattle.channel_model.specs.ValueActors.{nulled, received}
 use Rattle.channel_model.proofs.Known.{all-append}
 use Rattle.channel_model.proofs.Provided.{provided-gives, found-gives}
-use Rattle.channel_model.proofs.Tests.{and-left, and-right}
+use Rattle.channel_model.proofs.Tests.{and-right}
 use Rattle.channel_laws.specs.Notes.{In, here, there}
 use Rattle.channel_laws.proofs.Answering.{used-held}
-use Rattle.channel_laws.proofs.Growing.{in-all, in-before, in-behind}
+use Rattle.channel_laws.proofs.Growing.{in-all}
 use Rattle.channel_laws.proofs.Origins.{found-passes}
 use Rattle.channel_laws.proofs.PartLines.{FallsHave, falls-have}
 use Rattle.history_reading.specs.Numbers.{has}
 use Rattle.history_reading.specs.Rows.{wants_number, wants_row}
-use Rattle.law_statements.specs.Said.{line_of}
 use Rattle.order_statements.specs.Shape.{kept as kept_numbers, number_answered, number_kept}
 use Rattle.order_statements.specs.Shape as shape
 use Rattle.order_statements.proofs.KeptAlong.{EveryStepKeeps}
+use Rattle.order_statements.proofs.Handling.{same-entries}
 use Rattle.order_statements.proofs.LateReplies.{has-append}
-
-abbrev whats : List Line → List What
-whats ls = map (λ (l : Line). l.what) ls
+use Rattle.order_statements.proofs.Places.{whats}
 
 whats-of : (s : Side) (ws : List What) → whats (map (line_at s) ws) ≡ ws
 whats-of s [] = refl
@@ -83,10 +79,6 @@ in-parts : {A : Type 0} {x : A} (xs ys : List A) → In x (xs ++ ys) → In x xs
 in-parts [] ys i = inr i
 in-parts (y ∷ xs) ys here = inl here
 in-parts (y ∷ xs) ys (there i) = elim (in-parts xs ys i) [ inl j ↦ inl (there j) | inr j ↦ inr j ]
-
-cancel : {A : Type 0} (front xs ys : List A) → front ++ xs ≡ front ++ ys → xs ≡ ys
-cancel [] xs ys e = e
-cancel (z ∷ front) xs ys e = cancel front xs ys cc
 
 -- a line that keeps no resolver
 abbrev IsUnkept : What → Type 0
@@ -135,10 +127,6 @@ module _ (schema : Schema) where
           let same : (head_of x.frame).seq ≡ seq = (Decides-int_eq (head_of x.frame).seq seq).0 (and-right x.resolves (int_eq (head_of x.frame).seq seq) (and-right (is_dispatch x.frame) (x.resolves && int_eq (head_of x.frame).seq seq) is)) in
           subst (IsSpent said) (sym same) spent
       by false is dispatch wants used = h.0 dispatch wants used
-
-  same-entries : (stack : List StackEntry) → delivery.with_frames (map (λ (x : StackEntry). x.frame) stack) stack ≡ stack
-  same-entries [] = refl
-  same-entries (x ∷ xs) = ap (λ (ys : List StackEntry). x ∷ ys) (same-entries xs)
 
   answered-keeps : (said : List What) (a : Answer) (stack : List StackEntry) → AllHaveOrSpent schema said stack → AllHaveOrSpent schema said (delivery.with_frames (with_answer a (map (λ (x : StackEntry). x.frame) stack)) stack)
   answered-keeps said a [] h = tt
@@ -260,9 +248,10 @@ module _ (schema : Schema) where
     told-adds : (a b : Output) → Adds a b → Told said a → Told said b
     told-adds a b g h opened =
         let k = h (ap is_open (sym g.state) ∙ opened) in
-        let on : said ++ whats b.lines ≡ (said ++ whats a.lines) ++ g.more = said-on a b g in
-        (g.stack (said ++ whats b.lines) (subst (λ (xs : List What). AllHaveOrSpent schema xs a.end.stack) (sym on) (stack-more (said ++ whats a.lines) g.more a.end.stack k.0)),
-        subst (λ (ns : List Naming). NamesHold (said ++ whats b.lines) ns) (sym g.names) (subst (λ (xs : List What). NamesHold xs a.end.names) (sym on) (names-more (said ++ whats a.lines) g.more a.end.names g.unkept k.1)))
+        let on : said ++ whats b.lines ≡ (said ++ whats a.lines) ++ g.more = said-on a b g in (
+          g.stack (said ++ whats b.lines) (subst (λ (xs : List What). AllHaveOrSpent schema xs a.end.stack) (sym on) (stack-more (said ++ whats a.lines) g.more a.end.stack k.0)),
+          subst (λ (ns : List Naming). NamesHold (said ++ whats b.lines) ns) (sym g.names) (subst (λ (xs : List What). NamesHold xs a.end.names) (sym on) (names-more (said ++ whats a.lines) g.more a.end.names g.unkept k.1)),
+        )
 
     told-closed : (o : Output) → is_open o.end.state ≡ false → Told said o
     told-closed o shut opened = let k : true ≡ false = sym opened ∙ shut in cc
@@ -325,24 +314,26 @@ module _ (schema : Schema) where
             | inl same ↦
                 let this : held_by_name name o.end.names ≡ Some (resolver r) = ap (λ (x : List ℕ). held_by_name x o.end.names) (sym ((bytes_eq-Decides other name).0 same)) ∙ held in
                 let told : whats gone.lines ≡ whats o.lines ++ what.AnswerFault r.seq ResolverDestroyed ∷ [] = let_go-answers (held_by_name name o.end.names) r this opened in
-                let more : lets-go.more ≡ what.AnswerFault r.seq ResolverDestroyed ∷ [] = cancel (whats o.lines) lets-go.more (what.AnswerFault r.seq ResolverDestroyed ∷ []) (sym lets-go.said ∙ told) in
+                let more : lets-go.more ≡ what.AnswerFault r.seq ResolverDestroyed ∷ [] = append_cancel_left (whats o.lines) lets-go.more (what.AnswerFault r.seq ResolverDestroyed ∷ []) (sym lets-go.said ∙ told) in
                 absurd (answered-last xs lets-go.more n (ap (λ (ws : List What). has (shape.answered ws) n) more ∙ (ap (λ (k : ℤ). has (k ∷ []) n) seq ∙ seq-had n)) unused)
-            | inr apart ↦
-                (r,
-                ap (λ (ns : List Naming). held_by_name other (ns ++ holding name holds)) lets-go.names ∙ other-held name other o.end.names (resolver r) (holding name holds) apart held,
-                seq)
+            | inr apart ↦ (
+              r,
+              ap (λ (ns : List Naming). held_by_name other (ns ++ holding name holds)) lets-go.names ∙ other-held name other o.end.names (resolver r) (holding name holds) apart held,
+              seq,
+            )
           ]
 
       told-renamed : Told said o → Told said (renamed name holds o)
       told-renamed h opened =
           let before : is_open o.end.state ≡ true = ap is_open (sym lets-go.state) ∙ opened in
           let k = h before in
-          let on : said ++ whats (renamed name holds o).lines ≡ (said ++ whats o.lines) ++ lets-go.more = said-on unnamed gone lets-go in
-          (lets-go.stack (said ++ whats (renamed name holds o).lines) (subst (λ (xs : List What). AllHaveOrSpent schema xs o.end.stack) (sym on) (stack-more (said ++ whats o.lines) lets-go.more o.end.stack k.0)),
-          subst (λ (xs : List What). NamesHold xs (renamed name holds o).end.names) (sym on) (λ n other i unused. elim (in-parts (said ++ whats o.lines) lets-go.more i) [
-            | inl j ↦ renamed-names (said ++ whats o.lines) k.1 before n other j unused
-            | inr j ↦ kept-apart lets-go.more n other lets-go.unkept j
-          ]))
+          let on : said ++ whats (renamed name holds o).lines ≡ (said ++ whats o.lines) ++ lets-go.more = said-on unnamed gone lets-go in (
+            lets-go.stack (said ++ whats (renamed name holds o).lines) (subst (λ (xs : List What). AllHaveOrSpent schema xs o.end.stack) (sym on) (stack-more (said ++ whats o.lines) lets-go.more o.end.stack k.0)),
+            subst (λ (xs : List What). NamesHold xs (renamed name holds o).end.names) (sym on) (λ n other i unused. elim (in-parts (said ++ whats o.lines) lets-go.more i) [
+              | inl j ↦ renamed-names (said ++ whats o.lines) k.1 before n other j unused
+              | inr j ↦ kept-apart lets-go.more n other lets-go.unkept j
+            ]),
+          )
 
     -- Acts
 
@@ -410,9 +401,10 @@ module _ (schema : Schema) where
           let first : What = answers.answering_line r.seq vs in
           let k = h opened in
           let held : held_by_name name e.names ≡ Some (resolver r) = used-held number r (held_by_name name e.names) used in
-          let before : NamesHold said e.names = subst (λ (xs : List What). NamesHold xs e.names) (append-nil said) k.1 in
-          (stack-more said (first ∷ []) e.stack (subst (λ (xs : List What). AllHaveOrSpent schema xs e.stack) (append-nil said) k.0),
-          λ n other i unused. from before held n other i unused)
+          let before : NamesHold said e.names = subst (λ (xs : List What). NamesHold xs e.names) (append-nil said) k.1 in (
+            stack-more said (first ∷ []) e.stack (subst (λ (xs : List What). AllHaveOrSpent schema xs e.stack) (append-nil said) k.0),
+            λ n other i unused. from before held n other i unused,
+          )
         where
           from : NamesHold said e.names → held_by_name name e.names ≡ Some (resolver r) → (n : ℤ) (other : List ℕ) → In (what.Keep n other) (said ++ answers.answering_line r.seq vs ∷ []) → has (shape.answered (said ++ answers.answering_line r.seq vs ∷ [])) n ≡ false
               → (q : Resolver) × (held_by_name other (without_name name e.names) ≡ Some (resolver q)) × (q.seq ≡ n)
@@ -473,9 +465,10 @@ module _ (schema : Schema) where
               spent-more with_keep go.more seq (inr (has-append number_kept said (what.Keep seq name ∷ []) seq ∙ or_right (has (kept_numbers said) seq) (int_eq seq seq || false) (ap (λ (b : Bool). b || false) ((Decides-int_eq seq seq).1 refl)))) in
               let stack : AllHaveOrSpent schema (with_keep ++ go.more) (released seq e.stack) =
               released-keeps (with_keep ++ go.more) seq e.stack spent (stack-more with_keep go.more e.stack (stack-more said (what.Keep seq name ∷ []) e.stack (subst (λ (xs : List What). AllHaveOrSpent schema xs e.stack) (append-nil said) k.0))) in
-              let names : NamesHold said e.names = subst (λ (xs : List What). NamesHold xs e.names) (append-nil said) k.1 in
-              (subst (λ (xs : List What). AllHaveOrSpent schema xs (renamed name holds releasing).end.stack) (sym on) (go.stack (with_keep ++ go.more) stack),
-              subst (λ (xs : List What). NamesHold xs (renamed name holds releasing).end.names) (sym on) (λ n other i unused. from before names n other i unused))
+              let names : NamesHold said e.names = subst (λ (xs : List What). NamesHold xs e.names) (append-nil said) k.1 in (
+                subst (λ (xs : List What). AllHaveOrSpent schema xs (renamed name holds releasing).end.stack) (sym on) (go.stack (with_keep ++ go.more) stack),
+                subst (λ (xs : List What). NamesHold xs (renamed name holds releasing).end.names) (sym on) (λ n other i unused. from before names n other i unused),
+              )
             where
               apart : (n : ℤ) → has (shape.answered (with_keep ++ go.more)) n ≡ false → has (shape.answered (said ++ go.more)) n ≡ false
               apart n unused =

@@ -1,8 +1,8 @@
 -- Counts and tests of what an end has said: what it answers, what was delivered to it and has left, and whether it is open.
-use Rattle.std.proofs.Common.{◌≡◌, ◌⊎◌, inl, inr, ℕ, ◌+◌, ◌≤◌, ℤ, Bool, true, false, not, ◌&&◌, ◌||◌, if◌then◌else◌, int_eq, IsTrue, List, [], ◌∷◌, ◌++◌, filter_map, find, map, reverse, Option, Some, None, refl, sym, ap, subst, append_assoc, ◌∙◌, arith}
+use Rattle.std.proofs.Common.{◌≡◌, ◌⊎◌, inl, inr, ℕ, ◌+◌, ◌≤◌, ℤ, Bool, true, false, ◌||◌, if◌then◌else◌, int_eq, List, [], ◌∷◌, ◌++◌, filter_map, map, Option, Some, None, refl, sym, ap, subst, append_assoc, ◌∙◌, arith}
 use Rattle.std.specs.List.{cons_option, list_any}
 use Rattle.std.specs.Prelude.{unwrap_or}
-use Rattle.std.proofs.lemmas.Bool.{false≢true, or_cases, or_left, or_right}
+use Rattle.std.proofs.lemmas.Bool.{false≢true, or_cases, or_left}
 use Rattle.std.proofs.lemmas.Bool.Decides.{Decides-int_eq}
 use Rattle.std.proofs.lemmas.List.{append-nil}
 use Rattle.std.proofs.lemmas.List.Elements.{filter_map-append}
@@ -16,9 +16,8 @@ use Rattle.ipdl_base.specs.declared.line.Line.{Line}
 use Rattle.ipdl_base.specs.declared.line.What.{What}
 use Rattle.ipdl_base.specs.declared.line.What.TheVariants as what
 use Rattle.ipdl_base.specs.declared.schema.Schema.{Schema}
-use Rattle.ipdl_base.specs.Lines.{is_effect}
 use Rattle.channel_laws.specs.Counts.{how_many, is_number, is_packet, one_if}
-use Rattle.channel_laws.proofs.Counting.{int-same, many-append, none-any, some-any}
+use Rattle.channel_laws.proofs.Counting.{int-same, many-append, none-any}
 use Rattle.history_reading.specs.declared.parts.PacketKind.{PacketKind}
 use Rattle.history_reading.specs.declared.parts.PacketKind.TheVariants as kind
 use Rattle.history_reading.specs.Numbers.{has, has_packet, same_packet}
@@ -26,7 +25,7 @@ use Rattle.history_reading.specs.SentPacket.{SentPacket, broken, packet_kind}
 use Rattle.law_statements.specs.Arrived.{state_after, state_of}
 use Rattle.law_statements.specs.Packets.{delivered, delivery, gone, number_gone, sent, sent_at}
 use Rattle.law_statements.specs.Prefix.{Prefix}
-use Rattle.law_statements.specs.Said.{is_event, last_event, line_of, made_of, other_end, said_by}
+use Rattle.law_statements.specs.Said.{is_event, last_event, line_of, made_of, said_by}
 use Rattle.law_statements.proofs.Deciding.{through}
 use Rattle.law_statements.proofs.Ends.{said-other, said-own}
 use Rattle.law_statements.proofs.Lists.{last-add}
@@ -166,7 +165,7 @@ module _ (schema : Schema) (lines : List Line) (prefix : Prefix schema lines) (e
 
   module _ (once : (n : ℤ) → how_many (is_packet (kind.Request n)) (delivered (said_by end lines)) ≤ 1) where
     -- a request that was delivered is not delivered again
-    pub not-again : (front behind : List Line) (n : ℤ) → lines ≡ front ++ behind → (rest : List What) → said_by end behind ≡ rest → has_packet (delivered (said_by end front)) (kind.Request n) ≡ true → 1 ≤ how_many (is_packet (kind.Request n)) (delivered rest) → ⊥
+    not-again : (front behind : List Line) (n : ℤ) → lines ≡ front ++ behind → (rest : List What) → said_by end behind ≡ rest → has_packet (delivered (said_by end front)) (kind.Request n) ≡ true → 1 ≤ how_many (is_packet (kind.Request n)) (delivered rest) → ⊥
     not-again front behind n at rest is before again =
         let whole : said_by end lines ≡ said_by end front ++ rest = ap (said_by end) at ∙ (filter_map-append _ front behind ∙ ap (λ (ws : List What). said_by end front ++ ws) is) in
         let count = ap (λ (ws : List What). how_many (is_packet (kind.Request n)) (delivered ws)) whole ∙ (ap (how_many (is_packet (kind.Request n))) (filter_map-append delivery (said_by end front) rest) ∙ many-append (is_packet (kind.Request n)) (delivered (said_by end front)) (delivered rest)) in

@@ -230,7 +230,7 @@ EventsAreTold schema lines = (end : Side) (w : What) (before behind : List Line)
 abbrev pub EffectsAreTold : Schema → List Line → Type 0
 EffectsAreTold schema lines = (end : Side) (w : What) (before behind : List Line) → is_effect w ≡ true → lines ≡ before ++ line_of end w ∷ behind → EffectIn (TellingStep schema end) end w before behind
 
-event-by : {S T : List Line → Output → Type 0} {end : Side} {w : What} {before behind : List Line} → ((start : List Line) (output : Output) → S start output → T start output) → EventIn S end w before behind → EventIn T end w before behind
+pub event-by : {S T : List Line → Output → Type 0} {end : Side} {w : What} {before behind : List Line} → ((start : List Line) (output : Output) → S start output → T start output) → EventIn S end w before behind → EventIn T end w before behind
 event-by {before = before} step i = record { output = i.output; by = step before i.output i.by; effects = i.effects; lines = i.lines; has = i.has }
 
 effect-by : {S T : List Line → Output → Type 0} {end : Side} {w : What} {before behind : List Line} → ((start : List Line) (output : Output) → S start output → T start output) → EffectIn S end w before behind → EffectIn T end w before behind
