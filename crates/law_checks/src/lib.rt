@@ -14,5 +14,6 @@ mod verdict;
 mod waits;
 
 pub use history_reading::{Held, Law};
+pub use still::{DeferralState, deferral_of, defers_packet, request_head};
 pub use unanswered::{can_read, chain};
 pub use verdict::holds;

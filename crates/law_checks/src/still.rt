@@ -44,7 +44,7 @@ fn call_head(schema: &Schema, call: &Call) -> Option<Head>
 }
 
 /// The head of a request that the other end has sent.
-fn request_head(schema: &Schema, other: &EndReading<'_>, n: i32) -> Option<Head>
+pub fn request_head(schema: &Schema, other: &EndReading<'_>, n: i32) -> Option<Head>
     requires { IsSound schema.now }
     ensures { result ≡ the.request_head schema.now (end_view other.now) n }
 {
@@ -134,7 +134,7 @@ pub struct DeferralState {
 }
 
 /// What decides deferral at an end.
-fn deferral_of(
+pub fn deferral_of(
     schema: &Schema,
     side: Side,
     own: &EndReading<'_>,
@@ -168,7 +168,7 @@ fn defers_head(deferral: &DeferralState, head: Option<Head>) -> bool
 }
 
 /// Whether a packet that has arrived is deferred.
-fn defers_packet(
+pub fn defers_packet(
     schema: &Schema,
     other: &EndReading<'_>,
     deferral: &DeferralState,

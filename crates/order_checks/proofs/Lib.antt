@@ -8,5 +8,8 @@ pub mod EffectsLaw
 pub mod LastEvents
 pub mod Lookups
 pub mod Next
+pub mod OrderLaw
+pub mod OvertakingTests
 pub mod Said
+pub mod WaitingLines
 pub mod Worked

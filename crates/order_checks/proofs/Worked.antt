@@ -1,4 +1,4 @@
--- Worked lines: a refused act that answers a request that nobody sent. They obey the five laws, and neither statement.
+-- Worked lines that obey the five laws.
 use Rattle.std.proofs.Common.{List, [], ◌∷◌, pos, refl}
 use Rattle.std.proofs.lemmas.Bool.{false≢true}
 use Rattle.ipdl_base.specs.declared.kinds.Reason.TheVariants as reason
@@ -15,10 +15,14 @@ use Rattle.law_statements.proofs.LivingLaw.{living-to}
 use Rattle.law_statements.proofs.ReadableLines.{readable-to}
 use Rattle.order_statements.specs.Answers.{Answers}
 use Rattle.order_statements.specs.Effects.{Effects}
+use Rattle.order_statements.specs.Order.{Order}
 use Rattle.order_checks.specs.EffectTests.{is_effect_line}
 use Rattle.order_checks.specs.Walk.{line_test}
 use Rattle.order_checks.proofs.AnswersLaw.{answers-from}
 use Rattle.order_checks.proofs.EffectsLaw.{effects-from}
+use Rattle.order_checks.proofs.OrderLaw.{order-is}
+
+-- A refused act answers a request that nobody sent: neither the effects nor the answers are as is owed.
 
 abbrev lines : List Line
 lines = line_of side.Parent (what.RefusedClose refusal.Closed) ∷ line_of side.Parent (what.AnswerFault (pos 1) reason.ResolverDestroyed) ∷ []
@@ -42,3 +46,50 @@ gives-no-effects schema s = false≢true (effects-from schema lines (readable-to
 gives-no-answers : (schema : Schema) → Answers schema lines → ⊥
 unfolding line_test
 gives-no-answers schema s = false≢true (answers-from schema lines (readable-to schema lines (can-be-read schema)) s)
+
+-- A reply is sent twice, comes twice and is taken once. Nothing of it waits after that, so the next one may be taken.
+
+abbrev twice : List Line
+twice =
+    line_of side.Child (what.Reject (pos 1)) ∷ line_of side.Child (what.Reject (pos 1)) ∷ line_of side.Child (what.Reject (pos 2))
+    ∷ line_of side.Parent (what.DeliverReply (pos 1)) ∷ line_of side.Parent (what.DeliverReply (pos 1)) ∷ line_of side.Parent (what.TakeReply (pos 1))
+    ∷ line_of side.Parent (what.DeliverReply (pos 2)) ∷ line_of side.Parent (what.TakeReply (pos 2)) ∷ []
+
+twice-can-be-read : (schema : Schema) → IsReadable schema twice
+unfolding is_readable
+twice-can-be-read schema = refl
+
+twice-obeys-all-laws : (schema : Schema) (l : Law) → Holds l schema twice
+unfolding passes moment_test is_readable
+twice-obeys-all-laws schema law.Prefix = refl
+twice-obeys-all-laws schema law.Living = refl
+twice-obeys-all-laws schema law.Waits = refl
+twice-obeys-all-laws schema law.Settled = refl
+twice-obeys-all-laws schema law.Fallen = refl
+
+twice-keeps-order : (schema : Schema) → Order schema twice
+unfolding line_test
+twice-keeps-order schema = (order-is schema twice (readable-to schema twice (twice-can-be-read schema))).0 refl
+
+-- A younger reply is taken where no call waits: the order is not kept.
+
+abbrev younger : List Line
+younger =
+    line_of side.Child (what.Reject (pos 1)) ∷ line_of side.Child (what.Reject (pos 2)) ∷ line_of side.Parent (what.DeliverReply (pos 1)) ∷ line_of side.Parent (what.DeliverReply (pos 2))
+    ∷ line_of side.Parent (what.TakeReply (pos 2)) ∷ []
+
+younger-can-be-read : (schema : Schema) → IsReadable schema younger
+unfolding is_readable
+younger-can-be-read schema = refl
+
+younger-obeys-all-laws : (schema : Schema) (l : Law) → Holds l schema younger
+unfolding passes moment_test is_readable
+younger-obeys-all-laws schema law.Prefix = refl
+younger-obeys-all-laws schema law.Living = refl
+younger-obeys-all-laws schema law.Waits = refl
+younger-obeys-all-laws schema law.Settled = refl
+younger-obeys-all-laws schema law.Fallen = refl
+
+younger-keeps-no-order : (schema : Schema) → Order schema younger → ⊥
+unfolding line_test
+younger-keeps-no-order schema s = false≢true ((order-is schema younger (readable-to schema younger (younger-can-be-read schema))).1 s)

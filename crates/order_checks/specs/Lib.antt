@@ -1,4 +1,6 @@
 pub mod Answered
+pub mod Waiting
 pub mod EffectTests
 pub mod AnswerTests
+pub mod OrderTests
 pub mod Walk

@@ -6,7 +6,9 @@ mod answered;
 mod answers;
 mod effect_lines;
 mod effects;
+mod order;
 mod rows;
+mod waiting;
 mod walk;
 
-pub use walk::{gives_answers, gives_effects};
+pub use walk::{gives_answers, gives_effects, keeps_order};

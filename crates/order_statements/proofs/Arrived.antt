@@ -1,6 +1,6 @@
 -- What waits at an end by its passings is what is read of it, in order.
 use Rattle.std.proofs.Common.{◌≡◌, ℕ, ◌+◌, ◌≤◌, ℤ, Bool, true, false, not, ◌&&◌, if◌then◌else◌, IsTrue, List, [], ◌∷◌, ◌++◌, filter_map, Option, Some, None, refl, sym, ap, subst, ◌∙◌, arith}
-use Rattle.std.specs.List.{cons_option, list_any}
+use Rattle.std.specs.List.{cons_option, filter, list_any}
 use Rattle.ipdl_base.specs.declared.kinds.Side.{Side}
 use Rattle.ipdl_base.specs.declared.line.Line.{Line}
 use Rattle.ipdl_base.specs.declared.line.What.{What}
@@ -24,18 +24,11 @@ use Rattle.law_statements.proofs.Fields.{SentRead, sent-more}
 use Rattle.law_statements.proofs.Fronts.{same-kind}
 use Rattle.law_statements.proofs.Lists.{add, any-add, made-add}
 use Rattle.order_statements.specs.Order.{still_waits}
-
--- the packets that arrive and still wait, in order
-abbrev pub waiting : List Passing → List PacketKind
-waiting [] = []
-waiting (arrives p ∷ later) = if still_waits p later then p ∷ waiting later else waiting later
-waiting (leaves p ∷ later) = waiting later
-waiting (gives_up ∷ later) = waiting later
+use Rattle.order_statements.specs.Waiting.{waiting}
 
 -- the packets of a list but for one
 abbrev others : PacketKind → List PacketKind → List PacketKind
-others q [] = []
-others q (x ∷ xs) = if same_packet x q then others q xs else x ∷ others q xs
+others q xs = filter (λ x. not (same_packet x q)) xs
 
 -- With one more passing
 
@@ -48,7 +41,7 @@ still-arrives p q ps =
     ap (λ (b : Bool). not b && not (list_any (is_leaving p) (ps ++ arrives q ∷ []))) (any-add is_giving_up ps (arrives q))
     ∙ ap (λ (b : Bool). not (list_any is_giving_up ps) && not b) (any-add (is_leaving p) ps (arrives q))
 
-waiting-arrives : (ps : List Passing) (q : PacketKind) → waiting (ps ++ arrives q ∷ []) ≡ waiting ps ++ q ∷ []
+pub waiting-arrives : (ps : List Passing) (q : PacketKind) → waiting (ps ++ arrives q ∷ []) ≡ waiting ps ++ q ∷ []
 waiting-arrives [] q = refl
 waiting-arrives (arrives p ∷ ps) q =
     ap (λ (b : Bool). if b then p ∷ waiting (ps ++ arrives q ∷ []) else waiting (ps ++ arrives q ∷ [])) (still-arrives p q ps)
@@ -57,7 +50,7 @@ waiting-arrives (arrives p ∷ ps) q =
 waiting-arrives (leaves p ∷ ps) q = waiting-arrives ps q
 waiting-arrives (gives_up ∷ ps) q = waiting-arrives ps q
 
-waiting-given_up : (ps : List Passing) → waiting (ps ++ gives_up ∷ []) ≡ []
+pub waiting-given_up : (ps : List Passing) → waiting (ps ++ gives_up ∷ []) ≡ []
 waiting-given_up [] = refl
 waiting-given_up (arrives p ∷ ps) =
     ap (λ (b : Bool). if not b && not (list_any (is_leaving p) (ps ++ gives_up ∷ [])) then p ∷ waiting (ps ++ gives_up ∷ []) else waiting (ps ++ gives_up ∷ [])) (any-add is_giving_up ps gives_up)
@@ -86,7 +79,7 @@ still-leaves p q ps =
     by true false = refl
     by false g = refl
 
-waiting-leaves : (ps : List Passing) (q : PacketKind) → waiting (ps ++ leaves q ∷ []) ≡ others q (waiting ps)
+pub waiting-leaves : (ps : List Passing) (q : PacketKind) → waiting (ps ++ leaves q ∷ []) ≡ filter (λ x. not (same_packet x q)) (waiting ps)
 waiting-leaves [] q = refl
 waiting-leaves (arrives p ∷ ps) q =
     ap (λ (b : Bool). if b then p ∷ waiting (ps ++ leaves q ∷ []) else waiting (ps ++ leaves q ∷ [])) (still-leaves p q ps)
@@ -94,9 +87,9 @@ waiting-leaves (arrives p ∷ ps) q =
     ∙ by (same_packet p q) refl (still_waits p ps)
   where
     by : (s : Bool) → same_packet p q ≡ s → (w : Bool) → (if (if s then false else w) then p ∷ others q (waiting ps) else others q (waiting ps)) ≡ others q (if w then p ∷ waiting ps else waiting ps)
-    by true is true = sym (ap (λ (b : Bool). if b then others q (waiting ps) else p ∷ others q (waiting ps)) is)
+    by true is true = sym (ap (λ (b : Bool). if not b then p ∷ others q (waiting ps) else others q (waiting ps)) is)
     by true is false = refl
-    by false is true = sym (ap (λ (b : Bool). if b then others q (waiting ps) else p ∷ others q (waiting ps)) is)
+    by false is true = sym (ap (λ (b : Bool). if not b then p ∷ others q (waiting ps) else others q (waiting ps)) is)
     by false is false = refl
 waiting-leaves (leaves p ∷ ps) q = waiting-leaves ps q
 waiting-leaves (gives_up ∷ ps) q = waiting-leaves ps q
@@ -107,7 +100,7 @@ others-none : (q : PacketKind) (xs : List PacketKind) → held q xs ≡ 0 → ot
 others-none q [] e = refl
 others-none q (x ∷ xs) e = by (same_packet x q) e (others-none q xs)
   where
-    by : (b : Bool) → (if b then held q xs + 1 else held q xs) ≡ 0 → (held q xs ≡ 0 → others q xs ≡ xs) → (if b then others q xs else x ∷ others q xs) ≡ x ∷ xs
+    by : (b : Bool) → (if b then held q xs + 1 else held q xs) ≡ 0 → (held q xs ≡ 0 → others q xs ≡ xs) → (if not b then x ∷ others q xs else others q xs) ≡ x ∷ xs
     by true e rec = absurd (omega (arith, e))
     by false e rec = ap (λ (ys : List PacketKind). x ∷ ys) (rec e)
 
@@ -116,7 +109,7 @@ unfolding without_first
 others-first q [] e = refl
 others-first q (x ∷ xs) e = out-cons q x xs ∙ by (same_packet x q) e (others-first q xs)
   where
-    by : (b : Bool) → (if b then held q xs + 1 else held q xs) ≤ 1 → (held q xs ≤ 1 → without_first q xs ≡ others q xs) → (if b then xs else x ∷ without_first q xs) ≡ (if b then others q xs else x ∷ others q xs)
+    by : (b : Bool) → (if b then held q xs + 1 else held q xs) ≤ 1 → (held q xs ≤ 1 → without_first q xs ≡ others q xs) → (if b then xs else x ∷ without_first q xs) ≡ (if not b then x ∷ others q xs else others q xs)
     by true e rec = sym (others-none q xs (omega (arith, e)))
     by false e rec = ap (λ (ys : List PacketKind). x ∷ ys) (rec e)
 

@@ -49,13 +49,14 @@ use Rattle.law_statements.proofs.WaitsLaw.{kind-read}
 use Rattle.order_statements.specs.Laws.{HistoriesKeepOrder}
 use Rattle.order_statements.specs.Order as order
 use Rattle.order_statements.specs.Order.{IsPassedOver, TakesFirstFree, WaitsAlone, is_shut, packet_taken}
-use Rattle.order_statements.proofs.Arrived.{ArriveOnce, WaitsAt, once-arrived, waiting, waiting-read, waits-at, waits-in}
+use Rattle.order_statements.specs.Waiting.{waiting}
+use Rattle.order_statements.proofs.Arrived.{ArriveOnce, WaitsAt, once-arrived, waiting-read, waits-at, waits-in}
 use Rattle.order_statements.proofs.Takings.{TakenAfter, shut-is, taken-after, taken-shows, taken-stays}
 use Rattle.order_statements.proofs.WaitingItems.{EndKnown, Waits, all-wait, arrival-told, deferred-alike, known, may-overtake}
 
 -- Lists
 
-no-item : {A : Type 0} (x : A) → In x [] → ⊥
+pub no-item : {A : Type 0} (x : A) → In x [] → ⊥
 no-item x i = elim i [ ]
 
 in-one : {A : Type 0} (x y : A) → In x (y ∷ []) → x ≡ y

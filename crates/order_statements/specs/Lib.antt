@@ -1,5 +1,6 @@
 pub mod Shape
 pub mod Order
+pub mod Waiting
 pub mod Effects
 pub mod Answers
 pub mod Laws
