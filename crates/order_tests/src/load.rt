@@ -1,7 +1,6 @@
 //! What lies at two ends and on both links, as the lines of a history tell, and what that weighs by the table of
 //! docs/nesting.md.
-use history_reading::{is_sync_number, wants_number};
-use ipdl_base::{Line, Schema, Side, What};
+use ipdl_base::{Line, MessageRow, Schema, Semantics, Side, What};
 use std::alloc::{AllocError, Global};
 
 /// A handler that runs, and whether it owes the reply to a sync request or has its resolver.
@@ -136,6 +135,11 @@ impl EndLoad {
     }
 }
 
+/// Whether a message is sync or makes a promise.
+fn owes_reply(row: &MessageRow) -> bool {
+    matches!(row.semantics, Semantics::Sync) || row.returns.is_some()
+}
+
 /// What one line changes at its end and at the other.
 fn note(
     schema: &Schema,
@@ -174,7 +178,7 @@ fn note(
         What::DeliverGoodbye | What::DeliverBroken => own.deliver_farewell(),
         What::Take(seq, _, number, _) => {
             own.arrived_requests = own.arrived_requests.wrapping_sub(1);
-            let owes = is_sync_number(schema, *number) || wants_number(schema, *number);
+            let owes = schema.message(*number).is_some_and(|row| owes_reply(row));
             own.handlers.push(Handler { seq: *seq, owes })?;
         }
         What::Drop(..) | What::Replaced(_) => {
