@@ -371,6 +371,3 @@ module _ (schema : Schema) (sound : IsSound schema) (top : ℕ) (side : Side) (e
 -- an event in a run of one end, and an effect; there all lines are of that end
 pub event-alone : (schema : Schema) → IsSound schema → (top : ℕ) (side : Side) (e : End) (lines : List Line) (packets : List Packet) → RunsAlone schema top side e lines packets → (end : Side) (w : What) (before behind : List Line) → is_effect w ≡ false → lines ≡ before ++ line_of end w ∷ behind → (end ≡ side) × EventIn (StepAt schema top side) end w before behind
 event-alone schema sound top side e lines packets run end w before behind is at = let l = alone-line schema sound top side end w e lines packets run before behind at in (l.0, event-in is l.1)
-
-pub effect-alone : (schema : Schema) → IsSound schema → (top : ℕ) (side : Side) (e : End) (lines : List Line) (packets : List Packet) → RunsAlone schema top side e lines packets → (end : Side) (w : What) (before behind : List Line) → is_effect w ≡ true → lines ≡ before ++ line_of end w ∷ behind → (end ≡ side) × EffectIn (StepAt schema top side) end w before behind
-effect-alone schema sound top side e lines packets run end w before behind is at = let l = alone-line schema sound top side end w e lines packets run before behind at in (l.0, effect-in is l.1)

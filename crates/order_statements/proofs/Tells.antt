@@ -55,7 +55,7 @@ use Rattle.alone_laws.proofs.AloneLines.{said-more}
 use Rattle.alone_laws.proofs.AloneRuns.{one_end_obeys_fallen, runs-keep}
 use Rattle.alone_laws.proofs.AloneSteps.{whats-same}
 use Rattle.order_statements.proofs.ArrivedReplies.{ItemIsPromised, RepliesArePromised, replies-alone, replies-promised}
-use Rattle.order_statements.proofs.Places.{EffectIn, EventIn, MoveAt, StepAt, effect-alone, effect-at, event-alone, event-at, run-after}
+use Rattle.order_statements.proofs.Places.{EventIn, MoveAt, StepAt, event-alone, event-at, run-after}
 
 -- What the lines of an end tell of it: its state, who was built and lives, its stack, and its promises; and what is read of these lines, for more.
 pub record EndTells (schema : Schema) (e : End) (end : Side) (lines : List Line) : Type 0 where
@@ -223,34 +223,20 @@ alone-step-tells schema sound top side start output s = record {
   tells_after = alone-tells schema sound top side output.end (start ++ output.lines) s.given (run-after s);
 }
 
--- Lines of which each event was printed by a step that they tell of, and each effect
+-- Lines of which each event was printed by a step that they tell of
 abbrev pub EventsAreTold : Schema → List Line → Type 0
 EventsAreTold schema lines = (end : Side) (w : What) (before behind : List Line) → is_effect w ≡ false → lines ≡ before ++ line_of end w ∷ behind → EventIn (TellingStep schema end) end w before behind
-
-abbrev pub EffectsAreTold : Schema → List Line → Type 0
-EffectsAreTold schema lines = (end : Side) (w : What) (before behind : List Line) → is_effect w ≡ true → lines ≡ before ++ line_of end w ∷ behind → EffectIn (TellingStep schema end) end w before behind
 
 pub event-by : {S T : List Line → Output → Type 0} {end : Side} {w : What} {before behind : List Line} → ((start : List Line) (output : Output) → S start output → T start output) → EventIn S end w before behind → EventIn T end w before behind
 event-by {before = before} step i = record { output = i.output; by = step before i.output i.by; effects = i.effects; lines = i.lines; has = i.has }
 
-effect-by : {S T : List Line → Output → Type 0} {end : Side} {w : What} {before behind : List Line} → ((start : List Line) (output : Output) → S start output → T start output) → EffectIn S end w before behind → EffectIn T end w before behind
-effect-by step i = record { start = i.start; output = i.output; by = step i.start i.output i.by; event = i.event; event_is = i.event_is; earlier = i.earlier; more = i.more; before_is = i.before_is; lines = i.lines; has = i.has }
-
 pub history-events : (schema : Schema) → IsSound schema → (top : ℕ) (moves : List Move) → EventsAreTold schema (history_of schema top moves)
 history-events schema sound top moves end w before behind is at = event-by (move-tells schema sound top moves end) (event-at schema sound top moves end w before behind is at)
-
-pub history-effects : (schema : Schema) → IsSound schema → (top : ℕ) (moves : List Move) → EffectsAreTold schema (history_of schema top moves)
-history-effects schema sound top moves end w before behind is at = effect-by (move-tells schema sound top moves end) (effect-at schema sound top moves end w before behind is at)
 
 pub alone-events : (schema : Schema) → IsSound schema → (top : ℕ) (side : Side) (e : End) (lines : List Line) (packets : List Packet) → RunsAlone schema top side e lines packets → EventsAreTold schema lines
 alone-events schema sound top side e lines packets run end w before behind is at =
     let here = event-alone schema sound top side e lines packets run end w before behind is at in
     event-by (λ start output s. subst (λ (x : Side). TellingStep schema x start output) (sym here.0) (alone-step-tells schema sound top side start output s)) here.1
-
-pub alone-effects : (schema : Schema) → IsSound schema → (top : ℕ) (side : Side) (e : End) (lines : List Line) (packets : List Packet) → RunsAlone schema top side e lines packets → EffectsAreTold schema lines
-alone-effects schema sound top side e lines packets run end w before behind is at =
-    let here = effect-alone schema sound top side e lines packets run end w before behind is at in
-    effect-by (λ start output s. subst (λ (x : Side). TellingStep schema x start output) (sym here.0) (alone-step-tells schema sound top side start output s)) here.1
 
 -- what an end has said after an event and its effects
 pub told-after : (schema : Schema) {end : Side} {w : What} {before behind : List Line} (i : EventIn (TellingStep schema end) end w before behind) → said_by end (before ++ i.output.lines) ≡ said_by end before ++ w ∷ i.effects
