@@ -1,5 +1,7 @@
 //! What lies at two ends and on both links, as the lines of a history tell, and what that weighs by the table of
 //! docs/nesting.md.
+ghost use Rattle.ipdl_base.specs.Sound.{IsSound};
+
 use ipdl_base::{Line, MessageRow, Schema, Semantics, Side, What};
 use std::alloc::{AllocError, Global};
 
@@ -57,7 +59,11 @@ impl EndLoad {
     }
 
     fn kept_weight(&self) -> u32 {
-        (self.kept.len() as u32).wrapping_mul(2)
+        let mut weight = 0u32;
+        for _resolver in self.kept.as_slice() {
+            weight = weight.wrapping_add(2);
+        }
+        weight
     }
 
     /// A request leaves the outbox with all that waits there.
@@ -146,7 +152,9 @@ fn note(
     what: &What,
     own: &mut EndLoad,
     other: &mut EndLoad,
-) -> Result<(), AllocError> {
+) -> Result<(), AllocError>
+    requires { IsSound schema.now }
+{
     match what {
         What::Send(_, _, number, _) => {
             let lazy = schema.message(*number).is_some_and(|row| row.lazy);
@@ -226,7 +234,9 @@ impl Load {
     }
 
     /// Goes on by one line.
-    pub fn note(&mut self, schema: &Schema, line: &Line) -> Result<(), AllocError> {
+    pub fn note(&mut self, schema: &Schema, line: &Line) -> Result<(), AllocError>
+        requires { IsSound schema.now }
+    {
         match line.side {
             Side::Parent => note(schema, &line.what, &mut self.parent, &mut self.child),
             Side::Child => note(schema, &line.what, &mut self.child, &mut self.parent),

@@ -1,4 +1,6 @@
 //! The weight of the world at each moment of worked runs.
+ghost use Rattle.ipdl_base.specs.Sound.{IsSound};
+
 use super::given::note as note_row;
 use super::load::Load;
 use super::runs::lines_of;
@@ -22,7 +24,9 @@ fn weights_of(
     schema: &Schema,
     history: &History,
     full: bool,
-) -> Result<String, AllocError> {
+) -> Result<String, AllocError>
+    requires { IsSound schema.now }
+{
     let mut load = Load::new(alloc);
     let mut shown = String::new(alloc);
     for line in history.lines() {
@@ -106,7 +110,9 @@ fn may_change(by_act: bool, before: (u32, u32), after: (u32, u32)) -> bool {
 }
 
 /// How many events of a history change the weights as they may not, and behind a blank the weight that is left.
-fn misweighed(alloc: Global, schema: &Schema, history: &History) -> Result<String, AllocError> {
+fn misweighed(alloc: Global, schema: &Schema, history: &History) -> Result<String, AllocError>
+    requires { IsSound schema.now }
+{
     let mut load = Load::new(alloc);
     let mut before = (0u32, 0u32);
     let mut by_act = true;
