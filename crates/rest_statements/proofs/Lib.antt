@@ -1,4 +1,1 @@
-pub mod Still
-pub mod BothEnds
 pub mod Promises
-pub mod RestLaw

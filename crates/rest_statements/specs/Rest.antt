@@ -1,12 +1,12 @@
 -- What is left where nothing but acts is possible, as the lines of a history tell.
-use Rattle.std.specs.Prelude.{◌≡◌, ◌⊎◌, false, IsTrue, List, [], ◌++◌, map, Contains}
+use Rattle.std.specs.Prelude.{◌≡◌, ◌⊎◌, ℤ, false, IsTrue, List, [], ◌++◌, map, Some}
 use Rattle.ipdl_base.specs.declared.kinds.EndState.TheVariants as state
 use Rattle.ipdl_base.specs.declared.kinds.Side.{Side}
 use Rattle.ipdl_base.specs.declared.line.Line.{Line}
 use Rattle.ipdl_base.specs.declared.schema.Schema.{Schema}
 use Rattle.history_reading.specs.declared.parts.PacketKind.{PacketKind}
 use Rattle.history_reading.specs.Numbers.{has}
-use Rattle.history_reading.specs.SentPacket.{Request, packet_kind, request}
+use Rattle.history_reading.specs.SentPacket.{Request, packet_kind, request_of}
 use Rattle.law_statements.specs.Arrived.{IsArrived, state_of}
 use Rattle.law_statements.specs.Packets.{delivered, sent, settled}
 use Rattle.law_statements.specs.Said.{is_moment, other_end, said_by}
@@ -23,7 +23,7 @@ pub record NothingIsLeft (schema : Schema) (end : Side) (before : List Line) : T
   -- no handler runs, and no call waits or goes on
   pub stack : stack schema end before ≡ []
   -- the other end has not answered a request whose promise is not settled
-  pub promises : (r : Request) → Contains (sent schema (said_by end before)) (request r) → IsTrue r.wants → has (settled (said_by end before)) r.seq ≡ false → has (answered (said_by (other_end end) before)) r.seq ≡ false
+  pub promises : (n : ℤ) (r : Request) → request_of (sent schema (said_by end before)) n ≡ Some r → IsTrue r.wants → has (settled (said_by end before)) n ≡ false → has (answered (said_by (other_end end) before)) n ≡ false
 
 -- an end is closed or dead
 abbrev pub HasEnded : Side → List Line → Type 0
