@@ -109,6 +109,20 @@ fn may_change(by_act: bool, before: (u32, u32), after: (u32, u32)) -> bool {
     }
 }
 
+/// Whether the events of a history that happen by themselves are at most six for each act.
+fn are_few_by_themselves(history: &History) -> bool {
+    let mut acts = 0u32;
+    let mut by_themselves = 0u32;
+    for line in history.lines() {
+        if is_act(&line.what) {
+            acts = acts.wrapping_add(1);
+        } else if !is_effect(&line.what) {
+            by_themselves = by_themselves.wrapping_add(1);
+        }
+    }
+    by_themselves <= acts.wrapping_mul(6)
+}
+
 /// How many events of a history change the weights as they may not, and behind a blank the weight that is left.
 fn misweighed(alloc: Global, schema: &Schema, history: &History) -> Result<String, AllocError>
     requires { IsSound schema.now }
@@ -142,6 +156,9 @@ fn check_run(alloc: Global, text: &str, wrong: &mut String) -> Result<(), Fail> 
     let row = row_of(text).ok_or("a row of another form")?;
     let schema = schema_of(alloc, row.file)?;
     let history = history_in(alloc, &schema, row)?;
+    if !are_few_by_themselves(&history) {
+        writeln!(wrong, "{}: more than six for an act", row.name)?;
+    }
     let found = misweighed(alloc, &schema, &history)?;
     let wanted = if row.name == "limit-spent" {
         "0 12"

@@ -1,5 +1,5 @@
 -- Where one end is open and nothing is on the link toward it, the other has not ended.
-use Rattle.std.proofs.Common.{◌≡◌, ◌⊎◌, inl, inr, Bool, true, false, ◌||◌, if◌then◌else◌, IsTrue, List, [], ◌∷◌, ◌++◌, reverse, map, filter_map, Option, Some, None, unwrap_or, Contains, refl, sym, ap, subst, append_assoc, ◌∙◌}
+use Rattle.std.proofs.Common.{◌≡◌, ◌⊎◌, inl, inr, Bool, true, false, ◌||◌, if◌then◌else◌, List, [], ◌∷◌, ◌++◌, reverse, map, filter_map, Option, Some, None, unwrap_or, Contains, refl, sym, ap, subst, append_assoc, ◌∙◌}
 use Rattle.std.specs.List.{AllByRecursion, cons_option, list_any, slice_get}
 use Rattle.std.specs.Option.{option_map_or}
 use Rattle.std.proofs.lemmas.List.{reverse-append, reverse-reverse}
@@ -19,7 +19,7 @@ use Rattle.history_reading.specs.SentPacket.{SentPacket, packet_kind}
 use Rattle.history_reading.specs.SentPacket as told
 use Rattle.channel_laws.specs.Notes.{In, here, there}
 use Rattle.channel_laws.proofs.Growing.{in-before, in-behind}
-use Rattle.law_statements.specs.Arrived.{Passing, arrives, passing, passings, state_after, state_of}
+use Rattle.law_statements.specs.Arrived.{arrives, passing, state_after, state_of}
 use Rattle.law_statements.specs.Packets.{delivered, delivery, is_farewell, sent, sent_at}
 use Rattle.law_statements.specs.Prefix.{DeliversWhatWasSent, Prefix}
 use Rattle.law_statements.specs.Said.{line_of, made_of, other_end, said_by, said_in}
@@ -268,7 +268,7 @@ one-open schema lines prefix order before behind lines_are end is_open_end all e
     -- none was delivered to it
     undelivered : (w : What) (p : PacketKind) → In w theirs → delivery w ≡ Some p → is_end p ≡ true → ⊥
     undelivered w p i is e =
-        let shown : In p (map packet_kind (sent schema (said_by (other_end (other_end end)) before)) ) = subst (In p) (sym fronts.1) (in-before fronts.0 (in-kept delivery w p theirs is i)) in
+        let shown : In p (map packet_kind (sent schema (said_by (other_end (other_end end)) before))) = subst (In p) (sym fronts.1) (in-before fronts.0 (in-kept delivery w p theirs is i)) in
         let m = from-map packet_kind (sent schema own) p (subst (λ (s : Side). In p (map packet_kind (sent schema (said_by s before)))) (other-twice end) shown) in
         let k = made-from (sent_at schema) [] own m.0 m.1 in
         sends-end schema k.earlier k.one (ap (λ (o : Option SentPacket). option_map_or (λ (q : SentPacket). is_end (packet_kind q)) o false) k.is ∙ ap is_end m.2 ∙ e) (quiet k.one k.in_it)

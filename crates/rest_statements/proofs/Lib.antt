@@ -1,1 +1,4 @@
+pub mod Still
+pub mod BothEnds
 pub mod Promises
+pub mod RestLaw

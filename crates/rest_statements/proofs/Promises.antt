@@ -1,7 +1,7 @@
 -- Where nothing is left at two open ends, no promise that is not settled was answered.
-use Rattle.std.proofs.Common.{◌≡◌, ℕ, ℤ, suc, ◌+◌, ◌<◌, Bool, true, false, not, ◌&&◌, ◌||◌, cond, if◌then◌else◌, IsTrue, List, [], ◌∷◌, ◌++◌, map, filter_map, find, count_by, Option, Some, None, is_some, option_map, refl, sym, ap, subst, ◌∙◌, append_assoc, arith}
+use Rattle.std.proofs.Common.{◌≡◌, ℕ, ℤ, ◌<◌, Bool, true, false, not, ◌&&◌, ◌||◌, cond, if◌then◌else◌, IsTrue, List, [], ◌∷◌, ◌++◌, map, filter_map, find, count_by, Option, Some, None, is_some, refl, sym, ap, subst, ◌∙◌, append_assoc, arith}
 use Rattle.std.specs.Prelude.{unwrap_or}
-use Rattle.std.specs.List.{AllByRecursion, cons_option, list_all, list_any}
+use Rattle.std.specs.List.{AllByRecursion, cons_option, list_any}
 use Rattle.std.specs.Option.{option_map_or}
 use Rattle.std.specs.Ordering.{int_eq}
 use Rattle.std.proofs.lemmas.Bool.{false≢true}
@@ -24,7 +24,7 @@ use Rattle.history_reading.specs.declared.parts.PacketKind.{PacketKind}
 use Rattle.history_reading.specs.declared.parts.PacketKind.TheVariants as seen
 use Rattle.history_reading.specs.Numbers.{has, has_packet, same_packet}
 use Rattle.history_reading.specs.Rows.{is_sync_number, is_sync_row, wants_number, wants_row}
-use Rattle.history_reading.specs.SentPacket.{Request, SentPacket, broken, packet_kind, request_in, request_of, requests_of}
+use Rattle.history_reading.specs.SentPacket.{Request, SentPacket, broken, packet_kind, request_of, requests_of}
 use Rattle.law_statements.specs.Arrived.{IsArrived, Passing, arrives, gives_up, is_arrival, is_giving_up, is_leaving, leaves, passing, passings, state_after, state_of}
 use Rattle.law_statements.specs.Packets.{delivered, delivery, is_farewell, number_settled, sent, sent_at, settled}
 use Rattle.law_statements.specs.Said.{is_moment, line_of, made_of, other_end, said_by, said_in}
@@ -32,7 +32,7 @@ use Rattle.law_statements.specs.Stack.{is_sync_of}
 use Rattle.channel_laws.proofs.SentAccounts.{requests-append}
 use Rattle.alone_laws.proofs.LivingActors.{made-append}
 use Rattle.order_statements.specs.Effects.{Effects}
-use Rattle.order_statements.specs.Shape.{HasEffects, answered, number_answered}
+use Rattle.order_statements.specs.Shape.{answered, number_answered}
 use Rattle.order_statements.proofs.Tells.{state-more}
 
 -- Where an element comes from
@@ -301,9 +301,10 @@ said-at end (l ∷ lines) front w back e = by (same_side l.side end) refl front 
     by true is (x ∷ front) k rec =
         let first : l.what ≡ x = cc in
         let more : said_by end lines ≡ front ++ w ∷ back = cc in
-        let p = rec front w back more in
-        (record { front = l ∷ p.0.front; back = p.0.back; is = ap (λ ls. l ∷ ls) p.0.is },
-        ap (λ (b : Bool). cons_option (if b then Some l.what else None) (said_by end p.0.front)) is ∙ ap (λ (v : What). v ∷ said_by end p.0.front) first ∙ ap (λ ws. x ∷ ws) p.1)
+        let p = rec front w back more in (
+          record { front = l ∷ p.0.front; back = p.0.back; is = ap (λ ls. l ∷ ls) p.0.is },
+          ap (λ (b : Bool). cons_option (if b then Some l.what else None) (said_by end p.0.front)) is ∙ ap (λ (v : What). v ∷ said_by end p.0.front) first ∙ ap (λ ws. x ∷ ws) p.1,
+        )
     by false is front k rec =
         let p = rec front w back k in
         (record { front = l ∷ p.0.front; back = p.0.back; is = ap (λ ls. l ∷ ls) p.0.is }, ap (λ (b : Bool). cons_option (if b then Some l.what else None) (said_by end p.0.front)) is ∙ p.1)
