@@ -1,5 +1,5 @@
 -- Where one end is open and nothing is on the link toward it, the other has not ended.
-use Rattle.std.proofs.Common.{◌≡◌, ◌⊎◌, inl, inr, Bool, true, false, ◌||◌, if◌then◌else◌, IsTrue, List, [], ◌∷◌, ◌++◌, reverse, map, filter_map, Option, Some, None, unwrap_or, Contains, refl, sym, ap, subst, append_assoc, ◌∙◌}
+use Rattle.std.proofs.Common.{◌≡◌, ◌⊎◌, inl, inr, Bool, true, false, ◌||◌, if◌then◌else◌, List, [], ◌∷◌, ◌++◌, reverse, map, filter_map, Option, Some, None, unwrap_or, Contains, refl, sym, ap, subst, append_assoc, ◌∙◌}
 use Rattle.std.specs.List.{AllByRecursion, cons_option, list_any, slice_get}
 use Rattle.std.specs.Option.{option_map_or}
 use Rattle.std.proofs.lemmas.List.{reverse-append, reverse-reverse}
@@ -19,7 +19,7 @@ use Rattle.history_reading.specs.SentPacket.{SentPacket, packet_kind}
 use Rattle.history_reading.specs.SentPacket as told
 use Rattle.channel_laws.specs.Notes.{In, here, there}
 use Rattle.channel_laws.proofs.Growing.{in-before, in-behind}
-use Rattle.law_statements.specs.Arrived.{Passing, arrives, passing, passings, state_after, state_of}
+use Rattle.law_statements.specs.Arrived.{arrives, passing, state_after, state_of}
 use Rattle.law_statements.specs.Packets.{delivered, delivery, is_farewell, sent, sent_at}
 use Rattle.law_statements.specs.Prefix.{DeliversWhatWasSent, Prefix}
 use Rattle.law_statements.specs.Said.{line_of, made_of, other_end, said_by, said_in}
@@ -153,6 +153,7 @@ sends-end schema earlier what.Close e q = cc
 sends-end schema earlier what.Die e q = cc
 sends-end schema earlier _ e q = cc
 
+-- One to which one is delivered drains.
 delivers-end : (w : What) → option_map_or is_end (delivery w) false ≡ true → state_after w ≡ None → ⊥
 delivers-end what.DeliverGoodbye e q = cc
 delivers-end what.DeliverBroken e q = cc
@@ -170,6 +171,7 @@ arrives-end schema earlier (what.DeliverReply n) p end e = by (is_sync_of schema
     by false e = cc
 arrives-end schema earlier _ p end e = cc
 
+-- an element that passes a test
 any-in : {A : Type 0} (test : A → Bool) (xs : List A) → list_any test xs ≡ true → (x : A) × In x xs × (test x ≡ true)
 any-in test [] e = cc
 any-in {A} test (x ∷ xs) e = by (test x) refl e (any-in test xs)
@@ -191,19 +193,19 @@ side-same side.Parent side.Child e = cc
 side-same side.Child side.Parent e = cc
 
 -- the line of what an end said
-record Line-of (end : Side) (w : What) (lines : List Line) : Type 0 where
+record LineOf (end : Side) (w : What) (lines : List Line) : Type 0 where
   front : List Line
   back : List Line
   is : lines ≡ front ++ line_of end w ∷ back
 
-line-said : (end : Side) (w : What) (lines : List Line) → In w (said_by end lines) → Line-of end w lines
+line-said : (end : Side) (w : What) (lines : List Line) → In w (said_by end lines) → LineOf end w lines
 line-said end w [] i = elim i [ ]
 line-said end w (line ∷ lines) i = by (same_side line.side end) refl line.what refl i (line-said end w lines)
   where
-    more : Line-of end w lines → Line-of end w (line ∷ lines)
+    more : LineOf end w lines → LineOf end w (line ∷ lines)
     more r = record { front = line ∷ r.front; back = r.back; is = ap (λ (ls : List Line). line ∷ ls) r.is }
 
-    by : (b : Bool) → same_side line.side end ≡ b → (said : What) → line.what ≡ said → In w (cons_option (if b then Some said else None) (said_by end lines)) → (In w (said_by end lines) → Line-of end w lines) → Line-of end w (line ∷ lines)
+    by : (b : Bool) → same_side line.side end ≡ b → (said : What) → line.what ≡ said → In w (cons_option (if b then Some said else None) (said_by end lines)) → (In w (said_by end lines) → LineOf end w lines) → LineOf end w (line ∷ lines)
     by true e said is here rec = record { front = []; back = lines; is = ap (λ (s : Side). record { side = s; what = line.what } ∷ lines) (side-same line.side end e) ∙ ap (λ (u : What). line_of end u ∷ lines) is }
     by true e said is (there i) rec = more (rec i)
     by false e said is i rec = more (rec i)
@@ -220,6 +222,7 @@ is_over state.Closed = true
 is_over state.Dead = true
 is_over _ = false
 
+-- What leaves its end closed or dead is one of these.
 ends-by : (ws : List What) (w : What) → In w ws → option_map_or is_over (state_after w) false ≡ true → Ending ws
 ends-by ws what.Close i e = closes i
 ends-by ws what.ShutNormal i e = shuts what.ShutNormal seen.Goodbye i refl refl
@@ -268,7 +271,7 @@ one-open schema lines prefix order before behind lines_are end is_open_end all e
     -- none was delivered to it
     undelivered : (w : What) (p : PacketKind) → In w theirs → delivery w ≡ Some p → is_end p ≡ true → ⊥
     undelivered w p i is e =
-        let shown : In p (map packet_kind (sent schema (said_by (other_end (other_end end)) before)) ) = subst (In p) (sym fronts.1) (in-before fronts.0 (in-kept delivery w p theirs is i)) in
+        let shown : In p (map packet_kind (sent schema (said_by (other_end (other_end end)) before))) = subst (In p) (sym fronts.1) (in-before fronts.0 (in-kept delivery w p theirs is i)) in
         let m = from-map packet_kind (sent schema own) p (subst (λ (s : Side). In p (map packet_kind (sent schema (said_by s before)))) (other-twice end) shown) in
         let k = made-from (sent_at schema) [] own m.0 m.1 in
         sends-end schema k.earlier k.one (ap (λ (o : Option SentPacket). option_map_or (λ (q : SentPacket). is_end (packet_kind q)) o false) k.is ∙ ap is_end m.2 ∙ e) (quiet k.one k.in_it)
