@@ -153,6 +153,7 @@ sends-end schema earlier what.Close e q = cc
 sends-end schema earlier what.Die e q = cc
 sends-end schema earlier _ e q = cc
 
+-- One to which one is delivered drains.
 delivers-end : (w : What) → option_map_or is_end (delivery w) false ≡ true → state_after w ≡ None → ⊥
 delivers-end what.DeliverGoodbye e q = cc
 delivers-end what.DeliverBroken e q = cc
@@ -170,6 +171,7 @@ arrives-end schema earlier (what.DeliverReply n) p end e = by (is_sync_of schema
     by false e = cc
 arrives-end schema earlier _ p end e = cc
 
+-- an element that passes a test
 any-in : {A : Type 0} (test : A → Bool) (xs : List A) → list_any test xs ≡ true → (x : A) × In x xs × (test x ≡ true)
 any-in test [] e = cc
 any-in {A} test (x ∷ xs) e = by (test x) refl e (any-in test xs)
@@ -191,19 +193,19 @@ side-same side.Parent side.Child e = cc
 side-same side.Child side.Parent e = cc
 
 -- the line of what an end said
-record Line-of (end : Side) (w : What) (lines : List Line) : Type 0 where
+record LineOf (end : Side) (w : What) (lines : List Line) : Type 0 where
   front : List Line
   back : List Line
   is : lines ≡ front ++ line_of end w ∷ back
 
-line-said : (end : Side) (w : What) (lines : List Line) → In w (said_by end lines) → Line-of end w lines
+line-said : (end : Side) (w : What) (lines : List Line) → In w (said_by end lines) → LineOf end w lines
 line-said end w [] i = elim i [ ]
 line-said end w (line ∷ lines) i = by (same_side line.side end) refl line.what refl i (line-said end w lines)
   where
-    more : Line-of end w lines → Line-of end w (line ∷ lines)
+    more : LineOf end w lines → LineOf end w (line ∷ lines)
     more r = record { front = line ∷ r.front; back = r.back; is = ap (λ (ls : List Line). line ∷ ls) r.is }
 
-    by : (b : Bool) → same_side line.side end ≡ b → (said : What) → line.what ≡ said → In w (cons_option (if b then Some said else None) (said_by end lines)) → (In w (said_by end lines) → Line-of end w lines) → Line-of end w (line ∷ lines)
+    by : (b : Bool) → same_side line.side end ≡ b → (said : What) → line.what ≡ said → In w (cons_option (if b then Some said else None) (said_by end lines)) → (In w (said_by end lines) → LineOf end w lines) → LineOf end w (line ∷ lines)
     by true e said is here rec = record { front = []; back = lines; is = ap (λ (s : Side). record { side = s; what = line.what } ∷ lines) (side-same line.side end e) ∙ ap (λ (u : What). line_of end u ∷ lines) is }
     by true e said is (there i) rec = more (rec i)
     by false e said is i rec = more (rec i)
@@ -220,6 +222,7 @@ is_over state.Closed = true
 is_over state.Dead = true
 is_over _ = false
 
+-- What leaves its end closed or dead is one of these.
 ends-by : (ws : List What) (w : What) → In w ws → option_map_or is_over (state_after w) false ≡ true → Ending ws
 ends-by ws what.Close i e = closes i
 ends-by ws what.ShutNormal i e = shuts what.ShutNormal seen.Goodbye i refl refl
