@@ -1,3 +1,4 @@
+//! Which requests each end has answered.
 ghost use Rattle.std.specs.Prelude.{◌≡◌, ◌∷◌, ◌++◌, [], OnOk, List};
 ghost use Rattle.ipdl_base.specs.declared.line.Line as declared;
 ghost use Rattle.order_statements.specs.Shape.{number_answered};

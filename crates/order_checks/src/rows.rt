@@ -1,3 +1,4 @@
+//! What the rows of a schema say of a message.
 ghost use Rattle.std.specs.Prelude.{◌≡◌};
 ghost use Rattle.ipdl_base.specs.Sound.{IsSound};
 ghost use Rattle.history_reading.specs.Rows as rows;

@@ -1,3 +1,4 @@
+//! Walks over the lines of a history and tests one statement at each.
 ghost use Rattle.std.specs.Prelude.{◌≡◌, ◌↔◌, [], IfOk, IsTrue};
 ghost use Rattle.ipdl_base.specs.Sound.{IsSound};
 ghost use Rattle.history_reading.specs.EndReadings.{end_view};
@@ -127,7 +128,7 @@ fn decide(
 }
 
 /// Whether each end of a history takes what has arrived in order (docs/laws.md). The history may be any list of lines that can
-/// be read; of others the answer says nothing. The only error is want of memory. Its time is at most quadratic in the lines.
+/// be read; of others the answer says nothing. Fails only when out of memory. Its time is at most quadratic in the lines.
 pub fn keeps_order(alloc: Global, schema: &Schema, history: &History) -> Result<bool, AllocError>
     requires { IsSound schema.now }
     ensures { IfOk result (λ yes. Readable schema.now history.now.lines → (IsTrue yes ↔ Order schema.now history.now.lines)) }
@@ -136,7 +137,7 @@ pub fn keeps_order(alloc: Global, schema: &Schema, history: &History) -> Result<
 }
 
 /// Whether each event of a history gives the effects that it owes (docs/laws.md). The history may be any list of lines that
-/// can be read and obeys the laws Living and Fallen; of others the answer says nothing. The only error is want of memory. Its
+/// can be read and obeys the laws Living and Fallen; of others the answer says nothing. Fails only when out of memory. Its
 /// time is at most quadratic in the lines.
 pub fn gives_effects(alloc: Global, schema: &Schema, history: &History) -> Result<bool, AllocError>
     requires { IsSound schema.now }
@@ -147,7 +148,7 @@ pub fn gives_effects(alloc: Global, schema: &Schema, history: &History) -> Resul
 }
 
 /// Whether each end of a history gives the answers that it owes to the other (docs/laws.md). The history may be any list of
-/// lines that can be read; of others the answer says nothing. The only error is want of memory. Its time is at most quadratic
+/// lines that can be read; of others the answer says nothing. Fails only when out of memory. Its time is at most quadratic
 /// in the lines.
 pub fn gives_answers(alloc: Global, schema: &Schema, history: &History) -> Result<bool, AllocError>
     requires { IsSound schema.now }

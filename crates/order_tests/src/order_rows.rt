@@ -265,7 +265,17 @@ two-deaths PW.ipdl yyyyy yyy
 an end that dies twice
 parent die
 parent die
+====
+settled-early PQ.ipdl yyyyy yyy
+a promise is settled as its reply is delivered, before it is taken
+parent send 1 to 2147483647 PQ.Get()
+child deliver request 1
+child take 1 at 2147483647 PQ.Get()
+child resolve 1 (7)
+child return 1
+parent deliver reply 1
+  settle 1 resolved (7)
 ";
 
 /// How many rows there are.
-pub const SILENT_COUNT: &str = "9";
+pub const SILENT_COUNT: &str = "10";

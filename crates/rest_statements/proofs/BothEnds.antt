@@ -1,9 +1,9 @@
 -- Where one end is open and nothing is on the link toward it, the other has not ended.
-use Rattle.std.proofs.Common.{◌≡◌, ◌⊎◌, inl, inr, Bool, true, false, ◌||◌, if◌then◌else◌, List, [], ◌∷◌, ◌++◌, reverse, map, filter_map, Option, Some, None, unwrap_or, Contains, refl, sym, ap, subst, append_assoc, ◌∙◌}
-use Rattle.std.specs.List.{AllByRecursion, cons_option, list_any, slice_get}
+use Rattle.std.proofs.Common.{◌≡◌, ◌⊎◌, inl, inr, Bool, true, false, ◌||◌, if◌then◌else◌, List, [], ◌∷◌, ◌++◌, reverse, map, filter_map, Option, Some, None, unwrap_or, refl, sym, ap, subst, append_assoc, ◌∙◌}
+use Rattle.std.specs.List.{cons_option, list_any, slice_get}
 use Rattle.std.specs.Option.{option_map_or}
 use Rattle.std.proofs.lemmas.List.{reverse-append, reverse-reverse}
-use Rattle.std.proofs.lemmas.List.Elements.{All-contains, All-from_recursion, filter_map-append}
+use Rattle.std.proofs.lemmas.List.Elements.{filter_map-append}
 use Rattle.ipdl_base.specs.declared.kinds.EndState.{EndState}
 use Rattle.ipdl_base.specs.declared.kinds.EndState.TheVariants as state
 use Rattle.ipdl_base.specs.declared.kinds.Side.{Side}
@@ -19,6 +19,7 @@ use Rattle.history_reading.specs.SentPacket.{SentPacket, packet_kind}
 use Rattle.history_reading.specs.SentPacket as told
 use Rattle.channel_laws.specs.Notes.{In, here, there}
 use Rattle.channel_laws.proofs.Growing.{in-before, in-behind}
+use Rattle.progress_laws.proofs.Members.{in-map}
 use Rattle.law_statements.specs.Arrived.{arrives, passing, state_after, state_of}
 use Rattle.law_statements.specs.Packets.{delivered, delivery, is_farewell, sent, sent_at}
 use Rattle.law_statements.specs.Prefix.{DeliversWhatWasSent, Prefix}
@@ -71,10 +72,6 @@ in-kept {A} {B} f x y xs e i =
     subst (In y) (sym (ap (filter_map f) p.is ∙ filter_map-append f p.front (x ∷ p.back) ∙ ap (λ (o : Option B). filter_map f p.front ++ cons_option o (filter_map f p.back)) e))
     (in-behind (filter_map f p.front) here)
 
-in-map : {A B : Type 0} (f : A → B) {x : A} {xs : List A} → In x xs → In (f x) (map f xs)
-in-map f here = here
-in-map f (there i) = there (in-map f i)
-
 from-map : {A B : Type 0} (f : A → B) (xs : List A) (y : B) → In y (map f xs) → (x : A) × In x xs × (f x ≡ y)
 from-map f [] y i = elim i [ ]
 from-map f (x ∷ xs) y here = (x, here, refl)
@@ -104,13 +101,6 @@ in-made {A} make front w back y e =
     subst (In y) (sym (made-append make [] front (w ∷ back) ∙ ap (λ (o : Option A). made_of make [] front ++ cons_option o (made_of make (front ++ w ∷ []) back)) e))
     (in-behind (made_of make [] front) here)
 
-contains-in : {A : Type 0} (xs : List A) (x : A) → Contains xs x → In x xs
-contains-in {A} xs x c = All-contains (λ y. In y xs) xs x (All-from_recursion (λ y. In y xs) xs (each xs (λ y i. i))) c
-  where
-    each : (ys : List A) → ((y : A) → In y ys → In y xs) → AllByRecursion (λ y. In y xs) ys
-    each [] f = tt
-    each (y ∷ ys) f = (f y here, each ys (λ z i. f z (there i)))
-
 -- States
 
 opens-never : (w : What) → state_after w ≡ Some state.Open → ⊥
@@ -128,16 +118,13 @@ latest [] s e = inl refl
 latest (t ∷ ts) s e = inr (subst (λ (u : EndState). In u (t ∷ ts)) e here)
 
 -- An open end has said nothing that ends it.
-open-said : (own : List What) → state_of own ≡ state.Open → (w : What) → In w own → state_after w ≡ None
+pub open-said : (own : List What) → state_of own ≡ state.Open → (w : What) → In w own → state_after w ≡ None
 open-said own is w i = by (state_after w) refl (latest (filter_map state_after (reverse own)) state.Open is)
   where
     by : (o : Option EndState) → state_after w ≡ o → (filter_map state_after (reverse own) ≡ []) ⊎ In state.Open (filter_map state_after (reverse own)) → o ≡ None
     by None e h = refl
     by (Some s) e (inl none) = elim (subst (In s) none (in-kept state_after w s (reverse own) e (in-reverse w own i))) [ ]
     by (Some s) e (inr some) = let k = kept-from state_after (reverse own) state.Open some in absurd (opens-never k.one k.is)
-
-pub open-quiet : (own : List What) → state_of own ≡ state.Open → (w : What) → Contains own w → state_after w ≡ None
-open-quiet own is w c = open-said own is w (contains-in own w c)
 
 -- The ends of the channel
 
@@ -186,7 +173,7 @@ other-twice : (end : Side) → other_end (other_end end) ≡ end
 other-twice side.Parent = refl
 other-twice side.Child = refl
 
-side-same : (a b : Side) → same_side a b ≡ true → a ≡ b
+pub side-same : (a b : Side) → same_side a b ≡ true → a ≡ b
 side-same side.Parent side.Parent e = refl
 side-same side.Child side.Child e = refl
 side-same side.Parent side.Child e = cc

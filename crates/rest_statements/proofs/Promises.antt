@@ -1,6 +1,5 @@
 -- Where nothing is left at two open ends, no promise that is not settled was answered.
 use Rattle.std.proofs.Common.{◌≡◌, ℕ, ℤ, ◌<◌, Bool, true, false, not, ◌&&◌, ◌||◌, cond, if◌then◌else◌, IsTrue, List, [], ◌∷◌, ◌++◌, map, filter_map, find, count_by, Option, Some, None, is_some, refl, sym, ap, subst, ◌∙◌, append_assoc, arith}
-use Rattle.std.specs.Prelude.{unwrap_or}
 use Rattle.std.specs.List.{AllByRecursion, cons_option, list_any}
 use Rattle.std.specs.Option.{option_map_or}
 use Rattle.std.specs.Ordering.{int_eq}
@@ -9,7 +8,6 @@ use Rattle.std.proofs.lemmas.Bool.Decides.{Decides-int_eq}
 use Rattle.std.proofs.lemmas.List.Elements.{filter_map-append}
 use Rattle.std.proofs.lemmas.List.Folds.{list_any-append}
 use Rattle.std.proofs.lemmas.List.Sums.{sum_by-cons}
-use Rattle.ipdl_base.specs.declared.kinds.EndState.{EndState}
 use Rattle.ipdl_base.specs.declared.kinds.EndState.TheVariants as state
 use Rattle.ipdl_base.specs.declared.kinds.Side.{Side}
 use Rattle.ipdl_base.specs.declared.kinds.Side.TheVariants as side
@@ -29,11 +27,12 @@ use Rattle.law_statements.specs.Arrived.{IsArrived, Passing, arrives, gives_up, 
 use Rattle.law_statements.specs.Packets.{delivered, delivery, is_farewell, number_settled, sent, sent_at, settled}
 use Rattle.law_statements.specs.Said.{is_moment, line_of, made_of, other_end, said_by, said_in}
 use Rattle.law_statements.specs.Stack.{is_sync_of}
+use Rattle.channel_laws.specs.Notes.{In, here, there}
 use Rattle.channel_laws.proofs.SentAccounts.{requests-append}
 use Rattle.alone_laws.proofs.LivingActors.{made-append}
 use Rattle.order_statements.specs.Effects.{Effects}
 use Rattle.order_statements.specs.Shape.{answered, number_answered}
-use Rattle.order_statements.proofs.Tells.{state-more}
+use Rattle.rest_statements.proofs.BothEnds.{open-said, side-same}
 
 -- Where an element comes from
 
@@ -83,30 +82,9 @@ or-right false b h = h
 
 -- An open end has said nothing that ends it
 
-never-open : (w : What) (s : EndState) → state_after w ≡ Some s → s ≡ state.Open → ⊥
-never-open what.DeliverGoodbye s e o = cc
-never-open what.DeliverBroken s e o = cc
-never-open what.Close s e o = cc
-never-open what.ShutNormal s e o = cc
-never-open what.ShutAbnormal s e o = cc
-never-open what.Die s e o = cc
-never-open _ s e o = cc
-
-record OpenSo (front own : List What) : Type 0 where
-  open_front : state_of front ≡ state.Open
-  quiet : AllByRecursion (λ w. state_after w ≡ None) own
-
-open-so : (front own : List What) → state_of (front ++ own) ≡ state.Open → OpenSo front own
-open-so front [] h = record { open_front = ap state_of (sym (append-none front)) ∙ h; quiet = tt }
-  where
-    append-none : (ws : List What) → ws ++ [] ≡ ws
-    append-none [] = refl
-    append-none (v ∷ ws) = ap (λ vs. v ∷ vs) (append-none ws)
-open-so front (w ∷ own) h = by (state_after w) refl (open-so (front ++ w ∷ []) own (ap state_of (append_assoc front (w ∷ []) own) ∙ h))
-  where
-    by : (o : Option EndState) → state_after w ≡ o → OpenSo (front ++ w ∷ []) own → OpenSo front (w ∷ own)
-    by None is s = record { open_front = ap (λ o. unwrap_or o (state_of front)) (sym is) ∙ sym (state-more front w) ∙ s.open_front; quiet = (is, s.quiet) }
-    by (Some x) is s = absurd (never-open w x is (ap (λ o. unwrap_or o (state_of front)) (sym is) ∙ sym (state-more front w) ∙ s.open_front))
+all-quiet : (own : List What) → ((w : What) → In w own → state_after w ≡ None) → AllByRecursion (λ w. state_after w ≡ None) own
+all-quiet [] f = tt
+all-quiet (w ∷ own) f = (f w here, all-quiet own (λ v i. f v (there i)))
 
 -- so it gives nothing up
 no-giving-up : (schema : Schema) (before own : List What) → AllByRecursion (λ w. state_after w ≡ None) own → list_any is_giving_up (made_of (passing schema) before own) ≡ false
@@ -281,12 +259,6 @@ record SaidAt (end : Side) (w : What) (lines : List Line) : Type 0 where
   back : List Line
   is : lines ≡ front ++ line_of end w ∷ back
 
-side-same : (a b : Side) → same_side a b ≡ true → a ≡ b
-side-same side.Parent side.Parent h = refl
-side-same side.Child side.Child h = refl
-side-same side.Parent side.Child h = cc
-side-same side.Child side.Parent h = cc
-
 said-at : (end : Side) (lines : List Line) (front : List What) (w : What) (back : List What) → said_by end lines ≡ front ++ w ∷ back → (p : SaidAt end w lines) × (said_by end p.front ≡ front)
 said-at end [] [] w back e = cc
 said-at end [] (x ∷ front) w back e = cc
@@ -384,7 +356,7 @@ module _ (schema : Schema) (lines before behind : List Line) (effects : Effects 
               let passed : passings schema (said_by end before) ≡ passings schema d.front ++ (arrives (seen.Reply n) ∷ made_of (passing schema) (d.front ++ what.DeliverReply n ∷ []) d.back) =
               ap (passings schema) is ∙ made-append (passing schema) [] d.front (what.DeliverReply n ∷ d.back)
               ∙ ap (λ (b : Bool). passings schema d.front ++ cons_option (if b then None else Some (arrives (seen.Reply n))) (made_of (passing schema) (d.front ++ what.DeliverReply n ∷ []) d.back)) async in
-              let quiet = all-right (λ w. state_after w ≡ None) d.front (what.DeliverReply n ∷ d.back) (subst (AllByRecursion (λ w. state_after w ≡ None)) is (open-so [] (said_by end before) opened).quiet) in
+              let quiet = all-right (λ w. state_after w ≡ None) d.front (what.DeliverReply n ∷ d.back) (subst (AllByRecursion (λ w. state_after w ≡ None)) is (all-quiet (said_by end before) (open-said (said_by end before) opened))) in
               left d (made_of (passing schema) (d.front ++ what.DeliverReply n ∷ []) d.back) is passed (no-giving-up schema (d.front ++ what.DeliverReply n ∷ []) d.back quiet.1)
               (λ l. made-at (passing schema) (is_leaving (seen.Reply n)) (d.front ++ what.DeliverReply n ∷ []) d.back l)
             where

@@ -1,7 +1,7 @@
 -- Each block serves one request, but for the last of a message.
 use Rattle.std.proofs.Common.{◌≡◌, ℕ, zero, suc, ◌+◌, ◌-◌, ◌<◌, ◌≤◌, min, nat_lt, Bool, true, false, not, ◌&&◌, ◌==◌, cond, if◌then◌else◌, List, [], ◌∷◌, ◌++◌, length, filter, Option, Some, None, refl, sym, ap, subst, ◌∙◌, arith}
 use Rattle.std.specs.List.{slice_get}
-use Rattle.std.proofs.lemmas.Bool.{false≢true}
+use Rattle.std.proofs.lemmas.Bool.{false≢true, ltb-false}
 use Rattle.std.proofs.lemmas.Bool.Decides.{Decides-ltb, Decides-eqb}
 use Rattle.std.proofs.lemmas.List.Elements.{filter-append}
 use Rattle.ipdl_base.specs.declared.kinds.Side.{Side}
@@ -13,7 +13,7 @@ use Rattle.handler_script.specs.declared.script.Script.{Script}
 use Rattle.handler_script.specs.ScriptOf.{blocks_for}
 use Rattle.handler_script.specs.Served.{is_number, is_side, serves}
 use Rattle.script_bounds.specs.Actions.{actions_again, actions_for, actions_in, actions_of, actions_served, block_actions, block_count, taken_before}
-use Rattle.script_bounds.specs.Laws.{BlocksServeOnce}
+use Rattle.script_bounds.specs.Laws.{BlocksServeOnce, ServesAgainWithoutActions}
 
 -- Blocks that have not served
 
@@ -229,3 +229,19 @@ blocks_serve_once script s taken =
     let first = mains-first s [] script.blocks in
     let once = served-once script s taken in
     omega (arith, first, once)
+
+-- Where the last block of each message has no actions, nothing is done by a block that serves again.
+pub again-silent : (script : Script) → ServesAgainWithoutActions script → (s : Side) (taken : List ℕ) → actions_again script s taken ≡ 0
+again-silent script silent s [] = refl
+again-silent script silent s (number ∷ taken) = by (nat_lt (taken_before number taken) (block_count script s number)) refl (again-silent script silent s taken)
+  where
+    by : (b : Bool) → nat_lt (taken_before number taken) (block_count script s number) ≡ b → actions_again script s taken ≡ 0 → actions_again script s (number ∷ taken) ≡ 0
+    by true is before =
+        let again = ap (λ (b : Bool). (if b then 0 else actions_for script s number (taken_before number taken)) + actions_again script s taken) is in
+        omega (arith, before, again)
+    by false is before =
+        let last : block_count script s number ≤ taken_before number taken = ltb-false (taken_before number taken) (block_count script s number) is in
+        let place : min (taken_before number taken) (block_count script s number - 1) ≡ block_count script s number - 1 = omega (arith, last) in
+        let served = ap (λ (k : ℕ). actions_of (slice_get (blocks_for script s (Some number)) k)) place ∙ silent s number in
+        let again = ap (λ (b : Bool). (if b then 0 else actions_for script s number (taken_before number taken)) + actions_again script s taken) is in
+        omega (arith, before, served, again)

@@ -58,7 +58,7 @@ use Rattle.script_runs.proofs.Progressing.{first-is}
 use Rattle.script_runs.proofs.Shows.{Shows, ShowsAct, step-shows}
 use Rattle.script_bounds.specs.Actions.{deaths, main_actions}
 use Rattle.script_bounds.specs.Laws.{ActsAreActions, RunsAreBounded, ScriptsComeToRest, event_count}
-use Rattle.script_bounds.proofs.Blocks.{blocks_serve_once}
+use Rattle.script_bounds.proofs.Blocks.{again-silent, blocks_serve_once}
 use Rattle.script_bounds.proofs.Acting.{HasAction, act-uses, action-left, in_handler, in_main, left, lines-more, served}
 
 -- What an end does next
@@ -429,9 +429,9 @@ past setting last sides.Parent is few = least (progress_of sides.Parent last.lin
 past setting last sides.Child is few = least (progress_of sides.Child last.lines).events setting.limit is (omega (arith, few))
 
 pub scripts_come_to_rest : ScriptsComeToRest
-scripts_come_to_rest setting choices last at_rest sound once above h how = refl
-scripts_come_to_rest setting choices last (at_limit side) sound once above h how =
+scripts_come_to_rest setting choices last at_rest sound silent above h how = refl
+scripts_come_to_rest setting choices last (at_limit side) sound silent above h how =
     let bound = runs_are_bounded setting choices last sound h in
-    let parent = once sides.Parent (progress_of sides.Parent last.lines).taken in
-    let child = once sides.Child (progress_of sides.Child last.lines).taken in
+    let parent = again-silent setting.script silent sides.Parent (progress_of sides.Parent last.lines).taken in
+    let child = again-silent setting.script silent sides.Child (progress_of sides.Child last.lines).taken in
     absurd (past setting last side how.0 (omega (arith, above, bound, parent, child)))

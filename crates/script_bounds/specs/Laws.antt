@@ -1,17 +1,19 @@
 -- How many events a run of a script has, by the actions of the script.
-use Rattle.std.specs.Prelude.{◌≡◌, ℕ, ◌+◌, ◌*◌, ◌<◌, ◌≤◌, List, Some}
+use Rattle.std.specs.Prelude.{◌≡◌, ℕ, ◌+◌, ◌-◌, ◌*◌, ◌<◌, ◌≤◌, List, Some}
+use Rattle.std.specs.List.{slice_get}
 use Rattle.ipdl_base.specs.declared.kinds.Side.{Side}
 use Rattle.ipdl_base.specs.declared.kinds.Side.TheVariants.{Parent, Child}
 use Rattle.ipdl_base.specs.Sound.{IsSound}
 use Rattle.channel_laws.specs.Counts.{how_many}
 use Rattle.channel_model.specs.Runs.{RunState}
 use Rattle.handler_script.specs.declared.script.Script.{Script}
+use Rattle.handler_script.specs.ScriptOf.{blocks_for}
 use Rattle.progress_laws.specs.Acts.{tells_act}
 use Rattle.script_steps.specs.Choices.{Choice, Setting, beginning_of, played}
 use Rattle.script_steps.specs.Progress.{lines_of, progress_of}
 use Rattle.script_steps.specs.Turns.{RunEnding, at_rest}
 use Rattle.script_runs.specs.Endings.{EndsAs}
-use Rattle.script_bounds.specs.Actions.{actions_again, actions_served, deaths, main_actions, side_actions}
+use Rattle.script_bounds.specs.Actions.{actions_again, actions_of, actions_served, block_count, deaths, main_actions, side_actions}
 
 -- the messages of the requests that a side has taken, the latest first
 abbrev pub taken_by : Side → RunState → List ℕ
@@ -43,15 +45,15 @@ RunsAreBounded =
     (setting : Setting) (choices : List Choice) (state : RunState) → IsSound setting.schema → played setting choices (beginning_of setting) ≡ Some state
     → event_count state ≤ 7 * (actions_by setting state Parent + actions_by setting state Child)
 
--- no block that serves again has actions, whatever requests were taken
+-- the last block of each message, which serves all requests that come after its own, has no actions
 abbrev pub ServesAgainWithoutActions : Script → Type 0
-ServesAgainWithoutActions script = (side : Side) (taken : List ℕ) → actions_again script side taken ≡ 0
+ServesAgainWithoutActions script = (side : Side) (number : ℕ) → actions_of (slice_get (blocks_for script side (Some number)) (block_count script side number - 1)) ≡ 0
 
 -- what a script and a stop let both sides do, each action once
 abbrev pub all_actions : Setting → ℕ
 all_actions setting = (side_actions setting.script Parent + deaths setting.stop Parent) + (side_actions setting.script Child + deaths setting.stop Child)
 
--- So each run of a script whose blocks that serve again have no actions ends at rest, whatever the order of its sides, where the
+-- So each run of a script in which the last block of each message has no actions ends at rest, whatever the order of its sides, where the
 -- limit is above seven events for each action.
 abbrev pub ScriptsComeToRest : Type 0
 ScriptsComeToRest =

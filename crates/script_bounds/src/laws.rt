@@ -16,7 +16,7 @@ pub fn runs_are_bounded()
     ensures { RunsAreBounded }
 {}
 
-/// The law of rest: where blocks that serve again have no actions, every run comes to rest below a limit that is large enough.
+/// The law of rest: where the last block of each message has no actions, every run comes to rest below a limit that is large enough.
 pub fn scripts_come_to_rest()
     ensures { ScriptsComeToRest }
 {}
